@@ -1,20 +1,6 @@
 -- One step keeps the rule of all slots: at another slot nothing changes.
-use Rattle.std.proofs.Common.{◌≡◌, ◌≢◌, ℕ, ◌^◌, ◌<◌, ◌≤◌, List, [], length, map, get_or, set, sym, subst, ap, ◌∙◌, arith, get_or-set_other, get_or-set_same, length-set}
-use Rattle.std.specs.List.{sum_by, All}
-use Rattle.std.proofs.Math.ListN.{get_or-map}
-use Rattle.std.proofs.lemmas.List.{map-set, length-map}
-use Rattle.std.proofs.lemmas.List.Elements.{All-set}
-use Rattle.std.proofs.lemmas.List.Sums.{sum_by-le, get_or-le-sum_by}
-use mathlib.Core.Option.{some}
-use mathlib.Core.Logic.{dite}
-use native.Mathlib.Decide.{ℕ_discrete}
-use lib.ListN.{get_elem?}
-use Rattle.atomic_table.proofs.Lists.{at_map, set_again}
-use Rattle.claims.specs.declared.view.Exchange.{Exchange}
-use Rattle.claims.specs.declared.view.View.{View}
-use Rattle.claims.specs.Views.{blank, account_of, accounts_of, trace_in, traces_at, column}
+use Rattle.claims.proofs.Prelude.{◌≡◌, ◌≢◌, ℕ, ◌^◌, ◌<◌, ◌≤◌, List, [], length, map, get_or, set, sym, subst, ap, ◌∙◌, arith, get_or-set_other, get_or-set_same, length-set, sum_by, All, get_or-map, map-set, length-map, All-set, sum_by-le, get_or-le-sum_by, some, dite, ℕ_discrete, get_elem?, at_map, set_again, Exchange, View, blank, account_of, accounts_of, trace_in, traces_at, column, SlotRule, ClaimRule}
 use Rattle.claims.proofs.Fields.{posted_of, spare_of, account_in}
-use Rattle.claims.specs.Rule.{SlotRule, ClaimRule}
 use Rattle.claims.proofs.Totals.{sum_by-map, sum_by-put, each_at}
 use Rattle.claims.proofs.Histories.{counts_of}
 

@@ -1,8 +1,5 @@
 -- What each exchange makes of a word, bit by bit.
-use Rattle.std.proofs.Common.{◌≡◌, ℕ, ◌+◌, ◌-◌, ◌*◌, ◌%◌, ◌^◌, ◌<◌, ◌≤◌, Bool, true, false, bit_and, bit_or, refl, ap, ◌∙◌, arith}
-use Rattle.std.proofs.lemmas.Nat.{and_mask, and_block, or_block}
-use Rattle.std.specs.Int.Bits.{or_zero_r}
-use Rattle.claims.specs.Words.{one, word_of, word_after, WordState, post, claim, take, release, retire, adopt}
+use Rattle.claims.proofs.Prelude.{◌≡◌, ℕ, ◌+◌, ◌-◌, ◌*◌, ◌%◌, ◌^◌, ◌<◌, ◌≤◌, Bool, true, false, bit_and, bit_or, refl, ap, ◌∙◌, arith, and_mask, and_block, or_block, or_zero_r, one, word_of, word_after, WordState, post, claim, take, release, retire, adopt}
 
 or_low : (p r s : ℕ) → r < 4 → s < 4 → bit_or (4 * p + r) s ≡ 4 * p + bit_or r s
 or_low p r s r_low s_low =

@@ -1,15 +1,6 @@
 -- The contracts of the calls by cases on what the word said.
-use Rattle.std.proofs.Common.{◌≡◌, ℕ, zero, suc, Bool, true, false, if◌then◌else◌, refl, sym, subst, ap, [], ◌∷◌}
-use Rattle.claims.specs.declared.view.Account.{Account}
+use Rattle.claims.proofs.Prelude.{◌≡◌, ℕ, zero, suc, Bool, true, false, if◌then◌else◌, refl, sym, subst, ap, [], ◌∷◌, Account, Posted, Released, Wake, Quiet, ReleaseWakes, ReleaseQuiet, some_wait, wakes, WordState, claim, adopt, made, after, SeatState, account_at, HoldsNot, Adds, PostChange, ReleaseChange}
 use Rattle.claims.specs.declared.view.Exchange.TheVariants as exchange
-use Rattle.claims.specs.declared.answers.Posted.{Posted}
-use Rattle.claims.specs.declared.answers.Released.{Released}
-use Rattle.claims.specs.declared.answers.Posted.TheVariants.{Wake, Quiet}
-use Rattle.claims.specs.declared.answers.Released.TheVariants.{Wake as ReleaseWakes, Quiet as ReleaseQuiet}
-use Rattle.claims.specs.Words.{some_wait, wakes, WordState, claim, adopt, made}
-use Rattle.claims.specs.Views.{after}
-use Rattle.claims.specs.Seats.{SeatState, account_at, HoldsNot, Adds}
-use Rattle.claims.specs.Calls.{PostChange, ReleaseChange}
 
 module _ (slot : ℕ) (old new : SeatState) where
   pub post_change : (r : Posted) (woke : Bool) → r ≡ (if woke then Wake else Quiet) → Adds slot (exchange.Post woke ∷ []) old new → (woke ≡ true → HoldsNot old slot)

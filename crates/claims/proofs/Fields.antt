@@ -1,9 +1,5 @@
 -- The fields of accounts and views as functions, for sums along lists of them.
-use Rattle.std.proofs.Common.{ℕ, Bool}
-use Rattle.claims.specs.declared.view.Account.{Account}
-use Rattle.claims.specs.declared.view.View.{View}
-use Rattle.claims.specs.Words.{one}
-use Rattle.claims.specs.Views.{account_of, trace_in}
+use Rattle.claims.proofs.Prelude.{ℕ, Bool, Account, View, one, account_of, trace_in}
 
 abbrev pub posted_of : Account → ℕ
 posted_of a = a.posted

@@ -1,23 +1,6 @@
 -- The history of one slot: one exchange more, and what it counts.
-use Rattle.std.proofs.Common.{◌≡◌, ◌≢◌, ℕ, zero, suc, ◌*◌, ◌<◌, ◌≤◌, ◌==◌, nat_lt, Bool, true, false, if◌then◌else◌, List, [], ◌∷◌, ◌++◌, length, map, get_or, set, replicate, refl, sym, subst, ap, ◌∙◌, arith, get_or-set_other, get_or-set_same, length-set}
-use Rattle.std.specs.List.{sum_by, All}
-use Rattle.std.proofs.Math.ListN.{get_or-map}
-use Rattle.std.proofs.lemmas.Bool.{eq-eqb, ne_eqb, ltb-true, ltb-false}
-use Rattle.std.proofs.lemmas.List.{append-nil, ext_get_or, get_or_past, length-replicate, length-map}
-use Rattle.std.proofs.lemmas.List.Elements.{All-set, All-replicate}
-use Rattle.std.proofs.lemmas.List.Folds.{sum_by-replicate}
-use mathlib.Core.Option.{some}
-use mathlib.Core.Logic.{dite}
-use native.Mathlib.Decide.{ℕ_discrete}
-use lib.ListN.{get_elem?}
-use Rattle.claims.specs.declared.view.Account.{Account}
-use Rattle.claims.specs.declared.view.Exchange.{Exchange}
-use Rattle.claims.specs.declared.view.Exchange.TheVariants.{Busy, Held, Adopted, NotFree}
-use Rattle.claims.specs.Words.{word_of, word_after, WordState, StepKind, post, claim, take, release, retire, adopt, made, kind_of}
-use Rattle.claims.specs.Views.{blank, after, after_all, account_of}
+use Rattle.claims.proofs.Prelude.{◌≡◌, ◌≢◌, ℕ, zero, suc, ◌*◌, ◌<◌, ◌≤◌, ◌==◌, nat_lt, Bool, true, false, if◌then◌else◌, List, [], ◌∷◌, ◌++◌, length, map, get_or, set, replicate, refl, sym, subst, ap, ◌∙◌, arith, get_or-set_other, get_or-set_same, length-set, sum_by, All, get_or-map, eq-eqb, ne_eqb, ltb-true, ltb-false, append-nil, ext_get_or, get_or_past, length-replicate, length-map, All-set, All-replicate, sum_by-replicate, some, dite, ℕ_discrete, get_elem?, Account, Exchange, Busy, Held, Adopted, NotFree, word_of, word_after, WordState, StepKind, post, claim, take, release, retire, adopt, made, kind_of, blank, after, after_all, account_of, History, Leads, by_seat, NeedsHolder, Keeps, unused, SlotRule, Knows, Counts}
 use Rattle.claims.proofs.Fields.{posted_of, taken_of, minted_of, redeemed_of, holding_of, adopts_of, retires_of}
-use Rattle.claims.specs.Rule.{History, Leads, by_seat, NeedsHolder, Keeps, unused, SlotRule}
-use Rattle.claims.specs.Laws.{Knows, Counts}
 use Rattle.claims.proofs.Totals.{found, each_at}
 use Rattle.claims.proofs.OneSlot.{counts_kept}
 

@@ -1,3 +1,4 @@
+pub mod Prelude
 pub mod Fields
 pub mod Totals
 pub mod OneSlot

@@ -1,21 +1,9 @@
 -- Each kind of step is allowed, and what it tells.
-use Rattle.std.proofs.Common.{◌≡◌, ℕ, ◌+◌, ◌^◌, ◌<◌, ◌≤◌, Bool, true, false, List, [], ◌∷◌, ◌++◌, length, map, get_or, set, refl, sym, subst, ap, ◌∙◌, arith}
-use Rattle.std.specs.List.{sum_by}
-use Rattle.std.proofs.Math.ListN.{get_or-map}
-use Rattle.std.proofs.lemmas.List.{map-set, length-map}
-use Rattle.std.proofs.lemmas.List.Sums.{sum_by-set}
-use Rattle.atomic_table.specs.Table.{Me, Allows, keeps}
-use Rattle.claims.specs.declared.view.Account.{Account}
-use Rattle.claims.specs.declared.view.Exchange.{Exchange}
-use Rattle.claims.specs.declared.view.View.{View}
-use Rattle.claims.specs.Words.{word_of, word_after, WordState, StepKind, post, claim, take, release, retire, adopt, made}
-use Rattle.claims.specs.Views.{blank, after, account_of, accounts_of, trace_in, traces_at}
+use Rattle.claims.proofs.Prelude.{◌≡◌, ℕ, ◌+◌, ◌^◌, ◌<◌, ◌≤◌, Bool, true, false, List, [], ◌∷◌, ◌++◌, length, map, get_or, set, refl, sym, subst, ap, ◌∙◌, arith, sum_by, get_or-map, map-set, length-map, sum_by-set, Me, Allows, keeps, Account, Exchange, View, word_of, word_after, WordState, StepKind, post, claim, take, release, retire, adopt, made, blank, after, account_of, accounts_of, trace_in, traces_at, NeedsHolder, ClaimRule, KeepsRule, at_map}
 use Rattle.claims.proofs.Fields.{posted_of, account_in}
-use Rattle.claims.specs.Rule.{NeedsHolder, ClaimRule, KeepsRule}
 use Rattle.claims.proofs.Totals.{inside, each_at}
 use Rattle.claims.proofs.Histories.{after_on, history_on}
 use Rattle.claims.proofs.AllSlots.{wide, few_pending, kept}
-use Rattle.atomic_table.proofs.Lists.{at_map}
 
 -- the view that a step of this kind leaves, with one exchange more
 abbrev view_after : StepKind → WordState → ℕ → View → View

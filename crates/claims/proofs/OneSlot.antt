@@ -1,18 +1,6 @@
 -- One step keeps the counts of its slot.
-use Rattle.std.proofs.Common.{◌≡◌, ◌≢◌, ℕ, zero, suc, ◌+◌, ◌<◌, ◌≤◌, Bool, true, false, List, length, get_or, set, refl, sym, subst, ap, arith, get_or-set_other, get_or-set_same, length-set}
-use Rattle.std.specs.List.{sum_by, All}
-use Rattle.std.proofs.lemmas.List.Sums.{get_or-le-sum_by}
-use mathlib.Core.Option.{some}
-use mathlib.Core.Logic.{dite}
-use native.Mathlib.Decide.{ℕ_discrete}
-use lib.ListN.{get_elem?}
-use Rattle.claims.specs.declared.view.Account.{Account}
-use Rattle.claims.specs.declared.view.Exchange.TheVariants.{Post, Held, Take, Release, Retire, Adopted}
-use Rattle.claims.specs.Words.{one, some_wait, wakes, word_after, WordState, StepKind, post, claim, take, release, retire, adopt, made}
-use Rattle.claims.specs.Views.{after}
+use Rattle.claims.proofs.Prelude.{◌≡◌, ◌≢◌, ℕ, zero, suc, ◌+◌, ◌<◌, ◌≤◌, Bool, true, false, List, length, get_or, set, refl, sym, subst, ap, arith, get_or-set_other, get_or-set_same, length-set, sum_by, All, get_or-le-sum_by, some, dite, ℕ_discrete, get_elem?, Account, Post, Held, Take, Release, Retire, Adopted, one, some_wait, wakes, word_after, WordState, StepKind, post, claim, take, release, retire, adopt, made, after, NeedsHolder, due, Knows, Counts}
 use Rattle.claims.proofs.Fields.{posted_of, taken_of, minted_of, redeemed_of, holding_of, adopts_of, retires_of}
-use Rattle.claims.specs.Rule.{NeedsHolder}
-use Rattle.claims.specs.Laws.{due, Knows, Counts}
 use Rattle.claims.proofs.Totals.{sum_by-put, term-le, each_at}
 
 -- the entry of another seat

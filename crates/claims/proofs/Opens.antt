@@ -1,22 +1,6 @@
 -- The rule holds at the start, and a seat that makes another keeps it.
-use Rattle.std.proofs.Common.{◌≡◌, ℕ, zero, suc, ◌+◌, ◌-◌, ◌*◌, ◌^◌, ◌<◌, ◌≤◌, Bool, false, if◌then◌else◌, List, [], ◌∷◌, ◌++◌, length, map, set, get_or, replicate, refl, sym, subst, ap, ◌∙◌, arith}
-use Rattle.std.specs.List.{sum_by}
-use Rattle.std.proofs.lemmas.List.{ext_get_or, map-set, map-append, length-replicate, get_or-replicate, replicate_more, length-append, length-set}
-use Rattle.std.proofs.lemmas.List.Elements.{All-set, All-push, All-replicate}
-use Rattle.std.proofs.lemmas.List.Folds.{sum_by-replicate}
-use Rattle.std.proofs.lemmas.List.Sums.{sum_by_push}
-use Rattle.std.proofs.lemmas.Bool.{eq-eqb}
-use Rattle.atomic_table.specs.Table.{Splits}
-use Rattle.atomic_table.proofs.Lists.{at_map, set_again}
-use Rattle.claims.specs.declared.view.Account.{Account}
-use Rattle.claims.specs.declared.view.Exchange.{Exchange}
-use Rattle.claims.specs.declared.view.View.{View}
-use Rattle.claims.specs.Words.{word_of, WordState}
-use Rattle.claims.specs.Views.{blank, unused_view, account_of, accounts_of, trace_in, traces_at}
+use Rattle.claims.proofs.Prelude.{◌≡◌, ℕ, zero, suc, ◌+◌, ◌-◌, ◌*◌, ◌^◌, ◌<◌, ◌≤◌, Bool, false, if◌then◌else◌, List, [], ◌∷◌, ◌++◌, length, map, set, get_or, replicate, refl, sym, subst, ap, ◌∙◌, arith, sum_by, ext_get_or, map-set, map-append, length-replicate, get_or-replicate, replicate_more, length-append, length-set, All-set, All-push, All-replicate, sum_by-replicate, sum_by_push, eq-eqb, Splits, at_map, set_again, Account, Exchange, View, word_of, WordState, blank, unused_view, account_of, accounts_of, trace_in, traces_at, History, Leads, by_seat, unused, Keeps, SlotRule, ClaimRule, TableId, SeatState, view_of, fresh_seat, SeatOk, OpensLawful}
 use Rattle.claims.proofs.Fields.{posted_of, holds_of, spare_of}
-use Rattle.claims.specs.Rule.{History, Leads, by_seat, unused, Keeps, SlotRule, ClaimRule}
-use Rattle.claims.specs.Seats.{TableId, SeatState, view_of, fresh_seat, SeatOk}
-use Rattle.claims.specs.Opening.{OpensLawful}
 use Rattle.claims.proofs.Totals.{each_at, sum_by-put}
 
 -- the first seat, which may still make the others; and a seat that makes another, which has done nothing and makes none

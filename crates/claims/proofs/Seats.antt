@@ -1,18 +1,7 @@
 -- For callers: where a seat has changed, and that it holds nothing.
-use Rattle.std.proofs.Common.{◌≡◌, ℕ, zero, suc, ◌+◌, List, [], ◌∷◌, ◌++◌, replicate, get_or, refl, sym, subst, ap, ◌∙◌, arith, append_assoc}
-use Rattle.std.proofs.lemmas.List.{append-nil}
-use mathlib.Core.Logic.{dite}
-use native.Mathlib.Decide.{ℕ_discrete}
-use Rattle.claims.specs.declared.view.Account.{Account}
-use Rattle.claims.specs.declared.view.Exchange.{Exchange}
+use Rattle.claims.proofs.Prelude.{◌≡◌, ℕ, zero, suc, ◌+◌, List, [], ◌∷◌, ◌++◌, replicate, get_or, refl, sym, subst, ap, ◌∙◌, arith, append_assoc, append-nil, dite, ℕ_discrete, Account, Exchange, Posted, Wake, Quiet, Worn, one, blank, after, after_all, account_of, minted_by, TableId, SeatState, account_at, HoldsNot, HoldsNothing, OnlyAt, Adds, fresh_seat, trace_at, PostChange}
 use Rattle.claims.specs.declared.view.Exchange.TheVariants as exchange
-use Rattle.claims.specs.declared.answers.Posted.{Posted}
-use Rattle.claims.specs.declared.answers.Posted.TheVariants.{Wake, Quiet, Worn}
-use Rattle.claims.specs.Words.{one}
-use Rattle.claims.specs.Views.{blank, after, after_all, account_of, minted_by}
 use Rattle.claims.proofs.Histories.{after_both}
-use Rattle.claims.specs.Seats.{TableId, SeatState, account_at, HoldsNot, HoldsNothing, OnlyAt, Adds, fresh_seat, trace_at}
-use Rattle.claims.specs.Calls.{PostChange}
 
 nothing_at : (n slot : ℕ) → account_of (get_or (replicate n []) slot []) ≡ blank
 nothing_at zero slot = refl

@@ -1,14 +1,6 @@
 -- The laws of every state that meets the rule.
-use Rattle.std.proofs.Common.{◌≡◌, ◌≢◌, ℕ, zero, suc, ◌<◌, ◌≤◌, Bool, true, false, List, [], ◌∷◌, length, get_or, set, refl, sym, subst, ap, ◌∙◌, arith, get_or-set_other, length-set}
-use Rattle.std.specs.List.{sum_by}
-use Rattle.std.proofs.lemmas.List.Sums.{sum_by-set, get_or-le-sum_by}
-use mathlib.Core.Logic.{dite}
-use native.Mathlib.Decide.{ℕ_discrete}
-use Rattle.claims.specs.declared.view.Account.{Account}
-use Rattle.claims.specs.Words.{one, word_of, WordState}
-use Rattle.claims.specs.Views.{blank, column}
+use Rattle.claims.proofs.Prelude.{◌≡◌, ◌≢◌, ℕ, zero, suc, ◌<◌, ◌≤◌, Bool, true, false, List, [], ◌∷◌, length, get_or, set, refl, sym, subst, ap, ◌∙◌, arith, get_or-set_other, length-set, sum_by, sum_by-set, get_or-le-sum_by, dite, ℕ_discrete, Account, one, word_of, WordState, blank, column, Counts, HistoriesCount, OneHolderEach, NotesAreKept, TicketsAreNeeded}
 use Rattle.claims.proofs.Fields.{holding_of}
-use Rattle.claims.specs.Laws.{Counts, HistoriesCount, OneHolderEach, NotesAreKept, TicketsAreNeeded}
 use Rattle.claims.proofs.OneSlot.{one_le}
 use Rattle.claims.proofs.Histories.{counts_of}
 

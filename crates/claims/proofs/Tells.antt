@@ -1,21 +1,6 @@
 -- What a step has told, in the words of the calls' contracts.
-use Rattle.std.proofs.Common.{◌≡◌, ℕ, ◌+◌, ◌^◌, ◌<◌, ◌≤◌, Bool, true, false, List, [], ◌∷◌, ◌++◌, length, map, set, get_or, sym, subst, ap, ◌∙◌, arith, get_or-set_same, get_or-set_other, length-set}
-use Rattle.std.specs.List.{sum_by}
-use Rattle.std.proofs.Math.ListN.{get_or-map}
-use Rattle.std.proofs.lemmas.List.{map-set, set-get_or, length-map, get_or_default}
-use Rattle.std.proofs.lemmas.List.Sums.{sum_by-set}
-use mathlib.Core.Option.{some}
-use lib.ListN.{get_elem?}
-use Rattle.atomic_table.proofs.Lists.{at_map, set_here}
-use Rattle.claims.specs.declared.view.Account.{Account}
-use Rattle.claims.specs.declared.view.Exchange.{Exchange}
-use Rattle.claims.specs.declared.view.View.{View}
-use Rattle.claims.specs.Words.{one, word_of, word_after, WordState, StepKind, made}
-use Rattle.claims.specs.Views.{blank, after, account_of, accounts_of, trace_in, traces_at, column}
+use Rattle.claims.proofs.Prelude.{◌≡◌, ℕ, ◌+◌, ◌^◌, ◌<◌, ◌≤◌, Bool, true, false, List, [], ◌∷◌, ◌++◌, length, map, set, get_or, sym, subst, ap, ◌∙◌, arith, get_or-set_same, get_or-set_other, length-set, sum_by, get_or-map, map-set, set-get_or, length-map, get_or_default, sum_by-set, some, get_elem?, at_map, set_here, Account, Exchange, View, one, word_of, word_after, WordState, StepKind, made, blank, after, account_of, accounts_of, trace_in, traces_at, column, ClaimRule, KeepsRule, Knows, Counts, TableId, SeatState, seat_state, view_of, account_at, Holds, HoldsNot, Adds, Stepped, SeatOk}
 use Rattle.claims.proofs.Fields.{posted_of, taken_of, holds_of, holding_of, account_in}
-use Rattle.claims.specs.Rule.{ClaimRule, KeepsRule}
-use Rattle.claims.specs.Laws.{Knows, Counts}
-use Rattle.claims.specs.Seats.{TableId, SeatState, seat_state, view_of, account_at, Holds, HoldsNot, Adds, Stepped, SeatOk}
 use Rattle.claims.proofs.Totals.{inside, each_at, term-le}
 use Rattle.claims.proofs.OneSlot.{false_from_zero}
 use Rattle.claims.proofs.AllSlots.{few_posts}

@@ -1,9 +1,5 @@
 -- Sums along a list, where one entry is replaced.
-use Rattle.std.proofs.Common.{◌≡◌, ℕ, zero, suc, ◌+◌, ◌<◌, ◌≤◌, List, [], ◌∷◌, length, map, get_or, set, refl, sym, subst, ap, ◌∙◌, arith}
-use Rattle.std.specs.List.{sum_by, All}
-use Rattle.std.proofs.lemmas.List.Sums.{sum_by-cons, sum_by-set, get_or-le-sum_by}
-use mathlib.Core.Option.{some, some-injective, some-ne-none}
-use lib.ListN.{get_elem?}
+use Rattle.claims.proofs.Prelude.{◌≡◌, ℕ, zero, suc, ◌+◌, ◌<◌, ◌≤◌, List, [], ◌∷◌, length, map, get_or, set, refl, sym, subst, ap, ◌∙◌, arith, sum_by, All, sum_by-cons, sum_by-set, get_or-le-sum_by, some, some-injective, some-ne-none, get_elem?}
 
 module _ {A : Type 0} where
   pub inside : (l : List A) (k : ℕ) (v : A) → get_elem? l k ≡ some v → k < length l

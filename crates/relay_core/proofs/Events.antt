@@ -1,20 +1,5 @@
 -- What any list of answers, reports and expiries leaves true.
-use Rattle.std.proofs.Common.{◌≡◌, ℕ, Bool, true, false, List, [], ◌∷◌, ◌++◌, map, Option, Some, None, refl, ap, ◌∙◌, sym, append-nil, option_and_then, inl, inr, ◌⊎◌}
-use Rattle.std.specs.Prelude.{if◌then◌else◌, option_map}
-use Rattle.token.specs.declared.side.Side.{Side}
-use Rattle.token.specs.declared.side.Side.TheVariants.{Client, Target}
-use Rattle.token.specs.declared.direction.Direction.{Direction}
-use Rattle.token.specs.declared.direction.Direction.TheVariants.{Up, Down}
-use Rattle.flow.specs.Stream.{Stream, waiting}
-use Rattle.relay_core.specs.declared.call.Call.{Call}
-use Rattle.relay_core.specs.Calls.{side_of, direction_of}
-use Rattle.relay_core.specs.Pairs.{Flags, PairState, stream_of, with_stream, with_flags, mark_joined, with_sent, noted}
-use Rattle.relay_core.specs.Replies.{AnswerValue, Bytes, End, Wrote, Joined, Shut, Blocked, Interrupted, Failed, after}
-use Rattle.relay_core.specs.Runs.{answered, over}
-use Rattle.relay_core.specs.Moved.{same_way, or_nothing, all_brought, all_carried}
-use Rattle.relay_core.specs.Idle.{is_overdue, timed_out}
-use Rattle.relay_core.specs.Events.{Event, Answered, Reported, Expired, happened, through, brought_by, carried_by, ever_brought, ever_carried}
-use Rattle.relay_core.specs.Laws.{KeepsEndLast, place_of, OnlyEndsAreSeen, AnswersKeepPlace, AnswersPassEndLast, FailuresAreTold, CallsComeWhileLive, AnswersAreToNextCalls, RunsKeepOrder, RunsPassEndLast, FreshPairsKeepEndLast, RunsKeepPlace, AnswersAreEvents, AnswersKeepOrder}
+use Rattle.relay_core.proofs.Prelude.{◌≡◌, ℕ, Bool, true, false, List, [], ◌∷◌, ◌++◌, map, Option, Some, None, refl, ap, ◌∙◌, sym, append-nil, option_and_then, inl, inr, ◌⊎◌, if◌then◌else◌, option_map, Side, Client, Target, Direction, Up, Down, Stream, waiting, Call, side_of, direction_of, Flags, PairState, stream_of, with_stream, with_flags, mark_joined, with_sent, noted, AnswerValue, Bytes, End, Wrote, Joined, Shut, Blocked, Interrupted, Failed, after, answered, over, same_way, or_nothing, all_brought, all_carried, is_overdue, timed_out, Event, Answered, Reported, Expired, happened, through, brought_by, carried_by, ever_brought, ever_carried, KeepsEndLast, place_of, OnlyEndsAreSeen, AnswersKeepPlace, AnswersPassEndLast, FailuresAreTold, CallsComeWhileLive, AnswersAreToNextCalls, RunsKeepOrder, RunsPassEndLast, FreshPairsKeepEndLast, RunsKeepPlace, AnswersAreEvents, AnswersKeepOrder}
 use Rattle.relay_core.proofs.Streams.{served, stream_after, same_direction, order_kept, after_keeps_order, end_passed_last}
 use Rattle.relay_core.proofs.Faults.{asked_while_live, fails_by_call}
 use Rattle.relay_core.proofs.Expiries.{stream_timed_out}

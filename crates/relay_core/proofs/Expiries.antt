@@ -1,17 +1,5 @@
 -- What the idle limit does to a pair.
-use Rattle.std.proofs.Common.{◌≡◌, ◌↔◌, ℕ, ◌-◌, ◌≤◌, Bool, true, false, ◌&&◌, Option, Some, None, refl, arith}
-use Rattle.std.specs.Prelude.{if◌then◌else◌, nat_lt, nat_le}
-use Rattle.std.specs.Option.{is_none}
-use Rattle.std.specs.Cmp.{first_so, second_so}
-use Rattle.std.proofs.lemmas.Bool.{ltb-true, leb-true, le-leb}
-use Rattle.std.proofs.lemmas.Bool.Decides.{nat_tests}
-use Rattle.token.specs.declared.direction.Direction.{Direction}
-use Rattle.token.specs.declared.direction.Direction.TheVariants.{Up, Down}
-use Rattle.relay_core.specs.declared.call.Call.{Call}
-use Rattle.relay_core.specs.Pairs.{PairState, stream_of, verdict, is_live}
-use Rattle.relay_core.specs.Order.{next_call}
-use Rattle.relay_core.specs.Idle.{is_past, is_overdue, timed_out}
-use Rattle.relay_core.specs.Laws.{IsOverdue, OnlyOverduePairsExpire, ExpiriesChangeVerdictAlone}
+use Rattle.relay_core.proofs.Prelude.{◌≡◌, ◌↔◌, ℕ, ◌-◌, ◌≤◌, Bool, true, false, ◌&&◌, Option, Some, None, refl, arith, if◌then◌else◌, nat_lt, nat_le, is_none, first_so, second_so, ltb-true, leb-true, le-leb, nat_tests, Direction, Up, Down, Call, PairState, stream_of, verdict, is_live, next_call, is_past, is_overdue, timed_out, IsOverdue, OnlyOverduePairsExpire, ExpiriesChangeVerdictAlone}
 use Rattle.relay_core.proofs.Faults.{live_of}
 
 pub stream_timed_out : (p : PairState) (d : Direction) → stream_of (timed_out p) d ≡ stream_of p d

@@ -1,19 +1,6 @@
 -- What an answer does to the verdict.
-use Rattle.std.proofs.Common.{◌≡◌, ◌↔◌, ℕ, Bool, true, false, ◌&&◌, Option, Some, None, refl, ◌∙◌}
-use Rattle.std.specs.Prelude.{if◌then◌else◌}
-use Rattle.token.specs.declared.side.Side.{Side}
-use Rattle.token.specs.declared.side.Side.TheVariants.{Client, Target}
-use Rattle.token.specs.declared.direction.Direction.{Direction}
-use Rattle.token.specs.declared.direction.Direction.TheVariants.{Up, Down}
-use Rattle.flow.specs.Stream.{Stream}
-use Rattle.relay_core.specs.declared.call.Call.{Call}
-use Rattle.relay_core.specs.declared.verdict.Fault.{Fault}
+use Rattle.relay_core.proofs.Prelude.{◌≡◌, ◌↔◌, ℕ, Bool, true, false, ◌&&◌, Option, Some, None, refl, ◌∙◌, if◌then◌else◌, Side, Client, Target, Direction, Up, Down, Stream, Call, Fault, side_of, direction_of, Flags, PairState, with_stream, with_flags, mark_joined, with_sent, verdict_of, verdict, is_live, next_call, AnswerValue, Bytes, End, Wrote, Joined, Shut, Blocked, Interrupted, Failed, after, TellsOf}
 use Rattle.relay_core.specs.declared.verdict.Verdict.TheVariants as verdict
-use Rattle.relay_core.specs.Calls.{side_of, direction_of}
-use Rattle.relay_core.specs.Pairs.{Flags, PairState, with_stream, with_flags, mark_joined, with_sent, verdict_of, verdict, is_live}
-use Rattle.relay_core.specs.Order.{next_call}
-use Rattle.relay_core.specs.Replies.{AnswerValue, Bytes, End, Wrote, Joined, Shut, Blocked, Interrupted, Failed, after}
-use Rattle.relay_core.specs.Laws.{TellsOf}
 
 asked_of_live : (b : Bool) (o : Option Call) (call : Call) → (if b then o else None) ≡ Some call → b ≡ true
 asked_of_live true o call e = refl

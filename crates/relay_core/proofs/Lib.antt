@@ -1,3 +1,4 @@
+pub mod Prelude
 pub mod Possible
 pub mod Streams
 pub mod Faults

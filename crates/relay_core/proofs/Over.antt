@@ -1,14 +1,5 @@
 -- What a list of answers does to the bytes of each direction.
-use Rattle.std.proofs.Common.{◌≡◌, ℕ, Bool, true, false, List, [], ◌∷◌, ◌++◌, Option, Some, None, refl, ap, ◌∙◌, sym, append_assoc, option_and_then}
-use Rattle.std.specs.Prelude.{if◌then◌else◌}
-use Rattle.token.specs.declared.direction.Direction.{Direction}
-use Rattle.token.specs.declared.direction.Direction.TheVariants.{Up, Down}
-use Rattle.relay_core.specs.declared.call.Call.{Call}
-use Rattle.relay_core.specs.Pairs.{PairState, fresh, stream_of}
-use Rattle.relay_core.specs.Order.{next_call}
-use Rattle.relay_core.specs.Replies.{AnswerValue, fits, after}
-use Rattle.relay_core.specs.Runs.{answered, over}
-use Rattle.relay_core.specs.Laws.{IsClosedLast}
+use Rattle.relay_core.proofs.Prelude.{◌≡◌, ℕ, Bool, true, false, List, [], ◌∷◌, ◌++◌, Option, Some, None, refl, ap, ◌∙◌, sym, append_assoc, option_and_then, if◌then◌else◌, Direction, Up, Down, Call, PairState, fresh, stream_of, next_call, AnswerValue, fits, after, answered, over, IsClosedLast}
 
 -- one answered call: the call that came next, which the answer fits
 pub record Step (now : ℕ) (p : PairState) (reply : AnswerValue) (q : PairState) : Type 0 where

@@ -1,24 +1,7 @@
 -- The next call is possible: nothing in the pair speaks against it.
-use Rattle.std.proofs.Common.{◌≡◌, ℕ, ◌≤◌, ◌<◌, Bool, true, false, not, ◌&&◌, List, [], length, Option, Some, None, refl, arith}
-use Rattle.std.specs.Prelude.{IfSome, if◌then◌else◌, nat_lt, nat_le}
-use Rattle.std.specs.Option.{option_or}
-use Rattle.std.specs.Cmp.{first_so, second_so}
-use Rattle.std.proofs.lemmas.Bool.{ltb-true, leb-true}
-use Rattle.std.proofs.lemmas.Bool.Decides.{nat_tests}
-use Rattle.std.proofs.lemmas.List.{nil_from_length}
-use Rattle.token.specs.declared.direction.Direction.{Direction}
-use Rattle.token.specs.declared.direction.Direction.TheVariants.{Up, Down}
-use Rattle.flow.specs.Stream.{Stream, free_room, waiting, front}
-use Rattle.flow.proofs.Front.{front_offers}
-use Rattle.relay_core.specs.declared.call.Call.{Call}
-use Rattle.relay_core.specs.declared.call.Call.TheVariants.{Write, Join, Shut, Read}
-use Rattle.relay_core.specs.Calls.{direction_of}
-use Rattle.relay_core.specs.Replies.{fits, Bytes}
+use Rattle.relay_core.proofs.Prelude.{◌≡◌, ℕ, ◌≤◌, ◌<◌, Bool, true, false, not, ◌&&◌, List, [], length, Option, Some, None, refl, arith, IfSome, if◌then◌else◌, nat_lt, nat_le, option_or, first_so, second_so, ltb-true, leb-true, nat_tests, nil_from_length, Direction, Up, Down, Stream, free_room, waiting, front, front_offers, Call, Write, Join, Read, direction_of, fits, Bytes, PairState, stream_of, is_joined, verdict, is_live, is_waiting, is_drained, is_open, read_most, call_for, next_call, IsDrained, HasRoomFor, IsPossible, opposite, inward, outward}
+use Rattle.relay_core.specs.declared.call.Call.TheVariants.{Shut}
 use Rattle.relay_core.specs.Replies as reply
-use Rattle.relay_core.specs.Pairs.{PairState, stream_of, is_joined, verdict, is_live}
-use Rattle.relay_core.specs.Order.{is_waiting, is_drained, is_open, read_most, call_for, next_call}
-use Rattle.relay_core.specs.Laws.{IsDrained, HasRoomFor, IsPossible}
-use Rattle.token.specs.Sides.{opposite, inward, outward}
 
 -- one of two calls, by a test
 chosen : {X : Type 0} (P : X → Type 0) (b : Bool) (o p : Option X) → (b ≡ true → IfSome o P) → (b ≡ false → IfSome p P) → IfSome (if b then o else p) P

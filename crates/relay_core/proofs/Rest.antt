@@ -1,16 +1,5 @@
 -- A live pair that has no next call.
-use Rattle.std.proofs.Common.{◌≡◌, ℕ, ◌≤◌, Bool, true, false, not, ◌&&◌, length, Option, Some, None, refl, arith}
-use Rattle.std.specs.Prelude.{if◌then◌else◌, nat_lt}
-use Rattle.std.specs.Option.{option_or}
-use Rattle.std.proofs.lemmas.Bool.Decides.{nat_tests}
-use Rattle.token.specs.declared.direction.Direction.{Direction}
-use Rattle.token.specs.declared.direction.Direction.TheVariants.{Up, Down}
-use Rattle.token.specs.Sides.{opposite, source, destination}
-use Rattle.flow.specs.Stream.{Stream, free_room, waiting}
-use Rattle.relay_core.specs.declared.call.Call.{Call}
-use Rattle.relay_core.specs.Pairs.{PairState, stream_of, flags_of, is_joined, verdict, is_live}
-use Rattle.relay_core.specs.Order.{is_waiting, is_drained, is_open, call_for}
-use Rattle.relay_core.specs.Laws.{IsDrained, IsAtRest, LivePairsRest}
+use Rattle.relay_core.proofs.Prelude.{◌≡◌, ℕ, ◌≤◌, Bool, true, false, not, ◌&&◌, length, Option, Some, None, refl, arith, if◌then◌else◌, nat_lt, option_or, nat_tests, Direction, Up, Down, opposite, source, destination, Stream, free_room, waiting, Call, PairState, stream_of, flags_of, is_joined, verdict, is_live, is_waiting, is_drained, is_open, call_for, IsDrained, IsAtRest, LivePairsRest}
 
 -- none of two calls
 none_of_if : (b : Bool) (call : Call) (o : Option Call) → (if b then Some call else o) ≡ None → (b ≡ false) × (o ≡ None)

@@ -1,21 +1,5 @@
 -- What an answer does to the stream of one direction.
-use Rattle.std.proofs.Common.{◌≡◌, ℕ, ◌≤◌, length, Bool, true, false, List, [], ◌++◌, take, drop, Some, refl, ap, ◌∙◌, sym, append-nil, append_assoc, take-append-drop, inl, inr, ◌⊎◌}
-use Rattle.std.specs.Prelude.{if◌then◌else◌}
-use Rattle.token.specs.declared.side.Side.{Side}
-use Rattle.token.specs.declared.side.Side.TheVariants.{Client, Target}
-use Rattle.token.specs.declared.direction.Direction.{Direction}
-use Rattle.token.specs.declared.direction.Direction.TheVariants.{Up, Down}
-use Rattle.token.specs.Sides.{opposite, inward}
-use Rattle.flow.specs.Stream.{Stream, free_room, waiting, taken_in, dropped, ended, closed}
-use Rattle.flow.proofs.Front.{waiting-dropped, take-front}
-use Rattle.relay_core.specs.declared.call.Call.{Call}
-use Rattle.relay_core.specs.Calls.{side_of, direction_of}
-use Rattle.relay_core.specs.Pairs.{Flags, PairState, stream_of, with_stream, with_flags, flags_of, mark_joined, with_sent}
-use Rattle.relay_core.specs.Order.{next_call, offer}
-use Rattle.relay_core.specs.Replies.{AnswerValue, Bytes, End, Wrote, Joined, Shut, Blocked, Interrupted, Failed, fits, change_stream, without_flag, effect, after}
-use Rattle.relay_core.specs.Moved.{same_way, carried}
-use Rattle.relay_core.specs.Laws.{IsDrained, IsClosedLast, PassesEndLast, KeepsOrder}
-use Rattle.std.proofs.Math.Seq.{drop-nil}
+use Rattle.relay_core.proofs.Prelude.{◌≡◌, ℕ, ◌≤◌, length, Bool, true, false, List, [], ◌++◌, take, drop, Some, refl, ap, ◌∙◌, sym, append-nil, append_assoc, take-append-drop, inl, inr, ◌⊎◌, if◌then◌else◌, Side, Client, Target, Direction, Up, Down, opposite, inward, Stream, free_room, waiting, taken_in, dropped, ended, closed, waiting-dropped, take-front, Call, side_of, direction_of, Flags, PairState, stream_of, with_stream, with_flags, flags_of, mark_joined, with_sent, next_call, offer, AnswerValue, Bytes, End, Wrote, Joined, Shut, Blocked, Interrupted, Failed, fits, change_stream, without_flag, effect, after, same_way, carried, IsDrained, IsClosedLast, PassesEndLast, KeepsOrder, drop-nil}
 use Rattle.relay_core.proofs.Possible.{bytes_fit, shut_fits}
 
 -- what an answer does to the stream that its call serves

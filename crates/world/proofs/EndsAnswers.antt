@@ -1,35 +1,9 @@
 -- What an answered call does to a pair and to the end on which it was made: the bytes keep their order, an end
 -- comes last, and a flag that goes down is covered.
-use Rattle.std.proofs.Common.{◌≡◌, ℕ, ◌<◌, ◌≤◌, Bool, true, false, not, ◌&&◌, List, [], ◌∷◌, ◌++◌, take, drop, length, Option, Some, None, refl, sym, ap, ◌∙◌, subst, option_map, append_assoc, take-append-drop, arith, ltb-true, leb-true}
-use Rattle.std.specs.Prelude.{if◌then◌else◌, nat_lt, nat_le}
-use Rattle.std.specs.Option.{option_or}
-use Rattle.std.specs.Cmp.{first_so, second_so}
-use Rattle.std.proofs.lemmas.List.{nil_from_length}
-use Rattle.std.proofs.lemmas.Bool.Decides.{nat_tests}
-use Rattle.std.proofs.Math.Seq.{drop-nil}
-use Rattle.token.specs.declared.side.Side.{Side}
-use Rattle.token.specs.declared.side.Side.TheVariants.{Client, Target}
-use Rattle.token.specs.declared.kind.Kind.{Kind}
-use Rattle.token.specs.declared.direction.Direction.{Direction}
-use Rattle.token.specs.declared.direction.Direction.TheVariants.{Up, Down}
-use Rattle.token.specs.Sides.{opposite, inward}
-use Rattle.flow.specs.Stream.{Stream, waiting, front, taken_in, dropped, ended, closed}
-use Rattle.flow.proofs.Front.{waiting-dropped, take-front}
-use Rattle.kernel_model.specs.declared.both.Sockets.{Sockets}
-use Rattle.kernel_model.specs.declared.reply.Reply.{Reply}
+use Rattle.world.proofs.Prelude.{◌≡◌, ℕ, ◌<◌, ◌≤◌, Bool, true, false, not, ◌&&◌, List, [], ◌∷◌, ◌++◌, drop, length, Option, Some, None, refl, sym, ap, ◌∙◌, subst, option_map, append_assoc, take-append-drop, arith, ltb-true, leb-true, if◌then◌else◌, nat_lt, nat_le, option_or, first_so, second_so, nil_from_length, nat_tests, drop-nil, Side, Client, Target, Kind, Direction, Up, Down, opposite, inward, Stream, waiting, front, taken_in, dropped, ended, closed, waiting-dropped, take-front, Sockets, Reply, guard, EndState, is_nonempty, is_readable, is_writable, is_zero, is_count, bytes_read, after_read, after_write, after_join, after_shut, Call, Write, Join, Shut, Read, PairState, stream_of, flags_of, verdict, is_live, is_waiting, is_drained, is_open, read_most, call_for, next_call, offer, after, plain, socket_of, EndCovered}
+use Rattle.std.proofs.Common.{take}
 use Rattle.kernel_model.specs.declared.reply.Reply.TheVariants as reply
-use Rattle.kernel_model.specs.Outcome.{guard}
-use Rattle.kernel_model.specs.Ends.{EndState, is_nonempty, is_readable, is_writable}
-use Rattle.kernel_model.specs.Replies.{is_zero, is_count, bytes_read, after_read, after_write, after_join, after_shut}
-use Rattle.relay_core.specs.declared.call.Call.{Call}
-use Rattle.relay_core.specs.declared.call.Call.TheVariants.{Write, Join, Shut, Read}
-use Rattle.relay_core.specs.Pairs.{PairState, stream_of, flags_of, verdict, is_live}
-use Rattle.relay_core.specs.Order.{is_waiting, is_drained, is_open, read_most, call_for, next_call, offer}
-use Rattle.relay_core.specs.Replies.{after}
 use Rattle.relay_core.specs.Replies as answer
-use Rattle.world.specs.Calls.{plain}
-use Rattle.world.specs.Headline.{socket_of}
-use Rattle.world.specs.Support.{EndCovered}
 use Rattle.world.proofs.TurnsKept.{Kept}
 use Rattle.world.proofs.EndsHeld.{DirectionOk, PairOk}
 use Rattle.world.proofs.EndsCovered.{cover_flag, cover_armed}

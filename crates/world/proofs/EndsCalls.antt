@@ -1,27 +1,7 @@
 -- A worker's call: the kernel changes at the end on which it is made, and the pair takes the answer in.
-use Rattle.std.proofs.Common.{◌≡◌, ℕ, ◌-◌, Bool, true, false, ◌||◌, List, Option, Some, None, refl, sym, ap, ◌∙◌, subst, option_map}
-use Rattle.std.specs.Prelude.{slice_get, slice_set, nat_lt}
-use Rattle.token.specs.declared.side.Side.{Side}
-use Rattle.token.specs.Names.{EndName}
-use Rattle.kernel_model.specs.declared.both.Sockets.{Sockets}
-use Rattle.kernel_model.specs.declared.reply.Reply.{Reply}
+use Rattle.world.proofs.Prelude.{◌≡◌, ℕ, ◌-◌, Bool, true, false, ◌||◌, List, Option, Some, None, refl, sym, ap, ◌∙◌, subst, option_map, slice_get, slice_set, nat_lt, Side, EndName, Sockets, Reply, EndState, is_nonempty, after_read, after_write, after_join, after_shut, KernelState, end_at, Call, Write, Join, Shut, Read, next_call, offer, fits, after, Connection, Doing, Idle, Tries, Holds, Closed, Retired, SlotState, WorkerState, State, OpenConnection, descriptor, plain, told_of, replied, called, OpenSlot, slot_call, call, doing, with_place, socket_of}
 use Rattle.kernel_model.specs.declared.reply.Reply.TheVariants as reply
-use Rattle.kernel_model.specs.Ends.{EndState, is_nonempty}
-use Rattle.kernel_model.specs.Replies.{after_read, after_write, after_join, after_shut}
-use Rattle.kernel_model.specs.Kernel.{KernelState, end_at}
-use Rattle.relay_core.specs.declared.call.Call.{Call}
-use Rattle.relay_core.specs.declared.call.Call.TheVariants.{Write, Join, Shut, Read}
-use Rattle.relay_core.specs.Order.{next_call, offer}
-use Rattle.relay_core.specs.Replies.{fits, after}
 use Rattle.relay_core.specs.Replies as answer
-use Rattle.world.specs.declared.connection.Connection.{Connection}
-use Rattle.world.specs.declared.actors.Doing.{Doing}
-use Rattle.world.specs.declared.actors.Doing.TheVariants.{Idle, Tries, Holds, Closed, Retired}
-use Rattle.world.specs.Slots.{SlotState, WorkerState}
-use Rattle.world.specs.States.{State}
-use Rattle.world.specs.Calls.{OpenConnection, descriptor, plain, told_of, replied, called}
-use Rattle.world.specs.Steps.{OpenSlot, slot_call, call, doing, with_place}
-use Rattle.world.specs.Headline.{socket_of}
 use Rattle.world.proofs.TurnsKept.{Kept, kept_bind, kept_when, kept_at, kept_then}
 use Rattle.world.proofs.EndsHeld.{History, token_at, is_pending, registered, PairOk, ConnectionOk, SlotOk, AllOk}
 use Rattle.world.proofs.EndsPairs.{with_socket}

@@ -1,9 +1,6 @@
 -- What each change of the network does to an end, so that its flags stay covered.
-use Rattle.std.proofs.Common.{◌≡◌, ◌+◌, Bool, true, false, not, ◌||◌, ◌&&◌, List, [], ◌++◌, refl, sym, subst, append-nil, length, length-append, ℕ, ◌<◌, arith, Option, Some, ltb-true, lt-ltb}
-use Rattle.std.specs.Cmp.{first_so, second_so}
-use Rattle.kernel_model.specs.Outcome.{Told, guard}
-use Rattle.kernel_model.specs.Ends.{EndState, is_nonempty, is_readable, is_writable, arrival, finish, failure, new_room}
-use Rattle.world.specs.Support.{is_covered}
+use Rattle.world.proofs.Prelude.{◌≡◌, ◌+◌, Bool, true, false, not, ◌||◌, ◌&&◌, List, [], ◌++◌, refl, sym, subst, append-nil, length, length-append, ℕ, ◌<◌, arith, Option, Some, ltb-true, lt-ltb, first_so, second_so, Told, guard, EndState, is_nonempty, is_readable, is_writable, arrival, finish, new_room, is_covered}
+use Rattle.kernel_model.specs.Ends.{failure}
 use Rattle.world.proofs.EndsCovered.{cover_more, cover_report}
 use Rattle.world.proofs.EndsNames.{or_left, or_right}
 use Rattle.world.proofs.EndsPairs.{IsChange}

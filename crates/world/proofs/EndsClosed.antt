@@ -1,34 +1,8 @@
 -- Of each closed connection: what was sent is a beginning of the preamble and what was given, and all of it where it
 -- was done. Nothing more is given for its generation, since its slot has none of that generation any more.
-use Rattle.std.proofs.Common.{◌≡◌, ℕ, ◌<◌, ◌≤◌, Bool, true, false, ◌&&◌, ◌⊎◌, inl, inr, List, [], ◌∷◌, ◌++◌, Option, Some, None, refl, sym, ap, ◌∙◌, subst, append-nil, append_assoc, option_map, option_and_then, unwrap_or, eqb-true, eq-eqb, ne_eqb, arith, le_refl, ⊎_elim}
-use Rattle.std.specs.Prelude.{slice_get, slice_set, if◌then◌else◌, ◌==◌}
-use Rattle.std.specs.Cmp.{first_so, second_so}
-use Rattle.token.specs.declared.side.Side.{Side}
-use Rattle.token.specs.declared.direction.Direction.{Direction}
-use Rattle.token.specs.declared.direction.Direction.TheVariants.{Up, Down}
-use Rattle.token.specs.Sides.{source, destination, side_number}
-use Rattle.flow.specs.Stream.{Stream, waiting}
-use Rattle.kernel_model.specs.declared.both.Sockets.{Sockets}
-use Rattle.kernel_model.specs.Ends.{EndState}
-use Rattle.kernel_model.specs.Outcome.{Told}
+use Rattle.world.proofs.Prelude.{◌≡◌, ℕ, ◌<◌, ◌≤◌, Bool, true, false, ◌&&◌, ◌⊎◌, inl, inr, List, [], ◌∷◌, ◌++◌, Option, Some, None, refl, sym, ap, ◌∙◌, subst, append-nil, append_assoc, option_map, option_and_then, unwrap_or, eqb-true, eq-eqb, ne_eqb, arith, le_refl, ⊎_elim, slice_get, slice_set, if◌then◌else◌, ◌==◌, first_so, second_so, Side, Direction, Up, Down, source, destination, side_number, Stream, waiting, Sockets, EndState, Told, KernelState, Fault, Done, PairState, stream_of, verdict_of, verdict, Connection, Past, Limits, Event, Arrive, Fin, Reset, Room, SlotState, State, opening, connection_at, step, run, given_by, given, socket_of, ClosedHold, CoreLaws}
 use Rattle.kernel_model.specs.Kernel as kernel
-use Rattle.kernel_model.specs.Kernel.{KernelState}
-use Rattle.relay_core.specs.declared.verdict.Fault.{Fault}
-use Rattle.relay_core.specs.declared.verdict.Verdict.TheVariants.{Done}
-use Rattle.relay_core.specs.Pairs.{PairState, stream_of, verdict_of, verdict}
-use Rattle.world.specs.declared.connection.Connection.{Connection}
-use Rattle.world.specs.declared.past.Past.{Past}
-use Rattle.world.specs.declared.limits.Limits.{Limits}
-use Rattle.world.specs.declared.event.Event.{Event}
 use Rattle.world.specs.declared.event.Event.TheVariants as event
-use Rattle.world.specs.declared.event.Change.TheVariants.{Arrive, Fin, Reset, Room}
-use Rattle.world.specs.Slots.{SlotState}
-use Rattle.world.specs.States.{State, opening}
-use Rattle.world.specs.Steps.{connection_at, step}
-use Rattle.world.specs.Runs.{run}
-use Rattle.world.specs.Given.{given_by, given}
-use Rattle.world.specs.Headline.{socket_of, ClosedHold}
-use Rattle.world.specs.CoreLaws.{CoreLaws}
 use Rattle.world.proofs.TurnsKept.{Kept}
 use Rattle.world.proofs.TurnsTotals.{get-set_same, get-set_other}
 use Rattle.world.proofs.EndsHeld.{History, DirectionOk, ConnectionOk, SlotOk, AllOk}

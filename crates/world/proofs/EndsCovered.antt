@@ -1,8 +1,5 @@
 -- Flags that are down stay covered when a report comes, goes, or the end changes.
-use Rattle.std.proofs.Common.{◌≡◌, Bool, true, false, ◌||◌, refl}
-use Rattle.kernel_model.specs.Ends.{EndState, is_readable, is_writable}
-use Rattle.relay_core.specs.declared.flags.Flags.{Flags}
-use Rattle.world.specs.Support.{is_covered, EndCovered}
+use Rattle.world.proofs.Prelude.{◌≡◌, Bool, true, false, ◌||◌, refl, EndState, is_readable, is_writable, Flags, is_covered, EndCovered}
 
 -- more may be reported
 pub cover_more : (flag armed ready r q : Bool) → (r ≡ true → q ≡ true) → is_covered flag armed ready r ≡ true → is_covered flag armed ready q ≡ true

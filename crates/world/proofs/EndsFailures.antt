@@ -1,29 +1,10 @@
 -- A pair fails only after a failed call, or after moving nothing for the idle limit; and each event is of one of the
 -- shapes.
-use Rattle.std.proofs.Common.{◌≡◌, ℕ, ◌+◌, le_refl, arith, ◌++◌, append-nil, append_assoc, option_map, true, false, ◌⊎◌, ⊎_elim, inl, inr, List, [], ◌∷◌, Option, Some, None, refl, sym, ap, ◌∙◌, subst, option_and_then, eqb-true, eq-eqb}
-use Rattle.std.specs.Prelude.{slice_get, slice_set, ◌==◌}
-use Rattle.relay_core.specs.declared.verdict.Fault.{Fault}
-use Rattle.relay_core.specs.declared.verdict.Fault.TheVariants.{Broken, Idle}
-use Rattle.relay_core.specs.declared.verdict.Verdict.TheVariants.{Live, Failed}
-use Rattle.relay_core.specs.Pairs.{verdict}
-use Rattle.world.specs.declared.connection.Connection.{Connection}
-use Rattle.world.specs.declared.past.Past.{Past}
-use Rattle.world.specs.declared.limits.Limits.{Limits}
-use Rattle.world.specs.declared.event.Event.{Event}
+use Rattle.world.proofs.Prelude.{◌≡◌, ℕ, ◌+◌, le_refl, arith, ◌++◌, append-nil, append_assoc, option_map, true, false, ◌⊎◌, ⊎_elim, inl, inr, List, [], ◌∷◌, Option, Some, None, refl, sym, ap, ◌∙◌, subst, option_and_then, eqb-true, eq-eqb, slice_get, slice_set, ◌==◌, Fault, Broken, Live, Failed, verdict, Connection, Past, Limits, Event, Act, Kind, Reply, Call, next_call, SlotState, WorkerState, State, opening, unused, connection_at, watched_of, acted, step, run, fault_of, Failure, failure, failure_by, FailedBy, Named, held_connection, held_by, next_fails, LiesBack, FailedAfter, Throughout, FailuresHold, CoreLaws}
+use Rattle.relay_core.specs.declared.verdict.Fault.TheVariants.{Idle}
 use Rattle.world.specs.declared.event.Event.TheVariants as event
-use Rattle.world.specs.declared.event.Act.{Act}
 use Rattle.world.specs.declared.event.Act.TheVariants as act
-use Rattle.token.specs.declared.kind.Kind.{Kind}
-use Rattle.kernel_model.specs.declared.reply.Reply.{Reply}
 use Rattle.kernel_model.specs.declared.reply.Reply.TheVariants as reply
-use Rattle.relay_core.specs.declared.call.Call.{Call}
-use Rattle.relay_core.specs.Order.{next_call}
-use Rattle.world.specs.Slots.{SlotState, WorkerState}
-use Rattle.world.specs.States.{State, opening, unused}
-use Rattle.world.specs.Steps.{connection_at, watched_of, acted, step}
-use Rattle.world.specs.Runs.{run}
-use Rattle.world.specs.Headline.{fault_of, Failure, failure, failure_by, FailedBy, Named, held_connection, held_by, next_fails, LiesBack, FailedAfter, Throughout, FailuresHold}
-use Rattle.world.specs.CoreLaws.{CoreLaws}
 use Rattle.world.proofs.TurnsKept.{Kept, kept_bind, kept_guard, kept_at}
 use Rattle.world.proofs.TurnsTotals.{get-set_same, get-set_other, get-replicate}
 use Rattle.world.proofs.EndsLists.{Yes, No, tell, Before, ThisOne, last_of}

@@ -1,32 +1,10 @@
 -- A call that fails, and that a pair fails by nothing else.
-use Rattle.std.proofs.Common.{◌≡◌, ℕ, ◌≤◌, le_refl, Bool, true, false, if◌then◌else◌, inr, List, Option, Some, None, refl, sym, ap, ◌∙◌, subst, option_map}
-use Rattle.std.specs.Prelude.{slice_get, nat_lt}
-use Rattle.token.specs.declared.kind.Kind.{Kind}
-use Rattle.kernel_model.specs.declared.reply.Reply.{Reply}
+use Rattle.world.proofs.Prelude.{◌≡◌, ℕ, ◌≤◌, le_refl, Bool, true, false, if◌then◌else◌, inr, List, Option, Some, None, refl, sym, ap, ◌∙◌, subst, option_map, slice_get, nat_lt, Kind, Reply, KernelState, Call, Write, Join, Shut, Read, Fault, Failed, verdict, next_call, fits, moves, after, Standing, AnswersNext, TellsOf, Connection, Doing, Idle, Tries, Holds, Closed, Retired, Event, SlotState, WorkerState, State, OpenConnection, plain, told_of, made, replied, called, connection_at, OpenSlot, slot_call, with_place, doing, fault_of, failure, failure_by, CoreLaws}
 use Rattle.kernel_model.specs.declared.reply.Reply.TheVariants as reply
-use Rattle.kernel_model.specs.Kernel.{KernelState}
-use Rattle.relay_core.specs.declared.call.Call.{Call}
-use Rattle.relay_core.specs.declared.call.Call.TheVariants.{Write, Join, Shut, Read}
-use Rattle.relay_core.specs.declared.verdict.Fault.{Fault}
-use Rattle.relay_core.specs.declared.verdict.Verdict.TheVariants.{Failed}
-use Rattle.relay_core.specs.Pairs.{verdict}
-use Rattle.relay_core.specs.Order.{next_call}
-use Rattle.relay_core.specs.Replies.{fits, moves, after}
 use Rattle.relay_core.specs.Replies as answer
-use Rattle.relay_core.specs.Laws.{Place as Standing, AnswersNext, TellsOf}
-use Rattle.world.specs.declared.connection.Connection.{Connection}
-use Rattle.world.specs.declared.actors.Doing.{Doing}
-use Rattle.world.specs.declared.actors.Doing.TheVariants.{Idle, Tries, Holds, Closed, Retired}
-use Rattle.world.specs.declared.event.Event.{Event}
 use Rattle.world.specs.declared.event.Event.TheVariants as event
 use Rattle.world.specs.declared.event.Act.TheVariants as act
-use Rattle.world.specs.Slots.{SlotState, WorkerState}
-use Rattle.world.specs.States.{State}
-use Rattle.world.specs.Calls.{OpenConnection, plain, told_of, made, replied, called}
 use Rattle.world.specs.Steps
-use Rattle.world.specs.Steps.{connection_at, OpenSlot, slot_call, with_place, doing}
-use Rattle.world.specs.Headline.{fault_of, failure, failure_by}
-use Rattle.world.specs.CoreLaws.{CoreLaws}
 use Rattle.world.proofs.TurnsKept.{Kept, kept_bind, kept_map, kept_when, kept_then}
 use Rattle.world.proofs.EndsShapes.{Continues, Stays, Shape, Changed}
 

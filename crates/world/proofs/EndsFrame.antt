@@ -1,21 +1,6 @@
 -- What a slot keeps while the rest of the machine changes.
-use Rattle.std.proofs.Common.{◌≡◌, ℕ, Bool, true, false, ◌||◌, List, Some, refl, sym, ap, ◌∙◌, subst, eqb-true, eq-eqb}
-use Rattle.std.specs.Prelude.{slice_get, slice_set, ◌==◌}
-use Rattle.token.specs.declared.side.Side.{Side}
-use Rattle.token.specs.Sides.{source, destination}
+use Rattle.world.proofs.Prelude.{◌≡◌, ℕ, Bool, true, false, ◌||◌, List, Some, refl, sym, ap, ◌∙◌, subst, eqb-true, eq-eqb, slice_get, slice_set, ◌==◌, Side, source, destination, EndName, has, Sockets, Registered, end_at, PairState, stream_of, flags_of, is_nonempty, Connection, Limits, SlotState, State, descriptor, socket_of}
 use Rattle.token.specs.declared.name.Name.TheVariants as name
-use Rattle.token.specs.Names.{EndName}
-use Rattle.kernel_model.specs.Names.{has}
-use Rattle.kernel_model.specs.declared.both.Sockets.{Sockets}
-use Rattle.kernel_model.specs.Kernel.{Registered, end_at}
-use Rattle.relay_core.specs.Pairs.{PairState, stream_of, flags_of}
-use Rattle.kernel_model.specs.Ends.{is_nonempty}
-use Rattle.world.specs.declared.connection.Connection.{Connection}
-use Rattle.world.specs.declared.limits.Limits.{Limits}
-use Rattle.world.specs.Slots.{SlotState}
-use Rattle.world.specs.States.{State}
-use Rattle.world.specs.Calls.{descriptor}
-use Rattle.world.specs.Headline.{socket_of}
 use Rattle.world.proofs.TurnsTotals.{get-set_same, get-set_other}
 use Rattle.world.proofs.EndsHeld.{History, before, token_at, is_pending, registered, PairOk, ConnectionOk, SlotOk, AllOk}
 use Rattle.world.proofs.EndsCovered.{end_more}

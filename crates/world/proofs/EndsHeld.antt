@@ -1,26 +1,6 @@
 -- What the machine keeps of each connection's two ends in the kernel, after every event.
-use Rattle.std.proofs.Common.{◌≡◌, ℕ, ◌<◌, Bool, true, ◌||◌, List, [], ◌++◌, Some, refl}
-use Rattle.std.specs.Prelude.{slice_get}
-use Rattle.token.specs.declared.side.Side.{Side}
-use Rattle.token.specs.declared.side.Side.TheVariants.{Client, Target}
-use Rattle.token.specs.declared.direction.Direction.{Direction}
-use Rattle.token.specs.declared.direction.Direction.TheVariants.{Up, Down}
+use Rattle.world.proofs.Prelude.{◌≡◌, ℕ, ◌<◌, Bool, true, ◌||◌, List, [], ◌++◌, Some, refl, slice_get, Side, Client, Target, Direction, Up, Down, EndName, source, destination, Stream, waiting, Sockets, EndState, is_nonempty, has, Registered, PairState, stream_of, flags_of, IsClosedLast, Connection, Limits, SlotState, State, preamble, socket_of, end_of, EndCovered}
 use Rattle.token.specs.declared.name.Name.TheVariants as name
-use Rattle.token.specs.Names.{EndName}
-use Rattle.token.specs.Sides.{source, destination}
-use Rattle.flow.specs.Stream.{Stream, waiting}
-use Rattle.kernel_model.specs.declared.both.Sockets.{Sockets}
-use Rattle.kernel_model.specs.Ends.{EndState, is_nonempty}
-use Rattle.kernel_model.specs.Names.{has}
-use Rattle.kernel_model.specs.Kernel.{Registered}
-use Rattle.relay_core.specs.Pairs.{PairState, stream_of, flags_of}
-use Rattle.relay_core.specs.Laws.{IsClosedLast}
-use Rattle.world.specs.declared.connection.Connection.{Connection}
-use Rattle.world.specs.declared.limits.Limits.{Limits}
-use Rattle.world.specs.Slots.{SlotState}
-use Rattle.world.specs.States.{State}
-use Rattle.world.specs.Headline.{preamble, socket_of, end_of}
-use Rattle.world.specs.Support.{EndCovered}
 
 -- the bytes that are to go on from a side so far, by slot, generation and side: the preamble of its direction, and then
 -- those that came to it

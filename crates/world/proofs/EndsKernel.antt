@@ -1,11 +1,5 @@
 -- The ends by descriptor, when one of them changes, is closed or is opened.
-use Rattle.std.proofs.Common.{◌≡◌, ℕ, ◌<◌, ◌+◌, false, List, [], ◌∷◌, ◌++◌, length, Option, Some, None, refl, sym, ap, ◌∙◌, cond, arith, one-add}
-use Rattle.std.specs.Prelude.{slice_get, slice_set, nat_lt, unwrap_or}
-use Rattle.std.specs.Option.{is_none, option_flatten}
-use Rattle.std.specs.List.{position_or_len}
-use Rattle.std.proofs.lemmas.Bool.{ltb-true, lt-ltb}
-use Rattle.std.proofs.lemmas.Option.{slice_get_within}
-use Rattle.kernel_model.specs.Kernel.{Registered, end_at, lowest_free, with_end}
+use Rattle.world.proofs.Prelude.{◌≡◌, ℕ, ◌<◌, ◌+◌, false, List, [], ◌∷◌, ◌++◌, length, Option, Some, None, refl, sym, ap, ◌∙◌, cond, arith, one-add, slice_get, slice_set, nat_lt, unwrap_or, is_none, option_flatten, position_or_len, ltb-true, lt-ltb, slice_get_within, Registered, end_at, lowest_free, with_end}
 use Rattle.world.proofs.TurnsTotals.{get-set_same, get-set_other}
 use Rattle.world.proofs.EndsLists.{append_get, Yes, No, tell}
 

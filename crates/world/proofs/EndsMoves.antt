@@ -1,32 +1,12 @@
 -- The connection that an event opens or moves has moved now; and one that expires moved nothing for the idle limit.
-use Rattle.std.proofs.Common.{◌≡◌, ℕ, ◌+◌, ◌-◌, ◌≤◌, Bool, true, false, List, Option, Some, None, refl, ap, ◌∙◌, subst, arith, le_refl, option_map, nat_lt}
-use Rattle.std.specs.Prelude.{slice_get, slice_set, if◌then◌else◌}
-use Rattle.token.specs.declared.side.Side.TheVariants.{Client, Target}
-use Rattle.kernel_model.specs.declared.reply.Reply.{Reply}
+use Rattle.world.proofs.Prelude.{◌≡◌, ℕ, ◌+◌, ◌-◌, ◌≤◌, Bool, true, false, List, Option, Some, None, refl, ap, ◌∙◌, subst, arith, le_refl, option_map, nat_lt, slice_get, slice_set, if◌then◌else◌, Client, Target, Reply, KernelState, Call, Write, Join, Shut, Read, next_call, fits, moves, IsOverdue, Connection, Doing, Idle, Tries, Holds, Closed, Retired, Event, Limits, SlotState, WorkerState, State, OpenConnection, plain, told_of, made, called, connection_at, token_of, opened_place, opened_world, opening_of, with_place, expired_place, OpenSlot, slot_call, worked, step, Throughout, Named, named, next_opened, held_connection, is_movement, moved_by, LiesBack, CoreLaws}
 use Rattle.kernel_model.specs.declared.reply.Reply.TheVariants as reply
 use Rattle.kernel_model.specs.Kernel as kernel
-use Rattle.kernel_model.specs.Kernel.{KernelState}
-use Rattle.relay_core.specs.declared.call.Call.{Call}
-use Rattle.relay_core.specs.declared.call.Call.TheVariants.{Write, Join, Shut, Read}
-use Rattle.relay_core.specs.Order.{next_call}
-use Rattle.relay_core.specs.Replies.{fits, moves}
 use Rattle.relay_core.specs.Replies as answer
-use Rattle.relay_core.specs.Laws.{IsOverdue}
-use Rattle.world.specs.declared.connection.Connection.{Connection}
-use Rattle.world.specs.declared.actors.Doing.{Doing}
-use Rattle.world.specs.declared.actors.Doing.TheVariants.{Idle, Tries, Holds, Closed, Retired}
-use Rattle.world.specs.declared.event.Event.{Event}
-use Rattle.world.specs.declared.limits.Limits.{Limits}
 use Rattle.world.specs.declared.event.Event.TheVariants as event
 use Rattle.world.specs.declared.event.Polling.TheVariants as polling
 use Rattle.world.specs.declared.event.Act.TheVariants as act
-use Rattle.world.specs.Slots.{SlotState, WorkerState}
-use Rattle.world.specs.States.{State}
-use Rattle.world.specs.Calls.{OpenConnection, plain, told_of, made, called}
 use Rattle.world.specs.Steps
-use Rattle.world.specs.Steps.{connection_at, token_of, opened_place, opened_world, opening_of, with_place, expired_place, OpenSlot, slot_call, worked, step}
-use Rattle.world.specs.Headline.{Throughout, Named, named, next_opened, held_connection, is_movement, moved_by, LiesBack}
-use Rattle.world.specs.CoreLaws.{CoreLaws}
 use Rattle.world.proofs.TurnsTotals.{get-set_same}
 use Rattle.world.proofs.TurnsKept.{Kept, kept_none, kept_bind, kept_map, kept_when, kept_then, kept_at}
 use Rattle.world.proofs.TurnsExpired.{Expired, expired_so}

@@ -1,16 +1,5 @@
 -- What the readiness queue keeps when names come and go.
-use Rattle.std.proofs.Common.{◌≡◌, ℕ, Bool, true, false, not, ◌||◌, List, [], ◌∷◌, ◌++◌, refl, sym, ap, cond}
-use Rattle.std.specs.Prelude.{if◌then◌else◌}
-use Rattle.std.specs.Cmp.{first_so, second_so}
-use Rattle.std.proofs.lemmas.Bool.{eqb-true, eq-eqb, ne_eqb}
-use Rattle.token.specs.declared.side.Side.{Side}
-use Rattle.token.specs.declared.side.Side.TheVariants.{Client, Target}
-use Rattle.token.specs.declared.name.Name.{Name}
-use Rattle.token.specs.declared.name.Name.TheVariants.{Listener, Waker, End}
-use Rattle.token.specs.Names.{EndName}
-use Rattle.token.specs.Sides.{side_number}
-use Rattle.kernel_model.specs.Names.{same_end, same, has, with_name, without_name, without_names}
-use Rattle.kernel_model.specs.Kernel.{reported}
+use Rattle.world.proofs.Prelude.{◌≡◌, ℕ, Bool, true, false, not, ◌||◌, List, [], ◌∷◌, ◌++◌, refl, sym, ap, cond, if◌then◌else◌, first_so, second_so, eqb-true, eq-eqb, ne_eqb, Side, Client, Target, Name, Listener, Waker, End, EndName, side_number, same_end, same, has, with_name, without_name, without_names, reported}
 
 pub side_of_number : (a b : Side) → side_number a ≡ side_number b → a ≡ b
 side_of_number Client Client e = refl

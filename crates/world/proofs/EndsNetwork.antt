@@ -1,22 +1,6 @@
 -- A change of the network at one end of a connection.
-use Rattle.std.proofs.Common.{◌≡◌, ℕ, Bool, true, false, ◌&&◌, List, [], ◌++◌, Option, Some, None, refl, sym, ap, ◌∙◌, subst, append-nil, option_map, option_and_then, arith, eq-eqb, ne_eqb}
-use Rattle.std.specs.Prelude.{slice_get, slice_set, if◌then◌else◌, ◌==◌}
-use Rattle.token.specs.declared.side.Side.{Side}
-use Rattle.token.specs.declared.side.Side.TheVariants.{Client, Target}
+use Rattle.world.proofs.Prelude.{◌≡◌, ℕ, Bool, true, false, ◌&&◌, List, [], ◌++◌, Option, Some, None, refl, sym, ap, ◌∙◌, subst, append-nil, option_map, option_and_then, arith, eq-eqb, ne_eqb, slice_get, slice_set, if◌then◌else◌, ◌==◌, Side, Client, Target, EndName, side_number, other_side, Sockets, Told, EndState, is_nonempty, Registered, end_at, reported, changed, Connection, SlotState, State, descriptor, over_kernel, connection_at, has_generation, socket_of, end_of}
 use Rattle.token.specs.declared.name.Name.TheVariants as name
-use Rattle.token.specs.Names.{EndName}
-use Rattle.token.specs.Sides.{side_number, other_side}
-use Rattle.kernel_model.specs.declared.both.Sockets.{Sockets}
-use Rattle.kernel_model.specs.Outcome.{Told}
-use Rattle.kernel_model.specs.Ends.{EndState, is_nonempty}
-use Rattle.kernel_model.specs.Kernel.{Registered, end_at, reported, changed}
-use Rattle.world.specs.declared.connection.Connection.{Connection}
-use Rattle.world.specs.Slots.{SlotState}
-use Rattle.world.specs.States.{State}
-use Rattle.world.specs.Calls.{descriptor}
-use Rattle.world.specs.Steps.{over_kernel, connection_at}
-use Rattle.world.specs.Given.{has_generation}
-use Rattle.world.specs.Headline.{socket_of, end_of}
 use Rattle.world.proofs.TurnsKept.{Kept}
 use Rattle.world.proofs.EndsHeld.{History, token_at, registered, ConnectionOk, SlotOk, AllOk}
 use Rattle.world.proofs.EndsNames.{or_left, or_right, or_then, has_reported, is_reported}

@@ -1,19 +1,5 @@
 -- A slot is opened for a fresh connection.
-use Rattle.std.proofs.Common.{◌≡◌, ℕ, ◌+◌, Bool, List, [], ◌∷◌, ◌++◌, Option, Some, refl, sym, ◌∙◌, subst, append-nil, arith}
-use Rattle.std.specs.Prelude.{slice_get}
-use Rattle.token.specs.declared.side.Side.{Side}
-use Rattle.token.specs.declared.side.Side.TheVariants.{Client, Target}
-use Rattle.token.specs.Names.{EndName}
-use Rattle.kernel_model.specs.declared.both.Sockets.{Sockets}
-use Rattle.kernel_model.specs.Ends.{opened}
-use Rattle.kernel_model.specs.Kernel.{KernelState, Registered, end_at, lowest_free, with_end, open_both}
-use Rattle.flow.specs.Stream.{empty_stream}
-use Rattle.relay_core.specs.Pairs.{fresh}
-use Rattle.world.specs.declared.connection.Connection.{Connection}
-use Rattle.world.specs.declared.limits.Limits.{Limits}
-use Rattle.world.specs.Slots.{SlotState}
-use Rattle.world.specs.States.{State}
-use Rattle.world.specs.Steps.{token_of, opened_place, opened_world, opening_of}
+use Rattle.world.proofs.Prelude.{◌≡◌, ℕ, ◌+◌, Bool, List, [], ◌∷◌, ◌++◌, Option, Some, refl, sym, ◌∙◌, subst, append-nil, arith, slice_get, Side, Client, Target, EndName, Sockets, opened, KernelState, Registered, end_at, lowest_free, with_end, open_both, empty_stream, fresh, Connection, Limits, SlotState, State, token_of, opened_place, opened_world, opening_of}
 use Rattle.world.proofs.TurnsKept.{Kept, kept_bind, kept_map}
 use Rattle.world.proofs.TurnsTotals.{get-set_same, get-set_other}
 use Rattle.world.proofs.EndsHeld.{History, before, token_at, registered, DirectionOk, PairOk, ConnectionOk, SlotOk, AllOk}

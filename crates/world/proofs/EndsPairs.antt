@@ -1,18 +1,5 @@
 -- A pair and its ends stay in order when the network changes one of the ends.
-use Rattle.std.proofs.Common.{◌≡◌, Bool, true, ◌||◌, List, [], ◌++◌, refl, ◌∙◌, ap, ℕ, append_assoc}
-use Rattle.token.specs.declared.side.Side.{Side}
-use Rattle.token.specs.declared.side.Side.TheVariants.{Client, Target}
-use Rattle.token.specs.declared.direction.Direction.{Direction}
-use Rattle.token.specs.declared.direction.Direction.TheVariants.{Up, Down}
-use Rattle.token.specs.Sides.{other_side}
-use Rattle.flow.specs.Stream.{Stream, waiting}
-use Rattle.kernel_model.specs.declared.both.Sockets.{Sockets}
-use Rattle.kernel_model.specs.Outcome.{Told}
-use Rattle.kernel_model.specs.Ends.{EndState}
-use Rattle.relay_core.specs.declared.flags.Flags.{Flags}
-use Rattle.relay_core.specs.Pairs.{PairState}
-use Rattle.world.specs.Headline.{socket_of}
-use Rattle.world.specs.Support.{EndCovered}
+use Rattle.world.proofs.Prelude.{◌≡◌, Bool, true, ◌||◌, List, [], ◌++◌, refl, ◌∙◌, ap, ℕ, append_assoc, Side, Client, Target, Direction, Up, Down, other_side, Stream, waiting, Sockets, Told, EndState, Flags, PairState, socket_of, EndCovered}
 use Rattle.world.proofs.EndsHeld.{KeepsAll, DirectionOk, PairOk}
 use Rattle.world.proofs.EndsCovered.{end_more}
 use Rattle.world.proofs.EndsNames.{or_then}

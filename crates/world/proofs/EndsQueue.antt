@@ -1,33 +1,10 @@
 -- Reports come and go, and the listener's connections: no end changes, and no report that counts is lost.
-use Rattle.std.proofs.Common.{◌≡◌, ℕ, Bool, true, false, not, ◌||◌, ◌&&◌, List, [], ◌∷◌, Option, Some, None, refl, sym, ◌∙◌, option_map, option_and_then, length, eqb-true}
-use Rattle.std.specs.Prelude.{slice_get, ◌==◌}
-use Rattle.std.specs.Cmp.{second_so}
-use Rattle.std.proofs.lemmas.List.{nil_from_length}
-use Rattle.token.specs.declared.side.Side.{Side}
-use Rattle.token.specs.declared.side.Side.TheVariants.{Client, Target}
-use Rattle.token.specs.declared.name.Name.{Name}
+use Rattle.world.proofs.Prelude.{◌≡◌, ℕ, Bool, true, false, not, ◌||◌, ◌&&◌, List, [], ◌∷◌, Option, Some, None, refl, sym, ◌∙◌, option_map, option_and_then, length, eqb-true, slice_get, ◌==◌, second_so, nil_from_length, Side, Client, Target, Name, EndName, other_side, Sockets, Watched, Accepted, Blocked, Again, Starved, guard, is_readable, is_writable, is_nonempty, has, same, without_name, KernelState, Registered, end_at, name_of, is_quiet, is_quiet_end, PairState, Connection, Reported, Listening, State, descriptor, over_kernel, connection_at, watched_of, spurious, vanish, may_accept, listen, batched, socket_of}
 use Rattle.token.specs.declared.name.Name.TheVariants as name
-use Rattle.token.specs.Names.{EndName}
-use Rattle.token.specs.Sides.{other_side}
-use Rattle.kernel_model.specs.declared.both.Sockets.{Sockets}
-use Rattle.kernel_model.specs.declared.watched.Watched.{Watched}
 use Rattle.kernel_model.specs.declared.watched.Watched.TheVariants as watched
-use Rattle.kernel_model.specs.declared.accepting.Accepting.TheVariants.{Accepted, Blocked, Again, Starved}
-use Rattle.kernel_model.specs.Outcome.{guard}
-use Rattle.kernel_model.specs.Ends.{is_readable, is_writable, is_nonempty}
-use Rattle.kernel_model.specs.Names.{has, same, without_name}
 use Rattle.kernel_model.specs.Kernel as kernel
-use Rattle.kernel_model.specs.Kernel.{KernelState, Registered, end_at, name_of, is_quiet, is_quiet_end}
-use Rattle.relay_core.specs.Pairs.{PairState}
-use Rattle.world.specs.declared.connection.Connection.{Connection}
-use Rattle.world.specs.declared.event.Reported.{Reported}
 use Rattle.world.specs.declared.event.Reported.TheVariants as reported
-use Rattle.world.specs.declared.event.Listening.{Listening}
 use Rattle.world.specs.declared.event.Listening.TheVariants as listening
-use Rattle.world.specs.States.{State}
-use Rattle.world.specs.Calls.{descriptor}
-use Rattle.world.specs.Steps.{over_kernel, connection_at, watched_of, spurious, vanish, may_accept, listen, batched}
-use Rattle.world.specs.Headline.{socket_of}
 use Rattle.world.proofs.TurnsKept.{Kept, kept_bind, kept_guard, kept_when}
 use Rattle.world.proofs.EndsHeld.{History, token_at, is_pending, registered, PairOk, ConnectionOk, SlotOk, AllOk}
 use Rattle.world.proofs.EndsCovered.{end_more, cover_unready}

@@ -1,39 +1,14 @@
 -- What each event does to the slots and to the closed connections: it leaves them, it changes one slot and keeps
 -- its connection, it opens one, or it closes a connection.
-use Rattle.std.proofs.Common.{◌≡◌, ℕ, ◌+◌, Bool, true, false, not, ◌⊎◌, inl, inr, ◌≤◌, le_refl, ap, nat_lt, List, [], ◌∷◌, ◌++◌, length, Option, Some, None, refl, sym, ◌∙◌, subst, option_map}
-use Rattle.std.specs.Prelude.{slice_get, slice_set, if◌then◌else◌, ◌==◌}
-use Rattle.token.specs.declared.side.Side.{Side}
-use Rattle.token.specs.declared.side.Side.TheVariants.{Client, Target}
-use Rattle.token.specs.declared.name.Name.{Name}
+use Rattle.world.proofs.Prelude.{◌≡◌, ℕ, ◌+◌, Bool, true, false, not, ◌⊎◌, inl, inr, ◌≤◌, le_refl, ap, nat_lt, List, [], ◌∷◌, ◌++◌, length, Option, Some, None, refl, sym, ◌∙◌, subst, option_map, slice_get, slice_set, if◌then◌else◌, ◌==◌, Side, Client, Target, Name, Descriptors, Sockets, Accepted, Blocked, Again, Starved, KernelState, Fault, timed_out, Live, Failed, verdict, is_live, noted, fresh, is_nonempty, Connection, Ticket, Doing, Idle, Tries, Holds, Closed, Retired, Event, Listening, Polling, SlotState, WorkerState, is_held, State, over_kernel, connection_at, watched_of, change_at, may_accept, after_accept, token_of, opened_world, with_note, posted, post_at, delivered_at, delivered, put_by_poller, put_by_worker, popped, heard, noted_slot, is_limited, expired_place, with_place, OpenSlot, slot_call, may_release, closed_world, doing, step, given_by, Failure, failure, failure_by, Named, held_connection}
 use Rattle.token.specs.declared.name.Name.TheVariants as name
-use Rattle.kernel_model.specs.declared.both.Descriptors.{Descriptors}
-use Rattle.kernel_model.specs.declared.both.Sockets.{Sockets}
-use Rattle.kernel_model.specs.declared.accepting.Accepting.TheVariants.{Accepted, Blocked, Again, Starved}
 use Rattle.kernel_model.specs.Kernel as kernel
-use Rattle.kernel_model.specs.Kernel.{KernelState}
-use Rattle.relay_core.specs.declared.verdict.Fault.{Fault}
 use Rattle.relay_core.specs.declared.verdict.Fault.TheVariants as reason
-use Rattle.relay_core.specs.Idle.{timed_out}
-use Rattle.relay_core.specs.declared.verdict.Verdict.TheVariants.{Live, Failed}
-use Rattle.relay_core.specs.Pairs.{verdict, is_live, noted, fresh}
-use Rattle.kernel_model.specs.Ends.{is_nonempty}
-use Rattle.world.specs.declared.connection.Connection.{Connection}
-use Rattle.world.specs.declared.actors.Ticket.{Ticket}
-use Rattle.world.specs.declared.actors.Doing.{Doing}
-use Rattle.world.specs.declared.actors.Doing.TheVariants.{Idle, Tries, Holds, Closed, Retired}
-use Rattle.world.specs.declared.event.Event.{Event}
 use Rattle.world.specs.declared.event.Event.TheVariants as event
 use Rattle.world.specs.declared.event.Act.TheVariants as act
-use Rattle.world.specs.declared.event.Listening.{Listening}
 use Rattle.world.specs.declared.event.Listening.TheVariants as listening
-use Rattle.world.specs.declared.event.Polling.{Polling}
 use Rattle.world.specs.declared.event.Polling.TheVariants as polling
-use Rattle.world.specs.Slots.{SlotState, WorkerState, is_held}
-use Rattle.world.specs.States.{State}
 use Rattle.world.specs.Steps
-use Rattle.world.specs.Steps.{over_kernel, connection_at, watched_of, change_at, may_accept, after_accept, token_of, opened_world, with_note, posted, post_at, delivered_at, delivered, put_by_poller, put_by_worker, popped, heard, noted_slot, is_limited, expired_place, with_place, OpenSlot, slot_call, may_release, closed_world, doing, step}
-use Rattle.world.specs.Given.{given_by}
-use Rattle.world.specs.Headline.{Failure, failure, failure_by, Named, held_connection}
 use Rattle.world.proofs.TurnsKept.{Kept, kept_bind, kept_map, kept_guard, kept_when, kept_then, kept_map_map}
 use Rattle.world.proofs.TurnsExpired.{Expired, expired_so}
 use Rattle.world.proofs.EndsSlots.{behind, kept_map_if}

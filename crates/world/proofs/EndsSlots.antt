@@ -1,20 +1,6 @@
 -- One slot changes, and the rest of the machine does not: its holder, its notes, a delivery.
-use Rattle.std.proofs.Common.{◌≡◌, ℕ, Bool, true, false, List, [], ◌∷◌, ◌++◌, drop, Option, Some, None, refl, sym, ap, ◌∙◌, subst, option_map, eqb-true, eq-eqb}
-use Rattle.std.specs.Prelude.{slice_get, slice_set, if◌then◌else◌, ◌==◌}
-use Rattle.token.specs.declared.side.Side.{Side}
-use Rattle.token.specs.declared.side.Side.TheVariants.{Client, Target}
-use Rattle.token.specs.declared.direction.Direction.TheVariants.{Up, Down}
-use Rattle.token.specs.declared.name.Name.{Name}
+use Rattle.world.proofs.Prelude.{◌≡◌, ℕ, Bool, true, false, List, [], ◌∷◌, ◌++◌, drop, Option, Some, None, refl, sym, ap, ◌∙◌, subst, option_map, eqb-true, eq-eqb, slice_get, slice_set, if◌then◌else◌, ◌==◌, Side, Client, Target, Up, Down, Name, EndName, has, same, noted, is_nonempty, Connection, Limits, SlotState, State, with_note, posted, post_at, delivered_at, delivered, deliver, heard, noted_slot}
 use Rattle.token.specs.declared.name.Name.TheVariants as name
-use Rattle.token.specs.Names.{EndName}
-use Rattle.kernel_model.specs.Names.{has, same}
-use Rattle.relay_core.specs.Pairs.{noted}
-use Rattle.kernel_model.specs.Ends.{is_nonempty}
-use Rattle.world.specs.declared.connection.Connection.{Connection}
-use Rattle.world.specs.declared.limits.Limits.{Limits}
-use Rattle.world.specs.Slots.{SlotState}
-use Rattle.world.specs.States.{State}
-use Rattle.world.specs.Steps.{with_note, posted, post_at, delivered_at, delivered, deliver, heard, noted_slot}
 use Rattle.world.proofs.TurnsKept.{Kept, kept_bind, kept_map_map}
 use Rattle.world.proofs.EndsHeld.{History, token_at, is_pending, ConnectionOk, SlotOk, AllOk}
 use Rattle.world.proofs.EndsLists.{Yes, No, tell}

@@ -1,25 +1,9 @@
 -- Each event keeps what holds of the ends, so each list of events does; and the opening world has it.
-use Rattle.std.proofs.Common.{◌≡◌, ℕ, Bool, true, false, ◌&&◌, List, [], ◌∷◌, ◌++◌, length, Option, Some, None, refl, sym, ap, subst, append-nil, append_assoc, option_map, option_and_then, unwrap_or}
-use Rattle.std.specs.Prelude.{slice_get, if◌then◌else◌, ◌==◌, nat_le}
-use Rattle.token.specs.declared.side.Side.{Side}
-use Rattle.token.specs.Sides.{side_number}
-use Rattle.kernel_model.specs.Ends.{arrival, finish, failure, new_room}
-use Rattle.kernel_model.specs.Kernel.{KernelState}
-use Rattle.world.specs.declared.limits.Limits.{Limits}
-use Rattle.world.specs.declared.event.Event.{Event}
+use Rattle.world.proofs.Prelude.{◌≡◌, ℕ, Bool, true, false, ◌&&◌, List, [], ◌∷◌, ◌++◌, length, Option, Some, None, refl, sym, ap, subst, append-nil, append_assoc, option_map, option_and_then, unwrap_or, slice_get, if◌then◌else◌, ◌==◌, nat_le, Side, side_number, arrival, finish, new_room, KernelState, Limits, Event, Change, Arrive, Fin, Reset, Room, Polling, Act, SlotState, WorkerState, State, opening, unused, when, over_kernel, connection_at, network, polled, acted, step, opening_of, run, has_generation, given_by, given}
+use Rattle.kernel_model.specs.Ends.{failure}
 use Rattle.world.specs.declared.event.Event.TheVariants as event
-use Rattle.world.specs.declared.event.Change.{Change}
-use Rattle.world.specs.declared.event.Change.TheVariants.{Arrive, Fin, Reset, Room}
-use Rattle.world.specs.declared.event.Polling.{Polling}
 use Rattle.world.specs.declared.event.Polling.TheVariants as polling
-use Rattle.world.specs.declared.event.Act.{Act}
 use Rattle.world.specs.declared.event.Act.TheVariants as act
-use Rattle.world.specs.Slots.{SlotState, WorkerState}
-use Rattle.world.specs.States.{State, opening, unused}
-use Rattle.world.specs.Calls.{when}
-use Rattle.world.specs.Steps.{over_kernel, connection_at, network, polled, acted, step, opening_of}
-use Rattle.world.specs.Runs.{run}
-use Rattle.world.specs.Given.{has_generation, given_by, given}
 use Rattle.world.proofs.TurnsKept.{Kept, kept_bind, kept_when}
 use Rattle.world.proofs.TurnsTotals.{get-replicate, get_beside}
 use Rattle.world.proofs.EndsHeld.{History, before, SlotOk, AllOk}

@@ -1,21 +1,5 @@
 -- What holds of the ends after every run: bytes and ends, and no flag down without cover.
-use Rattle.std.proofs.Common.{◌≡◌, ℕ, List, [], ◌++◌, Option, Some, refl, sym, ap, ◌∙◌, append-nil, append_assoc}
-use Rattle.std.specs.Prelude.{slice_get}
-use Rattle.token.specs.declared.direction.Direction.{Direction}
-use Rattle.token.specs.Sides.{source, destination}
-use Rattle.flow.specs.Stream.{Stream, waiting}
-use Rattle.flow.proofs.Front.{waiting_ends}
-use Rattle.kernel_model.specs.Ends.{EndState}
-use Rattle.kernel_model.specs.Kernel.{Registered}
-use Rattle.relay_core.specs.Pairs.{stream_of}
-use Rattle.world.specs.declared.connection.Connection.{Connection}
-use Rattle.world.specs.declared.event.Event.{Event}
-use Rattle.world.specs.declared.limits.Limits.{Limits}
-use Rattle.world.specs.States.{State, opening}
-use Rattle.world.specs.Runs.{run}
-use Rattle.world.specs.Given.{given}
-use Rattle.world.specs.Headline.{preamble, socket_of, end_of, DirectionHolds, ConnectionHolds, BytesAndEndsHold}
-use Rattle.world.specs.Support.{EdgesHold}
+use Rattle.world.proofs.Prelude.{◌≡◌, ℕ, List, [], ◌++◌, Option, Some, refl, sym, ap, ◌∙◌, append-nil, append_assoc, slice_get, Direction, source, destination, Stream, waiting, waiting_ends, EndState, Registered, stream_of, Connection, Event, Limits, State, opening, run, given, preamble, socket_of, end_of, DirectionHolds, ConnectionHolds, BytesAndEndsHold, EdgesHold}
 use Rattle.world.proofs.EndsHeld.{History, preamble_is, registered, DirectionOk, ConnectionOk, AllOk}
 use Rattle.world.proofs.EndsNetwork.{Lies, lies}
 use Rattle.world.proofs.EndsPairs.{same_gave}

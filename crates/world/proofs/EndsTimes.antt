@@ -1,15 +1,6 @@
 -- When each connection last moved: not before any event that opened it or moved something of it, and not after the
 -- second that it is.
-use Rattle.std.proofs.Common.{◌≡◌, ℕ, ◌≤◌, true, false, ◌⊎◌, inl, inr, List, [], ◌∷◌, ◌++◌, Option, Some, None, refl, sym, ap, ◌∙◌, subst, option_and_then, eqb-true, eq-eqb, le_refl, arith}
-use Rattle.std.specs.Prelude.{slice_get, slice_set, ◌==◌}
-use Rattle.world.specs.declared.connection.Connection.{Connection}
-use Rattle.world.specs.declared.limits.Limits.{Limits}
-use Rattle.world.specs.declared.event.Event.{Event}
-use Rattle.world.specs.Slots.{SlotState}
-use Rattle.world.specs.States.{State, opening, unused}
-use Rattle.world.specs.Steps.{step}
-use Rattle.world.specs.Runs.{run}
-use Rattle.world.specs.Headline.{Throughout, Named, named, moved_by}
+use Rattle.world.proofs.Prelude.{◌≡◌, ℕ, ◌≤◌, true, false, ◌⊎◌, inl, inr, List, [], ◌∷◌, ◌++◌, Option, Some, None, refl, sym, ap, ◌∙◌, subst, option_and_then, eqb-true, eq-eqb, le_refl, arith, slice_get, slice_set, ◌==◌, Connection, Limits, Event, SlotState, State, opening, unused, step, run, Throughout, Named, named, moved_by}
 use Rattle.world.proofs.TurnsTotals.{get-set_same, get-set_other, get-replicate}
 use Rattle.world.proofs.EndsLists.{Yes, No, tell}
 use Rattle.world.proofs.EndsShapes.{Continues, IsFresh, Clock, Shape, Same, Changed, Opened, Ended}

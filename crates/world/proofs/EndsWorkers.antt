@@ -1,26 +1,8 @@
 -- What a worker does beside a call: it moves tickets, and changes its slot's holder and notes; and it closes a
 -- connection's ends.
-use Rattle.std.proofs.Common.{◌≡◌, ℕ, ◌+◌, Bool, true, false, not, List, [], ◌∷◌, Some, None, refl, sym, subst, ap, ◌∙◌, length, nat_lt}
-use Rattle.std.specs.Prelude.{slice_get, slice_set, if◌then◌else◌, ◌==◌}
-use Rattle.token.specs.declared.side.Side.{Side}
-use Rattle.token.specs.declared.side.Side.TheVariants.{Client, Target}
+use Rattle.world.proofs.Prelude.{◌≡◌, ℕ, ◌+◌, Bool, true, false, not, List, [], ◌∷◌, Some, None, refl, sym, subst, ap, ◌∙◌, length, nat_lt, slice_get, slice_set, if◌then◌else◌, ◌==◌, Side, Client, Target, EndName, without_name, KernelState, Registered, end_at, timed_out, Up, Down, verdict, is_live, is_nonempty, Connection, Ticket, Holder, Doing, Idle, Tries, Holds, Closed, Retired, SlotState, WorkerState, is_held, State, is_limited, tick, sweep, posted, post_at, with_note, put_by_poller, put_by_worker, popped, pop, claim, noted_slot, take, with_place, post, expired_place, expire, may_release, release, closed_world, close, retire, free}
 use Rattle.token.specs.declared.name.Name.TheVariants as name
-use Rattle.token.specs.Names.{EndName}
-use Rattle.kernel_model.specs.Names.{without_name}
 use Rattle.kernel_model.specs.Kernel as kernel
-use Rattle.kernel_model.specs.Kernel.{KernelState, Registered, end_at}
-use Rattle.relay_core.specs.Idle.{timed_out}
-use Rattle.token.specs.declared.direction.Direction.TheVariants.{Up, Down}
-use Rattle.relay_core.specs.Pairs.{verdict, is_live}
-use Rattle.kernel_model.specs.Ends.{is_nonempty}
-use Rattle.world.specs.declared.connection.Connection.{Connection}
-use Rattle.world.specs.declared.actors.Ticket.{Ticket}
-use Rattle.world.specs.declared.actors.Holder.{Holder}
-use Rattle.world.specs.declared.actors.Doing.{Doing}
-use Rattle.world.specs.declared.actors.Doing.TheVariants.{Idle, Tries, Holds, Closed, Retired}
-use Rattle.world.specs.Slots.{SlotState, WorkerState, is_held}
-use Rattle.world.specs.States.{State}
-use Rattle.world.specs.Steps.{is_limited, tick, sweep, posted, post_at, with_note, put_by_poller, put_by_worker, popped, pop, claim, noted_slot, take, with_place, post, expired_place, expire, may_release, release, closed_world, close, retire, free}
 use Rattle.world.proofs.TurnsKept.{Kept, kept_bind, kept_map, kept_then, kept_guard, kept_when}
 use Rattle.world.proofs.TurnsExpired.{Expired, expired_so}
 use Rattle.world.proofs.EndsPairs.{by_side, by_direction}

@@ -1,11 +1,5 @@
 -- When a list gets longer by an event.
-use Rattle.std.proofs.Common.{◌≡◌, ℕ, ◌<◌, true, [], ◌∷◌, ◌++◌, length, slice_get, Some, arith, lt-ltb, length-append}
-use Rattle.std.proofs.lemmas.Bool.{lt-leb}
-use Rattle.world.specs.declared.actors.Doing.TheVariants.{Retired}
-use Rattle.world.specs.Slots.{SlotState, WorkerState}
-use Rattle.world.specs.States.{State}
-use Rattle.world.specs.Steps.{free}
-use Rattle.world.specs.Memory.{grows, free_length}
+use Rattle.world.proofs.Prelude.{◌≡◌, ℕ, ◌<◌, true, [], ◌∷◌, ◌++◌, length, slice_get, Some, arith, lt-ltb, length-append, lt-leb, Retired, SlotState, WorkerState, State, free, grows, free_length}
 
 -- a slot that is not worn goes to the free queue
 pub free_grows : (st : State) (w : ℕ) (k : WorkerState) (s : ℕ) (p : SlotState) → slice_get st.slots s ≡ Some p → p.generation < 140737488355327

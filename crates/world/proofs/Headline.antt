@@ -1,12 +1,5 @@
 -- The headline of every run.
-use Rattle.std.proofs.Common.{◌≡◌, List, Some}
-use Rattle.world.specs.declared.event.Event.{Event}
-use Rattle.world.specs.declared.limits.Limits.{Limits}
-use Rattle.world.specs.States.{State, opening}
-use Rattle.world.specs.Runs.{run}
-use Rattle.world.specs.Headline.{HeadlineHolds}
-use Rattle.world.specs.Support.{SupportHolds}
-use Rattle.world.specs.CoreLaws.{CoreLaws}
+use Rattle.world.proofs.Prelude.{◌≡◌, List, Some, Event, Limits, State, opening, run, HeadlineHolds, SupportHolds, CoreLaws}
 use Rattle.world.proofs.TurnsRun.{turns_after, own_after, support_from}
 use Rattle.world.proofs.TurnsHeard.{listener_after}
 use Rattle.world.proofs.TurnsDue.{movable_is_due}

@@ -1,10 +1,6 @@
 -- A run with one event more.
-use Rattle.std.proofs.Common.{◌≡◌, ℕ, zero, suc, ◌+◌, List, [], ◌∷◌, ◌++◌, take, Option, Some, None, refl, ◌∙◌, option_and_then, add-one}
-use Rattle.std.specs.Prelude.{slice_get}
-use Rattle.world.specs.declared.event.Event.{Event}
-use Rattle.world.specs.States.{State}
-use Rattle.world.specs.Steps.{step}
-use Rattle.world.specs.Runs.{run}
+use Rattle.world.proofs.Prelude.{◌≡◌, ℕ, zero, suc, ◌+◌, List, [], ◌∷◌, ◌++◌, Option, Some, None, refl, ◌∙◌, option_and_then, add-one, slice_get, Event, State, step, run}
+use Rattle.std.proofs.Common.{take}
 
 one_step : (o : Option State) → option_and_then (λ (p : State). Some p) o ≡ o
 one_step None = refl

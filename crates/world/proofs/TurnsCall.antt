@@ -1,16 +1,5 @@
 -- A connection's call with its reply leaves it what it is: the same slot, generation and rings.
-use Rattle.std.proofs.Common.{◌≡◌, ℕ, Some, refl, option_map}
-use Rattle.kernel_model.specs.declared.reply.Reply.{Reply}
-use Rattle.kernel_model.specs.Kernel.{KernelState}
-use Rattle.relay_core.specs.declared.call.Call.{Call}
-use Rattle.relay_core.specs.Order.{next_call}
-use Rattle.relay_core.specs.Replies.{fits, after}
-use Rattle.relay_core.specs.Laws.{place_of}
-use Rattle.world.specs.declared.connection.Connection.{Connection}
-use Rattle.world.specs.Slots.{SlotState}
-use Rattle.world.specs.Calls.{OpenConnection, told_of, made, replied, called}
-use Rattle.world.specs.Steps.{OpenSlot, slot_call}
-use Rattle.world.specs.CoreLaws.{CoreLaws}
+use Rattle.world.proofs.Prelude.{◌≡◌, ℕ, Some, refl, option_map, Reply, KernelState, Call, next_call, fits, after, place_of, Connection, SlotState, OpenConnection, told_of, made, replied, called, OpenSlot, slot_call, CoreLaws}
 use Rattle.world.proofs.TurnsKept.{Kept, kept_bind, kept_map, kept_when, kept_then}
 
 abbrev StandsAs : Connection → OpenConnection → Type 0

@@ -1,35 +1,6 @@
 -- Whatever could move is due to be tried: from who has a slot, and from the cover of every flag that is down.
-use Rattle.std.proofs.Common.{◌≡◌, ◌⊎◌, inl, inr, ℕ, zero, suc, ◌+◌, ◌≤◌, ◌<◌, ◌==◌, Bool, true, false, not, ◌&&◌, ◌||◌, nat_lt, List, [], ◌∷◌, length, slice_get, Option, Some, None, refl, ap, sym, arith, eqb-true, eq-eqb, ltb-true, ltb-false}
-use Rattle.std.proofs.lemmas.Bool.{and_parts, or_cases}
-use Rattle.std.specs.List.{list_any}
-use Rattle.token.specs.declared.side.Side.{Side}
-use Rattle.token.specs.declared.direction.Direction.{Direction}
-use Rattle.token.specs.declared.direction.Direction.TheVariants.{Up, Down}
-use Rattle.token.specs.declared.name.Name.{Name}
-use Rattle.token.specs.declared.name.Name.TheVariants.{Listener, Waker, End}
-use Rattle.token.specs.Names.{EndName}
-use Rattle.token.specs.Sides.{side_number, source, destination}
-use Rattle.flow.specs.Stream.{Stream, waiting}
-use Rattle.kernel_model.specs.Names.{same, has}
-use Rattle.kernel_model.specs.Ends.{is_readable, is_writable, is_nonempty}
-use Rattle.kernel_model.specs.Kernel.{Registered}
-use Rattle.relay_core.specs.declared.verdict.Verdict.{Verdict}
-use Rattle.relay_core.specs.declared.verdict.Verdict.TheVariants.{Live, Done, Failed}
-use Rattle.relay_core.specs.Pairs.{PairState, stream_of, flags_of, is_joined, verdict, is_live}
-use Rattle.relay_core.specs.Order.{is_waiting, is_drained}
-use Rattle.relay_core.specs.Laws.{Place as Standing, place_of, IsDrained, IsAtRest}
-use Rattle.world.specs.declared.connection.Connection.{Connection}
-use Rattle.world.specs.declared.actors.Ticket.{Ticket}
-use Rattle.world.specs.declared.actors.Holder.{Holder}
-use Rattle.world.specs.declared.actors.Holder.TheVariants.{Nobody, By, Free}
-use Rattle.world.specs.declared.actors.Doing.{Doing}
-use Rattle.world.specs.declared.actors.Doing.TheVariants.{Idle, Tries, Holds, Closed, Retired}
-use Rattle.world.specs.Slots.{SlotState, is_by_worker}
-use Rattle.world.specs.States.{State}
-use Rattle.world.specs.Due.{gives, takes, has_place, flows, moves, is_report, is_ticket, tries, has_ticket, is_reported, is_ticketed, moves_if_any, movable_at, movable, due_place, due_at, due}
-use Rattle.world.specs.Headline.{end_of}
-use Rattle.world.specs.Support.{one, total, tickets, is_covered, has_report, EndCovered, EdgesHold}
-use Rattle.world.specs.CoreLaws.{CoreLaws}
+use Rattle.world.proofs.Prelude.{◌≡◌, ◌⊎◌, inl, inr, ℕ, zero, suc, ◌+◌, ◌≤◌, ◌<◌, ◌==◌, Bool, true, false, not, ◌&&◌, ◌||◌, nat_lt, List, [], ◌∷◌, length, slice_get, Option, Some, None, refl, ap, sym, arith, eqb-true, eq-eqb, ltb-true, ltb-false, and_parts, or_cases, list_any, Side, Direction, Up, Down, Name, Listener, Waker, End, EndName, side_number, source, destination, Stream, waiting, same, has, is_readable, is_writable, is_nonempty, Registered, Verdict, Live, Done, Failed, PairState, stream_of, flags_of, is_joined, verdict, is_live, is_waiting, is_drained, Standing, place_of, IsDrained, IsAtRest, Connection, Ticket, Holder, Nobody, By, Free, Doing, Idle, Tries, Holds, Closed, Retired, SlotState, is_by_worker, State, gives, takes, has_place, flows, is_report, is_ticket, tries, has_ticket, is_reported, is_ticketed, moves_if_any, movable_at, movable, due_place, due_at, due, end_of, one, total, tickets, is_covered, has_report, EndCovered, EdgesHold, CoreLaws}
+use Rattle.world.specs.Due.{moves}
 use Rattle.world.proofs.TurnsFacts.{facts, SlotOk, ConnectionOk, Turns, names, tried_right, worker_right, right_tickets, is_shaped, standing}
 use Rattle.world.proofs.TurnsPoller.{sure}
 use Rattle.world.proofs.TurnsEnded.{own_generation}

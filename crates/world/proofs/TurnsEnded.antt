@@ -1,30 +1,11 @@
 -- Who has a slot, through a post, and through what a worker does as it gives the slot up.
-use Rattle.std.proofs.Common.{◌≡◌, ℕ, ◌+◌, ◌≤◌, ◌==◌, Bool, true, false, not, ◌||◌, List, [], ◌∷◌, ◌++◌, slice_get, Option, Some, None, is_some, is_none, refl, ap, arith, option_map, if◌then◌else◌}
-use Rattle.std.proofs.lemmas.Bool.{and_parts}
-use Rattle.kernel_model.specs.declared.both.Sockets.{Sockets}
-use Rattle.kernel_model.specs.Outcome.{Told}
+use Rattle.world.proofs.Prelude.{◌≡◌, ℕ, ◌+◌, ◌≤◌, ◌==◌, Bool, true, false, not, ◌||◌, List, [], ◌∷◌, ◌++◌, slice_get, Option, Some, None, is_some, is_none, refl, ap, arith, option_map, if◌then◌else◌, and_parts, Sockets, Told, KernelState, verdict, is_live, next_call, Standing, place_of, is_nonempty, Connection, Nobody, Free, Doing, Idle, Tries, Holds, Closed, Retired, SlotState, WorkerState, State, with_note, with_ticket, with_worker, with_place, doing, post, may_release, release, closed_world, close, retire, is_worn, freed, free, one, total, of_slot, tried, CoreLaws, Act, acted, worked}
 use Rattle.kernel_model.specs.Kernel as kernel
-use Rattle.kernel_model.specs.Kernel.{KernelState}
-use Rattle.relay_core.specs.Pairs.{verdict, is_live}
-use Rattle.relay_core.specs.Order.{next_call}
-use Rattle.relay_core.specs.Laws.{Place as Standing, place_of}
-use Rattle.kernel_model.specs.Ends.{is_nonempty}
-use Rattle.world.specs.declared.connection.Connection.{Connection}
-use Rattle.world.specs.declared.actors.Holder.TheVariants.{Nobody, Free}
-use Rattle.world.specs.declared.actors.Doing.{Doing}
-use Rattle.world.specs.declared.actors.Doing.TheVariants.{Idle, Tries, Holds, Closed, Retired}
-use Rattle.world.specs.Slots.{SlotState, WorkerState}
-use Rattle.world.specs.States.{State}
-use Rattle.world.specs.Steps.{with_note, with_ticket, with_worker, with_place, doing, post, may_release, release, closed_world, close, retire, is_worn, freed, free}
-use Rattle.world.specs.Support.{one, total, of_slot, tried}
-use Rattle.world.specs.CoreLaws.{CoreLaws}
 use Rattle.world.proofs.TurnsTotals.{total_push}
 use Rattle.world.proofs.TurnsKept.{Kept, kept_none, kept_bind, kept_map, kept_when, kept_guard}
 use Rattle.world.proofs.TurnsFacts.{Facts, facts, SlotOk, Turns, same_self, keep_slots, keep_others, names, tried_right, holds, closes, retires, is_number, standing, one_same, one_other, names_other, names_own, Replaced, replaced, Turned, turned, turned_elsewhere}
 use Rattle.world.proofs.TurnsPoller.{are_own_more, hand_other, hand_own}
-use Rattle.world.specs.declared.event.Act.{Act}
 use Rattle.world.specs.declared.event.Act.TheVariants as act
-use Rattle.world.specs.Steps.{acted, worked}
 use Rattle.world.proofs.TurnsWorker.{put_turns, pop_turns, claim_turns}
 use Rattle.world.proofs.TurnsExpired.{expire_turns}
 use Rattle.world.proofs.TurnsHeld.{Held, held_by, closed_by, stays_held, by_is_shaped, take_turns, call_turns}

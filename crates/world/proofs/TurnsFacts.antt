@@ -1,23 +1,6 @@
 -- Who has a slot: what the rest of the machine has of it, as numbers, and what a slot has to do with them.
-use Rattle.std.proofs.Common.{◌≡◌, ◌≢◌, ◌⊎◌, inl, inr, ◌∙◌, ℕ, ◌+◌, ◌≤◌, ◌==◌, Bool, true, false, not, ◌&&◌, List, [], slice_get, slice_set, Option, Some, None, is_some, refl, ap, sym, arith, ne_eqb, eq-eqb}
-use Rattle.std.proofs.lemmas.Bool.{cases_eq}
-use Rattle.std.specs.List.{list_all}
-use Rattle.relay_core.specs.Pairs.{verdict, is_live}
-use Rattle.relay_core.specs.Order.{next_call}
-use Rattle.relay_core.specs.Laws.{Place as Standing, place_of}
-use Rattle.kernel_model.specs.Ends.{is_nonempty}
-use Rattle.world.specs.declared.connection.Connection.{Connection}
-use Rattle.world.specs.declared.actors.Ticket.{Ticket}
-use Rattle.world.specs.declared.actors.Holder.{Holder}
-use Rattle.world.specs.declared.actors.Holder.TheVariants.{Nobody, By, Free}
-use Rattle.world.specs.declared.actors.Doing.{Doing}
-use Rattle.world.specs.declared.actors.Doing.TheVariants.{Idle, Tries, Holds, Closed, Retired}
-use Rattle.world.specs.Slots.{SlotState, WorkerState, is_held, is_by_worker}
-use Rattle.world.specs.States.{State}
-use Rattle.world.specs.Steps.{doing}
-use Rattle.world.specs.Due.{is_ticket}
+use Rattle.world.proofs.Prelude.{◌≡◌, ◌≢◌, ◌⊎◌, inl, inr, ◌∙◌, ℕ, ◌+◌, ◌≤◌, ◌==◌, Bool, true, false, not, ◌&&◌, List, [], slice_get, slice_set, Option, Some, None, is_some, refl, ap, sym, arith, ne_eqb, eq-eqb, cases_eq, list_all, verdict, is_live, next_call, Standing, place_of, is_nonempty, Connection, Ticket, Holder, Nobody, By, Free, Doing, Idle, Tries, Holds, Closed, Retired, SlotState, WorkerState, is_held, is_by_worker, State, doing, is_ticket, one, total, of_slot, tried, worker_tickets, tickets}
 pub use Rattle.world.specs.Words.{is_free}
-use Rattle.world.specs.Support.{one, total, of_slot, tried, worker_tickets, tickets}
 use Rattle.world.proofs.TurnsTotals.{total-set, get-set_same, get-set_other}
 
 -- the numbers of slot s, one actor or ticket or free slot at a time

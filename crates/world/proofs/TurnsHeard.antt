@@ -1,47 +1,11 @@
 -- The listener, through every event.
-use Rattle.std.proofs.Common.{◌≡◌, ℕ, ◌+◌, ◌-◌, ◌≤◌, ◌==◌, Bool, true, false, not, ◌&&◌, ◌||◌, nat_lt, List, [], ◌∷◌, ◌++◌, length, slice_get, drop, Option, Some, None, refl, arith, eqb-true, eq-eqb, ltb-false, lt-ltb, option_map, option_and_then}
-use Rattle.std.proofs.lemmas.Bool.{and_parts}
-use Rattle.token.specs.declared.side.Side.{Side}
-use Rattle.token.specs.declared.side.Side.TheVariants.{Client, Target}
-use Rattle.token.specs.declared.name.Name.{Name}
-use Rattle.token.specs.declared.name.Name.TheVariants.{Listener, Waker, End}
-use Rattle.token.specs.Names.{EndName}
-use Rattle.kernel_model.specs.declared.reply.Reply.{Reply}
-use Rattle.kernel_model.specs.declared.both.Sockets.{Sockets}
-use Rattle.kernel_model.specs.declared.accepting.Accepting.{Accepting}
-use Rattle.kernel_model.specs.declared.accepting.Accepting.TheVariants.{Accepted, Blocked, Again, Starved}
-use Rattle.kernel_model.specs.declared.watched.Watched.{Watched}
+use Rattle.world.proofs.Prelude.{◌≡◌, ℕ, ◌+◌, ◌-◌, ◌≤◌, ◌==◌, Bool, true, false, not, ◌&&◌, ◌||◌, nat_lt, List, [], ◌∷◌, ◌++◌, length, slice_get, drop, Option, Some, None, refl, arith, eqb-true, eq-eqb, ltb-false, lt-ltb, option_map, option_and_then, and_parts, Side, Client, Target, Name, Listener, Waker, End, EndName, Reply, Sockets, Accepting, Accepted, Blocked, Again, Starved, Watched, Told, same, has, without_name, without_names, KernelState, Registered, end_at, verdict, is_live, next_call, fits, after, is_nonempty, Ticket, By, Doing, Idle, Tries, Holds, Closed, Retired, Event, Change, Reported, Listening, Polling, Act, Limits, SlotState, WorkerState, is_held, State, opening, OpenConnection, descriptor, told_of, made, called, connection_at, over_kernel, change_at, network, watched_of, spurious, vanish, may_accept, after_accept, listen, post_at, delivered_at, delivered, put_by_poller, batched, opened_world, opening_of, token_of, polled, put_by_worker, popped, pop, claim, noted_slot, is_limited, expired_place, expire, with_place, take, OpenSlot, slot_call, doing, call, with_note, post, may_release, release, closed_world, close, retire, free, acted, step, run, ListenerHolds, is_covered}
 use Rattle.kernel_model.specs.declared.watched.Watched.TheVariants as watched
-use Rattle.kernel_model.specs.Outcome.{Told}
-use Rattle.kernel_model.specs.Names.{same, has, without_name, without_names}
 use Rattle.kernel_model.specs.Kernel as kernel
-use Rattle.kernel_model.specs.Kernel.{KernelState, Registered, end_at}
-use Rattle.relay_core.specs.Pairs.{verdict, is_live}
-use Rattle.relay_core.specs.Order.{next_call}
-use Rattle.relay_core.specs.Replies.{fits, after}
-use Rattle.kernel_model.specs.Ends.{is_nonempty}
-use Rattle.world.specs.declared.actors.Ticket.{Ticket}
-use Rattle.world.specs.declared.actors.Holder.TheVariants.{By}
-use Rattle.world.specs.declared.actors.Doing.{Doing}
-use Rattle.world.specs.declared.actors.Doing.TheVariants.{Idle, Tries, Holds, Closed, Retired}
-use Rattle.world.specs.declared.event.Event.{Event}
 use Rattle.world.specs.declared.event.Event.TheVariants as event
-use Rattle.world.specs.declared.event.Change.{Change}
-use Rattle.world.specs.declared.event.Reported.{Reported}
-use Rattle.world.specs.declared.event.Listening.{Listening}
 use Rattle.world.specs.declared.event.Listening.TheVariants as listening
-use Rattle.world.specs.declared.event.Polling.{Polling}
 use Rattle.world.specs.declared.event.Polling.TheVariants as polling
-use Rattle.world.specs.declared.event.Act.{Act}
 use Rattle.world.specs.declared.event.Act.TheVariants as act
-use Rattle.world.specs.declared.limits.Limits.{Limits}
-use Rattle.world.specs.Slots.{SlotState, WorkerState, is_held}
-use Rattle.world.specs.States.{State, opening}
-use Rattle.world.specs.Calls.{OpenConnection, descriptor, told_of, made, called}
-use Rattle.world.specs.Steps.{connection_at, over_kernel, change_at, network, watched_of, spurious, vanish, may_accept, after_accept, listen, post_at, delivered_at, delivered, put_by_poller, batched, opened_world, opening_of, token_of, polled, put_by_worker, popped, pop, claim, noted_slot, is_limited, expired_place, expire, with_place, take, OpenSlot, slot_call, doing, call, with_note, post, may_release, release, closed_world, close, retire, free, acted, step}
-use Rattle.world.specs.Runs.{run}
-use Rattle.world.specs.Headline.{ListenerHolds}
-use Rattle.world.specs.Support.{is_covered}
 use Rattle.world.proofs.TurnsKept.{Kept, kept_some, kept_none, kept_bind, kept_map, kept_when, kept_guard, kept_if, kept_then, kept_next, kept_at, kept_bind_map, either_of}
 use Rattle.world.proofs.TurnsListener.{hears_with, hears_it, hears_without_end, hears_without_waker, hears_taken, Listens, more_reported, not_ready, or_rest, HearsOn, hears_self, goes_on, change_hears, made_hears, both_hear, hears}
 

@@ -1,19 +1,5 @@
 -- Who has a slot, through what a worker does with a slot that it holds, and after.
-use Rattle.std.proofs.Common.{◌≡◌, ◌∙◌, ℕ, ◌-◌, ◌≤◌, ◌==◌, Bool, true, false, not, ◌&&◌, nat_lt, [], slice_get, slice_set, Option, Some, is_some, refl, ap, sym, subst, arith, option_map, option_and_then, if◌then◌else◌}
-use Rattle.kernel_model.specs.declared.reply.Reply.{Reply}
-use Rattle.relay_core.specs.Pairs.{noted}
-use Rattle.relay_core.specs.Laws.{place_of}
-use Rattle.kernel_model.specs.Ends.{is_nonempty}
-use Rattle.world.specs.declared.connection.Connection.{Connection}
-use Rattle.world.specs.declared.actors.Holder.{Holder}
-use Rattle.world.specs.declared.actors.Holder.TheVariants.{Nobody, By, Free}
-use Rattle.world.specs.declared.actors.Doing.{Doing}
-use Rattle.world.specs.declared.actors.Doing.TheVariants.{Idle, Tries, Holds, Closed, Retired}
-use Rattle.world.specs.Slots.{SlotState, WorkerState, is_held, is_by_worker}
-use Rattle.world.specs.States.{State}
-use Rattle.world.specs.Steps.{with_place, doing, heard, take, OpenSlot, slot_call, call, free}
-use Rattle.world.specs.Support.{one, total}
-use Rattle.world.specs.CoreLaws.{CoreLaws}
+use Rattle.world.proofs.Prelude.{◌≡◌, ◌∙◌, ℕ, ◌-◌, ◌≤◌, ◌==◌, Bool, true, false, not, ◌&&◌, nat_lt, [], slice_get, slice_set, Option, Some, is_some, refl, ap, sym, subst, arith, option_map, option_and_then, if◌then◌else◌, Reply, noted, place_of, is_nonempty, Connection, Holder, Nobody, By, Free, Doing, Idle, Tries, Holds, Closed, Retired, SlotState, WorkerState, is_held, is_by_worker, State, with_place, doing, heard, take, OpenSlot, slot_call, call, free, one, total, CoreLaws}
 use Rattle.world.proofs.TurnsTotals.{total_at}
 use Rattle.world.proofs.TurnsKept.{Kept, kept_none, kept_bind, kept_map, kept_when, kept_map_map, kept_at}
 use Rattle.world.proofs.TurnsFacts.{Facts, facts, SlotOk, Turns, Same, same_self, keep_others, holds, closes, worker_holds, worker_closes, is_free, is_shaped, standing, are_own, one_same, Turned, turned}

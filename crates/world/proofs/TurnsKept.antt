@@ -1,7 +1,5 @@
 -- What holds of the value that a step leaves, if it leaves one.
-use Rattle.std.proofs.Common.{◌≡◌, Bool, true, false, Option, Some, None, refl, option_map, option_and_then, if◌then◌else◌}
-use Rattle.kernel_model.specs.Outcome.{guard}
-use Rattle.world.specs.Calls.{when}
+use Rattle.world.proofs.Prelude.{◌≡◌, Bool, true, false, Option, Some, None, refl, option_map, option_and_then, if◌then◌else◌, guard, when}
 
 abbrev pub OfSome : {X : Type 0} → (X → Type 0) → Option X → Type 0
 OfSome P None = Unit {0}

@@ -1,25 +1,7 @@
 -- The listener's name in a list of names, and through the calls on the kernel. While the accept flag is
 -- down, the listener is armed and nobody waits, or somebody waits and its name is queued or in the batch.
-use Rattle.std.proofs.Common.{◌≡◌, ◌∙◌, ℕ, Bool, true, false, not, ◌||◌, nat_lt, List, [], ◌∷◌, ◌++◌, Option, refl, if◌then◌else◌}
-use Rattle.token.specs.declared.name.Name.{Name}
-use Rattle.token.specs.declared.name.Name.TheVariants.{Listener, Waker, End}
-use Rattle.token.specs.Names.{EndName}
-use Rattle.kernel_model.specs.declared.reply.Reply.{Reply}
-use Rattle.kernel_model.specs.declared.both.Descriptors.{Descriptors}
-use Rattle.kernel_model.specs.declared.both.Sockets.{Sockets}
-use Rattle.kernel_model.specs.Outcome.{Told}
-use Rattle.kernel_model.specs.Names.{same, has, with_name, without_name, without_names}
-use Rattle.kernel_model.specs.Ends.{EndState}
+use Rattle.world.proofs.Prelude.{◌≡◌, ◌∙◌, ℕ, Bool, true, false, not, ◌||◌, nat_lt, List, [], ◌∷◌, ◌++◌, Option, refl, if◌then◌else◌, Name, Listener, Waker, End, EndName, Reply, Descriptors, Sockets, Told, same, has, with_name, without_name, without_names, EndState, KernelState, Registered, end_at, Call, Write, Join, Shut, Read, Change, Arrive, Fin, Reset, Room, State, OpenConnection, descriptor, made, change_at, is_covered}
 use Rattle.kernel_model.specs.Kernel as kernel
-use Rattle.kernel_model.specs.Kernel.{KernelState, Registered, end_at}
-use Rattle.relay_core.specs.declared.call.Call.{Call}
-use Rattle.relay_core.specs.declared.call.Call.TheVariants.{Write, Join, Shut, Read}
-use Rattle.world.specs.declared.event.Change.{Change}
-use Rattle.world.specs.declared.event.Change.TheVariants.{Arrive, Fin, Reset, Room}
-use Rattle.world.specs.States.{State}
-use Rattle.world.specs.Calls.{OpenConnection, descriptor, made}
-use Rattle.world.specs.Steps.{change_at}
-use Rattle.world.specs.Support.{is_covered}
 use Rattle.world.proofs.TurnsKept.{Kept, kept_bind, kept_map, kept_when, kept_then, kept_next}
 
 -- the listener's name in a list of names

@@ -1,33 +1,9 @@
 -- Who has a slot, through what the network, the kernel and the poller do.
-use Rattle.std.proofs.Common.{◌≡◌, ℕ, ◌+◌, ◌≤◌, ◌==◌, Bool, true, false, not, ◌&&◌, ◌||◌, List, [], ◌∷◌, ◌++◌, length, nat_lt, slice_get, drop, Option, Some, None, refl, ap, sym, arith, eq-eqb, lt-ltb, length-append, option_and_then}
-use Rattle.token.specs.declared.side.Side.{Side}
-use Rattle.token.specs.declared.side.Side.TheVariants.{Client, Target}
-use Rattle.token.specs.declared.name.Name.{Name}
+use Rattle.world.proofs.Prelude.{◌≡◌, ℕ, ◌+◌, ◌≤◌, ◌==◌, Bool, true, false, not, ◌&&◌, ◌||◌, List, [], ◌∷◌, ◌++◌, length, nat_lt, slice_get, drop, Option, Some, None, refl, ap, sym, arith, eq-eqb, lt-ltb, length-append, option_and_then, Side, Client, Target, Name, EndName, Descriptors, Told, KernelState, fresh, is_nonempty, Connection, Ticket, and_parts, Holder, Nobody, By, Free, Change, Reported, Listening, Polling, Accepting, Accepted, Blocked, Again, Starved, SlotState, WorkerState, is_held, is_by_worker, State, connection_at, over_kernel, is_limited, tick, sweep, network, watched_of, spurious, vanish, may_accept, after_accept, listen, with_note, brings_ticket, with_ticket, posted, post_at, delivered_at, delivered, deliver, put_by_poller, batched, opened_place, opened_world, opening_of, token_of, polled, one, total, of_slot, tried, worker_tickets, tickets}
 use Rattle.token.specs.declared.name.Name.TheVariants as name
-use Rattle.token.specs.Names.{EndName}
-use Rattle.kernel_model.specs.declared.both.Descriptors.{Descriptors}
-use Rattle.kernel_model.specs.Outcome.{Told}
 use Rattle.kernel_model.specs.Kernel as kernel
-use Rattle.kernel_model.specs.Kernel.{KernelState}
-use Rattle.relay_core.specs.Pairs.{fresh}
-use Rattle.kernel_model.specs.Ends.{is_nonempty}
-use Rattle.world.specs.declared.connection.Connection.{Connection}
-use Rattle.world.specs.declared.actors.Ticket.{Ticket}
-use Rattle.std.proofs.lemmas.Bool.{and_parts}
-use Rattle.world.specs.declared.actors.Holder.{Holder}
-use Rattle.world.specs.declared.actors.Holder.TheVariants.{Nobody, By, Free}
-use Rattle.world.specs.declared.event.Change.{Change}
-use Rattle.world.specs.declared.event.Reported.{Reported}
-use Rattle.world.specs.declared.event.Listening.{Listening}
 use Rattle.world.specs.declared.event.Listening.TheVariants as listening
-use Rattle.world.specs.declared.event.Polling.{Polling}
 use Rattle.world.specs.declared.event.Polling.TheVariants as polling
-use Rattle.kernel_model.specs.declared.accepting.Accepting.{Accepting}
-use Rattle.kernel_model.specs.declared.accepting.Accepting.TheVariants.{Accepted, Blocked, Again, Starved}
-use Rattle.world.specs.Slots.{SlotState, WorkerState, is_held, is_by_worker}
-use Rattle.world.specs.States.{State}
-use Rattle.world.specs.Steps.{connection_at, over_kernel, is_limited, tick, sweep, network, watched_of, spurious, vanish, may_accept, after_accept, listen, with_note, brings_ticket, with_ticket, posted, post_at, delivered_at, delivered, deliver, put_by_poller, batched, opened_place, opened_world, opening_of, token_of, polled}
-use Rattle.world.specs.Support.{one, total, of_slot, tried, worker_tickets, tickets}
 use Rattle.world.proofs.TurnsTotals.{total_push, total_moved, total_le, get-set_same, get-set_other}
 use Rattle.world.proofs.TurnsKept.{Kept, kept_some, kept_none, kept_bind, kept_map, kept_when, kept_guard, kept_if, kept_then}
 use Rattle.world.proofs.TurnsFacts.{Facts, facts, SlotOk, ConnectionOk, Turns, keep_slots, keep_others, names, worker_right, worker_holds, worker_closes, worker_retires, is_number, right_tickets, is_free, are_own, one_same, one_other, names_of_slot, names_other, names_own, tried_right, tried_less}

@@ -1,21 +1,7 @@
 -- Who has a slot, after any list of events.
-use Rattle.std.proofs.Common.{◌≡◌, ◌≢◌, ◌⊎◌, inl, inr, ◌∙◌, ℕ, zero, suc, ◌+◌, ◌≤◌, ◌==◌, true, ◌&&◌, List, [], ◌∷◌, ◌++◌, replicate, slice_get, Option, Some, None, is_some, refl, ap, sym, subst, arith, eqb-true, ne_eqb, eq-eqb, option_map, option_and_then}
-use Rattle.std.proofs.lemmas.Bool.{cases_eq, and_parts}
-use Rattle.world.specs.declared.limits.Limits.{Limits}
-use Rattle.world.specs.declared.connection.Connection.{Connection}
-use Rattle.world.specs.declared.actors.Ticket.{Ticket}
-use Rattle.world.specs.declared.actors.Doing.{Doing}
-use Rattle.world.specs.declared.actors.Doing.TheVariants.{Idle, Tries, Holds, Closed, Retired}
-use Rattle.world.specs.declared.event.Event.{Event}
+use Rattle.world.proofs.Prelude.{◌≡◌, ◌≢◌, ◌⊎◌, inl, inr, ◌∙◌, ℕ, zero, suc, ◌+◌, ◌≤◌, ◌==◌, true, ◌&&◌, List, [], ◌∷◌, ◌++◌, replicate, slice_get, Option, Some, None, is_some, refl, ap, sym, subst, arith, eqb-true, ne_eqb, eq-eqb, option_map, option_and_then, cases_eq, and_parts, Limits, Connection, Ticket, Doing, Idle, Tries, Holds, Closed, Retired, Event, SlotState, WorkerState, State, opening, unused, resting, numbers_below, connection_at, claimed, claim, worked, step, run, Throughout, TakesOwnNotes, ClaimsByOwnTicket, TriedOnOwn, one, total, of_slot, tried, worker_tickets, tickets, EdgesHold, SupportHolds, CoreLaws}
 use Rattle.world.specs.declared.event.Event.TheVariants as event
 use Rattle.world.specs.declared.event.Act.TheVariants as act
-use Rattle.world.specs.Slots.{SlotState, WorkerState}
-use Rattle.world.specs.States.{State, opening, unused, resting, numbers_below}
-use Rattle.world.specs.Steps.{connection_at, claimed, claim, worked, step}
-use Rattle.world.specs.Runs.{run}
-use Rattle.world.specs.Headline.{Throughout, TakesOwnNotes, ClaimsByOwnTicket, TriedOnOwn}
-use Rattle.world.specs.Support.{one, total, of_slot, tried, worker_tickets, tickets, EdgesHold, SupportHolds}
-use Rattle.world.specs.CoreLaws.{CoreLaws}
 use Rattle.world.proofs.TurnsTotals.{total_push, total_none, total_le, total_le_at, get-replicate, get_beside}
 use Rattle.world.proofs.TurnsKept.{Kept, kept_some, kept_next, kept_at}
 use Rattle.world.proofs.TurnsFacts.{facts, SlotOk, Turns, names, tried_right, worker_right, worker_holds, worker_closes, worker_retires, is_number, right_tickets, one_same, names_of_slot}

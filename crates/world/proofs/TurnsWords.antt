@@ -1,43 +1,12 @@
 -- Each event moves the claim word of its slot by the steps of its kinds, and makes a ticket where one answers so.
-use Rattle.std.proofs.Common.{◌≡◌, ◌≢◌, ◌⊎◌, inl, inr, ◌∙◌, ℕ, zero, suc, ◌+◌, ◌-◌, ◌==◌, Bool, true, false, not, ◌||◌, nat_lt, List, [], ◌∷◌, ◌++◌, length, slice_get, slice_set, drop, Option, Some, None, Result, Ok, Err, IfOk, refl, ap, arith, ne_eqb, eq-eqb, lt-ltb, length-append, option_map, option_and_then, if◌then◌else◌}
-use Rattle.std.proofs.lemmas.Bool.{cases_eq}
-use Rattle.token.specs.declared.side.Side.TheVariants.{Client, Target}
-use Rattle.token.specs.declared.name.Name.{Name}
+use Rattle.world.proofs.Prelude.{◌≡◌, ◌≢◌, ◌⊎◌, inl, inr, ◌∙◌, ℕ, zero, suc, ◌+◌, ◌-◌, ◌==◌, Bool, true, false, not, ◌||◌, nat_lt, List, [], ◌∷◌, ◌++◌, length, slice_get, slice_set, drop, Option, Some, None, Result, Ok, Err, IfOk, refl, ap, arith, ne_eqb, eq-eqb, lt-ltb, length-append, option_map, option_and_then, if◌then◌else◌, cases_eq, Client, Target, Name, EndName, Reply, Refusal, NotAllowed, NoMemory, Accepting, Accepted, Blocked, Again, Starved, Descriptors, Sockets, Told, Meets, KernelState, verdict, is_live, is_nonempty, Connection, Ticket, Nobody, By, Free, Doing, Idle, Tries, Holds, Closed, Retired, Event, Listening, Polling, Act, SlotState, WorkerState, is_held, State, is_entry, connection_at, over_kernel, watched_of, may_accept, after_accept, listen, with_note, brings_ticket, with_ticket, posted, post_at, delivered_at, delivered, put_by_poller, batched, opened_place, opened_world, opening_of, token_of, polled, is_limited, sweep, expired_place, expire, with_worker, with_place, doing, put_by_worker, popped, pop, claim, heard, take, OpenSlot, slot_call, call, post, may_release, release, closed_world, close, retire, freed, free, acted, step, one, total, of_slot, tried, worker_tickets, tickets, word_at, after_all, count_wakes, claims, at_slot, delivery_steps, steps, WordMoves, WordsMove, WordsMoveInRuns, StepKind, some_wait, CoreLaws}
 use Rattle.token.specs.declared.name.Name.TheVariants as name
-use Rattle.token.specs.Names.{EndName}
-use Rattle.kernel_model.specs.declared.reply.Reply.{Reply}
-use Rattle.kernel_model.specs.declared.refusal.Refusal.{Refusal}
-use Rattle.kernel_model.specs.declared.refusal.Refusal.TheVariants.{NotAllowed, NoMemory}
-use Rattle.kernel_model.specs.declared.accepting.Accepting.{Accepting}
-use Rattle.kernel_model.specs.declared.accepting.Accepting.TheVariants.{Accepted, Blocked, Again, Starved}
-use Rattle.kernel_model.specs.declared.both.Descriptors.{Descriptors}
-use Rattle.kernel_model.specs.declared.both.Sockets.{Sockets}
-use Rattle.kernel_model.specs.Outcome.{Told, Meets}
 use Rattle.kernel_model.specs.Kernel as kernel
-use Rattle.kernel_model.specs.Kernel.{KernelState}
-use Rattle.relay_core.specs.Pairs.{verdict, is_live}
-use Rattle.kernel_model.specs.Ends.{is_nonempty}
-use Rattle.world.specs.declared.connection.Connection.{Connection}
-use Rattle.world.specs.declared.actors.Ticket.{Ticket}
-use Rattle.world.specs.declared.actors.Holder.TheVariants.{Nobody, By, Free}
-use Rattle.world.specs.declared.actors.Doing.{Doing}
-use Rattle.world.specs.declared.actors.Doing.TheVariants.{Idle, Tries, Holds, Closed, Retired}
-use Rattle.world.specs.declared.event.Event.{Event}
 use Rattle.world.specs.declared.event.Event.TheVariants as event
-use Rattle.world.specs.declared.event.Listening.{Listening}
 use Rattle.world.specs.declared.event.Listening.TheVariants as listening
-use Rattle.world.specs.declared.event.Polling.{Polling}
 use Rattle.world.specs.declared.event.Polling.TheVariants as polling
-use Rattle.world.specs.declared.event.Act.{Act}
 use Rattle.world.specs.declared.event.Act.TheVariants as act
-use Rattle.world.specs.Slots.{SlotState, WorkerState, is_held}
-use Rattle.world.specs.States.{State, is_entry}
-use Rattle.world.specs.Steps.{connection_at, over_kernel, watched_of, may_accept, after_accept, listen, with_note, brings_ticket, with_ticket, posted, post_at, delivered_at, delivered, put_by_poller, batched, opened_place, opened_world, opening_of, token_of, polled, is_limited, sweep, expired_place, expire, with_worker, with_place, doing, put_by_worker, popped, pop, claim, heard, take, OpenSlot, slot_call, call, post, may_release, release, closed_world, close, retire, freed, free, acted, step}
-use Rattle.world.specs.Support.{one, total, of_slot, tried, worker_tickets, tickets}
-use Rattle.world.specs.Words.{word_at, after_all, count_wakes, claims, at_slot, delivery_steps, steps, WordMoves, WordsMove, WordsMoveInRuns}
 use Rattle.claims.specs.Words as words
-use Rattle.claims.specs.Words.{StepKind, some_wait}
-use Rattle.world.specs.CoreLaws.{CoreLaws}
 use Rattle.world.proofs.TurnsTotals.{total_push, get-set_same, get-set_other}
 use Rattle.world.proofs.TurnsKept.{Kept, kept_some, kept_none, kept_bind, kept_map, kept_when, kept_guard, kept_if, kept_then, kept_map_map, kept_at}
 use Rattle.world.proofs.TurnsFacts.{facts, Turns, one_same, one_other, Replaced, replaced, turned}

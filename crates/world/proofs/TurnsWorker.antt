@@ -1,15 +1,5 @@
 -- Who has a slot, through what the workers do.
-use Rattle.std.proofs.Common.{◌≡◌, ℕ, ◌+◌, ◌≤◌, ◌==◌, Bool, true, false, not, ◌&&◌, List, [], ◌∷◌, ◌++◌, length, slice_get, Some, is_some, refl, ap, arith}
-use Rattle.kernel_model.specs.Ends.{is_nonempty}
-use Rattle.world.specs.declared.actors.Ticket.{Ticket}
-use Rattle.world.specs.declared.actors.Holder.{Holder}
-use Rattle.world.specs.declared.actors.Holder.TheVariants.{Nobody, By, Free}
-use Rattle.world.specs.declared.actors.Doing.{Doing}
-use Rattle.world.specs.declared.actors.Doing.TheVariants.{Idle, Tries, Holds, Closed, Retired}
-use Rattle.world.specs.Slots.{SlotState, WorkerState, is_held}
-use Rattle.world.specs.States.{State}
-use Rattle.world.specs.Steps.{with_worker, with_place, doing, put_by_worker, popped, pop, claim}
-use Rattle.world.specs.Support.{one, total, of_slot, tried, worker_tickets, tickets}
+use Rattle.world.proofs.Prelude.{◌≡◌, ℕ, ◌+◌, ◌≤◌, ◌==◌, Bool, true, false, not, ◌&&◌, List, [], ◌∷◌, ◌++◌, length, slice_get, Some, is_some, refl, ap, arith, is_nonempty, Ticket, Holder, Nobody, By, Free, Doing, Idle, Tries, Holds, Closed, Retired, SlotState, WorkerState, is_held, State, with_worker, with_place, doing, put_by_worker, popped, pop, claim, one, total, of_slot, tried, worker_tickets, tickets}
 use Rattle.world.proofs.TurnsTotals.{total_moved, total_at}
 use Rattle.world.proofs.TurnsKept.{Kept, kept_some, kept_none, kept_map, kept_when}
 use Rattle.world.proofs.TurnsFacts.{Facts, facts, SlotOk, Turns, keep_slots, keep_others, names, worker_holds, worker_closes, worker_retires, is_number, right_tickets, one_same, one_other, Replaced, replaced, Turned, turned, turned_elsewhere}

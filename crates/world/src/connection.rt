@@ -89,6 +89,7 @@ impl Connection {
     }
 
     /// A read that brings bytes, if a read is the next call.
+    #[tactic(auto, using(std::proofs::lemmas::Option::gets, std::proofs::lemmas::Grind::common_steps))]
     fn read(
         &mut self,
         kernel: &mut Kernel,

@@ -86,6 +86,7 @@ impl World {
     }
 }
 
+#[tactic(auto, using(std::proofs::lemmas::Grind::common_steps))]
 fn numbers_below(alloc: Global, count: usize) -> Result<Vec<usize>, AllocError>
     ensures { IfOk result (λ numbers. numbers.items ≡ numbers_below count) }
 {
@@ -96,6 +97,7 @@ fn numbers_below(alloc: Global, count: usize) -> Result<Vec<usize>, AllocError>
     Ok(numbers)
 }
 
+#[tactic(auto, using(std::proofs::lemmas::Grind::common_steps))]
 fn unused_slots(alloc: Global, count: usize, generation: u64) -> Result<Vec<Slot>, AllocError>
     ensures { IfOk result (λ slots. slots.items ≡ replicate count (unused generation)) }
 {
@@ -106,6 +108,7 @@ fn unused_slots(alloc: Global, count: usize, generation: u64) -> Result<Vec<Slot
     Ok(slots)
 }
 
+#[tactic(auto, using(std::proofs::lemmas::Grind::common_steps))]
 fn resting_workers(alloc: Global, count: usize) -> Result<Vec<Worker>, AllocError>
     ensures { IfOk result (λ workers. workers.items ≡ replicate count resting) }
 {

@@ -1,6 +1,4 @@
-use Rattle.std.proofs.Common.{◌≡◌, ◌-◌, replicate}
-use Rattle.claims.specs.Views.{unused_view}
-use Rattle.claims.specs.Seats.{fresh_seat}
+use Rattle.claims.proofs.Prelude.{◌≡◌, ◌-◌, replicate, unused_view, fresh_seat}
 use Rattle.claims.proofs.opening.all_seats.Given as goal
 
 -- the first seat may still make the seats that are left, and those that it made have done nothing

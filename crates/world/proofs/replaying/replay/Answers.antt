@@ -1,9 +1,4 @@
-use Rattle.std.proofs.Common.{◌≡◌, Some, arith}
-use Rattle.std.proofs.lemmas.Grind.{common_steps}
-use Rattle.world.specs.States.{opening}
-use Rattle.world.specs.Runs.{run}
-use Rattle.world.specs.Headline.{HeadlineHolds}
-use Rattle.world.specs.CoreLaws.{CoreLaws}
+use Rattle.world.proofs.Prelude.{◌≡◌, Some, arith, common_steps, opening, run, HeadlineHolds, CoreLaws}
 use Rattle.world.proofs.Headline.{headline, support}
 use Rattle.world.proofs.replaying.replay.Goals as goal
 

@@ -1,7 +1,4 @@
-use Rattle.std.proofs.Common.{◌-◌, Some, length, ap, arith}
-use Rattle.std.specs.Prelude.{replicate}
-use Rattle.std.proofs.Math.Seq.{take-append_seam}
-use Rattle.world.specs.LeadLaws.{is_padded}
+use Rattle.world.proofs.Prelude.{◌-◌, Some, length, ap, arith, replicate, take-append_seam, is_padded}
 use Rattle.world.proofs.lead.Lead.new.Goals as goal
 
 pub invariant_of-result : goal.invariant_of-result

@@ -1,7 +1,4 @@
-use Rattle.std.proofs.Common.{◌≡◌, ◌<◌, Some, slice_get, arith}
-use Rattle.std.proofs.lemmas.Option.{gets}
-use Rattle.world.specs.declared.actors.Doing.TheVariants.{Retired}
-use Rattle.world.specs.Acts.{busy}
+use Rattle.world.proofs.Prelude.{◌≡◌, ◌<◌, Some, slice_get, arith, gets, Retired, busy}
 use Rattle.world.proofs.Growing.{free_grows}
 use Rattle.world.proofs.world.World.free.Goals as goal
 

@@ -1,7 +1,4 @@
-use Rattle.std.proofs.Common.{◌<◌, length, ap, sym, ◌∙◌, arith}
-use Rattle.std.specs.List.{slice_get}
-use Rattle.std.proofs.lemmas.Option.{gets, option_and_then_some, slice_get_within}
-use Rattle.world.specs.Steps.{connection_at}
+use Rattle.world.proofs.Prelude.{◌<◌, length, ap, sym, ◌∙◌, arith, slice_get, gets, option_and_then_some, slice_get_within, connection_at}
 use Rattle.world.proofs.world.World.release.Goals as goal
 
 pub returns : goal.returns

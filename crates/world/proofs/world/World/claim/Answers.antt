@@ -1,9 +1,0 @@
-use Rattle.std.proofs.Common.{arith}
-use Rattle.std.proofs.lemmas.Option.{gets}
-use Rattle.world.proofs.world.World.claim.Goals as goal
-
-pub returns-then-is_held : goal.returns-then-is_held
-returns-then-is_held c = grind (arith, gets)
-
-pub returns-else-is_held : goal.returns-else-is_held
-returns-else-is_held c = grind (arith, gets)
