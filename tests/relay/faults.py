@@ -70,6 +70,7 @@ def logs_nothing_at_level_off_while_it_serves():
 
 # refuses unstarted_thread_is_no_fault: a thread that cannot be started is logged, and the others go on
 # refuses leave_ignores_a_fault: a poller that ends for a fault does not end the workers while another was to poll
+# refuses serves_without_its_recorder: a relay whose recording cannot be written for want of a thread serves on without it
 # refuses fault_leaves_the_recording_open: after a fault the relay waits without end for the thread that records
 def no_thread_for_some():
     if not Relay.library:
@@ -80,9 +81,10 @@ def no_thread_for_some():
         cause = "[ERROR relayd] threads: Resource temporarily unavailable (os error 11)"
         logged = [cause] * (4 - most if most > 0 else 1) + ["relayd: threads: failed"]
         assert relay.ended(1, within=10) == logged and relay.port is None
-    # One that records, too, and it has all but the last.
-    relay = Relay(preload={"MOST_THREADS": "4"}, slots=128, workers=2)
-    assert not relay.record or relay.ended(1, within=10) == logged[-2:]
+    # One that records, too: it has all but the last, or the log's alone.
+    for most in "4", "1":
+        relay = Relay(preload={"MOST_THREADS": most}, slots=128, workers=2)
+        assert not relay.record or relay.ended(1, within=10) == logged[-2:]
 
 
 # refuses failed_poll_is_swallowed: a relay whose poller cannot poll goes on, or ends well

@@ -10,7 +10,7 @@ import sys
 import time
 
 from loopback import TESTS, WAIT, Relay, echo, in_thread, port_of, read_all, send_and_shut, target, unanswered, until
-from shared import IDLE, answers_soon, asked, having, is_closed_soon, is_silent, left_out, served
+from shared import IDLE, answers_soon, asked, having, is_closed_soon, is_silent, left_out, numbers_in, served
 
 PIDFD_GETFD = 438  # pidfd_getfd(2)
 TCP_WAITS = [socket.TCP_USER_TIMEOUT, socket.TCP_KEEPIDLE, socket.TCP_KEEPINTVL, socket.TCP_KEEPCNT]
@@ -72,12 +72,15 @@ def ends_a_connect_that_nobody_answers():
                 assert is_closed_soon(client) and relay.end()[-1] == IDLE
 
 
+# refuses timed_out_ones_are_not_kept: a connection that failed since a peer did not answer is not in the statistics as such
 def gives_up_a_target_that_does_not_answer():
     with unanswered() as port:
-        relay, patient = Relay(port, slots=1, options=["--connect-timeout", "1"], typed=True), Relay(port)
+        options = ["--connect-timeout", "1", "--stats", "86400"]
+        relay, patient = Relay(port, slots=1, options=options, typed=True, stop_after=1), Relay(port)
         client, waiting = relay.connect(), patient.connect()
         assert is_silent(client, 0.8) and is_closed_soon(client) and is_silent(waiting, 1)
-        assert relay.end()[-1] == "[WARN  relayd] fail s=0 g=1 side=target call=read kind=timedout"
+        *_, line, sums = relay.ended()
+        assert line == "[WARN  relayd] fail s=0 g=1 side=target call=read kind=timedout" and numbers_in(sums)["timedout"] == 1
 
 
 # refuses limit_stays: the limit for connecting stays when the target is connected

@@ -1,12 +1,12 @@
 // What one end of the queue of tickets does. Its clauses name its fields, which `queue.rt` cannot reach.
-ghost use Rattle.std.specs.Prelude.{◌≡◌, ◌≢◌, true, false, IfOk, OnOk, IfErr, OnErr, IfSome, IfNone};
+ghost use Rattle.std.specs.Prelude.{◌≡◌, ◌≢◌, true, false, IfOk, OnOk, IfErr, OnErr, IfSome, IfNone, IsNone, IsTrue, ◌↔◌};
 ghost use Rattle.std.specs.Arc.{arc_value};
 ghost use Rattle.crossbeam_queue.specs.Passes.{view, IsPassOf, ruled_capacity};
-ghost use Rattle.ready.specs.Steps.{HeldOnce, PutLast, PutOne, TookOne};
+ghost use Rattle.ready.specs.Steps.{HeldOnce, PutOne, TookOne};
 
-use crate::flags::AllBusy;
+use crate::flags::{AllBusy, Wake, push_ticket};
 use crate::idle::IdleEnds;
-use crate::rule::{Line, LinePass, pop, push};
+use crate::rule::{Line, LinePass, pop};
 use crate::sleeper::{Awake, FoundEmpty, LookedInVain, Sleeper, look, look_again};
 use crate::ticket::{Full, Ticket};
 use std::alloc::Global;
@@ -51,23 +51,26 @@ impl End {
         ensures comes_back { OnOk result (self.new.comes_back ≡ false) }
         ensures same { (self.new.shared ≡ self.old.shared) × (self.new.sleeper ≡ self.old.sleeper) }
     {
-        push(rt, &self.shared.line, &mut self.pass, ticket)?;
-        self.wake_for(ticket);
+        if let Some(wake) = self.push(rt, ticket)? {
+            self.shared.ends.wake_one(rt, wake);
+        }
         Ok(())
     }
 
-    // Wakes an idle end for the ticket that this end has just put, unless this end will come back for it itself. An
-    // end that is woken before the ticket is in the queue could look, find none, and go to sleep beside it.
-    fn wake_for(&mut self, _ticket: Ticket)
-        requires { PutLast _ticket (view self.old.pass) }
-        ensures comes_back { self.new.comes_back ≡ false }
-        ensures same { (self.new.shared ≡ self.old.shared) × (self.new.sleeper ≡ self.old.sleeper) × (self.new.pass ≡ self.old.pass) }
+    // Puts a ticket at the back. The wake that it needs: none if this end will come back for it itself.
+    fn push(&mut self, rt: &impl Wait, ticket: Ticket) -> Result<Option<Wake>, Full<Ticket>>
+        ensures put { OnOk result (PutOne (view self.old.pass) ticket (view self.new.pass)) }
+        ensures wake { IfOk result (λ wake. IsNone wake ↔ IsTrue self.old.comes_back) }
+        ensures given_back { IfErr result (λ full. full.0 ≡ ticket) }
+        ensures full { OnErr result (HeldOnce (ruled_capacity (arc_value self.old.shared).line) (view self.old.pass)) }
+        ensures unchanged { OnErr result ((view self.new.pass ≡ view self.old.pass) × (self.new.comes_back ≡ self.old.comes_back)) }
+        ensures comes_back { OnOk result (self.new.comes_back ≡ false) }
+        ensures same { (self.new.shared ≡ self.old.shared) × (self.new.sleeper ≡ self.old.sleeper) }
     {
-        if self.comes_back {
-            self.comes_back = false;
-        } else {
-            self.shared.ends.wake_one();
-        }
+        let comes_back = self.comes_back;
+        let wake = push_ticket(rt, &self.shared.line, &mut self.pass, ticket, comes_back)?;
+        self.comes_back = false;
+        Ok(wake)
     }
 
     pub(crate) fn try_take(&mut self, rt: &impl Wait) -> Option<Ticket>
@@ -121,7 +124,7 @@ impl End {
             Ok((ticket, awake)) => (Some(ticket), awake),
             Err(looked) => (None, self.park(rt, looked)),
         };
-        self.shared.ends.withdraw(awake, found)
+        self.shared.ends.withdraw(rt, awake, found)
     }
 
     // Sleeps until this end is woken. An end that has just taken a ticket may not: it would sleep on it.

@@ -1,11 +1,14 @@
 // The words that the ends of a queue of tickets share, and all the atomic steps on them. Each step is sequentially
 // consistent, as are those of the queue: all threads see them in one order. A comment at each step names the step
 // that it pairs with.
-ghost use Rattle.std.specs.Prelude.{◌≡◌, ◌≢◌, ◌<◌, ◌↔◌, ℕ, IsSome, IsTrue, None, true, not};
-ghost use Rattle.ready.specs.Steps.{BitStep, ReadBits, SetBits, ClearedBits, bit_of, has_bit};
+ghost use Rattle.std.specs.Prelude.{◌≡◌, ◌≢◌, ◌<◌, ◌↔◌, ℕ, IsErr, IsNone, IsSome, IsTrue, IfErr, IfOk, IfSome, OnErr, OnOk, None, length, true, not};
+ghost use Rattle.crossbeam_queue.specs.Passes.{view, IsPassOf, IsSamePass, ruled_capacity};
+ghost use Rattle.ready.specs.Steps.{BitStep, ReadBits, SetBits, ClearedBits, HeldOnce, PutOne, bit_of, has_bit};
 
-use crate::idle::IdleEnds;
-use crate::ticket::Ticket;
+use crate::rule::{Line, LinePass, push};
+use crate::ticket::{Full, Ticket};
+use crossbeam_utils::sync::Unparker;
+use std::sync::Wait;
 use std::sync::atomic::Ordering::SeqCst;
 use std::sync::atomic::{AtomicBool, AtomicU64};
 
@@ -51,7 +54,7 @@ impl Bits for AtomicU64 {
 #[derive(Drop)]
 pub(crate) struct IdleBits<W = AtomicU64>(W);
 
-/// One look at the bits of the idle ends found none set. Only [`IdleBits::all_busy`] makes one, and it cannot be
+/// One look at the bits of the idle ends found none set. Only [`IdleBits::look`] makes one, and it cannot be
 /// copied: who asks for one asks for a look of its own.
 #[derive(Drop)]
 pub struct AllBusy {
@@ -68,22 +71,58 @@ pub(crate) struct Announced {
     ghost few: { end < 32 },
 }
 
-/// Another thread has woken an end that had announced itself. Only [`IdleBits::withdraw`] makes one, and it cannot be
-/// dropped: an end that found nothing takes the wake itself, and another one passes it on.
-pub(crate) struct SpentWake(());
+/// An idle end has to be woken for a ticket that is in the queue. Only [`push_ticket`] makes one, and
+/// [`IdleBits::withdraw`], where another thread has woken an end that finds a ticket by itself.
+///
+/// It can be neither copied nor dropped. So each is used up once: it wakes one end, or no end is idle, or the end that
+/// has it looks again.
+pub(crate) struct Wake(());
 
-impl SpentWake {
+/// An end whose bit was cleared to wake it. Only [`IdleBits::wake`] makes one, and it can be neither copied nor dropped.
+pub(crate) struct Woken {
+    end: usize,
+}
+
+/// Puts a ticket at the back. The wake that it needs: none if the end that puts it comes back for it.
+pub(crate) fn push_ticket<R: Wait>(
+    rt: &R,
+    line: &Line<Ticket>,
+    pass: &mut LinePass<Ticket>,
+    ticket: Ticket,
+    comes_back: bool,
+) -> Result<Option<Wake>, Full<Ticket>>
+    requires { IsPassOf line.now pass.old }
+    ensures same { IsSamePass pass.old pass.new }
+    ensures put { OnOk result (PutOne (view pass.old) ticket (view pass.new)) }
+    ensures wake { IfOk result (λ wake. IsNone wake ↔ IsTrue comes_back) }
+    ensures given_back { IfErr result (λ full. full.0 ≡ ticket) }
+    ensures full { OnErr result ((view pass.new ≡ view pass.old) × HeldOnce (ruled_capacity line.now) (view pass.old)) }
+{
+    push(rt, line, pass, ticket)?;
+    Ok(if comes_back { None } else { Some(Wake(())) })
+}
+
+impl Wake {
     /// The end that was woken has found nothing, and goes on to look.
     pub(crate) fn take(self, _found: &Option<Ticket>)
         requires { _found.now ≡ None }
     {
-        let SpentWake(()) = self;
+        let Wake(()) = self;
     }
 
-    /// The wake is for the end with the lowest number that is still idle, if any is.
-    pub(crate) fn pass_on(self, idle: &IdleEnds) {
-        let SpentWake(()) = self;
-        idle.wake_one();
+    /// No end was idle after the ticket was put. One that announces itself later looks at the queue after that.
+    pub(crate) fn is_for_nobody(self, _busy: &AllBusy) {
+        let Wake(()) = self;
+    }
+}
+
+impl Woken {
+    /// Wakes the end. There is one in this order for each.
+    pub(crate) fn unpark(self, wake: Wake, unparkers: &[Unparker])
+        requires { self.end < length unparkers.now }
+    {
+        let (Wake(()), Woken { end }) = (wake, self);
+        unparkers[end].unpark();
     }
 }
 
@@ -110,7 +149,7 @@ impl<W: Bits> IdleBits<W> {
 
     /// Clears the bit of an end that has announced itself. The wake that another thread spent on it, if that had
     /// cleared it before.
-    pub(crate) fn withdraw(&self, announced: Announced) -> Option<SpentWake>
+    pub(crate) fn withdraw(&self, announced: Announced) -> Option<Wake>
         ensures cleared { (before : ℕ) × W.did (ClearedBits (bit_of announced.end) before) self.now.0
             × (IsSome result ↔ IsTrue (not (has_bit announced.end before))) }
     {
@@ -120,40 +159,36 @@ impl<W: Bits> IdleBits<W> {
         let Announced { end } = announced;
         let bit = 1u64 << end;
         let was_woken = self.0.clear(bit) & bit == 0;
-        if was_woken { Some(SpentWake(())) } else { None }
+        if was_woken { Some(Wake(())) } else { None }
     }
 
-    /// Clears the bit of an end that must be woken. Whether it was this call that cleared it.
-    pub(crate) fn wake(&self, end: usize) -> bool
+    /// Clears the bit of an end that must be woken. None if it was not this call that cleared it.
+    pub(crate) fn wake(&self, end: usize) -> Option<Woken>
         requires { end < 32 }
-        ensures cleared { (before : ℕ) × W.did (ClearedBits (bit_of end) before) self.now.0 × (result ≡ has_bit end before) }
+        ensures cleared { (before : ℕ) × W.did (ClearedBits (bit_of end) before) self.now.0 × (IsSome result ↔ IsTrue (has_bit end before)) }
+        ensures end { IfSome result (λ woken. woken.end ≡ end) }
     {
         // Pairs with itself in other threads, and with `withdraw`. If two puts woke the same end, one ticket would be
         // left.
         let bit = 1u64 << end;
-        self.0.clear(bit) & bit != 0
-    }
-
-    /// The bits.
-    pub(crate) fn read(&self) -> u64
-        ensures { W.did (ReadBits result) self.now.0 }
-    {
-        // Pairs with `announce`. An end whose bit is set after this load looks at the queue after it, and so finds
-        // what was pushed before.
-        self.0.read()
-    }
-
-    /// Whether no bit is set, by one look.
-    pub(crate) fn all_busy(&self) -> Option<AllBusy>
-        ensures looked { (bits : ℕ) × W.did (ReadBits bits) self.now.0 × (IsSome result ↔ bits ≡ 0) }
-    {
-        // Pairs with nothing: an end may announce itself right after it. Who keeps a ticket for that has to come back
-        // to it.
-        let bits = self.0.read();
-        if bits == 0 {
-            Some(AllBusy { bits })
+        if self.0.clear(bit) & bit != 0 {
+            Some(Woken { end })
         } else {
             None
+        }
+    }
+
+    /// The bits, or that none is set, by one look.
+    pub(crate) fn look(&self) -> Result<u64, AllBusy>
+        ensures looked { (bits : ℕ) × W.did (ReadBits bits) self.now.0 × (IsErr result ↔ bits ≡ 0) × IfOk result (λ found. found ≡ bits) }
+    {
+        // Pairs with `announce`. An end whose bit is set after this load looks at the queue after it, and so finds
+        // what was pushed before. Who keeps a ticket since no bit is set has to come back to it.
+        let bits = self.0.read();
+        if bits == 0 {
+            Err(AllBusy { bits })
+        } else {
+            Ok(bits)
         }
     }
 }

@@ -1,10 +1,11 @@
 // Which ends sleep, and how they are woken.
-ghost use Rattle.std.specs.Prelude.{◌≡◌, ◌≢◌, ◌<◌, ◌≤◌, true, vec_len};
+ghost use Rattle.std.specs.Prelude.{◌≡◌, ◌≢◌, ◌<◌, ◌≤◌, IfSome, true, vec_len};
 
-use crate::flags::{AllBusy, Announced, ClosedMark, IdleBits, MarkSeen};
+use crate::flags::{AllBusy, Announced, ClosedMark, IdleBits, MarkSeen, Wake, Woken};
 use crate::sleeper::{Awake, FoundEmpty, Sleeper};
 use crate::ticket::Ticket;
 use crossbeam_utils::sync::Unparker;
+use std::sync::Wait;
 
 /// The ends that are idle, and what wakes each of them.
 #[derive(Drop)]
@@ -42,12 +43,17 @@ impl IdleEnds {
     /// Marks the end as awake, after its last look at the queue or its sleep, and gives back what the look found.
     ///
     /// If it found something, and another put had spent its wake on this end, the wake is passed on.
-    pub(crate) fn withdraw(&self, awake: Awake, found: Option<Ticket>) -> Option<Ticket>
+    pub(crate) fn withdraw(
+        &self,
+        rt: &impl Wait,
+        awake: Awake,
+        found: Option<Ticket>,
+    ) -> Option<Ticket>
         ensures { result ≡ found }
     {
         if let Some(wake) = awake.withdraw(&self.idle) {
             match found {
-                Some(_) => wake.pass_on(self),
+                Some(_) => self.wake_one(rt, wake),
                 None => wake.take(&found),
             }
         }
@@ -56,23 +62,36 @@ impl IdleEnds {
 
     /// Whether no end is idle, by one look.
     pub(crate) fn all_busy(&self) -> Option<AllBusy> {
-        self.idle.all_busy()
+        self.idle.look().err()
     }
 
     /// Wakes the idle end with the lowest number, if any is idle.
-    pub(crate) fn wake_one(&self) {
-        self.wake_one_of(self.idle.read());
-    }
-
-    /// Wakes the end of the lowest number that is still idle, of those that were idle when the bits were read.
-    pub(crate) fn wake_one_of(&self, idle: u64) {
-        for (end, unparker) in self.unparkers.iter().enumerate() {
-            // Where another thread has cleared the bit, that end is woken for another ticket, and the next is tried.
-            if idle & 1u64 << end != 0 && self.idle.wake(end) {
-                unparker.unpark();
-                return;
+    pub(crate) fn wake_one(&self, rt: &impl Wait, wake: Wake) {
+        for _look in rt.forever() {
+            let idle = match self.idle.look() {
+                Ok(idle) => idle,
+                Err(busy) => return wake.is_for_nobody(&busy),
+            };
+            // Else other threads have woken all of these for other tickets.
+            if let Some(woken) = self.woken_of(idle) {
+                return woken.unpark(wake, self.unparkers.as_slice());
             }
         }
+        unreachable!()
+    }
+
+    // The end with the lowest number that is still idle, of those that were idle when the bits were read.
+    fn woken_of(&self, idle: u64) -> Option<Woken>
+        ensures { IfSome result (λ woken. woken.end < vec_len self.now.unparkers) }
+    {
+        for end in 0..self.unparkers.len() {
+            if idle & 1u64 << end != 0 {
+                if let Some(woken) = self.idle.wake(end) {
+                    return Some(woken);
+                }
+            }
+        }
+        None
     }
 
     /// Sets the mark and wakes every end.

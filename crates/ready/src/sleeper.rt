@@ -4,7 +4,7 @@ ghost use Rattle.std.specs.Prelude.{◌≡◌, ◌≢◌, ◌<◌, true, IfOk, I
 ghost use Rattle.crossbeam_queue.specs.Passes.{view, IsPassOf, IsSamePass};
 ghost use Rattle.ready.specs.Steps.{HeldOnce, TookOne};
 
-use crate::flags::{Announced, IdleBits, MarkSeen, SpentWake};
+use crate::flags::{Announced, IdleBits, MarkSeen, Wake};
 use crate::rule::{Line, LinePass, pop};
 use crate::ticket::Ticket;
 use crossbeam_utils::sync::Parker;
@@ -103,7 +103,7 @@ impl Sleeper {
 
 impl Awake {
     /// Withdraws the announcement. The wake that another thread spent on this end, if one did.
-    pub(crate) fn withdraw(self, idle: &IdleBits) -> Option<SpentWake> {
+    pub(crate) fn withdraw(self, idle: &IdleBits) -> Option<Wake> {
         let Awake(announced) = self;
         idle.withdraw(announced)
     }
