@@ -414,6 +414,17 @@ turn_worn (Err ended) t answer a b xs ys (fault, is, was) worn ran =
       (was ∙ ap (λ (f : ServerFault). Met f) only.0, only.1),
     )
 
+-- the tickets in hand were put, and then a ticket was taken
+pub worker_step_ran : (said : Result Unit Ended) (a b c : Own) (xs ys zs : List End) → WorkerRan [] [] a b xs ys → OnOk said (WorkerRan [] [] b c ys zs)
+    → OnOk said (WorkerRan [] [] a c xs zs)
+worker_step_ran (Ok done) a b c xs ys zs put ran = worker_both [] [] a b c xs ys zs put ran
+worker_step_ran (Err ended) a b c xs ys zs put ran = tt
+
+pub worker_step_cut : (said : Result Unit Ended) (a b c : Own) (xs ys zs : List End) → WorkerRan [] [] a b xs ys → IfErr said (λ ended. WorkerEnded ended.why b c ys zs)
+    → IfErr said (λ ended. WorkerEnded ended.why a c xs zs)
+worker_step_cut (Ok done) a b c xs ys zs put cut = tt
+worker_step_cut (Err ended) a b c xs ys zs put cut = worker_then_ends ended.why a b c xs ys zs put cut
+
 -- A poller
 
 -- sharing the tickets in hand loses none

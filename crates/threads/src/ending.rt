@@ -1,11 +1,13 @@
 //! How the threads of a server come to their end: why the loop of each ends, and what becomes of a fault.
 ghost use Rattle.std.specs.Prelude.{◌≡◌, IfOk, IfErr, OnErr, OnOk, option_map, true, false};
+ghost use Rattle.dispatch.specs.Outgoing.{PutAll};
 ghost use Rattle.ready.specs.Steps.{HeldOnce};
 ghost use Rattle.relay_log.specs.declared.faults.ServerFault.{ServerFault};
 ghost use Rattle.threads.specs.Endings.{fault_by};
 ghost use Rattle.threads.specs.Loops.{Took};
 
 use crate::faults::{Earliest, Outcome, Recorded};
+use crate::running::Served;
 use dispatch::{Front, Own, ServerFault};
 use ready::Ticket;
 use rounds::Poller;
@@ -97,8 +99,10 @@ pub(crate) fn end_if_over<F: Front>(poller: &Poller<F>) -> Result<(), Ended>
 }
 
 /// Takes a ticket, and may sleep until there is one. So it uses up a look for a fault, and a turn asks for another,
-/// after that. It refuses once the queue of tickets is closed and empty.
+/// after that, and what was in hand has been put, as far as the queue had room. It refuses once the queue of tickets is
+/// closed and empty.
 pub(crate) fn take(rt: &impl Wait, own: &mut Own, _seen: NoFault) -> Result<Ticket, Ended>
+    requires put { PutAll own.old.ready own.old.hand.tickets }
     ensures taken { IfOk result (λ ticket. Took ticket own.old own.new) }
     ensures none { OnErr result (own.new ≡ own.old) }
     ensures closed { IfErr result (λ ended. (ended.why ≡ Why.QueueClosed) × HeldOnce 0 own.new.ready.history) }
@@ -172,7 +176,7 @@ impl Ending {
     }
 
     /// How the server ended, whose threads have all ended: by the recorded fault that was kept, if any.
-    pub(crate) fn outcome(self) -> Outcome {
+    pub(crate) fn outcome(self, _served: Served) -> Outcome {
         self.first.into_inner().outcome()
     }
 }

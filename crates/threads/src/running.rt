@@ -53,7 +53,7 @@ where
 {
     let ending = Ending::new(server.pollers.len());
     match run_server(rt, alloc, gate, timing, (&ending, is_stopped), server) {
-        Ok(()) => ending.outcome(),
+        Ok(served) => ending.outcome(served),
         Err(fault) => Outcome::refused(fault),
     }
 }
@@ -67,7 +67,7 @@ fn run_server<'a, F, G: Gate + Sync, C: Clock + Sync, R: Wait + Threads + Log + 
     timing: Timing<'a, C>,
     (ending, is_stopped): (&'a Ending, &'a AtomicBool),
     server: Server<F>,
-) -> Result<(), ServerFault>
+) -> Result<Served, ServerFault>
 where
     F: Front + Drop + Send,
     F::Client: Send,
@@ -97,16 +97,19 @@ where
         },
         threads: Mutex::new(threads),
     };
-    run_all(&startup, workers);
-    Ok(())
+    Ok(run_all(&startup, workers))
 }
+
+/// The threads of a server have run, and all have ended. Nothing but [`run_all`] makes one.
+#[derive(Drop)]
+pub(crate) struct Served(());
 
 /// Starts the threads of the workers and of all pollers but one, runs that one in the calling thread, and ends with
 /// the last of them. A thread that cannot be started is a fault.
 fn run_all<F, G: Gate + Sync, C: Clock + Sync, R: Wait + Threads + Log + Sync>(
     startup: &Startup<F, G, C, R>,
     workers: usize,
-)
+) -> Served
 where
     F: Front + Drop + Send,
     F::Client: Send,
@@ -125,6 +128,7 @@ where
         startup.announce();
         startup.poll()
     });
+    Served(())
 }
 
 /// What each thread is handed, and the threads that have not begun.

@@ -3,13 +3,13 @@ ghost use Rattle.std.specs.Prelude.{◌≡◌, ◌≢◌, ◌<◌, ◌-◌, [], 
 ghost use Rattle.std.specs.Arc.{arc_value};
 ghost use Rattle.claims.specs.Seats.{HoldsNothing};
 ghost use Rattle.dispatch.specs.Hands.{HasRoom};
-ghost use Rattle.dispatch.specs.Outgoing.{outgoing, slots_out};
+ghost use Rattle.dispatch.specs.Outgoing.{outgoing, slots_out, PutAll};
 ghost use Rattle.relay_log.specs.declared.faults.ServerFault.TheVariants.{Worn};
 ghost use Rattle.threads.specs.declared.ending.Why.{Why};
 ghost use Rattle.threads.specs.Loops.{GivesToOwner, OneRan, WorkerEnded, WorkerRan, WornEnd};
 
 use crate::context::Context;
-use crate::ending::{Cleared, Ended, take};
+use crate::ending::{Cleared, Ended, NoFault, take};
 use dispatch::{Clock, Front, Gate, Hand, Own, Shared, give_slots, put_tickets};
 use log::Log;
 use ready::FreeQueue;
@@ -72,9 +72,10 @@ where
         unreachable!()
     }
 
-    /// One step of the thread: it takes a ticket, which may mean to wait for one, and runs its turn. It is refused
-    /// if the thread ends: the queue of tickets is closed and empty, a fault is recorded before the
-    /// ticket is taken or after that, or this step met one. After a fault the ticket that was taken stays in hand.
+    /// One step of the thread: it puts the tickets in hand, which a queue had refused. It takes a ticket, which may mean to
+    /// wait for one, and runs its turn. It is refused if the thread ends: the queue of tickets is closed and empty, a fault
+    /// is recorded before the ticket is taken or after that, or this step met one. After a fault the ticket that was taken
+    /// stays in hand.
     pub fn step<G: Gate, C: Clock, R: Wait + Log, S>(
         &mut self,
         context: &Context<'_, G, C, R, S>,
@@ -86,10 +87,33 @@ where
             Ok(seen) => seen,
             Err(ended) => return Err(ended),
         };
+        self.put_hand(context.rt);
         if !self.own.hand.has_room() {
-            self.empty_hand(context.rt);
+            thread::yield_now();
             return Ok(());
         }
+        self.run_next(context, seen)
+    }
+
+    /// Puts the tickets in hand, as far as their queue has room.
+    fn put_hand(&mut self, rt: &impl Wait)
+        ensures ran { WorkerRan [] [] self.old.own self.new.own self.old.others.items self.new.others.items }
+        ensures put { PutAll self.new.own.ready self.new.own.hand.tickets }
+    {
+        put_tickets(rt, &mut self.own.ready, &mut self.own.hand);
+    }
+
+    /// Takes a ticket, and runs its turn.
+    fn run_next<G: Gate, C: Clock, R: Wait + Log, S>(
+        &mut self,
+        context: &Context<'_, G, C, R, S>,
+        seen: NoFault,
+    ) -> Result<(), Ended>
+        requires room { HasRoom self.old.own.hand }
+        requires put { PutAll self.old.own.ready self.old.own.hand.tickets }
+        ensures ran { OnOk result (WorkerRan [] [] self.old.own self.new.own self.old.others.items self.new.others.items) }
+        ensures cut { IfErr result (λ ended. WorkerEnded ended.why self.old.own self.new.own self.old.others.items self.new.others.items) }
+    {
         let ticket = match take(context.rt, &mut self.own, seen) {
             Ok(ticket) => ticket,
             Err(ended) => return Err(ended),
@@ -104,15 +128,6 @@ where
                 Err(ended)
             }
         }
-    }
-
-    /// Puts and gives all in hand, as far as the queues have room, and lets other threads go on.
-    fn empty_hand(&mut self, rt: &impl Wait)
-        ensures ran { WorkerRan [] [] self.old.own self.new.own self.old.others.items self.new.others.items }
-    {
-        put_tickets(rt, &mut self.own.ready, &mut self.own.hand);
-        self.give_all(rt);
-        thread::yield_now();
     }
 
     /// Runs a turn. If its connection ends, its slot goes back to the poller that has it.

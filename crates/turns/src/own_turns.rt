@@ -1,5 +1,5 @@
 //! The turns that the poller's thread runs by itself, so that no worker has to be woken for them.
-ghost use Rattle.std.specs.Prelude.{◌≡◌, ◌↔◌, ◌<◌, ◌∷◌, ◌++◌, [], length, slice_get, Ok, Some, None, IfErr, IfSome, IsSome, true};
+ghost use Rattle.std.specs.Prelude.{◌≡◌, ◌↔◌, ◌<◌, ◌≤◌, ◌∷◌, ◌++◌, [], length, slice_get, Ok, Some, None, IfErr, IfSome, IsSome, true};
 ghost use Rattle.claims.specs.Seats.{HoldsNothing, OnlyAt};
 ghost use Rattle.dispatch.specs.Outgoing.{TookNothing};
 ghost use Rattle.dispatch.specs.Heavy.{looked_at};
@@ -62,6 +62,8 @@ fn stays(
     ensures light { IsSome result → IsLight heavy.old ticket }
     ensures stays { Stays kept heavy.old ticket → IsSome result }
     ensures early { result ≡ Some Stay.Early → kept < own_turns }
+    ensures later { asleep.old ≡ true → own_turns ≤ kept → result ≡ None }
+    ensures asleep { (asleep.old ≡ true → asleep.new ≡ true) × (result ≡ None → IsLight heavy.old ticket → asleep.new ≡ true) }
     ensures marks { heavy.new ≡ looked_at ticket.slot heavy.old }
 {
     if !heavy.is_light(ticket.slot) {
