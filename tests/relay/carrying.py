@@ -85,8 +85,7 @@ def makes_no_call_that_nobody_asked_for():
         _, accepted, after = re.split(r"(accept4.* = \d+\n)", file.read())
     made = collections.Counter(re.findall(r"^\d+ +(\w+)\(", after, re.M))
     wanted = {"socket": 1, "connect": 1, "epoll_ctl": 3, "setsockopt": 2, "shutdown": 2}
-    # It reads in vain once for each of the six times that bytes come, and once or so before.
-    assert after.count("EAGAIN") <= 10, after
+    assert after.count("EAGAIN") <= 10, after  # one for each of the six times that bytes come
     assert {name: made[name] for name in made.keys() - {"recvfrom", "sendto"}} == wanted, accepted
 
 

@@ -2,7 +2,7 @@
 use crate::all_well;
 use dispatch::{Front, MAX_BATCH, ServerFault, Settle, Split, Unopened, Waiting};
 use engine::Wire;
-use log::sink::{Lines, Memory};
+use log::sink::{Discard, Lines, Memory};
 use log::{Level, Log, Logged};
 use settings::parse;
 use sockets::{Forwarding, Patience, SocketWire, Sockets, Wakers, bind, open_all};
@@ -12,7 +12,7 @@ use std::net::{SocketAddr, TcpListener, TcpStream};
 use std::test::Fail;
 use token::{Side, Token};
 
-/// Two fronts with 65 slots each, what wakes them, and their address.
+/// Two fronts, what wakes them, and their address.
 #[derive(Drop)]
 struct Fronts<'r> {
     fronts: Vec<Sockets<'r, HostRuntime>>,
@@ -20,8 +20,12 @@ struct Fronts<'r> {
     address: SocketAddr,
 }
 
-/// Fronts on loopback, at a port that the system picks, that connect clients to this target.
-fn fronts_to(rt: &HostRuntime, target: SocketAddr) -> Result<Fronts<'_>, ServerFault> {
+/// Fronts on loopback, at a port that the system picks, that connect clients to this target, for slots dealt so.
+fn fronts_to(
+    rt: &HostRuntime,
+    target: SocketAddr,
+    split: Split,
+) -> Result<Fronts<'_>, ServerFault> {
     let text = b"listen = \"127.0.0.1:0\"\ntarget = \"127.0.0.1:1\"\n";
     let settings = parse(rt.alloc(), text).map_err(|_| ServerFault::NoMemory)?;
     let bound = bind(rt, &settings)?;
@@ -31,7 +35,7 @@ fn fronts_to(rt: &HostRuntime, target: SocketAddr) -> Result<Fronts<'_>, ServerF
         proxy: false,
         patience: Patience::NONE,
     };
-    let (fronts, wakers) = open_all(rt, rt.alloc(), bound, forwarding, Split::new(130, 2))?;
+    let (fronts, wakers) = open_all(rt, rt.alloc(), bound, forwarding, split)?;
     Ok(Fronts {
         fronts,
         wakers,
@@ -53,17 +57,6 @@ fn reports<F: Front>(alloc: Global, front: &mut F, numbers: &[u64]) -> io::Resul
     Err(io::Error::from(ErrorKind::TimedOut))
 }
 
-/// Wakes the poller of a slot, and waits until a front has reported that and the listener.
-fn hear(
-    alloc: Global,
-    wakers: &Wakers,
-    slot: usize,
-    front: &mut Sockets<'_, HostRuntime>,
-) -> io::Result<()> {
-    Sockets::<HostRuntime>::wake(wakers, slot);
-    reports(alloc, front, &[0, 1])
-}
-
 /// Whether each of two fronts hears of the listener and of a slot of its part.
 fn hear_all(
     alloc: Global,
@@ -71,7 +64,8 @@ fn hear_all(
     fronts: &mut [Sockets<'_, HostRuntime>],
 ) -> io::Result<bool> {
     for (front, slot) in fronts.iter_mut().zip([64, 65]) {
-        hear(alloc, wakers, slot, front)?;
+        Sockets::<HostRuntime>::wake(wakers, slot);
+        reports(alloc, front, &[0, 1])?;
     }
     Ok(fronts.len() == 2)
 }
@@ -85,7 +79,7 @@ fn fronts_share_the_listener(rt: HostRuntime) -> Result<(), Fail> {
         mut fronts,
         wakers,
         address,
-    } = fronts_to(&rt, target)?;
+    } = fronts_to(&rt, target, Split::new(130, 2))?;
     let _peer = TcpStream::connect(&rt, address)?;
     all_well(hear_all(rt.alloc(), &wakers, fronts.as_mut_slice())?)
 }
@@ -100,6 +94,15 @@ fn is_silent(wire: &mut SocketWire) -> bool {
     kind(wire.read(&mut [0; 4])) == Err(ErrorKind::WouldBlock)
         && wire.shut_write().is_ok()
         && kind(wire.write(b"a")) == Err(ErrorKind::BrokenPipe)
+}
+
+/// Whether a socket that has sent at once may wait for more after four full offers.
+fn may_wait_in_bulk(wire: &mut SocketWire) -> bool {
+    wire.settle();
+    for _offer in 0..4 {
+        let _answer = wire.write(&[0; 16_384]);
+    }
+    kind(wire.stream().sends_at_once()) == Ok(false)
 }
 
 /// Opens the connection of a client in slot 3: the wire of its target.
@@ -147,22 +150,66 @@ fn answer(rt: &HostRuntime, front: &mut Sockets<'_, HostRuntime>) -> io::Result<
     let mut client = front.accept()?;
     let sink = Memory::new(rt.alloc());
     let log = Logged::new(rt, Level::Debug, &sink);
-    let is_well = opens_once(rt, &log, front, &mut client)? && is_silent(&mut client);
+    let is_well = opens_once(rt, &log, front, &mut client)?
+        && may_wait_in_bulk(&mut client)
+        && is_silent(&mut client);
     Ok(is_well && is_told(&sink.into_lines())?)
 }
 
 // refuses pending_error_swallowed: the error that is pending on a socket is overlooked
 // refuses pending_error_without_its_number: such an error is logged without the system's number
 // refuses registers_cause_is_not_kept: the log is not told why a socket cannot be reported
+// refuses sends_at_once_for_ever: a socket that has once sent at once does so in bulk, too
 // Nobody listens at the port of a client, so such a target refuses.
 #[test]
 fn wires_answer_as_their_sockets(rt: HostRuntime) -> Result<(), Fail> {
     let listener = TcpListener::bind(&rt, "127.0.0.1:0")?;
     let holder = TcpStream::connect(&rt, listener.local_addr()?)?;
-    let mut opened = fronts_to(&rt, holder.local_addr()?)?;
+    let mut opened = fronts_to(&rt, holder.local_addr()?, Split::new(130, 2))?;
     let _peer = TcpStream::connect(&rt, opened.address)?;
     match opened.fronts.first_mut() {
         Some(front) => all_well(answer(&rt, front)?),
         None => all_well(false),
     }
+}
+
+/// Has a front accept a client.
+fn accepted(
+    rt: &HostRuntime,
+    address: SocketAddr,
+    front: &mut Sockets<'_, HostRuntime>,
+) -> io::Result<(TcpStream, SocketWire)> {
+    Ok((TcpStream::connect(rt, address)?, front.accept()?))
+}
+
+/// Whether a front of one slot leaves clients to another: of two, of four; if that one is full, is not, takes no more.
+fn leaves(
+    rt: &HostRuntime,
+    address: SocketAddr,
+    front: &mut Sockets<'_, HostRuntime>,
+    other: &mut Sockets<'_, HostRuntime>,
+) -> io::Result<[bool; 5]> {
+    let (mut client, _second) = (accepted(rt, address, front)?, accepted(rt, address, front)?);
+    let _target = opened(&Discard, front, &mut client.1).ok();
+    let with_two = front.leaves();
+    let _more = (accepted(rt, address, front)?, accepted(rt, address, front)?);
+    let (with_four, full) = (front.leaves(), accepted(rt, address, other)?);
+    let beside_one = front.leaves();
+    drop(full);
+    let beside_none = front.leaves();
+    other.stop_listening();
+    Ok([with_two, with_four, beside_one, beside_none, front.leaves()])
+}
+
+// refuses clients_count_twice: a client counts twice among those that its poller has
+// refuses full_pollers_are_left_clients: clients are left to pollers that have all that they can have, or take no more
+#[test]
+fn fronts_leave_clients_to_others(rt: HostRuntime) -> Result<(), Fail> {
+    let target = SocketAddr::from(([127, 0, 0, 1], 1));
+    let mut opened = fronts_to(&rt, target, Split::new(2, 2))?;
+    let (Some(mut other), Some(mut front)) = (opened.fronts.pop(), opened.fronts.pop()) else {
+        return all_well(false);
+    };
+    let left = leaves(&rt, opened.address, &mut front, &mut other)?;
+    all_well(left == [false, true, false, true, false])
 }

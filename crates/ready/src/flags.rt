@@ -1,7 +1,7 @@
 // The words that the ends of a queue of tickets share, and all the atomic steps on them. Each step is sequentially
 // consistent, as are those of the queue: all threads see them in one order. A comment at each step names the step
 // that it pairs with.
-ghost use Rattle.std.specs.Prelude.{◌≡◌, ◌≢◌, ◌<◌, ◌↔◌, ℕ, IsErr, IsNone, IsSome, IsTrue, IfErr, IfOk, IfSome, OnErr, OnOk, None, length, true, not};
+ghost use Rattle.std.specs.Prelude.{◌≡◌, ◌≢◌, ◌<◌, ◌↔◌, ℕ, IsNone, IsSome, IsTrue, IfErr, IfOk, IfSome, OnErr, OnOk, None, length, true, not};
 ghost use Rattle.crossbeam_queue.specs.Passes.{view, IsPassOf, IsSamePass, ruled_capacity};
 ghost use Rattle.ready.specs.Steps.{BitStep, ReadBits, SetBits, ClearedBits, HeldOnce, PutOne, bit_of, has_bit};
 
@@ -54,7 +54,7 @@ impl Bits for AtomicU64 {
 #[derive(Drop)]
 pub(crate) struct IdleBits<W = AtomicU64>(W);
 
-/// One look at the bits of the idle ends found none set. Only [`IdleBits::look`] makes one, and it cannot be
+/// One look at the bits of the idle ends found none set. Only [`IdleBits::all_busy`] makes one, and it cannot be
 /// copied: who asks for one asks for a look of its own.
 #[derive(Drop)]
 pub struct AllBusy {
@@ -74,8 +74,8 @@ pub(crate) struct Announced {
 /// An idle end has to be woken for a ticket that is in the queue. Only [`push_ticket`] makes one, and
 /// [`IdleBits::withdraw`], where another thread has woken an end that finds a ticket by itself.
 ///
-/// It can be neither copied nor dropped. So each is used up once: it wakes one end, or no end is idle, or the end that
-/// has it looks again.
+/// It can be neither copied nor dropped. So each is used up once: it wakes one end, or a look after the ticket was put
+/// found no end idle, or the end that has it looks again.
 pub(crate) struct Wake(());
 
 /// An end whose bit was cleared to wake it. Only [`IdleBits::wake`] makes one, and it can be neither copied nor dropped.
@@ -107,11 +107,6 @@ impl Wake {
     pub(crate) fn take(self, _found: &Option<Ticket>)
         requires { _found.now ≡ None }
     {
-        let Wake(()) = self;
-    }
-
-    /// No end was idle after the ticket was put. One that announces itself later looks at the queue after that.
-    pub(crate) fn is_for_nobody(self, _busy: &AllBusy) {
         let Wake(()) = self;
     }
 }
@@ -178,17 +173,31 @@ impl<W: Bits> IdleBits<W> {
         }
     }
 
-    /// The bits, or that none is set, by one look.
-    pub(crate) fn look(&self) -> Result<u64, AllBusy>
-        ensures looked { (bits : ℕ) × W.did (ReadBits bits) self.now.0 × (IsErr result ↔ bits ≡ 0) × IfOk result (λ found. found ≡ bits) }
+    /// The bits, by one look, if any is set. The wake is for one of these ends, and else for nobody.
+    pub(crate) fn look_for(&self, wake: Wake) -> Option<(u64, Wake)>
+        ensures looked { (bits : ℕ) × W.did (ReadBits bits) self.now.0 × (IsNone result ↔ bits ≡ 0) × IfSome result (λ found. found.0 ≡ bits) }
     {
         // Pairs with `announce`. An end whose bit is set after this load looks at the queue after it, and so finds
-        // what was pushed before. Who keeps a ticket since no bit is set has to come back to it.
+        // what was pushed before.
+        let bits = self.0.read();
+        if bits != 0 {
+            return Some((bits, wake));
+        }
+        let Wake(()) = wake;
+        None
+    }
+
+    /// Whether no bit is set, by one look.
+    pub(crate) fn all_busy(&self) -> Option<AllBusy>
+        ensures looked { (bits : ℕ) × W.did (ReadBits bits) self.now.0 × (IsSome result ↔ bits ≡ 0) }
+    {
+        // Pairs with nothing: an end may announce itself right after it. Who keeps a ticket for that has to come back
+        // to it.
         let bits = self.0.read();
         if bits == 0 {
-            Err(AllBusy { bits })
+            Some(AllBusy { bits })
         } else {
-            Ok(bits)
+            None
         }
     }
 }

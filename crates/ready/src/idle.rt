@@ -62,20 +62,21 @@ impl IdleEnds {
 
     /// Whether no end is idle, by one look.
     pub(crate) fn all_busy(&self) -> Option<AllBusy> {
-        self.idle.look().err()
+        self.idle.all_busy()
     }
 
     /// Wakes the idle end with the lowest number, if any is idle.
-    pub(crate) fn wake_one(&self, rt: &impl Wait, wake: Wake) {
+    pub(crate) fn wake_one(&self, rt: &impl Wait, owed: Wake) {
+        let mut wake = owed;
         for _look in rt.forever() {
-            let idle = match self.idle.look() {
-                Ok(idle) => idle,
-                Err(busy) => return wake.is_for_nobody(&busy),
+            let Some((idle, same)) = self.idle.look_for(wake) else {
+                return;
             };
-            // Else other threads have woken all of these for other tickets.
             if let Some(woken) = self.woken_of(idle) {
-                return woken.unpark(wake, self.unparkers.as_slice());
+                return woken.unpark(same, self.unparkers.as_slice());
             }
+            // Other threads have woken all of these for other tickets.
+            wake = same;
         }
         unreachable!()
     }

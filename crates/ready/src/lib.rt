@@ -39,19 +39,19 @@
 //!
 //! # Inside
 //!
-//! The order of the steps is kept by values that nothing but the step before gives. A put that has pushed its ticket has
-//! a wake, unless its own end comes back (`End::push`: `wake`). A wake can be neither copied nor dropped (`Wake`): it
-//! unparks the one end whose bit was cleared for it (`Woken`), or one look found no bit. So an end is woken only once its
-//! ticket is in the queue, or `close` has set its mark (`wake_all`). `take` returns none only if it read
-//! that mark and then found the queue empty (`End::take`: `closed`, `empty`). An end announces that it is idle only
-//! if it read that the queue was open and then found it empty (`announce`: `open`), and parks once for each
-//! announcement, only after it found the queue empty again (`look_again`; `park`: `empty`, `mine`). Its next put
-//! counts on it to come back exactly if its last `take` gave a ticket and it has put nothing since (`End`: `same`,
+//! The order of the steps is kept by values that nothing but the step before gives. A put that has pushed its ticket
+//! has a wake, unless its own end comes back (`End::push`: `wake`). A wake can be neither copied nor dropped (`Wake`):
+//! it unparks the one end whose bit was cleared for it (`Woken`), or one look found no bit (`look_for`). So an end is
+//! woken only once its ticket is in the queue, or `close` has set its mark (`wake_all`). `take` returns none only if it
+//! read that mark and then found the queue empty (`End::take`: `closed`, `empty`). An end announces that it is idle
+//! only if it read that the queue was open and then found it empty (`announce`: `open`), and parks once for each
+//! announcement, only after it found the queue empty again (`look_again`; `park`: `empty`, `mine`). Its next put counts
+//! on it to come back exactly if its last `take` gave a ticket and it has put nothing since (`End`: `same`,
 //! `comes_back`, `stays`). The bits of idle ends are a word that has no step but a read, and to set or clear bits at
-//! once (`Bits`): `withdraw` and `wake` say what one such step found (`cleared`), and `look` gives the bits, or, if its
-//! one look found none, a value that nothing else makes and that cannot be copied (`looked`, `AllBusy`). A wake that was
-//! spent on an end is its own again where it withdraws: an end that found nothing takes it, and one that found a ticket
-//! passes it on.
+//! once (`Bits`): `withdraw` and `wake` say what one such step found (`cleared`), and `all_busy` returns Some exactly
+//! if its one look found no bit (`looked`), by a value that nothing else makes and that cannot be copied (`AllBusy`). A
+//! wake that was spent on an end is its own again where it withdraws: an end that found nothing takes it, and one that
+//! found a ticket passes it on.
 #![tactic(auto)]
 
 mod end;
