@@ -7,7 +7,7 @@
 //   load client PORT SECONDS THREADS KIND CONNECTIONS [KIND CONNECTIONS]
 //       Opens its connections and prints "ready"; at a line on standard input it runs and prints a line of results;
 //       when standard input ends it ends, and its connections with it. A second load runs beside the first from the
-//       same start to the same deadline, in threads of its own; its results stand behind. KIND is
+//       same start to the same deadline, in threads of its own; its results stand after those. KIND is
 //         up       bytes one way, as fast as they go
 //         both     bytes both ways
 //         ask      requests and answers of 64 bytes, one at a time on each connection

@@ -1,5 +1,5 @@
 """What tests over loopback share: relays of the built program, servers and clients in this process, and what `relayd replay`
-tells of a recording. `Relay.program` has to be set first."""
+prints of a recording. `Relay.program` has to be set first."""
 
 import collections
 import concurrent.futures
@@ -85,7 +85,7 @@ def allowed(descriptors, closed=()):
 
 class Relay:
     """A relay that forwards to a port, or to this process itself, with these settings beside the two addresses or in their
-    place: from a file, with other options behind it, or on the command line; and with the library put before others, told by
+    place: from a file, with other options after it, or on the command line; and with the library put before others, told by
     these variables. It records what it does, unless it is to have no thread and no descriptor beyond those of a relay that
     does not. It begins with these standard streams closed, and inherits these descriptors and variables."""
 
@@ -196,7 +196,7 @@ class Relay:
 
 
 def replay(path, *options):
-    """What `relayd replay` tells of a recording, where that is of a run of the machine."""
+    """What `relayd replay` prints of a recording, where that is of a run of the machine."""
     words = [Relay.program, "replay", *options, path]
     done = subprocess.run(words, stdout=subprocess.PIPE, stderr=subprocess.STDOUT, text=True)
     assert done.returncode == 0, done.stdout.partition("\n")[0]

@@ -1,4 +1,4 @@
-/* What a test preloads, and tells by environment variables.
+/* What a test preloads, and sets by environment variables.
  *
  * An allocator that refuses one growth of the program: its call number GROWTHS_REFUSE of malloc(3), calloc(3) or
  * realloc(3), counted from 1, answers NULL. Calls that the C library makes for itself are neither counted nor refused,
@@ -84,7 +84,7 @@ int pthread_create(pthread_t *thread, const pthread_attr_t *attributes, void *(*
   int (*create)(pthread_t *, const pthread_attr_t *, void *(*)(void *), void *) = dlsym(RTLD_NEXT, "pthread_create");
   const char *most = getenv("MOST_THREADS");
   if (!most || started++ < atoi(most)) return create(thread, attributes, run, argument);
-  usleep(100000); /* the others sleep by the time that this is told */
+  usleep(100000); /* the others sleep by the time that this is printed */
   return EAGAIN;
 }
 

@@ -3,7 +3,7 @@ r"""Reads the rows of this folder: what each run of the program is given, and wh
 `transcripts` and `help` have runs. All that a run gives is compared to the byte. These are its lines:
 
     == NAME             a run begins
-    $ relayd WORDS      the command, as a shell reads it. Behind `<`, `>` and `2>`, in this order, stands where a stream goes:
+    $ relayd WORDS      the command, as a shell reads it. After `<`, `>` and `2>`, in this order, stands where a stream goes:
                         a file, `closed` (nowhere), `gone` (a pipe that nobody reads) or `terminal` (one where the input is
                         typed, and then Ctrl-D). Where there are several commands, each gives the same
     < TEXT              a line of standard input
@@ -24,23 +24,23 @@ row for each of these, and it stands for each `{}` of the row. A line that ends 
 in which nothing has happened: lists are empty, workers idle, directions have no bytes, and slots are free.
 
 `causes` has scripts with a fault in their last line. WANTED is `WHY: CAUSE`: WHY is `malformed`, `not allowed`, `no world` or
-`script too long`, and CAUSE is what the log tells, without the number of the line.
+`script too long`, and CAUSE is what the log has, without the number of the line.
 
 `largest` has rows of both kinds, at the largest of everything. Of each world with a report each step is then shown, too.
 
 `recordings` has the acts of recordings. They get the counts from 0 up, but for one with counts before it, which has those;
-reports get those of their poll. Behind `rests:`, in place of `begins:`, all has come to rest when the relay is stopped; behind
+reports get those of their poll. After `rests:`, in place of `begins:`, all has come to rest when the relay is stopped; after
 `scripts:` the script of 0.1 is wanted, which WANTED `too long` says that it is for `sim`.
 WANTED is `N connections; LINES`, lines of the output, or `WHOSE: ACT: WHY` of the act that can stand nowhere, or `malformed: CAUSE`,
 where CAUSE has the act in place of its line.
 
-`settings` has settings texts, on which `relayd check` is run. WANTED is the fault that is told, and behind ` | ` the cause that
-the log tells, or the settings that differ from their defaults, as `ring=1 log=off`.
+`settings` has settings texts, on which `relayd check` is run. WANTED is the fault that is reported, and after ` | ` the cause
+that the log has, or the settings that differ from their defaults, as `ring=1 log=off`.
 
-`words` has the words behind `relayd`, as a shell reads them, that are refused. WANTED is such a fault with its cause, or what
-the parser of arguments tells.
+`words` has the words after `relayd`, as a shell reads them, that are refused. WANTED is such a fault with its cause, or what
+the parser of arguments prints.
 
-In all of them `\xHH` is a byte, and `\xHH*N` that byte N times, but in what the log tells of a fault, which is as it stands.
+In all of them `\xHH` is a byte, and `\xHH*N` that byte N times, but in what the log has of a fault, which is as it stands.
 Lines that begin with `#` are comments.
 """
 
@@ -58,7 +58,7 @@ QUIET = {"listener": " backlog=0 flag=up", "queue": "", "batch": "", "ready": ""
 
 @dataclass
 class Row:
-    """A run of the program: what it is given, and what it must give. Where no bytes say that, `will_do` tells of a status,
+    """A run of the program: what it is given, and what it must give. Where no bytes say that, `will_do` says of a status,
     an output and errors whether they will do."""
 
     name: str
@@ -154,7 +154,7 @@ def transcript(lines):
 
 
 def choices(line):
-    """The rows for which a line stands, each behind what is chosen in it."""
+    """The rows for which a line stands, each after what is chosen in it."""
     found = re.search(r"\{([^{}]* / [^{}]*)\}(?=.* => )", line)
     if not found:
         return [("", line)]
@@ -195,7 +195,7 @@ def report_of(script, told):
         lines[f"slot {slot}"] = f"slot {slot} free gen={header.get('gen', 0)} notes=0"
         if re.search(" (live|done|failed) ", told.get(f"slot {slot}", "")):
             lines |= {f"{slot} {way}": f"{slot} {way} sent=- ring=- unread=- end=no shut=no" for way in ("up", "down")}
-    # What is told of other things, which are connections of the past, comes last.
+    # What is reported of other things, which are connections of the past, comes last.
     return " | ".join({**lines, **told}.values())
 
 
@@ -259,7 +259,7 @@ def numbered(acts):
 
 
 def is_malformed(wanted, text, status, output, errors):
-    """Whether a text is told to be no recording for this cause, in which the act of the line stands for its number."""
+    """Whether a text is reported to be no recording for this cause, in which the act of the line stands for its number."""
 
     def act(line):
         return re.sub(r"^\d+ \d+ ", "", text.split("\n")[int(line[1]) - 1]) + ": "
@@ -269,7 +269,7 @@ def is_malformed(wanted, text, status, output, errors):
 
 
 def is_told(wanted, text, status, output, errors):
-    """Whether this is told of a recording."""
+    """Whether this is printed of a recording."""
     if wanted == "too long":
         warning = f"[WARN  relayd] output: the script has {len(output)} bytes, and relayd sim takes at most 1048576\n"
         return (status, errors) == (0, warning.encode()) and len(output) > 1_048_576
@@ -294,12 +294,12 @@ def recordings(lines):
 
 
 def error(cause):
-    """The line by which the log tells a cause."""
+    """The line by which the log has a cause."""
     return f"[ERROR relayd] {cause}\n".encode()
 
 
 def fault(told, cause):
-    """What is told of a fault: a line with its topic and the cause, and the fault."""
+    """What is printed of a fault: a line with its topic and the cause, and the fault."""
     return error(f"{told.split(':')[0]}: {cause}") + f"relayd: {told}\n".encode()
 
 

@@ -1,4 +1,4 @@
--- Each kind of step is allowed, and what it tells.
+-- Each kind of step is allowed, and what it shows.
 use Rattle.claims.proofs.Prelude.{◌≡◌, ℕ, ◌+◌, ◌^◌, ◌<◌, ◌≤◌, Bool, true, false, List, [], ◌∷◌, ◌++◌, length, map, get_or, set, refl, sym, subst, ap, ◌∙◌, arith, sum_by, get_or-map, map-set, length-map, sum_by-set, Me, Allows, keeps, Account, Exchange, View, word_of, word_after, WordState, StepKind, post, claim, take, release, retire, adopt, made, blank, after, account_of, accounts_of, trace_in, traces_at, NeedsHolder, ClaimRule, KeepsRule, at_map}
 use Rattle.claims.proofs.Fields.{posted_of, account_in}
 use Rattle.claims.proofs.Totals.{inside, each_at}

@@ -1,4 +1,4 @@
--- What a step has told, in the words of the calls' contracts.
+-- What a step has shown, in the words of the calls' contracts.
 use Rattle.claims.proofs.Prelude.{◌≡◌, ℕ, ◌+◌, ◌^◌, ◌<◌, ◌≤◌, Bool, true, false, List, [], ◌∷◌, ◌++◌, length, map, set, get_or, sym, subst, ap, ◌∙◌, arith, get_or-set_same, get_or-set_other, length-set, sum_by, get_or-map, map-set, set-get_or, length-map, get_or_default, sum_by-set, some, get_elem?, at_map, set_here, Account, Exchange, View, one, word_of, word_after, WordState, StepKind, made, blank, after, account_of, accounts_of, trace_in, traces_at, column, ClaimRule, KeepsRule, Knows, Counts, TableId, SeatState, seat_state, view_of, account_at, Holds, HoldsNot, Adds, Stepped, SeatOk}
 use Rattle.claims.proofs.Fields.{posted_of, taken_of, holds_of, holding_of, account_in}
 use Rattle.claims.proofs.Totals.{inside, each_at, term-le}

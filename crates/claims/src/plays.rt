@@ -1,4 +1,4 @@
-// The six kinds of step, which are all that there are, and what each tells the seat that made it. Each adds its
+// The six kinds of step, which are all that there are, and what each shows the seat that made it. Each adds its
 // exchange to the seat's trace.
 ghost use Rattle.std.specs.Prelude.{ℕ};
 ghost use Rattle.claims.specs.Words.{post, claim, take, release, retire, adopt};

@@ -1,4 +1,4 @@
-// The line that tells a target who its client is: that of two usual addresses, the longest and the shortest.
+// The line by which a target knows its client: that of two usual addresses, the longest and the shortest.
 use crate::passing::no_row;
 use relay_core::proxy_line;
 use std::alloc::{AllocError, Global};

@@ -25,7 +25,7 @@ static CALLS: [Point; 8] = [
     (Side::Client, CallKind::Shut, PlayList::Closings, 0, (3, 2)),
 ];
 
-/// What is seen of a session in the end: its first turn and its last, what the pair tells, how many bytes were sent
+/// What is seen of a session in the end: its first turn and its last, what the pair reports, how many bytes were sent
 /// each way, and on both wires how many plays are left and how many faults were counted.
 type Ended = (Turn, Turn, Verdict, (u64, u64), usize, (u64, u64));
 

@@ -116,7 +116,7 @@ fn opened(
     Ok(front.open(log, client, near, far)?.target)
 }
 
-/// Whether a target that refused its connection tells so at the first call, and the system's number of that
+/// Whether a target that refused its connection reports it at the first call, and the system's number of that
 /// (ECONNREFUSED).
 fn is_refused(target: &mut SocketWire) -> bool {
     kind(target.joined()) == Err(ErrorKind::ConnectionRefused) && target.error() == Some(111)
@@ -158,7 +158,7 @@ fn answer(rt: &HostRuntime, front: &mut Sockets<'_, HostRuntime>) -> io::Result<
 
 // refuses pending_error_swallowed: the error that is pending on a socket is overlooked
 // refuses pending_error_without_its_number: such an error is logged without the system's number
-// refuses registers_cause_is_not_kept: the log is not told why a socket cannot be reported
+// refuses registers_cause_is_not_kept: the log does not say why a socket cannot be reported
 // refuses sends_at_once_for_ever: a socket that has once sent at once does so in bulk, too
 // Nobody listens at the port of a client, so such a target refuses.
 #[test]

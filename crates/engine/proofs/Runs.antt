@@ -1,4 +1,4 @@
--- What one answer more does to a run, and to what the wires told of it.
+-- What one answer more does to a run, and to what the wires counted of it.
 use Rattle.std.proofs.Common.{◌≡◌, ℕ, ◌+◌, ◌%◌, ◌^◌, ◌≤◌, Bool, true, false, List, [], ◌∷◌, ◌++◌, length, Option, Some, None, refl, sym, ◌∙◌, ap, append-nil, append_assoc, length-append, add-zero, zero-add, add_assoc, arith, option_and_then, option_map, unwrap_or}
 use Rattle.std.proofs.Math.Nat.{mod-add-mod}
 use Rattle.std.specs.Prelude.{if◌then◌else◌, OnSome}
@@ -169,20 +169,12 @@ brought_other Client p (call.Read Client most) bytes fit other = absurd (cc)
 brought_other Client p (call.Read Target most) bytes fit other = refl
 brought_other Target p (call.Read Client most) bytes fit other = refl
 brought_other Target p (call.Read Target most) bytes fit other = absurd (cc)
-brought_other side p (call.Write s) bytes fit other = absurd (cc)
-brought_other side p (call.Join s) bytes fit other = absurd (cc)
-brought_other side p (call.Shut s) bytes fit other = absurd (cc)
+brought_other side p _ bytes fit other = absurd (cc)
 
 brought_elsewhere : (side : Side) (p : PairState) (call : Call) (reply : AnswerValue) → fits p call reply ≡ true → same_side (side_of call) side ≡ false
     → brought (way_from side) call reply ≡ []
 brought_elsewhere side p call (Bytes bytes) fit other = brought_other side p call bytes fit other
-brought_elsewhere side p call End fit other = refl
-brought_elsewhere side p call (Wrote n) fit other = refl
-brought_elsewhere side p call Joined fit other = refl
-brought_elsewhere side p call Shut fit other = refl
-brought_elsewhere side p call Blocked fit other = refl
-brought_elsewhere side p call Interrupted fit other = refl
-brought_elsewhere side p call (Failed kind) fit other = refl
+brought_elsewhere side p call _ fit other = refl
 
 carried_other : (side : Side) (p : PairState) (call : Call) (n : ℕ) → fits p call (Wrote n) ≡ true → same_side (side_of call) side ≡ false → carried p (way_to side) call (Wrote n)
     ≡ []
@@ -190,20 +182,12 @@ carried_other Client p (call.Write Client) n fit other = absurd (cc)
 carried_other Client p (call.Write Target) n fit other = refl
 carried_other Target p (call.Write Client) n fit other = refl
 carried_other Target p (call.Write Target) n fit other = absurd (cc)
-carried_other side p (call.Read s most) n fit other = absurd (cc)
-carried_other side p (call.Join s) n fit other = absurd (cc)
-carried_other side p (call.Shut s) n fit other = absurd (cc)
+carried_other side p _ n fit other = absurd (cc)
 
 carried_elsewhere : (side : Side) (p : PairState) (call : Call) (reply : AnswerValue) → fits p call reply ≡ true → same_side (side_of call) side ≡ false
     → carried p (way_to side) call reply ≡ []
-carried_elsewhere side p call (Bytes bytes) fit other = refl
-carried_elsewhere side p call End fit other = refl
 carried_elsewhere side p call (Wrote n) fit other = carried_other side p call n fit other
-carried_elsewhere side p call Joined fit other = refl
-carried_elsewhere side p call Shut fit other = refl
-carried_elsewhere side p call Blocked fit other = refl
-carried_elsewhere side p call Interrupted fit other = refl
-carried_elsewhere side p call (Failed kind) fit other = refl
+carried_elsewhere side p call _ fit other = refl
 
 -- the wire of the other side
 pub served_elsewhere : {S : Type 0} (now : ℕ) (told : S → WireView) (does : Asked → Given → S → S → Type 0) (side : Side) (p : PairState) (call : Call) (reply : AnswerValue)

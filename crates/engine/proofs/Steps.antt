@@ -169,17 +169,13 @@ pub read_of : {S : Type 0} (does : Asked → Given → S → S → Type 0) (most
     → does (ask.Read (length room)) given old new → does (ask.Read most) given old new
 read_of does most given room old new all did = rw all at did
 
--- an error, told as what it is
+-- an error, answered as what it is
 pub refused : {S : Type 0} (does : Asked → Given → S → S → Type 0) (call : Asked) (error : ErrorKind) (reply : AnswerValue) (old new : S) → IsErrorReply (kind_of_error error) reply
     → does call (Refused error) old new → IsCalled does (made call reply) old new
 refused does call error Blocked old new sort did = record { given = Refused error; told = (error, refl); did = did }
 refused does call error Interrupted old new sort did = record { given = Refused error; told = (error, refl); did = did }
 refused does call error (Failed kind) old new sort did = record { given = Refused error; told = sort; did = did }
-refused does call error (Bytes bytes) old new sort did = absurd sort
-refused does call error End old new sort did = absurd sort
-refused does call error (Wrote n) old new sort did = absurd sort
-refused does call error Joined old new sort did = absurd sort
-refused does call error Shut old new sort did = absurd sort
+refused does call error _ old new sort did = absurd sort
 
 interrupted_fits : (p : PairState) (call : Call) → fits p call Interrupted ≡ true
 interrupted_fits p (Read side most) = refl

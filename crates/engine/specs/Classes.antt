@@ -19,7 +19,7 @@ kind_of_error NotConnected = kind.NotConnected
 kind_of_error TimedOut = kind.TimedOut
 kind_of_error error = kind.Other
 
--- the kind of failure that an error can tell; none tells that a write took no byte
+-- the kind of failure that an error can mean; none means that a write took no byte
 abbrev pub kind_told : Kind → Kind
 kind_told kind.Zero = kind.Other
 kind_told kind = kind
@@ -46,7 +46,7 @@ class_of call joined error =
     else if may_wait call && would_wait joined error then class.Blocked
     else class.Failed (kind_of_error error)
 
--- a socket's pending error, told under a kind that is a failure of every call
+-- a socket's pending error, reported under a kind that is a failure of every call
 abbrev pub pending_kind : ErrorKind → ErrorKind
 pending_kind Interrupted = Other
 pending_kind WouldBlock = Other

@@ -9,7 +9,7 @@ use Rattle.std.specs.IoError.{error_kind}
 use Rattle.std.specs.Io.KnownBytes.{Consumes, Keeps}
 use Rattle.engine.specs.Asked.{Given, Brought, Took, Done, Refused}
 
--- what a wire tells: the bytes left to read and those written, where it tells them, and how many of its
+-- what a wire shows: the bytes left to read and those written, where it shows them, and how many of its
 -- answers were faults, and how many "would block"
 pub record WireView : Type 0 where
   pub remaining : Option (List ℕ)
@@ -17,7 +17,7 @@ pub record WireView : Type 0 where
   pub faults : ℕ
   pub blocks : ℕ
 
--- of a wire that tells no bytes
+-- of a wire that shows no bytes
 abbrev pub counts_alone : ℕ → ℕ → WireView
 counts_alone faults blocks = record { remaining = None; written = None; faults = faults; blocks = blocks }
 

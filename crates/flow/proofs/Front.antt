@@ -27,14 +27,6 @@ first_waits n (byte ∷ lead) ring h = sym (take-append-le n (byte ∷ lead) rin
 pub take-front : (s : Stream) (n : ℕ) → n ≤ length (front s) → take n (front s) ≡ take n (waiting s)
 take-front s n h = first_waits n s.lead s.ring h
 
-first_within : (lead ring : List ℕ) → length (first_of lead ring) ≤ length (lead ++ ring)
-first_within [] ring = omega arith
-first_within (byte ∷ lead) ring = omega (arith, length-append (byte ∷ lead) ring)
-
--- the front is a part of what waits
-pub length-front-le : (s : Stream) → length (front s) ≤ length (waiting s)
-length-front-le s = first_within s.lead s.ring
-
 first_some : (lead ring : List ℕ) → 1 ≤ length (lead ++ ring) → 1 ≤ length (first_of lead ring)
 first_some [] ring h = h
 first_some (byte ∷ lead) ring h = omega arith
@@ -43,27 +35,11 @@ first_some (byte ∷ lead) ring h = omega arith
 pub front_offers : (s : Stream) → 1 ≤ length (waiting s) → 1 ≤ length (front s)
 front_offers s h = first_some s.lead s.ring h
 
-none_waits : (lead ring : List ℕ) → first_of lead ring ≡ [] → lead ++ ring ≡ []
-none_waits [] ring e = e
-none_waits (byte ∷ lead) ring e = absurd (cc)
-
-none_offered : (lead ring : List ℕ) → lead ++ ring ≡ [] → first_of lead ring ≡ []
-none_offered [] ring e = e
-none_offered (byte ∷ lead) ring e = absurd (cc)
-
--- no byte waits where none is offered, and none is offered where no byte waits
-pub front_ends : (s : Stream) → (front s ≡ []) ↔ (waiting s ≡ [])
-front_ends s = (λ e. none_waits s.lead s.ring e, λ e. none_offered s.lead s.ring e)
-
 -- no byte waits where neither a lead nor the ring has one
 pub waiting_ends : (s : Stream) → waiting s ≡ [] → (s.lead ≡ []) × (s.ring ≡ [])
 waiting_ends s e =
     let sum : length s.lead + length s.ring ≡ 0 = sym (length-append s.lead s.ring) ∙ ap length e in
     (nil_from_length s.lead (omega arith), nil_from_length s.ring (omega arith))
-
--- the front without a lead, and with one
-pub front-ring : (s : Stream) → s.lead ≡ [] → front s ≡ s.ring
-front-ring s e = rw e refl
 
 first-lead : (lead ring : List ℕ) → 1 ≤ length lead → first_of lead ring ≡ lead
 first-lead [] ring h = absurd (omega arith)

@@ -46,10 +46,6 @@ pub ended : (most : ℕ) (a b c : Option (List ℕ)) (text more : List ℕ) (rea
     → length more ≤ most → IfSome a (λ input. more ≡ take most input)
 ended most a b c text more reads n r on none room few = whole most a c more (gone most a b c text more reads n r on) (on.at_end none room) few
 
--- what was taken by then
-pub taken_now : (most : ℕ) (a b : Option (List ℕ)) (text : List ℕ) (reads : ℕ) → Reads most a b text reads → TakesAtMost most a b
-taken_now most a b text reads r = (text, (r.consumed, r.few))
-
 pub taken_more : (most : ℕ) (a b c : Option (List ℕ)) (text more : List ℕ) (reads n : ℕ) → Reads most a b text reads → ReadsOn most b c text more n → length more ≤ most
     → TakesAtMost most a c
 taken_more most a b c text more reads n r on few = (more, (gone most a b c text more reads n r on, few))

@@ -22,7 +22,7 @@ pub enum Command<'a> {
     Replay(Replayed<'a>),
 }
 
-/// What is replayed, and what is told of it.
+/// What is replayed, and what is printed of it.
 #[derive(Clone, Copy)]
 pub struct Replayed<'a> {
     /// The file.
@@ -245,7 +245,7 @@ const EACH: ArgumentRow = ArgumentRow {
     form: Form::Flag,
     help: "Print each step, and what it changes in the report",
 };
-/// A recording, and what is told of it.
+/// A recording, and what is printed of it.
 const RECORDING: [ArgumentRow; 4] = [
     ArgumentRow {
         name: "script",

@@ -1,13 +1,6 @@
 -- What a call does: one that fails lets all that is late come; any other finds nothing late, or does not concern it.
-use Rattle.std.proofs.Common.{◌≡◌, ℕ, Bool, true, false, not, ◌&&◌, List, [], ◌∷◌, ◌++◌, map, length, take, Option, Some, None, option_and_then, refl, sym, ◌∙◌, append-nil}
-use Rattle.token.specs.declared.kind.Kind.{Kind}
-use Rattle.kernel_model.specs.Outcome.{guard}
-use Rattle.kernel_model.specs.Ends.{EndState, is_readable, is_writable}
-use Rattle.kernel_model.specs.Replies.{is_count}
-use Rattle.kernel_model.specs.declared.reply.Reply.{Reply}
+use Rattle.readiness.proofs.Prelude.{◌≡◌, ℕ, Bool, true, false, not, ◌&&◌, List, [], ◌∷◌, ◌++◌, map, length, take, Option, Some, None, option_and_then, refl, sym, ◌∙◌, append-nil, Kind, guard, EndState, is_readable, is_writable, is_count, Reply, Change, Call, Read, Write, Join, Shut, after_call, Way, Calls, may_call, reads_after, called, step, Seen, Came, Called, at_call, late_call}
 use Rattle.kernel_model.specs.declared.reply.Reply.TheVariants as reply
-use Rattle.readiness.specs.Machine.{Change, Call, Read, Write, Join, Shut, after_call, Way, Calls, may_call, reads_after, called, step}
-use Rattle.readiness.specs.Delays.{Seen, Came, Called, at_call, late_call}
 use Rattle.readiness.proofs.Flags.{is_down, false_left, false_right}
 use Rattle.readiness.proofs.Late.{settled, settle_sent, settle_shut, settle_arm, with_sent, with_shut, with_arm, IsBeside, is_beside, Caught, caught, replies_behind, changes_behind, events-append}
 use Rattle.readiness.proofs.Kept.{Rests, Waits, Prompt, Behind, Held, Goes, one_event, same_socket, on_its_way_still}
@@ -103,14 +96,12 @@ rests_now w v most a =
 
 reads : (w v : Way) (late : List Change) (s : Seen) (most : ℕ) (r : Reply) → Held w late s → Asked w v (Read most) r
     → Goes v s late (late_call r late) (at_call late (Read most) r) (Calls (Read most) r)
-reads w v late s most (reply.Bytes n) held a = read_now w v late s most (reply.Bytes n) held a (still_reads w v most (reply.Bytes n) a.socket a)
-reads w v late s most reply.End held a = read_now w v late s most reply.End held a (still_reads w v most reply.End a.socket a)
 reads w v late s most reply.Blocked held a = read_now w v late s most reply.Blocked held a (λ asleep. rests_now w v most a)
-reads w v late s most reply.Interrupted held a = read_now w v late s most reply.Interrupted held a (still_reads w v most reply.Interrupted a.socket a)
 reads w v late s most (reply.Failed kind) held a = fails w v late s (Read most) kind held a
 reads w v late s most (reply.Wrote n full) held a = absurd (let never : None ≡ Some a.socket = a.allowed in cc)
 reads w v late s most reply.Joined held a = absurd (let never : None ≡ Some a.socket = a.allowed in cc)
 reads w v late s most reply.Shut held a = absurd (let never : None ≡ Some a.socket = a.allowed in cc)
+reads w v late s most other held a = read_now w v late s most other held a (still_reads w v most other a.socket a)
 
 -- a call that does not concern what is late
 
@@ -178,10 +169,7 @@ writes w v late s offer reply.Blocked held a = blocks w v late s (Write offer) a
 writes w v late s offer reply.Interrupted held a = untouched w v late s (Write offer) reply.Interrupted a.socket held (let is : Some w.socket ≡ Some a.socket = a.allowed in cc)
     a.after refl
 writes w v late s offer (reply.Failed kind) held a = fails w v late s (Write offer) kind held a
-writes w v late s offer (reply.Bytes n) held a = absurd (let never : None ≡ Some a.socket = a.allowed in cc)
-writes w v late s offer reply.End held a = absurd (let never : None ≡ Some a.socket = a.allowed in cc)
-writes w v late s offer reply.Joined held a = absurd (let never : None ≡ Some a.socket = a.allowed in cc)
-writes w v late s offer reply.Shut held a = absurd (let never : None ≡ Some a.socket = a.allowed in cc)
+writes w v late s offer _ held a = absurd (let never : None ≡ Some a.socket = a.allowed in cc)
 
 joins : (w v : Way) (late : List Change) (s : Seen) (r : Reply) → Held w late s → Asked w v Join r → Goes v s late (late_call r late) (at_call late Join r) (Calls Join r)
 joins w v late s reply.Joined held a =
@@ -191,10 +179,7 @@ joins w v late s reply.Joined held a =
 joins w v late s reply.Blocked held a = blocks w v late s Join a.socket held a.allowed a.after (λ e h. h)
 joins w v late s reply.Interrupted held a = untouched w v late s Join reply.Interrupted a.socket held (let is : Some w.socket ≡ Some a.socket = a.allowed in cc) a.after refl
 joins w v late s (reply.Failed kind) held a = fails w v late s Join kind held a
-joins w v late s (reply.Bytes n) held a = absurd (let never : None ≡ Some a.socket = a.allowed in cc)
-joins w v late s reply.End held a = absurd (let never : None ≡ Some a.socket = a.allowed in cc)
-joins w v late s (reply.Wrote n full) held a = absurd (let never : None ≡ Some a.socket = a.allowed in cc)
-joins w v late s reply.Shut held a = absurd (let never : None ≡ Some a.socket = a.allowed in cc)
+joins w v late s _ held a = absurd (let never : None ≡ Some a.socket = a.allowed in cc)
 
 shuts : (w v : Way) (late : List Change) (s : Seen) (r : Reply) → Held w late s → Asked w v Shut r → Goes v s late (late_call r late) (at_call late Shut r) (Calls Shut r)
 shuts w v late s reply.Shut held a =
@@ -203,11 +188,7 @@ shuts w v late s reply.Shut held a =
     (record { readable = refl; armed = refl }) (record { readable = refl; armed = refl }))
 shuts w v late s reply.Interrupted held a = untouched w v late s Shut reply.Interrupted a.socket held (let is : Some w.socket ≡ Some a.socket = a.allowed in cc) a.after refl
 shuts w v late s (reply.Failed kind) held a = fails w v late s Shut kind held a
-shuts w v late s (reply.Bytes n) held a = absurd (let never : None ≡ Some a.socket = a.allowed in cc)
-shuts w v late s reply.End held a = absurd (let never : None ≡ Some a.socket = a.allowed in cc)
-shuts w v late s (reply.Wrote n full) held a = absurd (let never : None ≡ Some a.socket = a.allowed in cc)
-shuts w v late s reply.Joined held a = absurd (let never : None ≡ Some a.socket = a.allowed in cc)
-shuts w v late s reply.Blocked held a = absurd (let never : None ≡ Some a.socket = a.allowed in cc)
+shuts w v late s _ held a = absurd (let never : None ≡ Some a.socket = a.allowed in cc)
 
 calls_of : (w v : Way) (late : List Change) (s : Seen) (call : Call) (r : Reply) → Held w late s → Asked w v call r
     → Goes v s late (late_call r late) (at_call late call r) (Calls call r)

@@ -1,9 +1,5 @@
 -- What every step keeps, of a wire's socket and of the same socket where no wire answers by itself.
-use Rattle.std.proofs.Common.{◌≡◌, ◌≢◌, ◌⊎◌, ◌<◌, Bool, true, false, ◌||◌, List, [], ◌∷◌, ◌++◌, length, Contains, Option, Some, None, refl, inl, inr, arith}
-use Rattle.kernel_model.specs.Outcome.{Told}
-use Rattle.kernel_model.specs.Ends.{EndState, is_readable}
-use Rattle.readiness.specs.Machine.{Change, Way, Step, answer_of, change_in, changed}
-use Rattle.readiness.specs.Delays.{Seen, Event, event, events, replies_in, came_in, IsOnItsWay, WillBeTold}
+use Rattle.readiness.proofs.Prelude.{◌≡◌, ◌≢◌, ◌⊎◌, ◌<◌, Bool, true, false, ◌||◌, List, [], ◌∷◌, ◌++◌, length, Contains, Option, Some, None, refl, inl, inr, arith, Told, EndState, is_readable, Change, Way, Step, answer_of, change_in, changed, Seen, Event, event, events, replies_in, came_in, IsOnItsWay, WillBeTold}
 use Rattle.readiness.proofs.Flags.{or_left, or_right, true_or}
 use Rattle.readiness.proofs.Late.{settled, Caught}
 

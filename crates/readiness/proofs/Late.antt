@@ -1,10 +1,5 @@
 -- What is late, and the socket as it is once that has come.
-use Rattle.std.proofs.Common.{◌≡◌, ℕ, Bool, true, false, not, ◌&&◌, ◌||◌, List, [], ◌∷◌, ◌++◌, map, Option, Some, None, option_map, option_and_then, refl, ap}
-use Rattle.std.specs.Cmp.{second_so}
-use Rattle.kernel_model.specs.Outcome.{guard, Told}
-use Rattle.kernel_model.specs.Ends.{EndState, is_nonempty}
-use Rattle.readiness.specs.Machine.{Change, Bytes, Fin, Error, change_of}
-use Rattle.readiness.specs.Delays.{Seen, Event, Came, event, events, replies_in, came_in}
+use Rattle.readiness.proofs.Prelude.{◌≡◌, ℕ, Bool, true, false, not, ◌&&◌, ◌||◌, List, [], ◌∷◌, ◌++◌, map, Option, Some, None, option_map, option_and_then, refl, ap, second_so, guard, Told, EndState, is_nonempty, Change, Bytes, Fin, Error, change_of, Seen, Event, Came, event, events, replies_in, came_in}
 use Rattle.readiness.proofs.Flags.{is_down, or_left}
 
 abbrev pub value_of : Option (Told EndState Bool) → Option EndState

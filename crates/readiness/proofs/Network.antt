@@ -1,11 +1,5 @@
 -- What the network does: a change that concerns reading, which may be late, and room for writes.
-use Rattle.std.proofs.Common.{◌≡◌, ℕ, Bool, true, false, not, ◌&&◌, ◌||◌, List, [], ◌∷◌, ◌++◌, Some, refl, sym, append-nil, inl, length, ltb-true, lt-ltb, length-append, arith, ◌<◌, ◌+◌}
-use Rattle.std.specs.Cmp.{first_so, second_so}
-use Rattle.std.specs.Prelude.{if◌then◌else◌}
-use Rattle.kernel_model.specs.Outcome.{guard, Told}
-use Rattle.kernel_model.specs.Ends.{EndState, is_nonempty, is_readable, new_room}
-use Rattle.readiness.specs.Machine.{Change, Bytes, Fin, Error, change_of, Way, Comes, HasRoom, step}
-use Rattle.readiness.specs.Delays.{Seen, Came, GotRoom, is_late, late_after, meanwhile, WillBeTold}
+use Rattle.readiness.proofs.Prelude.{◌≡◌, ℕ, Bool, true, false, not, ◌&&◌, ◌||◌, List, [], ◌∷◌, ◌++◌, Some, refl, sym, append-nil, inl, length, ltb-true, lt-ltb, length-append, arith, ◌<◌, ◌+◌, first_so, second_so, if◌then◌else◌, guard, Told, EndState, is_nonempty, is_readable, new_room, Change, Bytes, Fin, Error, change_of, Way, Comes, HasRoom, step, Seen, Came, GotRoom, is_late, late_after, meanwhile, WillBeTold}
 use Rattle.readiness.proofs.Flags.{is_down, both_down, or_left, or_right}
 use Rattle.readiness.proofs.Late.{settle_more, settle_room, with_room, IsBeside, is_beside}
 use Rattle.readiness.proofs.Kept.{Rests, Asleep, Waits, Prompt, Behind, Held, Goes, one_event, same_socket, reported, still_coming, queued_too, Changed, changed_of}
@@ -50,7 +44,7 @@ heard Error e t h =
       told = or_left e.read_armed e.write_armed;
     })
 
--- A change while the wire does not read and was not told is late
+-- A change while the wire does not read and has heard of nothing is late
 
 first_told : (w : Way) (late : List Change) (s : Seen) (t : Told EndState Bool) → Held w late s → Heard w.socket t → w.reads ≡ false → w.told ≡ false → Waits w late
     → WillBeTold (reported w t.value t.told)

@@ -1,13 +1,6 @@
 -- What the system, the poller and the wire do between two calls.
-use Rattle.std.proofs.Common.{◌≡◌, ◌⊎◌, ℕ, zero, suc, Bool, true, false, not, ◌&&◌, ◌||◌, List, [], ◌∷◌, ◌++◌, map, Contains, Some, option_and_then, refl, sym, ap, ◌∙◌, append-nil, inl, inr, arith}
-use Rattle.std.specs.Cmp.{second_so}
-use Rattle.std.specs.Prelude.{if◌then◌else◌}
-use Rattle.std.proofs.lemmas.List.Elements.{Contains-push}
-use Rattle.kernel_model.specs.Outcome.{guard}
-use Rattle.kernel_model.specs.Ends.{EndState, is_readable, is_writable}
+use Rattle.readiness.proofs.Prelude.{◌≡◌, ◌⊎◌, ℕ, zero, suc, Bool, true, false, not, ◌&&◌, ◌||◌, List, [], ◌∷◌, ◌++◌, map, Contains, Some, option_and_then, refl, sym, ap, ◌∙◌, append-nil, inl, inr, arith, second_so, if◌then◌else◌, Contains-push, guard, EndState, is_readable, is_writable, Change, Read, is_quiet, Way, Spurious, Vanished, Polled, Tells, Old, Handed, Looks, Unasked, polled, tells, step, Seen, Came, Stray, Gone, Taken, Called, event, came_in, at_telling, late_telling, IsOnItsWay, WillBeTold}
 use Rattle.kernel_model.specs.declared.reply.Reply.TheVariants as reply
-use Rattle.readiness.specs.Machine.{Change, Read, is_quiet, Way, Spurious, Vanished, Polled, Tells, Old, Handed, Looks, Unasked, polled, tells, step}
-use Rattle.readiness.specs.Delays.{Seen, Came, Stray, Gone, Taken, Called, event, came_in, at_telling, late_telling, IsOnItsWay, WillBeTold}
 use Rattle.readiness.proofs.Flags.{both_down, or_right, false_left, false_right}
 use Rattle.readiness.proofs.Late.{Caught, caught, replies_behind, changes_behind, events-append}
 use Rattle.readiness.proofs.Kept.{Rests, Waits, Prompt, Behind, Held, Goes, one_event, same_socket, on_its_way_still}

@@ -1,10 +1,5 @@
 -- What holds after any list of steps.
-use Rattle.std.proofs.Common.{◌≡◌, ◌≢◌, Bool, true, false, List, [], ◌∷◌, ◌++◌, Option, Some, None, option_and_then, refl, sym, ap, ◌∙◌, append-nil, append_assoc}
-use Rattle.token.specs.declared.side.Side.{Side}
-use Rattle.kernel_model.specs.Ends.{is_readable}
-use Rattle.readiness.specs.Machine.{Change, Call, Way, Step, Comes, HasRoom, Spurious, Vanished, Polled, Tells, Old, Handed, Looks, Calls, Unasked, opening, step, run, answers_of, change_in, changes_of}
-use Rattle.kernel_model.specs.declared.reply.Reply.{Reply}
-use Rattle.readiness.specs.Delays.{Seen, Event, events, unseen, meanwhile, late_after, happened, still_late, reply_in, replies_in, came_at, came_in, WillBeTold, MissesNothing, WiresAreDelayed, WiresMissNothing}
+use Rattle.readiness.proofs.Prelude.{◌≡◌, ◌≢◌, Bool, true, false, List, [], ◌∷◌, ◌++◌, Option, Some, None, option_and_then, refl, sym, ap, ◌∙◌, append-nil, append_assoc, Side, is_readable, Change, Call, Way, Step, Comes, HasRoom, Spurious, Vanished, Polled, Tells, Old, Handed, Looks, Calls, Unasked, opening, step, run, answers_of, change_in, changes_of, Reply, Seen, Event, events, unseen, meanwhile, late_after, happened, still_late, reply_in, replies_in, came_at, came_in, WillBeTold, MissesNothing, WiresAreDelayed, WiresMissNothing}
 use Rattle.readiness.proofs.Late.{events-append}
 use Rattle.readiness.proofs.Kept.{Rests, Waits, Prompt, Behind, Held, Goes, same_socket}
 use Rattle.readiness.proofs.Network.{comes, has_room}

@@ -32,26 +32,12 @@ way_of Down Down h = refl
 
 -- what was seen was seen before, or by this answer
 seen_by : (b : Bool) (reply : AnswerValue) (s : Stream) → (if b then served reply s else s).end_seen ≡ true → (s.end_seen ≡ true) ⊎ ((b ≡ true) × (reply ≡ End))
-seen_by false reply s h = inl h
 seen_by true End s h = inr (refl, refl)
-seen_by true (Bytes bytes) s h = inl h
-seen_by true (Wrote n) s h = inl h
-seen_by true Joined s h = inl h
-seen_by true Shut s h = inl h
-seen_by true Blocked s h = inl h
-seen_by true Interrupted s h = inl h
-seen_by true (Failed kind) s h = inl h
+seen_by _ _ s h = inl h
 
 stays_seen : (b : Bool) (reply : AnswerValue) (s : Stream) → s.end_seen ≡ true → (if b then served reply s else s).end_seen ≡ true
-stays_seen false reply s h = h
 stays_seen true End s h = refl
-stays_seen true (Bytes bytes) s h = h
-stays_seen true (Wrote n) s h = h
-stays_seen true Joined s h = h
-stays_seen true Shut s h = h
-stays_seen true Blocked s h = h
-stays_seen true Interrupted s h = h
-stays_seen true (Failed kind) s h = h
+stays_seen _ _ s h = h
 
 by_end : (b : Bool) (s : Stream) → b ≡ true → (if b then served End s else s).end_seen ≡ true
 by_end true s h = refl

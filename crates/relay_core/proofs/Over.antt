@@ -21,30 +21,6 @@ stepped now p reply q (Some call) next e = fitted now p reply q call next (fits 
 pub step_of : (now : ℕ) (p : PairState) (reply : AnswerValue) (q : PairState) → answered now p reply ≡ Some q → Step now p reply q
 step_of now p reply q e = stepped now p reply q (next_call p) refl e
 
--- the same the other way round: an answer that fits the call that comes next
-pub answered_next : (now : ℕ) (p : PairState) (call : Call) (reply : AnswerValue) → next_call p ≡ Some call → fits p call reply ≡ true
-    → answered now p reply ≡ Some (after now p call reply)
-answered_next now p call reply next fit = rw (next, fit)
-
--- one list of answers and then another
-after_first : (now : ℕ) (replies more : List AnswerValue) (o : Option PairState)
-    → ((m : PairState) → over now m (replies ++ more) ≡ option_and_then (λ (q : PairState). over now q more) (over now m replies)) →
-    option_and_then (λ (m : PairState). over now m (replies ++ more)) o
-    ≡ option_and_then (λ (q : PairState). over now q more) (option_and_then (λ (m : PairState). over now m replies) o)
-after_first now replies more None rest = refl
-after_first now replies more (Some m) rest = rest m
-
-pub over-append : (now : ℕ) (p : PairState) (replies more : List AnswerValue) → over now p (replies ++ more)
-    ≡ option_and_then (λ (q : PairState). over now q more) (over now p replies)
-over-append now p [] more = refl
-over-append now p (reply ∷ replies) more = after_first now replies more (answered now p reply) (λ m. over-append now m replies more)
-
--- a list of answers and one more, to the call that comes next
-pub over_push : (now : ℕ) (p q : PairState) (replies : List AnswerValue) (call : Call) (reply : AnswerValue) → over now p replies ≡ Some q → next_call q ≡ Some call
-    → fits q call reply ≡ true → over now p (replies ++ reply ∷ []) ≡ Some (after now q call reply)
-over_push now p q replies call reply h next fit =
-    over-append now p replies (reply ∷ []) ∙ rw (h, answered_next now q call reply next fit)
-
 -- one list after another
 pub seam : (r b1 b2 c1 c2 s t : List ℕ) → r ++ b1 ≡ c1 ++ s → s ++ b2 ≡ c2 ++ t → r ++ (b1 ++ b2) ≡ (c1 ++ c2) ++ t
 seam r b1 b2 c1 c2 s t first rest =

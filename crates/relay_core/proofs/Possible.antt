@@ -85,13 +85,9 @@ bytes_fit p (Read side most) bytes next fit =
     let within : length bytes ≤ most = leb-true (length bytes) most (second_so (nat_le 1 (length bytes)) (nat_le (length bytes) most) fit) in
     let asked : HasRoomFor (stream_of p (outward side)) most = asked_is_possible p (Read side most) next in
     (omega arith, asked.open_end)
-bytes_fit p (Write side) bytes next fit = absurd (cc)
-bytes_fit p (Join side) bytes next fit = absurd (cc)
-bytes_fit p (Shut side) bytes next fit = absurd (cc)
+bytes_fit p _ bytes next fit = absurd (cc)
 
 -- an end is passed on after every byte
 pub shut_fits : (p : PairState) (call : Call) → next_call p ≡ Some call → fits p call reply.Shut ≡ true → IsDrained (stream_of p (direction_of call))
 shut_fits p (Shut side) next fit = let asked : IsDrained (stream_of p (inward side)) × (is_joined p side ≡ true) = asked_is_possible p (Shut side) next in asked.0
-shut_fits p (Write side) next fit = absurd (cc)
-shut_fits p (Join side) next fit = absurd (cc)
-shut_fits p (Read side most) next fit = absurd (cc)
+shut_fits p _ next fit = absurd (cc)

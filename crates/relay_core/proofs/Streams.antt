@@ -104,11 +104,8 @@ after_keeps_order now p call End = λ d. same_order (same_way (direction_of call
 after_keeps_order now p call (Wrote n) = λ d.
     written_order (same_way (direction_of call) d) (stream_of p d) n
     ∙ ap (λ (rest : List ℕ). carried p d call (Wrote n) ++ rest) (waiting_after now p d call (Wrote n))
-after_keeps_order now p call Joined = λ d. same_order (same_way (direction_of call) d) (stream_of p d) (stream_of p d) refl ∙ waiting_after now p d call Joined
 after_keeps_order now p call Shut = λ d. same_order (same_way (direction_of call) d) (stream_of p d) (closed (stream_of p d)) refl ∙ waiting_after now p d call Shut
-after_keeps_order now p call Blocked = λ d. same_order (same_way (direction_of call) d) (stream_of p d) (stream_of p d) refl ∙ waiting_after now p d call Blocked
-after_keeps_order now p call Interrupted = λ d. same_order (same_way (direction_of call) d) (stream_of p d) (stream_of p d) refl ∙ waiting_after now p d call Interrupted
-after_keeps_order now p call (Failed kind) = λ d. same_order (same_way (direction_of call) d) (stream_of p d) (stream_of p d) refl ∙ waiting_after now p d call (Failed kind)
+after_keeps_order now p call other = λ d. same_order (same_way (direction_of call) d) (stream_of p d) (stream_of p d) refl ∙ waiting_after now p d call other
 
 -- what a write takes of its offer are the first bytes that wait
 pub take-offer : (p : PairState) (side : Side) (n : ℕ) → n ≤ length (offer p side) → take n (offer p side) ≡ take n (waiting (stream_of p (inward side)))
@@ -126,27 +123,13 @@ same_direction Down Down h = refl
 
 -- only a shutdown marks the end as passed on
 marked : (b : Bool) (reply : AnswerValue) (s : Stream) (D : Type 0) → (b ≡ true → reply ≡ Shut → D) → (if b then served reply s else s).shut ≡ true → (s.shut ≡ true) ⊎ D
-marked false reply s D drained h = inl h
 marked true Shut s D drained h = inr (drained refl refl)
-marked true (Bytes bytes) s D drained h = inl h
-marked true End s D drained h = inl h
-marked true (Wrote n) s D drained h = inl h
-marked true Joined s D drained h = inl h
-marked true Blocked s D drained h = inl h
-marked true Interrupted s D drained h = inl h
-marked true (Failed kind) s D drained h = inl h
+marked _ _ s D drained h = inl h
 
 -- and nothing takes the mark away
 stays : (b : Bool) (reply : AnswerValue) (s : Stream) → s.shut ≡ true → (if b then served reply s else s).shut ≡ true
-stays false reply s h = h
 stays true Shut s h = refl
-stays true (Bytes bytes) s h = h
-stays true End s h = h
-stays true (Wrote n) s h = h
-stays true Joined s h = h
-stays true Blocked s h = h
-stays true Interrupted s h = h
-stays true (Failed kind) s h = h
+stays _ _ s h = h
 
 drained_before : (p : PairState) (d : Direction) (call : Call) (reply : AnswerValue) → next_call p ≡ Some call → fits p call reply ≡ true → same_way (direction_of call) d ≡ true
     → reply ≡ Shut → IsDrained (stream_of p d)
@@ -166,7 +149,6 @@ open_before p d call reply next fit way bytes came =
 -- nothing comes after the end, and the end is passed on after everything
 closed_last : (b : Bool) (reply : AnswerValue) (s : Stream) → (b ≡ true → (bytes : List ℕ) → reply ≡ Bytes bytes → s.end_seen ≡ false) → (b ≡ true → reply ≡ Shut → IsDrained s)
     → IsClosedLast s → IsClosedLast (if b then served reply s else s)
-closed_last false reply s open_end drained c = c
 closed_last true (Bytes bytes) s open_end drained c = record {
   ended = c.ended;
   empty = λ h. let seen : s.end_seen ≡ true = c.ended h in let unseen : s.end_seen ≡ false =
@@ -175,10 +157,7 @@ closed_last true (Bytes bytes) s open_end drained c = record {
 closed_last true End s open_end drained c = record { ended = λ h. refl; empty = c.empty }
 closed_last true (Wrote n) s open_end drained c = record { ended = c.ended; empty = λ h. waiting-dropped s n ∙ (ap (λ (bytes : List ℕ). drop n bytes) (c.empty h) ∙ drop-nil n) }
 closed_last true Shut s open_end drained c = record { ended = λ h. (drained refl refl).ended; empty = λ h. (drained refl refl).empty }
-closed_last true Joined s open_end drained c = c
-closed_last true Blocked s open_end drained c = c
-closed_last true Interrupted s open_end drained c = c
-closed_last true (Failed kind) s open_end drained c = c
+closed_last _ _ s open_end drained c = c
 
 -- the end of input is passed on last, and for good
 pub end_passed_last : (now : ℕ) (p : PairState) (call : Call) (reply : AnswerValue) (q : PairState) → next_call p ≡ Some call → fits p call reply ≡ true

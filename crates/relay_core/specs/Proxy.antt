@@ -1,4 +1,4 @@
--- The line that tells a target who its client is. Part of the promises. It is a line of the PROXY protocol, version 1,
+-- The line by which a target knows its client. Part of the promises. It is a line of the PROXY protocol, version 1,
 -- for TCP over IPv4: it goes out before the client's own bytes.
 use Rattle.std.specs.Prelude.{ℕ, List, ◌++◌, slice_index, codes, decimal}
 

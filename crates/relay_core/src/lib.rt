@@ -15,7 +15,7 @@
 //! ([`Pair::note`], epoll(7)). When nothing is left to try, `next` is none.
 //!
 //! A pair may be made with a lead: bytes that the target is sent before the client's own. [`proxy_line`] makes such a
-//! lead, which tells the target who its client is.
+//! lead, by which the target knows its client.
 //!
 //! The pair knows the second at which it last moved ([`Answer::moves`]), since its owner says at which second an
 //! answer came. A pair that moved nothing for a limit, and has nothing left to try, can be failed ([`Pair::expire`]).

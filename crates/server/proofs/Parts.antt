@@ -1,12 +1,10 @@
 -- Lists with one item for each part of the slots.
-use Rattle.std.proofs.Common.{◌≡◌, ℕ, ◌+◌, List, [], ◌∷◌, ◌++◌, map, length, reverse, replicate, All, append_assoc, append-nil, Bool, true, false, ap, ◌∙◌, sym, subst, arith}
+use Rattle.std.proofs.Common.{◌≡◌, ℕ, ◌+◌, List, [], ◌∷◌, ◌++◌, map, length, reverse, replicate, All, append_assoc, append-nil, ap, ◌∙◌, sym, subst, arith}
 use Rattle.std.specs.List.{range_with_len}
 use Rattle.std.proofs.lemmas.List.FromFn.{map-range_with_len_more}
 use Rattle.std.proofs.lemmas.List.{length-replicate, length-reverse, map-append, nil_from_length, reverse-append, reverse-reverse}
 use Rattle.rounds.specs.declared.opening.Opening.{Opening}
-use Rattle.dispatch.specs.declared.part.Part.{Part}
 use Rattle.claims.specs.Seats.{TableId, SeatState, fresh_seat}
-use Rattle.rounds.specs.Episodes.{no_episodes}
 use Rattle.dispatch.specs.Parts.{AreFresh}
 use Rattle.rounds.specs.Pollers.{PollerState}
 use Rattle.server.specs.Begins.{HasBegun}
@@ -29,46 +27,9 @@ pub mapped_all : {A B : Type 0} (of : A → B) (f : ℕ → B) (xs : List A) (n 
 mapped_all of f xs n m all each = subst (λ (k : ℕ). map of xs ≡ map f (range_with_len 0 k)) all each
 
 -- one poller more that has opened nothing yet
-pub begun_one : (slots : ℕ) (opening : Opening) (ps qs : List PollerState) {p : PollerState} {reported : List ℕ} {failed listening : Bool} {waited : ℕ} {part : Part} {most : ℕ}
-    → qs ≡ ps ++ p ∷ []
-    → p ≡ record {
-      reported = reported;
-      failed = failed;
-      waited = waited;
-      listening = listening;
-      table = replicate slots 0;
-      batch = [];
-      accepting = true;
-      starved = false;
-      left = false;
-      tries = 0;
-      opening = opening;
-      part = part;
-      heavy = replicate slots 0;
-      most = most;
-      opened = 0;
-      dropped = 0;
-      lost = 0;
-      second = 0;
-      swept = 0;
-      over = false;
-      episodes = no_episodes;
-    }
+pub begun_one : (slots : ℕ) (opening : Opening) (ps qs : List PollerState) {p : PollerState} → qs ≡ ps ++ p ∷ [] → HasBegun slots opening p
     → All (λ (q : PollerState). HasBegun slots opening q) ps → All (λ (q : PollerState). HasBegun slots opening q) qs
-begun_one slots opening ps qs {p} more is all =
-    let one : HasBegun slots opening p = record {
-      table = ap (λ (q : PollerState). q.table) is;
-      batch = ap (λ (q : PollerState). q.batch) is;
-      accepting = ap (λ (q : PollerState). q.accepting) is;
-      starved = ap (λ (q : PollerState). q.starved) is;
-      opening = ap (λ (q : PollerState). q.opening) is;
-      heavy = ap (λ (q : PollerState). q.heavy) is;
-      opened = ap (λ (q : PollerState). q.opened) is;
-      dropped = ap (λ (q : PollerState). q.dropped) is;
-      lost = ap (λ (q : PollerState). q.lost) is;
-      over = ap (λ (q : PollerState). q.over) is;
-      episodes = ap (λ (q : PollerState). q.episodes) is;
-    } in
+begun_one slots opening ps qs {p} more one all =
     subst (λ (rs : List PollerState). All (λ (q : PollerState). HasBegun slots opening q) rs) (sym more)
     (All-push (λ (q : PollerState). HasBegun slots opening q) ps p all one)
 

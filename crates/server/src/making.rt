@@ -1,12 +1,10 @@
 //! What a server is made of, before its threads run.
-ghost use Rattle.std.specs.Prelude.{◌≡◌, ◌+◌, ◌-◌, ◌<◌, ◌≤◌, ◌∷◌, [], length, replicate, map, All, true, false, IfOk, IfErr};
+ghost use Rattle.std.specs.Prelude.{◌≡◌, ◌+◌, ◌-◌, ◌<◌, ◌≤◌, ◌∷◌, length, replicate, map, IfOk, IfErr};
 ghost use Rattle.claims.specs.Seats.{fresh_seat};
 ghost use Rattle.ready.specs.Steps.{unused, opened as filled};
-ghost use Rattle.rounds.specs.Episodes.{no_episodes};
-ghost use Rattle.dispatch.specs.Parts.{AreFresh};
-ghost use Rattle.server.specs.Limits.{share_of, shares_of};
+ghost use Rattle.server.specs.Limits.{share_of};
 ghost use Rattle.dispatch.specs.Splits.{each_part, part_of, parts_of};
-ghost use Rattle.server.specs.Begins.{HasBegun};
+ghost use Rattle.server.specs.Begins.{HasBegun, PollersBegin, ThreadsBegin};
 ghost use Rattle.settings.specs.Pollers.{pollers_for};
 
 use claims::Claims;
@@ -45,23 +43,11 @@ where
     requires fronts { length fronts.items ≡ parts_of split.slots split.size }
     ensures slots { IfOk result (λ made. made.shared.claims.words ≡ settings.now.slots) }
     ensures budget { IfOk result (λ made. made.shared.budget ≡ settings.now.budget) }
-    ensures seats { IfOk result (λ made. made.parts.seats.items ≡ replicate (parts_of split.slots split.size + settings.now.workers)
-        (fresh_seat made.shared.claims)) }
-    ensures ready { IfOk result (λ made. made.parts.ready.items ≡ replicate (parts_of split.slots split.size + settings.now.workers)
-        (unused settings.now.slots)) }
-    ensures free { IfOk result (λ made. map (λ ends. ends.items) made.free.items
-        ≡ each_part split.slots split.size (λ part. filled part.first part.slots
-        ∷ replicate settings.now.workers (unused part.slots))) }
-    ensures pollers { IfOk result (λ made. map (λ poller. poller.part) made.pollers.items
-        ≡ each_part split.slots split.size (λ part. part)) }
-    ensures begun { IfOk result (λ made. All
-        (λ poller. HasBegun settings.now.slots (record { ring = settings.now.ring; proxy = settings.now.proxy })
-        poller) made.pollers.items) }
-    ensures shares { IfOk result (λ made. map (λ poller. poller.most) made.pollers.items
-        ≡ shares_of settings.now.stop_after (parts_of split.slots split.size)) }
-    ensures reported { IfOk result (λ made. map (λ poller. poller.reported) made.pollers.items ≡ map F.reported fronts.items) }
-    ensures failed { IfOk result (λ made. map (λ poller. poller.failed) made.pollers.items ≡ map F.failed fronts.items) }
     ensures waker { IfOk result (λ made. made.shared.waker ≡ waker) }
+    ensures threads { IfOk result (λ made. ThreadsBegin settings.now split made.shared.claims made.parts
+        (map (λ ends. ends.items) made.free.items)) }
+    ensures pollers { IfOk result (λ made. PollersBegin settings.now split (map F.reported fronts.items)
+        (map F.failed fronts.items) made.pollers.items) }
     ensures workers { IfOk result (λ made. made.workers ≡ settings.now.workers) }
     ensures split { IfOk result (λ made. made.split ≡ split) }
     ensures refused { IfErr result (λ fault. fault ≡ ServerFault.NoMemory) }
@@ -111,14 +97,8 @@ fn pollers_of<F: Front + Drop>(
     mut fronts: Vec<F>,
 ) -> Result<Vec<Poller<F>>, AllocError>
     requires { length fronts.items ≡ parts_of split.slots split.size }
-    ensures parts { IfOk result (λ all. map (λ poller. poller.part) all.items ≡ each_part split.slots split.size (λ part. part)) }
-    ensures begun { IfOk result (λ all. All
-        (λ poller. HasBegun settings.now.slots (record { ring = settings.now.ring; proxy = settings.now.proxy })
-        poller) all.items) }
-    ensures shares { IfOk result (λ all. map (λ poller. poller.most) all.items
-        ≡ shares_of settings.now.stop_after (parts_of split.slots split.size)) }
-    ensures reported { IfOk result (λ all. map (λ poller. poller.reported) all.items ≡ map F.reported fronts.items) }
-    ensures failed { IfOk result (λ all. map (λ poller. poller.failed) all.items ≡ map F.failed fronts.items) }
+    ensures { IfOk result (λ all. PollersBegin settings.now split (map F.reported fronts.items)
+        (map F.failed fronts.items) all.items) }
 {
     let count = split.pollers();
     let mut pollers = Vec::with_capacity(alloc, count)?;
@@ -159,29 +139,11 @@ fn poller_of<F: Front + Drop>(
     front: F,
 ) -> Result<Poller<F>, AllocError>
     requires number { number < parts_of split.slots split.size }
-    ensures { IfOk result (λ poller. poller ≡ record {
-      reported = F.reported front;
-      failed = F.failed front;
-      waited = F.waited front;
-      listening = F.listens front;
-      table = replicate settings.now.slots 0;
-      batch = [];
-      accepting = true;
-      starved = false;
-      left = false;
-      tries = 0;
-      opening = record { ring = settings.now.ring; proxy = settings.now.proxy };
-      part = part_of split.slots split.size number;
-      heavy = replicate settings.now.slots 0;
-      most = share_of settings.now.stop_after (parts_of split.slots split.size) number;
-      opened = 0;
-      dropped = 0;
-      lost = 0;
-      second = 0;
-      swept = 0;
-      over = false;
-      episodes = no_episodes;
-    }) }
+    ensures begun { IfOk result (λ poller. HasBegun settings.now.slots
+        (record { ring = settings.now.ring; proxy = settings.now.proxy }) poller) }
+    ensures part { IfOk result (λ poller. poller.part ≡ part_of split.slots split.size number) }
+    ensures most { IfOk result (λ poller. poller.most ≡ share_of settings.now.stop_after (parts_of split.slots split.size) number) }
+    ensures front { IfOk result (λ poller. (poller.reported ≡ F.reported front) × (poller.failed ≡ F.failed front)) }
 {
     let most = share_of(settings.stop_after, split.pollers(), number);
     let part = split.part(number);

@@ -67,12 +67,8 @@ rest_of_first a = decimal (octet_at a 1) ++ (46 ∷ rest_of_second a)
 joined_four : (os ys : List ℕ) → length os ≡ 4
     → join_with_byte 46 (map decimal os) ++ ys
     ≡ decimal (get_or os 0 0) ++ (46 ∷ (decimal (get_or os 1 0) ++ (46 ∷ (decimal (get_or os 2 0) ++ (46 ∷ (decimal (get_or os 3 0) ++ ys))))))
-joined_four [] ys h = absurd (omega arith)
-joined_four (a ∷ []) ys h = absurd (omega arith)
-joined_four (a ∷ b ∷ []) ys h = absurd (omega arith)
-joined_four (a ∷ b ∷ c ∷ []) ys h = absurd (omega arith)
 joined_four (a ∷ b ∷ c ∷ d ∷ []) ys h = simp append_assoc
-joined_four (a ∷ b ∷ c ∷ d ∷ e ∷ more) ys h = absurd (omega arith)
+joined_four _ ys h = absurd (omega arith)
 
 pub text_parts : (a : SocketAddress) → IsAddress a → address_text a ≡ decimal (octet_at a 0) ++ (46 ∷ rest_of_first a)
 text_parts a h = joined_four a.0 (58 ∷ decimal a.1) h.0
@@ -81,12 +77,8 @@ pub is_byte : (a : SocketAddress) (i : ℕ) → IsAddress a → i < 4 → octet_
 is_byte a i h within = h.1 i 0 (omega (arith, h.0))
 
 four_items : (os : List ℕ) → length os ≡ 4 → os ≡ get_or os 0 0 ∷ get_or os 1 0 ∷ get_or os 2 0 ∷ get_or os 3 0 ∷ []
-four_items [] h = absurd (omega arith)
-four_items (a ∷ []) h = absurd (omega arith)
-four_items (a ∷ b ∷ []) h = absurd (omega arith)
-four_items (a ∷ b ∷ c ∷ []) h = absurd (omega arith)
 four_items (a ∷ b ∷ c ∷ d ∷ []) h = refl
-four_items (a ∷ b ∷ c ∷ d ∷ e ∷ more) h = absurd (omega arith)
+four_items _ h = absurd (omega arith)
 
 -- an address is its four numbers and its port
 pub from_parts : (b : SocketAddress) (first second third fourth port : ℕ) → IsAddress b → octet_at b 0 ≡ first → octet_at b 1 ≡ second → octet_at b 2 ≡ third

@@ -71,30 +71,11 @@ writes_once (an_address lowest) d (address a) (address b) p q = ap address (addr
 writes_once (a_number low high) d (number m) (number n) p q = let same : Some (pos m) ≡ Some (pos n) = sym p.0 ∙ q.0 in cc same
 writes_once a_level d (level l) (level m) p q = ap level (level_once l m (same_Some _ _ (sym p ∙ q)))
 writes_once a_truth d (truth b) (truth c) p q = ap truth (same_Some _ _ (sym p ∙ q))
-writes_once (an_address lowest) d (address a) (number n) p q = absurd q
-writes_once (an_address lowest) d (address a) (level l) p q = absurd q
-writes_once (an_address lowest) d (address a) (truth b) p q = absurd q
-writes_once (an_address lowest) d (number m) w p q = absurd p
-writes_once (an_address lowest) d (level l) w p q = absurd p
-writes_once (an_address lowest) d (truth b) w p q = absurd p
-writes_once (a_number low high) d (number m) (address a) p q = absurd q
-writes_once (a_number low high) d (number m) (level l) p q = absurd q
-writes_once (a_number low high) d (number m) (truth b) p q = absurd q
-writes_once (a_number low high) d (address a) w p q = absurd p
-writes_once (a_number low high) d (level l) w p q = absurd p
-writes_once (a_number low high) d (truth b) w p q = absurd p
-writes_once a_level d (level l) (address a) p q = absurd q
-writes_once a_level d (level l) (number n) p q = absurd q
-writes_once a_level d (level l) (truth b) p q = absurd q
-writes_once a_level d (address a) w p q = absurd p
-writes_once a_level d (number m) w p q = absurd p
-writes_once a_level d (truth b) w p q = absurd p
-writes_once a_truth d (truth b) (address a) p q = absurd q
-writes_once a_truth d (truth b) (number n) p q = absurd q
-writes_once a_truth d (truth b) (level l) p q = absurd q
-writes_once a_truth d (address a) w p q = absurd p
-writes_once a_truth d (number m) w p q = absurd p
-writes_once a_truth d (level l) w p q = absurd p
+writes_once (an_address lowest) d (address a) _ p q = absurd q
+writes_once (a_number low high) d (number m) _ p q = absurd q
+writes_once a_level d (level l) _ p q = absurd q
+writes_once a_truth d (truth b) _ p q = absurd q
+writes_once _ d _ w p q = absurd p
 
 gives_once_at : (found : Option Data) (kind : ValueKind) (default : Option Setting) (v w : Setting) → MatchOption found (default ≡ Some v) (λ d. Writes kind d v)
     → MatchOption found (default ≡ Some w) (λ d. Writes kind d w) → v ≡ w
@@ -118,21 +99,10 @@ settings_once text s t p q =
 
 writes_kind : (kind : ValueKind) (d : Data) (v : Setting) → Writes kind d v → HasKind kind d
 writes_kind (an_address lowest) d (address a) p = rw p.0
-writes_kind (an_address lowest) d (number n) p = absurd p
-writes_kind (an_address lowest) d (level l) p = absurd p
-writes_kind (an_address lowest) d (truth b) p = absurd p
 writes_kind (a_number low high) d (number n) p = rw p.0
-writes_kind (a_number low high) d (address a) p = absurd p
-writes_kind (a_number low high) d (level l) p = absurd p
-writes_kind (a_number low high) d (truth b) p = absurd p
 writes_kind a_level d (level l) p = rw p
-writes_kind a_level d (address a) p = absurd p
-writes_kind a_level d (number n) p = absurd p
-writes_kind a_level d (truth b) p = absurd p
 writes_kind a_truth d (truth b) p = rw p
-writes_kind a_truth d (address a) p = absurd p
-writes_kind a_truth d (number n) p = absurd p
-writes_kind a_truth d (level l) p = absurd p
+writes_kind _ d _ p = absurd p
 
 -- a key has no fault where it is set
 not_both_at : (found : Option Data) (row : Row) (fault : SettingsFault) (v : Setting) → MatchOption found (row.default ≡ Some v) (λ d. Writes row.kind d v)

@@ -62,7 +62,7 @@ row_of Log = optional Log a_level (level Info)
 row_of Idle = optional Idle (a_number 0 86400) (number 0)
 row_of Proxy = optional Proxy a_truth (truth false)
 
--- what a person is told that a key of this kind takes, with its range
+-- what a person reads that a key of this kind takes, with its range
 abbrev pub Tells : ValueKind → Takes → Type 0
 Tells (an_address lowest) (takes.Address row) = row.lowest_port ≡ lowest
 Tells (a_number low high) (takes.Number row) = (row.low ≡ low) × (row.high ≡ high)

@@ -259,9 +259,7 @@ read_keeps now h r p ends Target most reply.Blocked t e up told made ok = guarde
 read_keeps now h r p ends side most reply.Interrupted t e up told made ok = interrupted_keeps now h r p ends (Read side most) side t e told made ok
 read_keeps now h r p ends side most (reply.Failed kind) t e up told made ok = guarded (λ (z : EndState). Answered now h r p ends (Read side most) side t z) (not (is_zero kind))
     (socket_of ends side) e made (λ may. failed_keeps now h r p ends (Read side most) side kind t (socket_of ends side) told refl ok)
-read_keeps now h r p ends side most (reply.Wrote n full) t e up told made ok = absurd (cc)
-read_keeps now h r p ends side most reply.Joined t e up told made ok = absurd (cc)
-read_keeps now h r p ends side most reply.Shut t e up told made ok = absurd (cc)
+read_keeps now h r p ends side most _ t e up told made ok = absurd (cc)
 
 pub write_keeps : (now : ℕ) (h : Side → List ℕ) (r : Side → Bool) (p : PairState) (ends : Sockets) (side : Side) (said : Reply) (t : answer.AnswerValue) (e : EndState)
     → (flags_of p side).write ≡ true → plain said ≡ Some t → after_write (socket_of ends side) (offer p side) said ≡ Some e → PairOk h r p ends
@@ -306,10 +304,7 @@ write_keeps now h r p ends Target reply.Blocked t e up told made ok = guarded (�
     (again (h Target) p.down ends.target ends.client (record ends.target { write_armed = true }) ends.client refl refl refl (ok.directions Down)) ok))
 write_keeps now h r p ends side reply.Interrupted t e up told made ok = interrupted_keeps now h r p ends (Write side) side t e told made ok
 write_keeps now h r p ends side (reply.Failed kind) t e up told made ok = failed_keeps now h r p ends (Write side) side kind t e told made ok
-write_keeps now h r p ends side (reply.Bytes n) t e up told made ok = absurd (cc)
-write_keeps now h r p ends side reply.End t e up told made ok = absurd (cc)
-write_keeps now h r p ends side reply.Joined t e up told made ok = absurd (cc)
-write_keeps now h r p ends side reply.Shut t e up told made ok = absurd (cc)
+write_keeps now h r p ends side _ t e up told made ok = absurd (cc)
 
 pub join_keeps : (now : ℕ) (h : Side → List ℕ) (r : Side → Bool) (p : PairState) (ends : Sockets) (side : Side) (said : Reply) (t : answer.AnswerValue) (e : EndState)
     → plain said ≡ Some t → after_join (socket_of ends side) said ≡ Some e → PairOk h r p ends → Answered now h r p ends (Join side) side t e
@@ -338,10 +333,7 @@ join_keeps now h r p ends Target reply.Blocked t e told made ok = guarded (λ (z
 join_keeps now h r p ends side reply.Interrupted t e told made ok = interrupted_keeps now h r p ends (Join side) side t e told made ok
 join_keeps now h r p ends side (reply.Failed kind) t e told made ok = guarded (λ (z : EndState). Answered now h r p ends (Join side) side t z) (not (is_zero kind))
     (socket_of ends side) e made (λ may. failed_keeps now h r p ends (Join side) side kind t (socket_of ends side) told refl ok)
-join_keeps now h r p ends side (reply.Bytes n) t e told made ok = absurd (cc)
-join_keeps now h r p ends side reply.End t e told made ok = absurd (cc)
-join_keeps now h r p ends side (reply.Wrote n full) t e told made ok = absurd (cc)
-join_keeps now h r p ends side reply.Shut t e told made ok = absurd (cc)
+join_keeps now h r p ends side _ t e told made ok = absurd (cc)
 
 pub shut_keeps : (now : ℕ) (h : Side → List ℕ) (r : Side → Bool) (p : PairState) (ends : Sockets) (side : Side) (said : Reply) (t : answer.AnswerValue) (e : EndState)
     → is_drained (stream_of p (inward side)) ≡ true → plain said ≡ Some t → after_shut (socket_of ends side) said ≡ Some e → PairOk h r p ends
@@ -362,8 +354,4 @@ shut_keeps now h r p ends Target reply.Shut t e drained told made ok = by_some (
 shut_keeps now h r p ends side reply.Interrupted t e drained told made ok = interrupted_keeps now h r p ends (Shut side) side t e told made ok
 shut_keeps now h r p ends side (reply.Failed kind) t e drained told made ok = guarded (λ (z : EndState). Answered now h r p ends (Shut side) side t z) (not (is_zero kind))
     (socket_of ends side) e made (λ may. failed_keeps now h r p ends (Shut side) side kind t (socket_of ends side) told refl ok)
-shut_keeps now h r p ends side (reply.Bytes n) t e drained told made ok = absurd (cc)
-shut_keeps now h r p ends side reply.End t e drained told made ok = absurd (cc)
-shut_keeps now h r p ends side (reply.Wrote n full) t e drained told made ok = absurd (cc)
-shut_keeps now h r p ends side reply.Joined t e drained told made ok = absurd (cc)
-shut_keeps now h r p ends side reply.Blocked t e drained told made ok = absurd (cc)
+shut_keeps now h r p ends side _ t e drained told made ok = absurd (cc)

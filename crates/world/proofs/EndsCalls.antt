@@ -37,13 +37,7 @@ line_ok now h r k s g c ends call side t (Some e) f = record { kept = record { s
 told_is : (k : KernelState) (s g : ℕ) (c : Connection) (ends : Sockets) (side : Side) (most : ℕ) (said : Reply) → EndsThere k s g c ends
     → told_of (record { kernel = k; connection = c }) (Read side most) said ≡ told_read (socket_of ends side) most said
 told_is k s g c ends side most (reply.Bytes n) there = rw (there side) refl
-told_is k s g c ends side most reply.End there = refl
-told_is k s g c ends side most (reply.Wrote n full) there = refl
-told_is k s g c ends side most reply.Joined there = refl
-told_is k s g c ends side most reply.Shut there = refl
-told_is k s g c ends side most reply.Blocked there = refl
-told_is k s g c ends side most reply.Interrupted there = refl
-told_is k s g c ends side most (reply.Failed kind) there = refl
+told_is k s g c ends side most _ there = refl
 
 pub replied_keeps : (now : ℕ) (h : Side → List ℕ) (r : Side → Bool) (k : KernelState) (s g : ℕ) (c : Connection) (ends : Sockets) (call : Call) (said : Reply)
     → EndsThere k s g c ends → IsAsked c.pair call → PairOk h r c.pair ends → Kept (LineOk h r k s g c ends) (replied now (record { kernel = k; connection = c }) call said)
@@ -134,7 +128,4 @@ call_keeps past next st w k (Holds s left) said quiet all = kept_when (nat_lt 0 
     kept_bind _ (slice_get st.slots s) (λ p here.
     kept_then _ _ (λ l lodging. call_lands past next st (doing (with_place (record st { kernel = l.kernel }) s l.place) w k (Holds s (left - 1))) s p l.place lodging.connection
     lodging.line quiet here lodging.ok lodging.goes refl refl refl lodging.kernel refl lodging.place all) (lodged_keeps past st s p said (all.each s p here))))
-call_keeps past next st w k Idle said quiet all = record { kept = tt }
-call_keeps past next st w k (Tries t) said quiet all = record { kept = tt }
-call_keeps past next st w k (Closed s) said quiet all = record { kept = tt }
-call_keeps past next st w k (Retired s) said quiet all = record { kept = tt }
+call_keeps past next st w k _ said quiet all = record { kept = tt }

@@ -93,15 +93,7 @@ none_given past st q (event.Network s other (Arrive bytes)) e side goes ok = eli
       off_if _ bytes.items (right_off (s == e.slot && side_number other == side_number side) _ (rw there (ne_eqb l.place.generation e.generation (λ is. omega arith)))))
   | No h ↦ off_if _ bytes.items (left_off (s == e.slot) _ _ h)
 ]
-none_given past st q (event.Tick n) e side goes ok = refl
-none_given past st q (event.Network s other Fin) e side goes ok = refl
-none_given past st q (event.Network s other Reset) e side goes ok = refl
-none_given past st q (event.Network s other Room) e side goes ok = refl
-none_given past st q (event.Spurious who) e side goes ok = refl
-none_given past st q (event.Vanish who) e side goes ok = refl
-none_given past st q (event.Listen l) e side goes ok = refl
-none_given past st q (event.Poll p) e side goes ok = refl
-none_given past st q (event.Work w a) e side goes ok = refl
+none_given past st q _ e side goes ok = refl
 
 same_bytes : (past : History) (st q : State) (ev : Event) (e : Past) → step st ev ≡ Some q → ClosedOk past st e → (side : Side) → after_event past st ev e.slot e.generation side
     ≡ past e.slot e.generation side

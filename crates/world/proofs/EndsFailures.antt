@@ -169,34 +169,14 @@ called_now : (first st : State) (done : List Event) (w : ℕ) (r : Reply) (f : F
     → known first (done ++ event.Work w (act.Call r) ∷ []) f
 called_now first st done w (reply.Failed kind) f ran now = known_call first (done ++ event.Work w (act.Call (reply.Failed kind)) ∷ []) f.slot f.generation f.fault
     (broken_by st kind f (held_by st w) now) (failed_now first st done (event.Work w (act.Call (reply.Failed kind))) f ran now)
-called_now first st done w (reply.Bytes n) f ran now = absurd (cc)
-called_now first st done w reply.End f ran now = absurd (cc)
-called_now first st done w (reply.Wrote n full) f ran now = absurd (cc)
-called_now first st done w reply.Joined f ran now = absurd (cc)
-called_now first st done w reply.Shut f ran now = absurd (cc)
-called_now first st done w reply.Blocked f ran now = absurd (cc)
-called_now first st done w reply.Interrupted f ran now = absurd (cc)
+called_now first st done w _ f ran now = absurd (cc)
 
 known_now : (laws : CoreLaws) (first st q : State) (done : List Event) (e : Event) (f : Failure) → run first done ≡ Some st → TimesOk first done st → step st e ≡ Some q
     → cause_by st e ≡ Some f → known first (done ++ e ∷ []) f
 known_now laws first st q done (event.Work w act.Expire) f ran times made now = expired_now first st done w f (held_connection st w) ran refl
     (expires_idle laws first st q done w times made) now
 known_now laws first st q done (event.Work w (act.Call r)) f ran times made now = called_now first st done w r f ran now
-known_now laws first st q done (event.Work w act.Put) f ran times made now = absurd (cc)
-known_now laws first st q done (event.Work w act.Pop) f ran times made now = absurd (cc)
-known_now laws first st q done (event.Work w act.Claim) f ran times made now = absurd (cc)
-known_now laws first st q done (event.Work w act.Take) f ran times made now = absurd (cc)
-known_now laws first st q done (event.Work w act.Post) f ran times made now = absurd (cc)
-known_now laws first st q done (event.Work w act.Release) f ran times made now = absurd (cc)
-known_now laws first st q done (event.Work w act.Close) f ran times made now = absurd (cc)
-known_now laws first st q done (event.Work w act.Retire) f ran times made now = absurd (cc)
-known_now laws first st q done (event.Work w act.Free) f ran times made now = absurd (cc)
-known_now laws first st q done (event.Tick n) f ran times made now = absurd (cc)
-known_now laws first st q done (event.Network s side change) f ran times made now = absurd (cc)
-known_now laws first st q done (event.Spurious who) f ran times made now = absurd (cc)
-known_now laws first st q done (event.Vanish who) f ran times made now = absurd (cc)
-known_now laws first st q done (event.Listen l) f ran times made now = absurd (cc)
-known_now laws first st q done (event.Poll p) f ran times made now = absurd (cc)
+known_now laws first st q done _ f ran times made now = absurd (cc)
 
 told_by : (failed told : Failure → Type 0) (st : State) → ((f : Failure) → failed f → told f) → FailuresOk failed st → FailuresOk told st
 told_by failed told st more ok = record {

@@ -10,14 +10,8 @@ use Rattle.world.proofs.EndsShapes.{Continues, Stays, Shape, Changed}
 
 -- a pair is given a failure where the kernel's reply was one
 failed_plain : (said : Reply) (kind : Kind) → plain said ≡ Some (answer.Failed kind) → said ≡ reply.Failed kind
-failed_plain (reply.Bytes n) kind h = absurd (cc)
-failed_plain reply.End kind h = absurd (cc)
-failed_plain (reply.Wrote n full) kind h = absurd (cc)
-failed_plain reply.Joined kind h = absurd (cc)
-failed_plain reply.Shut kind h = absurd (cc)
-failed_plain reply.Blocked kind h = absurd (cc)
-failed_plain reply.Interrupted kind h = absurd (cc)
 failed_plain (reply.Failed other) kind h = let same : other ≡ kind = cc in ap reply.Failed same
+failed_plain _ kind h = absurd (cc)
 
 no_bytes : (o : Option (List ℕ)) (kind : Kind) → option_map (λ (bytes : List ℕ). answer.Bytes bytes) o ≡ Some (answer.Failed kind) → ⊥
 no_bytes None kind h = absurd (cc)
@@ -25,16 +19,7 @@ no_bytes (Some bytes) kind h = absurd (cc)
 
 failed_told : (l : OpenConnection) (call : Call) (said : Reply) (kind : Kind) → told_of l call said ≡ Some (answer.Failed kind) → said ≡ reply.Failed kind
 failed_told l (Read side most) (reply.Bytes n) kind h = absurd (no_bytes _ kind h)
-failed_told l (Read side most) reply.End kind h = failed_plain reply.End kind h
-failed_told l (Read side most) (reply.Wrote n full) kind h = failed_plain (reply.Wrote n full) kind h
-failed_told l (Read side most) reply.Joined kind h = failed_plain reply.Joined kind h
-failed_told l (Read side most) reply.Shut kind h = failed_plain reply.Shut kind h
-failed_told l (Read side most) reply.Blocked kind h = failed_plain reply.Blocked kind h
-failed_told l (Read side most) reply.Interrupted kind h = failed_plain reply.Interrupted kind h
-failed_told l (Read side most) (reply.Failed other) kind h = failed_plain (reply.Failed other) kind h
-failed_told l (Write side) said kind h = failed_plain said kind h
-failed_told l (Join side) said kind h = failed_plain said kind h
-failed_told l (Shut side) said kind h = failed_plain said kind h
+failed_told l _ said kind h = failed_plain said kind h
 
 -- The event
 
@@ -97,7 +82,4 @@ pub call_shape : (laws : CoreLaws) (st : State) (w : ℕ) (k : WorkerState) (d :
 call_shape laws st w k (Holds s left) said there holds = kept_when (nat_lt 0 left) _ (λ some.
     kept_bind _ (slice_get st.slots s) (λ p here.
     kept_then _ _ (λ l stays. Changed s p l.place here refl refl (record { limits = refl; second = le_refl _ }) stays) (lodged_stays laws st w s left k p said there holds here)))
-call_shape laws st w k Idle said there holds = record { kept = tt }
-call_shape laws st w k (Tries t) said there holds = record { kept = tt }
-call_shape laws st w k (Closed s) said there holds = record { kept = tt }
-call_shape laws st w k (Retired s) said there holds = record { kept = tt }
+call_shape laws st w k _ said there holds = record { kept = tt }

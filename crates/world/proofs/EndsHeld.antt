@@ -55,7 +55,7 @@ pub record ConnectionOk (past : History) (st : State) (s g : ℕ) (notes : List 
   pub there : (side : Side) → end_of st c side ≡ Some (registered s g side (socket_of ends side))
   pub pair : PairOk (past s g) (λ side. is_pending st (token_at s side g) || is_nonempty notes) c.pair ends
 
--- a slot: the poller's table tells its generation, a later one has its preamble alone, and its connection is in order
+-- a slot: the poller's table has its generation, a later one has its preamble alone, and its connection is in order
 pub record SlotOk (past : History) (st : State) (s : ℕ) (p : SlotState) : Type 0 where
   pub entry : slice_get st.table s ≡ Some p.generation
   pub later : (g : ℕ) (side : Side) → p.generation < g → past s g side ≡ before st.limits side

@@ -27,14 +27,11 @@ still st e none = kept_any (step st e) (λ q i p c here lying is. absurd (cc))
 -- The pair is given a movement where the reply is one
 
 plain_moves : (r : Reply) (t : answer.AnswerValue) → plain r ≡ Some t → is_movement r ≡ true → moves t ≡ true
-plain_moves (reply.Bytes n) t told is = absurd (cc)
 plain_moves reply.End t told is = let same : answer.End ≡ t = cc in rw (← same) refl
 plain_moves (reply.Wrote n full) t told is = let same : answer.Wrote n ≡ t = cc in rw (← same) refl
 plain_moves reply.Joined t told is = let same : answer.Joined ≡ t = cc in rw (← same) refl
 plain_moves reply.Shut t told is = let same : answer.Shut ≡ t = cc in rw (← same) refl
-plain_moves reply.Blocked t told is = absurd (cc)
-plain_moves reply.Interrupted t told is = absurd (cc)
-plain_moves (reply.Failed kind) t told is = absurd (cc)
+plain_moves _ t told is = absurd (cc)
 
 bytes_move : (o : Option (List ℕ)) (t : answer.AnswerValue) → option_map (λ (bytes : List ℕ). answer.Bytes bytes) o ≡ Some t → moves t ≡ true
 bytes_move None t told = absurd (cc)
@@ -42,16 +39,7 @@ bytes_move (Some bytes) t told = let same : answer.Bytes bytes ≡ t = cc in rw 
 
 told_moves : (l : OpenConnection) (call : Call) (r : Reply) (t : answer.AnswerValue) → told_of l call r ≡ Some t → is_movement r ≡ true → moves t ≡ true
 told_moves l (Read side most) (reply.Bytes n) t told is = bytes_move _ t told
-told_moves l (Read side most) reply.End t told is = plain_moves reply.End t told is
-told_moves l (Read side most) (reply.Wrote n full) t told is = plain_moves (reply.Wrote n full) t told is
-told_moves l (Read side most) reply.Joined t told is = plain_moves reply.Joined t told is
-told_moves l (Read side most) reply.Shut t told is = plain_moves reply.Shut t told is
-told_moves l (Read side most) reply.Blocked t told is = plain_moves reply.Blocked t told is
-told_moves l (Read side most) reply.Interrupted t told is = plain_moves reply.Interrupted t told is
-told_moves l (Read side most) (reply.Failed kind) t told is = plain_moves (reply.Failed kind) t told is
-told_moves l (Write side) r t told is = plain_moves r t told is
-told_moves l (Join side) r t told is = plain_moves r t told is
-told_moves l (Shut side) r t told is = plain_moves r t told is
+told_moves l _ r t told is = plain_moves r t told is
 
 if_so : (b : Bool) (m n : ℕ) → b ≡ true → (if b then n else m) ≡ n
 if_so true m n is = refl
@@ -120,10 +108,7 @@ call_moves st w k (Holds s left) r there does is = kept_when (nat_lt 0 left) _ (
     c here lying
     (names_slot (held_connection st w) s by.generation i c.pair.generation by.held holds))
     (there_before st w s left k old r old.connection refl there does was (lodged_moves st.second (record { kernel = st.kernel; place = old }) r is))))
-call_moves st w k Idle r there does is = kept_none
-call_moves st w k (Tries t) r there does is = kept_none
-call_moves st w k (Closed s) r there does is = kept_none
-call_moves st w k (Retired s) r there does is = kept_none
+call_moves st w k _ r there does is = kept_none
 
 not_moved : (b : Bool) (o : Option Named) (x : Named) → (if b then o else None) ≡ Some x → (b ≡ true) × (o ≡ Some x)
 not_moved true o x h = (refl, h)
@@ -149,26 +134,8 @@ open_moves st = kept_when st.accepted _ (λ some.
 
 pub step_moves : (st : State) (e : Event) → Kept (MovesNow st e) (step st e)
 step_moves st (event.Poll polling.Open) = open_moves st
-step_moves st (event.Poll (polling.Poll names)) = still st (event.Poll (polling.Poll names)) refl
-step_moves st (event.Poll polling.Deliver) = still st (event.Poll polling.Deliver) refl
-step_moves st (event.Poll (polling.Sweep s)) = still st (event.Poll (polling.Sweep s)) refl
-step_moves st (event.Poll polling.Put) = still st (event.Poll polling.Put) refl
-step_moves st (event.Tick n) = still st (event.Tick n) refl
-step_moves st (event.Network s side change) = still st (event.Network s side change) refl
-step_moves st (event.Spurious who) = still st (event.Spurious who) refl
-step_moves st (event.Vanish who) = still st (event.Vanish who) refl
-step_moves st (event.Listen l) = still st (event.Listen l) refl
 step_moves st (event.Work w (act.Call r)) = kept_bind _ (slice_get st.workers w) (λ k there. worker_moves st w k r (is_movement r) refl there)
-step_moves st (event.Work w act.Put) = still st (event.Work w act.Put) refl
-step_moves st (event.Work w act.Pop) = still st (event.Work w act.Pop) refl
-step_moves st (event.Work w act.Claim) = still st (event.Work w act.Claim) refl
-step_moves st (event.Work w act.Take) = still st (event.Work w act.Take) refl
-step_moves st (event.Work w act.Post) = still st (event.Work w act.Post) refl
-step_moves st (event.Work w act.Release) = still st (event.Work w act.Release) refl
-step_moves st (event.Work w act.Expire) = still st (event.Work w act.Expire) refl
-step_moves st (event.Work w act.Close) = still st (event.Work w act.Close) refl
-step_moves st (event.Work w act.Retire) = still st (event.Work w act.Retire) refl
-step_moves st (event.Work w act.Free) = still st (event.Work w act.Free) refl
+step_moves st other = still st other refl
 
 -- A worker lets the connection expire that it holds
 
@@ -194,10 +161,7 @@ doing_idle : (laws : CoreLaws) (first st : State) (done : List Event) (w : ℕ) 
 doing_idle laws first st done w k (Holds s left) times there does = kept_bind _ (slice_get st.slots s) (λ p here.
     kept_then (λ (q : SlotState). with_place st s q) (expired_place st.second st.limits.idle p) (λ q x. idle_at laws first st done w s left k p q times there does here x)
     (expired_so st.second st.limits.idle p))
-doing_idle laws first st done w k Idle times there does = kept_none
-doing_idle laws first st done w k (Tries t) times there does = kept_none
-doing_idle laws first st done w k (Closed s) times there does = kept_none
-doing_idle laws first st done w k (Retired s) times there does = kept_none
+doing_idle laws first st done w k _ times there does = kept_none
 
 pub expires_idle : (laws : CoreLaws) (first st q : State) (done : List Event) (w : ℕ) → TimesOk first done st → step st (event.Work w act.Expire) ≡ Some q → IdleSo first st done w
 expires_idle laws first st q done w times made = kept_at (worked st w act.Expire) q made

@@ -19,14 +19,9 @@ same_end_is n m h = end_is n.slot m.slot n.generation m.generation n.side m.side
 
 pub same_is : (n m : Name) → same n m ≡ true → n ≡ m
 same_is Listener Listener h = refl
-same_is Listener Waker h = absurd (cc)
-same_is Listener (End b) h = absurd (cc)
-same_is Waker Listener h = absurd (cc)
 same_is Waker Waker h = refl
-same_is Waker (End b) h = absurd (cc)
-same_is (End a) Listener h = absurd (cc)
-same_is (End a) Waker h = absurd (cc)
 same_is (End a) (End b) h = ap End (same_end_is a b h)
+same_is _ _ h = absurd (cc)
 
 pub same_self : (n : Name) → same n n ≡ true
 same_self Listener = refl

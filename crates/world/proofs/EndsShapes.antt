@@ -122,10 +122,7 @@ popped_shape st e w k (t ∷ rest) = record { kept = Same refl refl (record { li
 
 pub pop_shape : (st : State) (e : Event) (w : ℕ) (k : WorkerState) (d : Doing) → Kept (Shape st e) (Steps.pop st w k d)
 pop_shape st e w k Idle = kept_when (length k.hand == 0) _ (λ none. popped_shape st e w k st.ready)
-pop_shape st e w k (Tries t) = record { kept = tt }
-pop_shape st e w k (Holds s left) = record { kept = tt }
-pop_shape st e w k (Closed s) = record { kept = tt }
-pop_shape st e w k (Retired s) = record { kept = tt }
+pop_shape st e w k _ = record { kept = tt }
 
 either_way : (P : State → Type 0) (b : Bool) (q r : State) → P q → P r → P (if b then q else r)
 either_way P true q r this that = this
@@ -135,10 +132,7 @@ pub claim_shape : (st : State) (e : Event) (w : ℕ) (k : WorkerState) (d : Doin
 claim_shape st e w k (Tries t) = kept_map _ (slice_get st.slots t.slot) (λ p here.
     either_way (Shape st e) (is_held p.holder) _ _ (Same refl refl (record { limits = refl; second = le_refl _ }))
     (Changed t.slot p _ here refl refl (record { limits = refl; second = le_refl _ }) (same_connection st e t.slot p _ refl refl)))
-claim_shape st e w k Idle = record { kept = tt }
-claim_shape st e w k (Holds s left) = record { kept = tt }
-claim_shape st e w k (Closed s) = record { kept = tt }
-claim_shape st e w k (Retired s) = record { kept = tt }
+claim_shape st e w k _ = record { kept = tt }
 
 heard_generation : (c : Connection) (b : Bool) → (if b then record c { pair = noted c.pair } else c).pair.generation ≡ c.pair.generation
 heard_generation c true = refl
@@ -174,10 +168,7 @@ pub take_shape : (st : State) (e : Event) (d : Doing) → Kept (Shape st e) (Ste
 take_shape st e (Holds s left) = kept_bind _ (slice_get st.slots s) (λ p here.
     kept_then (λ (q : SlotState). with_place st s q) (noted_slot p) (λ q stays. Changed s p q here refl refl (record { limits = refl; second = le_refl _ }) stays)
     (noted_stays st e s p p.connection refl))
-take_shape st e Idle = record { kept = tt }
-take_shape st e (Tries t) = record { kept = tt }
-take_shape st e (Closed s) = record { kept = tt }
-take_shape st e (Retired s) = record { kept = tt }
+take_shape st e _ = record { kept = tt }
 
 -- a connection expires
 
@@ -207,44 +198,29 @@ expire_shape st w k (Holds s left) there holds = kept_bind _ (slice_get st.slots
     kept_then (λ (q : SlotState). with_place st s q) (expired_place st.second st.limits.idle p)
     (λ q x. Changed s p q here refl refl (record { limits = refl; second = le_refl _ }) (expired_stays st w s left k p q there holds here x))
     (expired_so st.second st.limits.idle p))
-expire_shape st w k Idle there holds = record { kept = tt }
-expire_shape st w k (Tries t) there holds = record { kept = tt }
-expire_shape st w k (Closed s) there holds = record { kept = tt }
-expire_shape st w k (Retired s) there holds = record { kept = tt }
+expire_shape st w k _ there holds = record { kept = tt }
 
 pub post_shape : (st : State) (e : Event) (d : Doing) → Kept (Shape st e) (Steps.post st d)
 post_shape st e (Holds s left) = kept_bind _ (slice_get st.slots s) (λ p here.
     kept_bind _ p.connection (λ c lying.
     kept_guard (is_live (verdict c.pair)) _ (λ live. Changed s p (with_note p c.pair.generation) here refl refl (record { limits = refl; second = le_refl _ })
     (same_connection st e s p _ refl refl))))
-post_shape st e Idle = record { kept = tt }
-post_shape st e (Tries t) = record { kept = tt }
-post_shape st e (Closed s) = record { kept = tt }
-post_shape st e (Retired s) = record { kept = tt }
+post_shape st e _ = record { kept = tt }
 
 pub release_shape : (st : State) (e : Event) (w : ℕ) (k : WorkerState) (d : Doing) → Kept (Shape st e) (Steps.release st w k d)
 release_shape st e w k (Holds s left) = kept_bind _ (slice_get st.slots s) (λ p here.
     kept_bind _ p.connection (λ c lying.
     kept_guard (may_release c (is_nonempty p.notes)) _ (λ may. Changed s p _ here refl refl (record { limits = refl; second = le_refl _ }) (same_connection st e s p _ refl refl))))
-release_shape st e w k Idle = record { kept = tt }
-release_shape st e w k (Tries t) = record { kept = tt }
-release_shape st e w k (Closed s) = record { kept = tt }
-release_shape st e w k (Retired s) = record { kept = tt }
+release_shape st e w k _ = record { kept = tt }
 
 pub retire_shape : (st : State) (e : Event) (w : ℕ) (k : WorkerState) (d : Doing) → Kept (Shape st e) (Steps.retire st w k d)
 retire_shape st e w k (Closed s) =
     kept_map _ (slice_get st.slots s) (λ p here. Changed s p _ here refl refl (record { limits = refl; second = le_refl _ }) (same_connection st e s p _ refl refl))
-retire_shape st e w k Idle = record { kept = tt }
-retire_shape st e w k (Tries t) = record { kept = tt }
-retire_shape st e w k (Holds s left) = record { kept = tt }
-retire_shape st e w k (Retired s) = record { kept = tt }
+retire_shape st e w k _ = record { kept = tt }
 
 pub free_shape : (st : State) (e : Event) (w : ℕ) (k : WorkerState) (d : Doing) → Kept (Shape st e) (Steps.free st w k d)
 free_shape st e w k (Retired s) = kept_map _ (slice_get st.slots s) (λ p here. Same refl refl (record { limits = refl; second = le_refl _ }))
-free_shape st e w k Idle = record { kept = tt }
-free_shape st e w k (Tries t) = record { kept = tt }
-free_shape st e w k (Holds s left) = record { kept = tt }
-free_shape st e w k (Closed s) = record { kept = tt }
+free_shape st e w k _ = record { kept = tt }
 
 pub close_shape : (st : State) (e : Event) (w : ℕ) (k : WorkerState) (d : Doing) → ((i g : ℕ) (side : Side) → given_by st i g side e ≡ [])
     → Kept (Shape st e) (Steps.close st w k d)
@@ -252,7 +228,4 @@ close_shape st e w k (Holds s left) brings = kept_bind _ (slice_get st.slots s) 
     kept_bind _ p.connection (λ c lying.
     kept_when (not (is_live (verdict c.pair))) _ (λ over.
     kept_map _ (kernel.close_both st.kernel c.ends) (λ t is. Ended s p c t.told t.value here lying refl refl (record { limits = refl; second = le_refl _ }) is brings))))
-close_shape st e w k Idle brings = record { kept = tt }
-close_shape st e w k (Tries t) brings = record { kept = tt }
-close_shape st e w k (Closed s) brings = record { kept = tt }
-close_shape st e w k (Retired s) brings = record { kept = tt }
+close_shape st e w k _ brings = record { kept = tt }

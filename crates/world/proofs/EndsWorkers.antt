@@ -33,10 +33,7 @@ popped_keeps past next st w k (t ∷ rest) quiet all =
 
 pub pop_keeps : (past next : History) (st : State) (w : ℕ) (k : WorkerState) (d : Doing) → Quiet past next → AllOk past st → Kept (AllOk next) (pop st w k d)
 pop_keeps past next st w k Idle quiet all = kept_when (length k.hand == 0) _ (λ none. popped_keeps past next st w k st.ready quiet all)
-pop_keeps past next st w k (Tries t) quiet all = record { kept = tt }
-pop_keeps past next st w k (Holds s left) quiet all = record { kept = tt }
-pop_keeps past next st w k (Closed s) quiet all = record { kept = tt }
-pop_keeps past next st w k (Retired s) quiet all = record { kept = tt }
+pop_keeps past next st w k _ quiet all = record { kept = tt }
 
 -- the holder alone changes
 
@@ -60,19 +57,13 @@ claim_keeps past next st w k (Tries t) quiet all = kept_map _ (slice_get st.slot
     either_way (AllOk next) (is_held p.holder) _ _
     (rests_keep past next st _ quiet (record { slots = refl; table = refl; limits = refl; ends = refl; pending = λ i side g entry h. h }) all)
     (place_keeps past next st _ t.slot p _ quiet here refl (steady st _ refl refl refl refl) (held_by next _ t.slot p _) all))
-claim_keeps past next st w k Idle quiet all = record { kept = tt }
-claim_keeps past next st w k (Holds s left) quiet all = record { kept = tt }
-claim_keeps past next st w k (Closed s) quiet all = record { kept = tt }
-claim_keeps past next st w k (Retired s) quiet all = record { kept = tt }
+claim_keeps past next st w k _ quiet all = record { kept = tt }
 
 pub take_keeps : (past next : History) (st : State) (d : Doing) → Quiet past next → AllOk past st → Kept (AllOk next) (take st d)
 take_keeps past next st (Holds s left) quiet all = kept_bind _ (slice_get st.slots s) (λ p here.
     kept_map (λ (q : SlotState). with_place st s q) (noted_slot p) (λ q is.
     place_keeps past next st (with_place st s q) s p q quiet here refl (steady st (with_place st s q) refl refl refl refl) (take_ok next (with_place st s q) s p q is) all))
-take_keeps past next st Idle quiet all = record { kept = tt }
-take_keeps past next st (Tries t) quiet all = record { kept = tt }
-take_keeps past next st (Closed s) quiet all = record { kept = tt }
-take_keeps past next st (Retired s) quiet all = record { kept = tt }
+take_keeps past next st _ quiet all = record { kept = tt }
 
 -- an overdue connection fails, and keeps all else
 timed_out_ok : (past : History) (st : State) (s g : ℕ) (notes : List ℕ) (c : Connection) → ConnectionOk past st s g notes c
@@ -103,10 +94,7 @@ expire_keeps past next st (Holds s left) quiet all = kept_bind _ (slice_get st.s
     place_keeps past next st (with_place st s q) s p q quiet here refl (steady st (with_place st s q) refl refl refl refl)
     (expired_ok next (with_place st s q) s st.second st.limits.idle p q x) all)
     (expired_so st.second st.limits.idle p))
-expire_keeps past next st Idle quiet all = record { kept = tt }
-expire_keeps past next st (Tries t) quiet all = record { kept = tt }
-expire_keeps past next st (Closed s) quiet all = record { kept = tt }
-expire_keeps past next st (Retired s) quiet all = record { kept = tt }
+expire_keeps past next st _ quiet all = record { kept = tt }
 
 -- the poller posts to a slot that it sweeps
 pub sweep_keeps : (past next : History) (st : State) (s : ℕ) → Quiet past next → AllOk past st → Kept (AllOk next) (sweep st s)
@@ -128,36 +116,24 @@ post_keeps past next st (Holds s left) quiet all = kept_bind _ (slice_get st.slo
     place_keeps past next st (with_place st s (with_note p c.pair.generation)) s p (with_note p c.pair.generation) quiet here refl (steady st _ refl refl refl refl)
     (λ ok. note_keeps next next (with_place st s (with_note p c.pair.generation)) (with_place st s (with_note p c.pair.generation)) s p c.pair.generation (λ i g side. refl) refl
     refl refl ok) all)))
-post_keeps past next st Idle quiet all = record { kept = tt }
-post_keeps past next st (Tries t) quiet all = record { kept = tt }
-post_keeps past next st (Closed s) quiet all = record { kept = tt }
-post_keeps past next st (Retired s) quiet all = record { kept = tt }
+post_keeps past next st _ quiet all = record { kept = tt }
 
 pub release_keeps : (past next : History) (st : State) (w : ℕ) (k : WorkerState) (d : Doing) → Quiet past next → AllOk past st → Kept (AllOk next) (release st w k d)
 release_keeps past next st w k (Holds s left) quiet all = kept_bind _ (slice_get st.slots s) (λ p here.
     kept_bind _ p.connection (λ c lying.
     kept_guard (may_release c (is_nonempty p.notes)) _ (λ may.
     place_keeps past next st _ s p _ quiet here refl (steady st _ refl refl refl refl) (held_by next _ s p _) all)))
-release_keeps past next st w k Idle quiet all = record { kept = tt }
-release_keeps past next st w k (Tries t) quiet all = record { kept = tt }
-release_keeps past next st w k (Closed s) quiet all = record { kept = tt }
-release_keeps past next st w k (Retired s) quiet all = record { kept = tt }
+release_keeps past next st w k _ quiet all = record { kept = tt }
 
 pub retire_keeps : (past next : History) (st : State) (w : ℕ) (k : WorkerState) (d : Doing) → Quiet past next → AllOk past st → Kept (AllOk next) (retire st w k d)
 retire_keeps past next st w k (Closed s) quiet all = kept_map _ (slice_get st.slots s) (λ p here.
     place_keeps past next st _ s p _ quiet here refl (steady st _ refl refl refl refl) (held_by next _ s p _) all)
-retire_keeps past next st w k Idle quiet all = record { kept = tt }
-retire_keeps past next st w k (Tries t) quiet all = record { kept = tt }
-retire_keeps past next st w k (Holds s left) quiet all = record { kept = tt }
-retire_keeps past next st w k (Retired s) quiet all = record { kept = tt }
+retire_keeps past next st w k _ quiet all = record { kept = tt }
 
 pub free_keeps : (past next : History) (st : State) (w : ℕ) (k : WorkerState) (d : Doing) → Quiet past next → AllOk past st → Kept (AllOk next) (free st w k d)
 free_keeps past next st w k (Retired s) quiet all = kept_map _ (slice_get st.slots s) (λ p here.
     rests_keep past next st _ quiet (record { slots = refl; table = refl; limits = refl; ends = refl; pending = λ i side g entry h. h }) all)
-free_keeps past next st w k Idle quiet all = record { kept = tt }
-free_keeps past next st w k (Tries t) quiet all = record { kept = tt }
-free_keeps past next st w k (Holds s left) quiet all = record { kept = tt }
-free_keeps past next st w k (Closed s) quiet all = record { kept = tt }
+free_keeps past next st w k _ quiet all = record { kept = tt }
 
 -- Both ends of a connection are closed
 
@@ -222,7 +198,4 @@ close_keeps past next st w k (Holds s left) quiet all = kept_bind _ (slice_get s
     kept_when (not (is_live (verdict c.pair))) _ (λ over.
     (let ok : ConnectionOk past st s p.generation p.notes c = (all.each s p here).connection c lying in
     rw (closes past st s p.generation p.notes c ok) (record { kept = closed_keeps past next st w k s p c quiet here ok all })))))
-close_keeps past next st w k Idle quiet all = record { kept = tt }
-close_keeps past next st w k (Tries t) quiet all = record { kept = tt }
-close_keeps past next st w k (Closed s) quiet all = record { kept = tt }
-close_keeps past next st w k (Retired s) quiet all = record { kept = tt }
+close_keeps past next st w k _ quiet all = record { kept = tt }

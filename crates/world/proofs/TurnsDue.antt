@@ -37,10 +37,7 @@ tried_or_hand false c n hand some = hand (omega arith)
 
 with_worker_at : (s g : ℕ) (d : Doing) (hand : List Ticket) → 1 ≤ tried_right s g d + total (names s g) hand → (tries s g d || list_any (is_ticket s g) hand) ≡ true
 with_worker_at s g (Tries t) hand some = tried_or_hand (is_ticket s g t) (list_any (is_ticket s g) hand) (total (names s g) hand) (in_hand s g hand) some
-with_worker_at s g Idle hand some = in_hand s g hand (omega arith)
-with_worker_at s g (Holds t left) hand some = in_hand s g hand (omega arith)
-with_worker_at s g (Closed t) hand some = in_hand s g hand (omega arith)
-with_worker_at s g (Retired t) hand some = in_hand s g hand (omega arith)
+with_worker_at s g _ hand some = in_hand s g hand (omega arith)
 
 ticketed_by : (a b c : Bool) (x y z : ℕ) → (1 ≤ x → a ≡ true) → (1 ≤ y → b ≡ true) → (1 ≤ z → c ≡ true) → 1 ≤ x + (y + z) → (a || (b || c)) ≡ true
 ticketed_by true b c x y z p q r some = refl

@@ -34,10 +34,7 @@ post_turns st w k (Holds s left) there does turns =
     kept_bind _ (slice_get st.slots s)
     (λ p lies. kept_bind _ p.connection (λ c is. kept_guard (is_live (verdict c.pair)) (with_place st s (with_note p c.pair.generation))
     (λ live. posted_turns st w k s left p c there does lies is turns)))
-post_turns st w k Idle there does turns = kept_none
-post_turns st w k (Tries t) there does turns = kept_none
-post_turns st w k (Closed s) there does turns = kept_none
-post_turns st w k (Retired s) there does turns = kept_none
+post_turns st w k _ there does turns = kept_none
 
 -- it lets the slot go
 
@@ -120,10 +117,7 @@ release_turns st w k (Holds s left) there does turns =
     kept_bind _ (slice_get st.slots s) (λ p lies. kept_bind _ p.connection (λ c is. kept_guard (may_release c (is_nonempty p.notes))
     (with_worker (with_place st s (record p { holder = Nobody })) w (record { doing = Idle; hand = with_ticket (is_nonempty p.notes) s p.generation k.hand }))
     (λ may. released_turns st w k s left p c there does lies is may turns)))
-release_turns st w k Idle there does turns = kept_none
-release_turns st w k (Tries t) there does turns = kept_none
-release_turns st w k (Closed s) there does turns = kept_none
-release_turns st w k (Retired s) there does turns = kept_none
+release_turns st w k _ there does turns = kept_none
 
 -- it closes the connection
 
@@ -153,10 +147,7 @@ close_turns : (st : State) (w : ℕ) (k : WorkerState) (d : Doing) → slice_get
 close_turns st w k (Holds s left) there does turns = kept_bind _ (slice_get st.slots s) (λ p lies. kept_bind _ p.connection (λ c is. kept_when (not (is_live (verdict c.pair)))
     (option_map (λ (t : Told KernelState Sockets). closed_world st w k s p c t) (kernel.close_both st.kernel c.ends))
     (λ dead. kept_map _ (kernel.close_both st.kernel c.ends) (λ t both. closed_turns st w k s left p c t there does lies turns))))
-close_turns st w k Idle there does turns = kept_none
-close_turns st w k (Tries t) there does turns = kept_none
-close_turns st w k (Closed s) there does turns = kept_none
-close_turns st w k (Retired s) there does turns = kept_none
+close_turns st w k _ there does turns = kept_none
 
 -- the slot is free
 
@@ -183,10 +174,7 @@ retired_turns st w k s p there does lies turns =
 
 retire_turns : (st : State) (w : ℕ) (k : WorkerState) (d : Doing) → slice_get st.workers w ≡ Some k → k.doing ≡ d → Turns st → Kept Turns (retire st w k d)
 retire_turns st w k (Closed s) there does turns = kept_map _ (slice_get st.slots s) (λ p lies. retired_turns st w k s p there does lies turns)
-retire_turns st w k Idle there does turns = kept_none
-retire_turns st w k (Tries t) there does turns = kept_none
-retire_turns st w k (Holds s left) there does turns = kept_none
-retire_turns st w k (Retired s) there does turns = kept_none
+retire_turns st w k _ there does turns = kept_none
 
 freed_most : (i : ℕ) (slots : List ℕ) (s : ℕ) (p : SlotState) → total (is_number i) (freed slots s p) ≤ total (is_number i) slots + one (s == i)
 freed_most i slots s p = elim (is_worn p.generation) as (λ b. total (is_number i) (if b then slots else slots ++ s ∷ []) ≤ total (is_number i) slots + one (s == i))
@@ -206,10 +194,7 @@ free_turns st w k (Retired s) there does turns = kept_map _ (slice_get st.slots 
       closing = omega arith;
       gone = omega arith;
     }) turns)
-free_turns st w k Idle there does turns = kept_none
-free_turns st w k (Tries t) there does turns = kept_none
-free_turns st w k (Holds s left) there does turns = kept_none
-free_turns st w k (Closed s) there does turns = kept_none
+free_turns st w k _ there does turns = kept_none
 
 -- each act of a worker
 

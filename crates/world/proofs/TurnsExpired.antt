@@ -38,7 +38,4 @@ expire_turns st w k (Holds s left) there does turns =
     kept_bind _ (slice_get st.slots s) (λ p lies. kept_then (λ (q : SlotState). with_place st s q) (expired_place st.second st.limits.idle p)
     (λ q x. subst (λ (r : SlotState). Turns (with_place st s r)) (sym x.is) (expired_turns st w k s left p x.connection there does lies x.was turns))
     (expired_so st.second st.limits.idle p))
-expire_turns st w k Idle there does turns = kept_none
-expire_turns st w k (Tries t) there does turns = kept_none
-expire_turns st w k (Closed s) there does turns = kept_none
-expire_turns st w k (Retired s) there does turns = kept_none
+expire_turns st w k _ there does turns = kept_none

@@ -199,11 +199,8 @@ pub names_own : (s g : ℕ) → names s g (record { slot = s; generation = g }) 
 names_own s g = rw (eq-eqb s s refl, eq-eqb g g refl) refl
 
 pub tried_less : (s g : ℕ) (d : Doing) → tried_right s g d ≤ tried s d
-tried_less s g Idle = omega arith
 tried_less s g (Tries t) = names_of_slot s g t
-tried_less s g (Holds t left) = omega arith
-tried_less s g (Closed t) = omega arith
-tried_less s g (Retired t) = omega arith
+tried_less s g _ = omega arith
 
 -- the numbers of a slot where one worker, that does d, goes on to e
 pub record Turned (st : State) (w : ℕ) (k : WorkerState) (d e : Doing) (s g : ℕ) : Type 0 where

@@ -195,28 +195,19 @@ popped_listens st w k (t ∷ rest) l = kept_some (record { covered = l.covered }
 
 pop_listens : (st : State) (w : ℕ) (k : WorkerState) (d : Doing) → Listens st → Kept Listens (pop st w k d)
 pop_listens st w k Idle l = kept_when (length k.hand == 0) (popped st w k st.ready) (λ none. popped_listens st w k st.ready l)
-pop_listens st w k (Tries t) l = kept_none
-pop_listens st w k (Holds s left) l = kept_none
-pop_listens st w k (Closed s) l = kept_none
-pop_listens st w k (Retired s) l = kept_none
+pop_listens st w k _ l = kept_none
 
 claim_listens : (st : State) (w : ℕ) (k : WorkerState) (d : Doing) → Listens st → Kept Listens (claim st w k d)
 claim_listens st w k (Tries t) l =
     kept_map _ (slice_get st.slots t.slot)
     (λ p lies. either_of Listens (is_held p.holder) (doing st w k Idle) (doing (with_place st t.slot (record p { holder = By w })) w k (Holds t.slot st.limits.budget))
     (record { covered = l.covered }) (record { covered = l.covered }))
-claim_listens st w k Idle l = kept_none
-claim_listens st w k (Holds s left) l = kept_none
-claim_listens st w k (Closed s) l = kept_none
-claim_listens st w k (Retired s) l = kept_none
+claim_listens st w k _ l = kept_none
 
 take_listens : (st : State) (d : Doing) → Listens st → Kept Listens (take st d)
 take_listens st (Holds s left) l =
     kept_bind _ (slice_get st.slots s) (λ p lies. kept_map (λ (q : SlotState). with_place st s q) (noted_slot p) (λ q is. record { covered = l.covered }))
-take_listens st Idle l = kept_none
-take_listens st (Tries t) l = kept_none
-take_listens st (Closed s) l = kept_none
-take_listens st (Retired s) l = kept_none
+take_listens st _ l = kept_none
 
 call_listens : (st : State) (w : ℕ) (k : WorkerState) (d : Doing) (r : Reply) → Listens st → Kept Listens (call st w k d r)
 call_listens st w k (Holds s left) r l = kept_when (nat_lt 0 left) (option_and_then
@@ -228,60 +219,39 @@ call_listens st w k (Holds s left) r l = kept_when (nat_lt 0 left) (option_and_t
     (slot_call st.second (record { kernel = st.kernel; place = p }) r)
     (λ m on. goes_on st (doing (with_place (record st { kernel = m.kernel }) s m.place) w k (Holds s (left - 1))) refl refl on l)
     (lodged_hears st.second (record { kernel = st.kernel; place = p }) r)))
-call_listens st w k Idle r l = kept_none
-call_listens st w k (Tries t) r l = kept_none
-call_listens st w k (Closed s) r l = kept_none
-call_listens st w k (Retired s) r l = kept_none
+call_listens st w k _ r l = kept_none
 
 post_listens : (st : State) (d : Doing) → Listens st → Kept Listens (post st d)
 post_listens st (Holds s left) l =
     kept_bind _ (slice_get st.slots s)
     (λ p lies. kept_bind _ p.connection (λ c is. kept_guard (is_live (verdict c.pair)) (with_place st s (with_note p c.pair.generation)) (λ live. record { covered = l.covered })))
-post_listens st Idle l = kept_none
-post_listens st (Tries t) l = kept_none
-post_listens st (Closed s) l = kept_none
-post_listens st (Retired s) l = kept_none
+post_listens st _ l = kept_none
 
 release_listens : (st : State) (w : ℕ) (k : WorkerState) (d : Doing) → Listens st → Kept Listens (release st w k d)
 release_listens st w k (Holds s left) l =
     kept_bind _ (slice_get st.slots s) (λ p lies. kept_bind _ p.connection (λ c is. kept_guard (may_release c (is_nonempty p.notes)) _ (λ may. record { covered = l.covered })))
-release_listens st w k Idle l = kept_none
-release_listens st w k (Tries t) l = kept_none
-release_listens st w k (Closed s) l = kept_none
-release_listens st w k (Retired s) l = kept_none
+release_listens st w k _ l = kept_none
 
 expire_listens : (st : State) (d : Doing) → Listens st → Kept Listens (expire st d)
 expire_listens st (Holds s left) l =
     kept_bind _ (slice_get st.slots s) (λ p lies. kept_map (λ (q : SlotState). with_place st s q) (expired_place st.second st.limits.idle p)
     (λ q is. record { covered = l.covered }))
-expire_listens st Idle l = kept_none
-expire_listens st (Tries t) l = kept_none
-expire_listens st (Closed s) l = kept_none
-expire_listens st (Retired s) l = kept_none
+expire_listens st _ l = kept_none
 
 close_listens : (st : State) (w : ℕ) (k : WorkerState) (d : Doing) → Listens st → Kept Listens (close st w k d)
 close_listens st w k (Holds s left) l = kept_bind _ (slice_get st.slots s) (λ p lies. kept_bind _ p.connection (λ c is. kept_when (not (is_live (verdict c.pair)))
     (option_map (λ (t : Told KernelState Sockets). closed_world st w k s p c t) (kernel.close_both st.kernel c.ends))
     (λ dead. kept_then (λ (t : Told KernelState Sockets). closed_world st w k s p c t) (kernel.close_both st.kernel c.ends)
     (λ t on. goes_on st (closed_world st w k s p c t) refl refl on l) (both_hear st.kernel c.ends))))
-close_listens st w k Idle l = kept_none
-close_listens st w k (Tries t) l = kept_none
-close_listens st w k (Closed s) l = kept_none
-close_listens st w k (Retired s) l = kept_none
+close_listens st w k _ l = kept_none
 
 retire_listens : (st : State) (w : ℕ) (k : WorkerState) (d : Doing) → Listens st → Kept Listens (retire st w k d)
 retire_listens st w k (Closed s) l = kept_map _ (slice_get st.slots s) (λ p lies. record { covered = l.covered })
-retire_listens st w k Idle l = kept_none
-retire_listens st w k (Tries t) l = kept_none
-retire_listens st w k (Holds s left) l = kept_none
-retire_listens st w k (Retired s) l = kept_none
+retire_listens st w k _ l = kept_none
 
 free_listens : (st : State) (w : ℕ) (k : WorkerState) (d : Doing) → Listens st → Kept Listens (free st w k d)
 free_listens st w k (Retired s) l = kept_map _ (slice_get st.slots s) (λ p lies. record { covered = l.covered })
-free_listens st w k Idle l = kept_none
-free_listens st w k (Tries t) l = kept_none
-free_listens st w k (Holds s left) l = kept_none
-free_listens st w k (Closed s) l = kept_none
+free_listens st w k _ l = kept_none
 
 acted_listens : (st : State) (w : ℕ) (k : WorkerState) (a : Act) → Listens st → Kept Listens (acted st w k a)
 acted_listens st w k act.Put l = worker_put_listens st w k k.hand l

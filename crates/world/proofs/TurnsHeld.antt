@@ -130,10 +130,7 @@ take_turns st w k (Holds s left) there does turns =
     kept_bind _ (slice_get st.slots s)
     (λ p lies. kept_map_map (λ (q : SlotState). with_place st s q) (λ (c : Connection). record p { notes = []; connection = Some (heard c p.notes) }) p.connection
     (λ c is. taken_turns st w k s left p c there does lies is turns))
-take_turns st w k Idle there does turns = kept_none
-take_turns st w k (Tries t) there does turns = kept_none
-take_turns st w k (Closed s) there does turns = kept_none
-take_turns st w k (Retired s) there does turns = kept_none
+take_turns st w k _ there does turns = kept_none
 
 -- a call gets its reply
 
@@ -190,7 +187,4 @@ call_turns laws st w k (Holds s left) r there does turns = kept_when (nat_lt 0 l
     (λ some. kept_bind _ (slice_get st.slots s) (λ p lies. kept_map _ (slot_call st.second (record { kernel = st.kernel; place = p }) r)
     (λ l is. called_turns st w k s left p l there does lies
     (kept_at (slot_call st.second (record { kernel = st.kernel; place = p }) r) l is (lodged_stays laws st.second (record { kernel = st.kernel; place = p }) r)) turns)))
-call_turns laws st w k Idle r there does turns = kept_none
-call_turns laws st w k (Tries t) r there does turns = kept_none
-call_turns laws st w k (Closed s) r there does turns = kept_none
-call_turns laws st w k (Retired s) r there does turns = kept_none
+call_turns laws st w k _ r there does turns = kept_none

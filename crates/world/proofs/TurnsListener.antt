@@ -115,9 +115,7 @@ changed_hears k d f =
 
 pub change_hears : (k : KernelState) (d : ℕ) (c : Change) → Kept (HearsOn k) (change_at k d c)
 change_hears k d (Arrive bytes) = kept_when _ (kernel.arrive k d bytes.items) (λ few. changed_hears k d _)
-change_hears k d Fin = changed_hears k d _
-change_hears k d Reset = changed_hears k d _
-change_hears k d Room = changed_hears k d _
+change_hears k d _ = changed_hears k d _
 
 pub called_hears : (k : KernelState) (d : ℕ) (f : EndState → Option EndState) → Kept (HearsOn k) (kernel.called k d f)
 called_hears k d f = kept_bind _ (end_at k.ends d) (λ r there. kept_map _ (f r.socket) (λ e now. record { armed = refl; backlog = refl; queue = λ h. h }))

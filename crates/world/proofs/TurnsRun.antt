@@ -96,10 +96,7 @@ takes_own : (st : State) (d : Doing) → Turns st → TakesOwnNotes st d
 takes_own st (Holds s left) turns = λ p c lies is.
     let sv : SlotOk (facts st s p.generation) p = turns.each s p lies in
     rw (own_generation (facts st s p.generation) p c (sv.connection c is).stands) sv.notes
-takes_own st Idle turns = tt
-takes_own st (Tries t) turns = tt
-takes_own st (Closed s) turns = tt
-takes_own st (Retired s) turns = tt
+takes_own st _ turns = tt
 
 -- a worker's ticket is among those that name the slot's generation, as all are
 right_at : (st : State) (w : ℕ) (k : WorkerState) (s g : ℕ) → slice_get st.workers w ≡ Some k → right_tickets st s g + tried s k.doing ≤ tickets st s + tried_right s g k.doing
@@ -146,29 +143,12 @@ claims_own st w k (Tries t) q there does made turns =
     let own : has.0.pair.generation ≡ found.0.generation = own_generation (facts st t.slot found.0.generation) found.0 has.0 (sv.connection has.0 has.1).stands in
     let named : t.generation ≡ found.0.generation = names_it st w k t found.0 there does found.1 turns in
     (has.0, lies, own ∙ sym named)
-claims_own st w k Idle q there does made turns = tt
-claims_own st w k (Holds s left) q there does made turns = tt
-claims_own st w k (Closed s) q there does made turns = tt
-claims_own st w k (Retired s) q there does made turns = tt
+claims_own st w k _ q there does made turns = tt
 
 tried_own : (st : State) (e : Event) (q : State) → step st e ≡ Some q → Turns st → TriedOnOwn st e
 tried_own st (event.Work w act.Take) q made turns = λ k there. takes_own st k.doing turns
 tried_own st (event.Work w act.Claim) q made turns = λ k there. claims_own st w k k.doing q there refl (let did : worked st w act.Claim ≡ Some q = made in rw there at did) turns
-tried_own st (event.Work w act.Put) q made turns = tt
-tried_own st (event.Work w act.Pop) q made turns = tt
-tried_own st (event.Work w (act.Call r)) q made turns = tt
-tried_own st (event.Work w act.Post) q made turns = tt
-tried_own st (event.Work w act.Release) q made turns = tt
-tried_own st (event.Work w act.Expire) q made turns = tt
-tried_own st (event.Work w act.Close) q made turns = tt
-tried_own st (event.Work w act.Retire) q made turns = tt
-tried_own st (event.Work w act.Free) q made turns = tt
-tried_own st (event.Tick n) q made turns = tt
-tried_own st (event.Network s side change) q made turns = tt
-tried_own st (event.Spurious who) q made turns = tt
-tried_own st (event.Vanish who) q made turns = tt
-tried_own st (event.Listen l) q made turns = tt
-tried_own st (event.Poll p) q made turns = tt
+tried_own st _ q made turns = tt
 
 first_ran : (f : State → Option State) (o : Option State) (w : State) → option_and_then f o ≡ Some w → (q : State) × (o ≡ Some q)
 first_ran f None w ran = absurd (cc)

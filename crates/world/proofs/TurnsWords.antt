@@ -209,10 +209,7 @@ popped_words st w k (t ∷ rest) e none there idle is = kept_some (untouched st 
 pop_words : (st : State) (w : ℕ) (k : WorkerState) (d : Doing) (e : Event) → ((s : ℕ) → steps st e s ≡ []) → slice_get st.workers w ≡ Some k → k.doing ≡ d
     → Kept (WordsMove st e) (pop st w k d)
 pop_words st w k Idle e none there does = kept_when (length k.hand == 0) (popped st w k st.ready) (λ empty. popped_words st w k st.ready e none there does refl)
-pop_words st w k (Tries t) e none there does = kept_none
-pop_words st w k (Holds s left) e none there does = kept_none
-pop_words st w k (Closed s) e none there does = kept_none
-pop_words st w k (Retired s) e none there does = kept_none
+pop_words st w k _ e none there does = kept_none
 
 -- the slot's notes and holder stay
 stays_word : (st next : State) (e : Event) (s : ℕ) (p r : SlotState) → slice_get st.slots s ≡ Some p → next.slots ≡ slice_set st.slots s r → ((i : ℕ) → steps st e i ≡ [])
@@ -233,19 +230,13 @@ call_words laws st w k (Holds s left) r e none there does = kept_when (nat_lt 0 
     let m : total (worker_tickets i) (slice_set st.workers w (record k { doing = Holds s (left - 1) })) + tried i (Holds s left)
     ≡ total (worker_tickets i) st.workers + tried i (Holds s (left - 1)) = tickets_on st w k (Holds s left) (Holds s (left - 1)) i there does in
     omega arith)) (lodged_stays laws st.second (record { kernel = st.kernel; place = p }) r)))
-call_words laws st w k Idle r e none there does = kept_none
-call_words laws st w k (Tries t) r e none there does = kept_none
-call_words laws st w k (Closed s) r e none there does = kept_none
-call_words laws st w k (Retired s) r e none there does = kept_none
+call_words laws st w k _ r e none there does = kept_none
 
 expire_words : (st : State) (d : Doing) (e : Event) → ((s : ℕ) → steps st e s ≡ []) → Kept (WordsMove st e) (expire st d)
 expire_words st (Holds s left) e none = kept_bind _ (slice_get st.slots s) (λ p lies. kept_then (λ (q : SlotState). with_place st s q) (expired_place st.second st.limits.idle p)
     (λ q x. stays_word st (with_place st s q) e s p q lies refl none (ap (λ (r : SlotState). r.notes) x.is) (ap (λ (r : SlotState). r.holder) x.is) (λ i. refl))
     (expired_so st.second st.limits.idle p))
-expire_words st Idle e none = kept_none
-expire_words st (Tries t) e none = kept_none
-expire_words st (Closed s) e none = kept_none
-expire_words st (Retired s) e none = kept_none
+expire_words st _ e none = kept_none
 
 close_words : (st : State) (w : ℕ) (k : WorkerState) (d : Doing) (e : Event) → ((s : ℕ) → steps st e s ≡ []) → slice_get st.workers w ≡ Some k → k.doing ≡ d
     → Kept (WordsMove st e) (close st w k d)
@@ -256,10 +247,7 @@ close_words st w k (Holds s left) e none there does = kept_bind _ (slice_get st.
     let m : total (worker_tickets i) (slice_set st.workers w (record k { doing = Closed s })) + tried i (Holds s left) ≡ total (worker_tickets i) st.workers + tried i (Closed s) =
     tickets_on st w k (Holds s left) (Closed s) i there does in
     omega arith)))))
-close_words st w k Idle e none there does = kept_none
-close_words st w k (Tries t) e none there does = kept_none
-close_words st w k (Closed s) e none there does = kept_none
-close_words st w k (Retired s) e none there does = kept_none
+close_words st w k _ e none there does = kept_none
 
 free_words : (st : State) (w : ℕ) (k : WorkerState) (d : Doing) (e : Event) → ((s : ℕ) → steps st e s ≡ []) → slice_get st.workers w ≡ Some k → k.doing ≡ d
     → Kept (WordsMove st e) (free st w k d)
@@ -268,10 +256,7 @@ free_words st w k (Retired s) e none there does =
     let m : total (worker_tickets i) (slice_set st.workers w (record k { doing = Idle })) + tried i (Retired s) ≡ total (worker_tickets i) st.workers + tried i Idle =
     tickets_on st w k (Retired s) Idle i there does in
     omega arith))
-free_words st w k Idle e none there does = kept_none
-free_words st w k (Tries t) e none there does = kept_none
-free_words st w k (Holds s left) e none there does = kept_none
-free_words st w k (Closed s) e none there does = kept_none
+free_words st w k _ e none there does = kept_none
 
 -- and those that make one
 
@@ -289,10 +274,7 @@ claim_words st w k (Tries t) there does turns = kept_map _ (slice_get st.slots t
     let n : total (worker_tickets i) (slice_set st.workers w (record k { doing = Holds t.slot st.limits.budget })) + tried i (Tries t)
     ≡ total (worker_tickets i) st.workers + tried i (Holds t.slot st.limits.budget) = tickets_on st w k (Tries t) (Holds t.slot st.limits.budget) i there does in
     omega arith)))
-claim_words st w k Idle there does turns = kept_none
-claim_words st w k (Holds s left) there does turns = kept_none
-claim_words st w k (Closed s) there does turns = kept_none
-claim_words st w k (Retired s) there does turns = kept_none
+claim_words st w k _ there does turns = kept_none
 
 take_words : (st : State) (w : ℕ) (k : WorkerState) (d : Doing) → slice_get st.workers w ≡ Some k → k.doing ≡ d → Kept (WordsMove st (event.Work w act.Take)) (take st d)
 take_words st w k (Holds s left) there does =
@@ -300,10 +282,7 @@ take_words st w k (Holds s left) there does =
     (λ p lies. kept_map_map (λ (q : SlotState). with_place st s q) (λ (c : Connection). record p { notes = []; connection = Some (heard c p.notes) }) p.connection (λ c is.
     touched st (with_place st s (record p { notes = []; connection = Some (heard c p.notes) })) (event.Work w act.Take) s p
     (record p { notes = []; connection = Some (heard c p.notes) }) (words.take ∷ []) lies refl (λ i. rw (there, does) refl) refl refl (λ i apart. refl)))
-take_words st w k Idle there does = kept_none
-take_words st w k (Tries t) there does = kept_none
-take_words st w k (Closed s) there does = kept_none
-take_words st w k (Retired s) there does = kept_none
+take_words st w k _ there does = kept_none
 
 post_words : (st : State) (w : ℕ) (k : WorkerState) (d : Doing) → slice_get st.workers w ≡ Some k → k.doing ≡ d → Turns st → Kept (WordsMove st (event.Work w act.Post)) (post st d)
 post_words st w k (Holds s left) there does turns =
@@ -311,10 +290,7 @@ post_words st w k (Holds s left) there does turns =
     let h : Held (facts st s p.generation) p true = held_by st w k s left p there does lies turns in
     touched st (with_place st s (with_note p c.pair.generation)) (event.Work w act.Post) s p (with_note p c.pair.generation) (words.post ∷ []) lies refl
     (λ i. rw (there, does) refl) (noted_word p c.pair.generation) (rw h.held refl) (λ i apart. refl))))
-post_words st w k Idle there does turns = kept_none
-post_words st w k (Tries t) there does turns = kept_none
-post_words st w k (Closed s) there does turns = kept_none
-post_words st w k (Retired s) there does turns = kept_none
+post_words st w k _ there does turns = kept_none
 
 released_words : (st : State) (w : ℕ) (k : WorkerState) (s left : ℕ) (p : SlotState) → slice_get st.workers w ≡ Some k → k.doing ≡ Holds s left → slice_get st.slots s ≡ Some p
     → Turns st
@@ -343,10 +319,7 @@ release_words st w k (Holds s left) there does turns =
     kept_bind _ (slice_get st.slots s) (λ p lies. kept_bind _ p.connection (λ c is. kept_guard (may_release c (is_nonempty p.notes))
     (with_worker (with_place st s (record p { holder = Nobody })) w (record { doing = Idle; hand = with_ticket (is_nonempty p.notes) s p.generation k.hand }))
     (λ may. released_words st w k s left p there does lies turns)))
-release_words st w k Idle there does turns = kept_none
-release_words st w k (Tries t) there does turns = kept_none
-release_words st w k (Closed s) there does turns = kept_none
-release_words st w k (Retired s) there does turns = kept_none
+release_words st w k _ there does turns = kept_none
 
 retire_words : (st : State) (w : ℕ) (k : WorkerState) (d : Doing) → slice_get st.workers w ≡ Some k → k.doing ≡ d → Turns st
     → Kept (WordsMove st (event.Work w act.Retire)) (retire st w k d)
@@ -359,10 +332,7 @@ retire_words st w k (Closed s) there does turns = kept_map _ (slice_get st.slots
     touched st (doing (with_place st s (record p { holder = Free })) w k (Retired s)) (event.Work w act.Retire) s p (record p { holder = Free }) (words.retire ∷ []) lies refl
     (λ i. rw (there, does) refl) (rw h.held refl) (let same : tickets (doing (with_place st s (record p { holder = Free })) w k (Retired s)) s ≡ tickets st s = on s in
     omega arith) (λ i apart. on i))
-retire_words st w k Idle there does turns = kept_none
-retire_words st w k (Tries t) there does turns = kept_none
-retire_words st w k (Holds s left) there does turns = kept_none
-retire_words st w k (Retired s) there does turns = kept_none
+retire_words st w k _ there does turns = kept_none
 
 acted_words : (laws : CoreLaws) (st : State) (w : ℕ) (k : WorkerState) (a : Act) → slice_get st.workers w ≡ Some k → Turns st
     → Kept (WordsMove st (event.Work w a)) (acted st w k a)

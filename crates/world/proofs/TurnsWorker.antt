@@ -40,10 +40,7 @@ popped_turns st w k (t ∷ rest) there idle is turns = kept_some (keep_slots st 
 
 pub pop_turns : (st : State) (w : ℕ) (k : WorkerState) (d : Doing) → slice_get st.workers w ≡ Some k → k.doing ≡ d → Turns st → Kept Turns (pop st w k d)
 pop_turns st w k Idle there does turns = kept_when (length k.hand == 0) (popped st w k st.ready) (λ none. popped_turns st w k st.ready there does refl turns)
-pop_turns st w k (Tries t) there does turns = kept_none
-pop_turns st w k (Holds s left) there does turns = kept_none
-pop_turns st w k (Closed s) there does turns = kept_none
-pop_turns st w k (Retired s) there does turns = kept_none
+pop_turns st w k _ there does turns = kept_none
 
 -- a ticket is claimed
 
@@ -122,7 +119,4 @@ claim_turns st w k (Tries t) there does turns = kept_map _ (slice_get st.slots t
     let wait : Waiting p = waiting st w k t p there does lies turns in
     let none : is_held p.holder ≡ false = rw wait.holder refl in
     rw none (claimed_turns st w k t p there does lies turns))
-claim_turns st w k Idle there does turns = kept_none
-claim_turns st w k (Holds s left) there does turns = kept_none
-claim_turns st w k (Closed s) there does turns = kept_none
-claim_turns st w k (Retired s) there does turns = kept_none
+claim_turns st w k _ there does turns = kept_none

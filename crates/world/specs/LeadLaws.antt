@@ -9,7 +9,7 @@ use Rattle.world.specs.declared.lead.Lead.TheInside.{Inside}
 inside : (n m : ℕ) (xs ys : List ℕ) → n ≡ m → xs ≡ ys → ◌≡◌ {A = Inside} (record { bytes = xs; len = n }) (record { bytes = ys; len = m })
 inside n m xs ys e f = rw (e, f) refl
 
--- the bytes alone tell the array and the length
+-- the bytes alone determine the array and the length
 pub given_back : (len : ℕ) (bytes : List ℕ) → IsPadded len bytes
     → ◌≡◌ {A = Inside} (record { bytes = padded (take len bytes); len = length (take len bytes) }) (record { bytes = bytes; len = len })
 given_back len bytes p =

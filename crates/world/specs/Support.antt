@@ -53,7 +53,7 @@ abbrev pub RestHolds : State → Type 0
 RestHolds st = (s : ℕ) (p : SlotState) (c : Connection) → slice_get st.slots s ≡ Some p → p.connection ≡ Some c
     → p.holder ≡ Nobody → p.notes ≡ [] → next_call c.pair ≡ None
 
--- the poller's table tells each slot's generation
+-- the poller's table has each slot's generation
 abbrev pub TableHolds : State → Type 0
 TableHolds st = (s : ℕ) (p : SlotState) → slice_get st.slots s ≡ Some p → slice_get st.table s ≡ Some p.generation
 

@@ -5,32 +5,27 @@ use Rattle.server.proofs.making.pollers_of.Goals as goal
 pub loop-number-preserved : goal.loop-number-preserved
 loop-number-preserved g c = record {
   left = omega (arith, c.loop-number.invariant.left, c.in-Some.ensures.len, c.loop-number.fronts.ok.0, c.pop.new.self.ok.0);
-  parts = mapped_more _ _ _ _ c.loop-number.number c.push_reserved.ensures.items (ap (λ poller. poller.part) c.in_ok-poller_of-in-Some.ensures) c.loop-number.invariant.parts;
-  begun = begun_one _ _ _ _ c.push_reserved.ensures.items c.in_ok-poller_of-in-Some.ensures c.loop-number.invariant.begun;
-  shares = mapped_more _ _ _ _ c.loop-number.number c.push_reserved.ensures.items (ap (λ poller. poller.most) c.in_ok-poller_of-in-Some.ensures) c.loop-number.invariant.shares;
-  reported = one_taken _ _ _ _ _ _ _ c.push_reserved.ensures.items c.in-Some.ensures.items (ap (λ poller. poller.reported) c.in_ok-poller_of-in-Some.ensures)
+  parts = mapped_more _ _ _ _ c.loop-number.number c.push_reserved.ensures.items c.in_ok-poller_of-in-Some.ensures.part c.loop-number.invariant.parts;
+  begun = begun_one _ _ _ _ c.push_reserved.ensures.items c.in_ok-poller_of-in-Some.ensures.begun c.loop-number.invariant.begun;
+  shares = mapped_more _ _ _ _ c.loop-number.number c.push_reserved.ensures.items c.in_ok-poller_of-in-Some.ensures.most c.loop-number.invariant.shares;
+  reported = one_taken _ _ _ _ _ _ _ c.push_reserved.ensures.items c.in-Some.ensures.items c.in_ok-poller_of-in-Some.ensures.front.0
       c.loop-number.invariant.reported;
-  failed = one_taken _ _ _ _ _ _ _ c.push_reserved.ensures.items c.in-Some.ensures.items (ap (λ poller. poller.failed) c.in_ok-poller_of-in-Some.ensures)
+  failed = one_taken _ _ _ _ _ _ _ c.push_reserved.ensures.items c.in-Some.ensures.items c.in_ok-poller_of-in-Some.ensures.front.1
       c.loop-number.invariant.failed;
   len = c.push_reserved.ensures.len ∙ ap (λ (n : ℕ). n + 1) c.loop-number.invariant.len;
   room = omega (arith, c.push_reserved.ensures.capacity, c.loop-number.invariant.room);
 }
 
-pub returns-clause-parts : goal.returns-clause-parts
-returns-clause-parts g c = mapped_all _ _ _ c.loop-number.number _ (omega (arith, c.loop-number.invariant.left, c.loop-number-test.false, c.pollers-count.ensures.parts))
-    c.loop-number.invariant.parts
-
-pub returns-clause-shares : goal.returns-clause-shares
-returns-clause-shares g c = mapped_all _ _ _ c.loop-number.number _ (omega (arith, c.loop-number.invariant.left, c.loop-number-test.false, c.pollers-count.ensures.parts))
-    c.loop-number.invariant.shares
-
-pub returns-clause-reported : goal.returns-clause-reported
-returns-clause-reported g c = all_taken _ _ _ c.loop-number.fronts.items _ (let none : length c.loop-number.fronts.items ≡ 0 =
-    omega (arith, c.loop-number.invariant.left, c.loop-number-test.false, c.pollers-count.ensures.parts) in none) c.loop-number.invariant.reported
-
-pub returns-clause-failed : goal.returns-clause-failed
-returns-clause-failed g c = all_taken _ _ _ c.loop-number.fronts.items _ (let none : length c.loop-number.fronts.items ≡ 0 =
-    omega (arith, c.loop-number.invariant.left, c.loop-number-test.false, c.pollers-count.ensures.parts) in none) c.loop-number.invariant.failed
+pub returns : goal.returns
+returns g c =
+    let none : length c.loop-number.fronts.items ≡ 0 = omega (arith, c.loop-number.invariant.left, c.loop-number-test.false, c.pollers-count.ensures.parts) in
+    record {
+      parts = mapped_all _ _ _ c.loop-number.number _ (omega (arith, c.loop-number.invariant.left, c.loop-number-test.false, c.pollers-count.ensures.parts)) c.loop-number.invariant.parts;
+      begun = c.loop-number.invariant.begun;
+      shares = mapped_all _ _ _ c.loop-number.number _ (omega (arith, c.loop-number.invariant.left, c.loop-number-test.false, c.pollers-count.ensures.parts)) c.loop-number.invariant.shares;
+      reported = all_taken _ _ _ c.loop-number.fronts.items _ none c.loop-number.invariant.reported;
+      failed = all_taken _ _ _ c.loop-number.fronts.items _ none c.loop-number.invariant.failed;
+    }
 
 pub loop-number-init : goal.loop-number-init
 loop-number-init g c = record {
