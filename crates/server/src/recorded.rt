@@ -3,7 +3,7 @@ ghost use Rattle.settings.specs.Pollers.{pollers_for};
 ghost use Rattle.std.specs.Prelude.{◌≡◌, length};
 
 use crate::making::split_of;
-use crate::serving::{Lent, run_on};
+use crate::serving::{Lent, run_on, serve_into};
 use dispatch::{Clock, Front, Gate, ServerFault, Split};
 use log::Log;
 use recording::{
@@ -12,7 +12,7 @@ use recording::{
 use records::Header;
 use relay_log::log_no_thread;
 use settings::Settings;
-use sockets::{Bound, Dial, Forwarding, open_all};
+use sockets::{Bound, Dial};
 use std::alloc::{AllocError, Global};
 use std::io::Write;
 use std::net::Net;
@@ -53,7 +53,7 @@ pub fn serve_recorded<
     let queue = &recording.queue;
     serve_beside(
         &recording,
-        move || serve_into(rt, alloc, settings, bound, lent, queue),
+        move || serve_into(rt, alloc, settings, bound, lent, Some(queue)),
     )
 }
 
@@ -102,24 +102,8 @@ where
     )
 }
 
-/// Serves, and records into the queue.
-fn serve_into<G: Gate + Sync, C: Clock + Sync, R: Net + Dial + Wait + Threads + Log + Sync>(
-    rt: &R,
-    alloc: Global,
-    settings: &Settings,
-    bound: Bound,
-    lent: Lent<'_, G, C>,
-    queue: &RecordQueue,
-) -> Outcome {
-    let forwarding = Forwarding::of(settings, lent.patience);
-    match open_all(rt, alloc, bound, forwarding, split_of(settings)) {
-        Ok((fronts, wakers)) => run_recorded(rt, alloc, settings, fronts, wakers, lent, queue),
-        Err(fault) => Outcome::refused(fault),
-    }
-}
-
 /// Runs a server with these fronts, one for each poller, and records what they and what is lent do.
-fn run_recorded<F, G: Gate + Sync, C: Clock + Sync, R: Wait + Threads + Log + Sync>(
+pub(crate) fn run_recorded<F, G: Gate + Sync, C: Clock + Sync, R: Wait + Threads + Log + Sync>(
     rt: &R,
     alloc: Global,
     settings: &Settings,

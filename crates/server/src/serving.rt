@@ -3,8 +3,10 @@ ghost use Rattle.settings.specs.Pollers.{pollers_for};
 ghost use Rattle.std.specs.Prelude.{◌≡◌, length};
 
 use crate::making::{build, split_of};
+use crate::recorded::run_recorded;
 use dispatch::{ClientsAt, Clock, Front, Gate, ServerFault, Shared, Timing};
 use log::Log;
+use recording::RecordQueue;
 use settings::Settings;
 use sockets::{Bound, Dial, Forwarding, Patience, open_all};
 use statistics::Statistics;
@@ -52,9 +54,28 @@ pub fn serve<G: Gate + Sync, C: Clock + Sync, R: Net + Dial + Wait + Threads + L
     bound: Bound,
     lent: Lent<'_, G, C>,
 ) -> Outcome {
+    serve_into(rt, alloc, settings, bound, lent, None)
+}
+
+/// Serves, and records into the queue, if there is one.
+pub(crate) fn serve_into<
+    G: Gate + Sync,
+    C: Clock + Sync,
+    R: Net + Dial + Wait + Threads + Log + Sync,
+>(
+    rt: &R,
+    alloc: Global,
+    settings: &Settings,
+    bound: Bound,
+    lent: Lent<'_, G, C>,
+    queue: Option<&RecordQueue>,
+) -> Outcome {
     let forwarding = Forwarding::of(settings, lent.patience);
     match open_all(rt, alloc, bound, forwarding, split_of(settings)) {
-        Ok((fronts, wakers)) => run_on(rt, alloc, settings, fronts, wakers, lent),
+        Ok((fronts, wakers)) => match queue {
+            None => run_on(rt, alloc, settings, fronts, wakers, lent),
+            Some(queue) => run_recorded(rt, alloc, settings, fronts, wakers, lent, queue),
+        },
         Err(fault) => Outcome::refused(fault),
     }
 }
