@@ -14,7 +14,7 @@ use Rattle.relay_core.specs.declared.verdict.Verdict.TheVariants as verdict
 use Rattle.relay_core.specs.Calls.{side_of}
 use Rattle.relay_core.specs.Pairs.{PairState, verdict}
 use Rattle.relay_core.specs.Order.{next_call}
-use Rattle.relay_core.specs.Replies.{AnswerValue, Bytes, End, Wrote, Joined, Shut, Blocked, Interrupted, Failed, fits, after}
+use Rattle.relay_core.specs.Replies.{AnswerValue, Bytes, Wrote, Failed, fits, after}
 use Rattle.relay_core.specs.Runs.{answered, over}
 use Rattle.relay_core.specs.Idle.{is_overdue, expired}
 use Rattle.relay_core.specs.Laws.{TellsOf, IsAnswerOf, IsOverdue, AnswersAreToNextCalls, CallsComeWhileLive, FailuresAreTold, OnlyOverduePairsExpire}

@@ -3,7 +3,6 @@ pub use Rattle.std.proofs.Common.{Bool, Contains, List, None, Option, Some, [], 
 pub use Rattle.std.proofs.lemmas.List.Elements.{Contains-push}
 pub use Rattle.std.proofs.lemmas.List.FromFn.{get_or-map-range_with_len, map-range_with_len_more}
 pub use Rattle.std.specs.Cmp.{first_so, second_so}
-pub use Rattle.std.specs.List.{range_with_len}
 pub use Rattle.std.specs.Prelude.{if◌then◌else◌}
 pub use Rattle.kernel_model.specs.Ends.{EndState, is_nonempty, is_readable, is_writable, new_room}
 pub use Rattle.kernel_model.specs.Outcome.{Told, guard}

@@ -1,5 +1,5 @@
 -- What a list of answers does to the bytes of each direction.
-use Rattle.relay_core.proofs.Prelude.{◌≡◌, ℕ, Bool, true, false, List, [], ◌∷◌, ◌++◌, Option, Some, None, refl, ap, ◌∙◌, sym, append_assoc, option_and_then, if◌then◌else◌, Direction, Up, Down, Call, PairState, fresh, stream_of, next_call, AnswerValue, fits, after, answered, over, IsClosedLast}
+use Rattle.relay_core.proofs.Prelude.{◌≡◌, ℕ, Bool, true, false, List, ◌++◌, Option, Some, None, refl, ap, ◌∙◌, sym, append_assoc, option_and_then, if◌then◌else◌, Direction, Up, Down, Call, PairState, fresh, stream_of, next_call, AnswerValue, fits, after, answered, IsClosedLast}
 
 -- one answered call: the call that came next, which the answer fits
 pub record Step (now : ℕ) (p : PairState) (reply : AnswerValue) (q : PairState) : Type 0 where

@@ -1,5 +1,5 @@
 -- The next call is possible: nothing in the pair speaks against it.
-use Rattle.relay_core.proofs.Prelude.{◌≡◌, ℕ, ◌≤◌, ◌<◌, Bool, true, false, not, ◌&&◌, List, [], length, Option, Some, None, refl, arith, IfSome, if◌then◌else◌, nat_lt, nat_le, option_or, first_so, second_so, ltb-true, leb-true, nat_tests, nil_from_length, Direction, Up, Down, Stream, free_room, waiting, front, front_offers, Call, Write, Join, Read, direction_of, fits, Bytes, PairState, stream_of, is_joined, verdict, is_live, is_waiting, is_drained, is_open, read_most, call_for, next_call, IsDrained, HasRoomFor, IsPossible, opposite, inward, outward}
+use Rattle.relay_core.proofs.Prelude.{◌≡◌, ℕ, ◌≤◌, ◌<◌, Bool, true, false, not, ◌&&◌, List, [], length, Option, Some, None, refl, arith, IfSome, if◌then◌else◌, nat_lt, nat_le, option_or, first_so, second_so, ltb-true, leb-true, nat_tests, nil_from_length, Direction, Up, Down, Stream, free_room, waiting, front, front_offers, Call, Read, direction_of, fits, Bytes, PairState, stream_of, is_joined, verdict, is_live, is_waiting, is_drained, is_open, read_most, call_for, next_call, IsDrained, HasRoomFor, IsPossible, opposite, inward, outward}
 use Rattle.relay_core.specs.declared.call.Call.TheVariants.{Shut}
 use Rattle.relay_core.specs.Replies as reply
 

@@ -19,7 +19,7 @@ pub use Rattle.relay_core.specs.Pairs.{Flags, PairState, flags_of, fresh, is_joi
 pub use Rattle.relay_core.specs.Replies.{AnswerValue, Blocked, Bytes, End, Failed, Interrupted, Joined, Shut, Wrote, after, change_stream, effect, fits, without_flag}
 pub use Rattle.relay_core.specs.Runs.{answered, over}
 pub use Rattle.relay_core.specs.declared.call.Call.{Call}
-pub use Rattle.relay_core.specs.declared.call.Call.TheVariants.{Join, Read, Write}
+pub use Rattle.relay_core.specs.declared.call.Call.TheVariants.{Read}
 pub use Rattle.relay_core.specs.declared.verdict.Fault.{Fault}
 pub use Rattle.token.specs.Sides.{destination, inward, opposite, outward, source}
 pub use Rattle.token.specs.declared.direction.Direction.{Direction}

@@ -1,9 +1,5 @@
 -- Which texts are no numbers.
-use Rattle.std.proofs.Common.{◌≡◌, ℕ, ◌+◌, ◌<◌, ◌≤◌, ◌^◌, List, [], ◌∷◌, Bool, true, false, ◌&&◌, cond, Some, None, length, drop, get_or, ltb, refl, ap, add-one, ◌∙◌, arith, drop-cons, drop_of_length-le}
-use Rattle.std.specs.Prelude.{fold}
-use Rattle.std.specs.List.{list_all}
-use Rattle.std.proofs.lemmas.Bool.{le-ltb, lt-ltb}
-use Rattle.script_text.specs.Texts.{is_digit, is_plain, value_of, with_digit, number_of}
+use Rattle.script_text.proofs.Prelude.{◌≡◌, ℕ, ◌+◌, ◌<◌, ◌≤◌, ◌^◌, List, [], ◌∷◌, Bool, true, false, ◌&&◌, cond, Some, None, length, drop, get_or, ltb, refl, ap, add-one, ◌∙◌, arith, drop-cons, drop_of_length-le, fold, list_all, le-ltb, lt-ltb, is_digit, is_plain, value_of, with_digit, number_of}
 
 -- the value grows with each digit
 value_grows : (n : ℕ) (digits : List ℕ) → n ≤ fold with_digit n digits
@@ -14,10 +10,6 @@ none_at_last : (plain digits : Bool) (n : ℕ) → cond (plain && (digits && fal
 none_at_last true true n = refl
 none_at_last true false n = refl
 none_at_last false digits n = refl
-
-none_at_second : (plain fits : Bool) (n : ℕ) → cond (plain && (false && fits)) (Some n) None ≡ None
-none_at_second true fits n = refl
-none_at_second false fits n = refl
 
 -- a value from 2^64 on
 too_large : (text : List ℕ) (n : ℕ) (rest : List ℕ) → value_of text ≡ fold with_digit n rest → 2 ^ 64 ≤ n → number_of text ≡ None
@@ -33,10 +25,6 @@ pub too_large_at : (text : List ℕ) (value i : ℕ) → value_of text ≡ fold 
     → number_of text ≡ None
 too_large_at text value i is within large =
     too_large text (with_digit value (get_or text i 0)) (drop (i + 1) text) (is ∙ ap (fold with_digit value) (drop_at text i within)) large
-
--- another byte than a digit
-pub not_digits : (text : List ℕ) → list_all is_digit text ≡ false → number_of text ≡ None
-not_digits text other = rw other (none_at_second (is_plain text) (ltb (value_of text) (2 ^ 64)) (value_of text))
 
 -- digits to the end, whose value fits
 pub whole_number : (text : List ℕ) (value i : ℕ) → length text ≤ i → is_plain text ≡ true → list_all is_digit text ≡ list_all is_digit (drop i text)

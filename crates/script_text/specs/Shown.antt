@@ -5,7 +5,7 @@ use Rattle.script_text.specs.Pages.{newline, shown_bytes}
 abbrev pub yes_or_no : Bool → List ℕ
 yes_or_no is_so = if is_so then codes "yes" else codes "no"
 
--- what is told of one direction after the bytes that were sent, and a lead: the bytes in the ring, those that wait
+-- what is written of one direction after the bytes that were sent, and a lead: the bytes in the ring, those that wait
 -- unread; whether the end was read, and whether it was passed on
 abbrev pub stream_text : List ℕ → List ℕ → Bool → Bool → List ℕ
 stream_text ring unread ended shut =

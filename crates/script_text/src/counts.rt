@@ -4,10 +4,10 @@ use crate::event_line::kind_of;
 use crate::page::{Page, Piece};
 use world::Event;
 
-/// How many kinds are told apart.
+/// How many kinds are counted.
 const KINDS: usize = 39;
 
-/// The kinds, in the order in which they are told.
+/// The kinds, in the order in which they are printed.
 static NAMES: [(&str, &str); KINDS] = [
     ("tick", ""),
     ("arrive", ""),

@@ -1,4 +1,4 @@
-//! The texts of scripts: what their lines say, and what is told of a world.
+//! The texts of scripts: what their lines say, and what is written of a world.
 //!
 //! [`Lines`] gives the lines of a text that are not skipped, and [`Pieces`] the words of a line. [`read_header`]
 //! reads the first line, and [`read_step`] and [`read_event`] read the others, by what the header covers. A line that

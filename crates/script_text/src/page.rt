@@ -17,7 +17,7 @@ pub enum Piece<'a> {
     Bytes(&'a [u8]),
 }
 
-/// A text that grows. Once memory for a piece ran out, the text is lost, which is told when it is finished.
+/// A text that grows. Once memory for a piece ran out, the text is lost, which is reported when it is finished.
 #[derive(Drop)]
 pub struct Page {
     alloc: Global,

@@ -5,7 +5,7 @@ ghost use Rattle.script_text.specs.Shown.{stream_text, yes_or_no};
 
 use crate::page::{Page, Piece};
 
-/// Adds what is told of one direction after the bytes that were sent, and a lead: the bytes in the ring, those that
+/// Adds what is written of one direction after the bytes that were sent, and a lead: the bytes in the ring, those that
 /// wait unread; whether the end was read, and whether it was passed on.
 pub fn put_stream<'a>(page: &mut Page, ring: &'a [u8], unread: &'a [u8], ended: bool, shut: bool)
     ensures { Adds page.old page.new (stream_text ring.now unread.now ended shut) }

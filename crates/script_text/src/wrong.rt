@@ -10,7 +10,7 @@ pub struct Wrong<'a> {
     pub word: Option<&'a [u8]>,
     /// Whether it is the line's first word, with which no line of this kind begins.
     pub is_first: bool,
-    /// What is expected in its place, as a person is told it.
+    /// What is expected in its place, as a person reads it.
     pub wanted: &'static str,
 }
 

@@ -1,5 +1,5 @@
 -- A worker's call: the kernel changes at the end on which it is made, and the pair takes the answer in.
-use Rattle.world.proofs.Prelude.{◌≡◌, ℕ, ◌-◌, Bool, true, false, ◌||◌, List, Option, Some, None, refl, sym, ap, ◌∙◌, subst, option_map, slice_get, slice_set, nat_lt, Side, EndName, Sockets, Reply, EndState, is_nonempty, after_read, after_write, after_join, after_shut, KernelState, end_at, Call, Write, Join, Shut, Read, next_call, offer, fits, after, Connection, Doing, Idle, Tries, Holds, Closed, Retired, SlotState, WorkerState, State, OpenConnection, descriptor, plain, told_of, replied, called, OpenSlot, slot_call, call, doing, with_place, socket_of}
+use Rattle.world.proofs.Prelude.{◌≡◌, ℕ, ◌-◌, Bool, true, false, ◌||◌, List, Option, Some, None, refl, sym, ap, ◌∙◌, subst, option_map, slice_get, slice_set, nat_lt, Side, EndName, Sockets, Reply, EndState, is_nonempty, after_read, after_write, after_join, after_shut, KernelState, end_at, Call, Write, Join, Shut, Read, next_call, offer, fits, after, Connection, Doing, Holds, SlotState, WorkerState, State, OpenConnection, descriptor, plain, told_of, replied, called, OpenSlot, slot_call, call, doing, with_place, socket_of}
 use Rattle.kernel_model.specs.declared.reply.Reply.TheVariants as reply
 use Rattle.relay_core.specs.Replies as answer
 use Rattle.world.proofs.TurnsKept.{Kept, kept_bind, kept_when, kept_at, kept_then}

@@ -1,6 +1,6 @@
 -- Of each closed connection: what was sent is a beginning of the preamble and what was given, and all of it where it
 -- was done. Nothing more is given for its generation, since its slot has none of that generation any more.
-use Rattle.world.proofs.Prelude.{◌≡◌, ℕ, ◌<◌, ◌≤◌, Bool, true, false, ◌&&◌, ◌⊎◌, inl, inr, List, [], ◌∷◌, ◌++◌, Option, Some, None, refl, sym, ap, ◌∙◌, subst, append-nil, append_assoc, option_map, option_and_then, unwrap_or, eqb-true, eq-eqb, ne_eqb, arith, le_refl, ⊎_elim, slice_get, slice_set, if◌then◌else◌, ◌==◌, first_so, second_so, Side, Direction, Up, Down, source, destination, side_number, Stream, waiting, Sockets, EndState, Told, KernelState, Fault, Done, PairState, stream_of, verdict_of, verdict, Connection, Past, Limits, Event, Arrive, Fin, Reset, Room, SlotState, State, opening, connection_at, step, run, given_by, given, socket_of, ClosedHold, CoreLaws}
+use Rattle.world.proofs.Prelude.{◌≡◌, ℕ, ◌<◌, ◌≤◌, Bool, true, false, ◌&&◌, ◌⊎◌, inl, inr, List, [], ◌∷◌, ◌++◌, Option, Some, None, refl, sym, ap, ◌∙◌, subst, append-nil, append_assoc, option_map, option_and_then, unwrap_or, eqb-true, eq-eqb, ne_eqb, arith, le_refl, ⊎_elim, slice_get, slice_set, if◌then◌else◌, ◌==◌, first_so, second_so, Side, Direction, Up, Down, source, destination, side_number, Stream, waiting, Sockets, EndState, Told, KernelState, Fault, Done, PairState, stream_of, verdict_of, verdict, Connection, Past, Limits, Event, Arrive, SlotState, State, opening, connection_at, step, run, given_by, given, socket_of, ClosedHold, CoreLaws}
 use Rattle.kernel_model.specs.Kernel as kernel
 use Rattle.world.specs.declared.event.Event.TheVariants as event
 use Rattle.world.proofs.TurnsKept.{Kept}

@@ -1,5 +1,5 @@
 -- A call that fails, and that a pair fails by nothing else.
-use Rattle.world.proofs.Prelude.{◌≡◌, ℕ, ◌≤◌, le_refl, Bool, true, false, if◌then◌else◌, inr, List, Option, Some, None, refl, sym, ap, ◌∙◌, subst, option_map, slice_get, nat_lt, Kind, Reply, KernelState, Call, Write, Join, Shut, Read, Fault, Failed, verdict, next_call, fits, moves, after, Standing, AnswersNext, TellsOf, Connection, Doing, Idle, Tries, Holds, Closed, Retired, Event, SlotState, WorkerState, State, OpenConnection, plain, told_of, made, replied, called, connection_at, OpenSlot, slot_call, with_place, doing, fault_of, failure, failure_by, CoreLaws}
+use Rattle.world.proofs.Prelude.{◌≡◌, ℕ, ◌≤◌, le_refl, Bool, true, false, if◌then◌else◌, inr, List, Option, Some, None, refl, sym, ap, ◌∙◌, subst, option_map, slice_get, nat_lt, Kind, Reply, KernelState, Call, Read, Fault, Failed, verdict, next_call, fits, moves, after, Standing, AnswersNext, TellsOf, Connection, Doing, Holds, Event, SlotState, WorkerState, State, OpenConnection, plain, told_of, made, replied, called, connection_at, OpenSlot, slot_call, doing, fault_of, failure, failure_by, CoreLaws}
 use Rattle.kernel_model.specs.declared.reply.Reply.TheVariants as reply
 use Rattle.relay_core.specs.Replies as answer
 use Rattle.world.specs.declared.event.Event.TheVariants as event

@@ -1,5 +1,5 @@
 -- The connection that an event opens or moves has moved now; and one that expires moved nothing for the idle limit.
-use Rattle.world.proofs.Prelude.{◌≡◌, ℕ, ◌+◌, ◌-◌, ◌≤◌, Bool, true, false, List, Option, Some, None, refl, ap, ◌∙◌, subst, arith, le_refl, option_map, nat_lt, slice_get, slice_set, if◌then◌else◌, Client, Target, Reply, KernelState, Call, Write, Join, Shut, Read, next_call, fits, moves, IsOverdue, Connection, Doing, Idle, Tries, Holds, Closed, Retired, Event, Limits, SlotState, WorkerState, State, OpenConnection, plain, told_of, made, called, connection_at, token_of, opened_place, opened_world, opening_of, with_place, expired_place, OpenSlot, slot_call, worked, step, Throughout, Named, named, next_opened, held_connection, is_movement, moved_by, LiesBack, CoreLaws}
+use Rattle.world.proofs.Prelude.{◌≡◌, ℕ, ◌+◌, ◌-◌, ◌≤◌, Bool, true, false, List, Option, Some, None, refl, ap, ◌∙◌, subst, arith, le_refl, option_map, nat_lt, slice_get, slice_set, if◌then◌else◌, Client, Target, Reply, Call, Shut, Read, next_call, fits, moves, IsOverdue, Connection, Doing, Holds, Event, Limits, SlotState, WorkerState, State, OpenConnection, plain, told_of, made, called, token_of, opened_world, with_place, expired_place, OpenSlot, slot_call, worked, step, Throughout, Named, named, next_opened, held_connection, is_movement, moved_by, LiesBack, CoreLaws}
 use Rattle.kernel_model.specs.declared.reply.Reply.TheVariants as reply
 use Rattle.kernel_model.specs.Kernel as kernel
 use Rattle.relay_core.specs.Replies as answer

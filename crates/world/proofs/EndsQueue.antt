@@ -1,5 +1,5 @@
 -- Reports come and go, and the listener's connections: no end changes, and no report that counts is lost.
-use Rattle.world.proofs.Prelude.{◌≡◌, ℕ, Bool, true, false, not, ◌||◌, ◌&&◌, List, [], ◌∷◌, Option, Some, None, refl, sym, ◌∙◌, option_map, option_and_then, length, eqb-true, slice_get, ◌==◌, second_so, nil_from_length, Side, Client, Target, Name, EndName, other_side, Sockets, Watched, Accepted, Blocked, Again, Starved, guard, is_readable, is_writable, is_nonempty, has, same, without_name, KernelState, Registered, end_at, name_of, is_quiet, is_quiet_end, PairState, Connection, Reported, Listening, State, descriptor, over_kernel, connection_at, watched_of, spurious, vanish, may_accept, listen, batched, socket_of}
+use Rattle.world.proofs.Prelude.{◌≡◌, ℕ, Bool, true, false, not, ◌||◌, ◌&&◌, List, [], ◌∷◌, Option, Some, None, refl, sym, ◌∙◌, option_map, option_and_then, length, eqb-true, slice_get, ◌==◌, second_so, nil_from_length, Side, Client, Target, Name, EndName, other_side, Sockets, Watched, Accepted, Blocked, Again, Starved, guard, is_readable, is_writable, is_nonempty, has, same, without_name, KernelState, name_of, is_quiet_end, PairState, Connection, Reported, Listening, State, descriptor, over_kernel, connection_at, watched_of, spurious, vanish, may_accept, listen, batched, socket_of}
 use Rattle.token.specs.declared.name.Name.TheVariants as name
 use Rattle.kernel_model.specs.declared.watched.Watched.TheVariants as watched
 use Rattle.kernel_model.specs.Kernel as kernel

@@ -1,6 +1,6 @@
 -- What each event does to the slots and to the closed connections: it leaves them, it changes one slot and keeps
 -- its connection, it opens one, or it closes a connection.
-use Rattle.world.proofs.Prelude.{◌≡◌, ℕ, ◌+◌, Bool, true, false, not, ◌⊎◌, inl, inr, ◌≤◌, le_refl, ap, nat_lt, List, [], ◌∷◌, ◌++◌, length, Option, Some, None, refl, sym, ◌∙◌, subst, option_map, slice_get, slice_set, if◌then◌else◌, ◌==◌, Side, Client, Target, Name, Descriptors, Sockets, Accepted, Blocked, Again, Starved, KernelState, Fault, timed_out, Live, Failed, verdict, is_live, noted, fresh, is_nonempty, Connection, Ticket, Doing, Idle, Tries, Holds, Closed, Retired, Event, Listening, Polling, SlotState, WorkerState, is_held, State, over_kernel, connection_at, watched_of, change_at, may_accept, after_accept, token_of, opened_world, with_note, posted, post_at, delivered_at, delivered, put_by_poller, put_by_worker, popped, heard, noted_slot, is_limited, expired_place, with_place, OpenSlot, slot_call, may_release, closed_world, doing, step, given_by, Failure, failure, failure_by, Named, held_connection}
+use Rattle.world.proofs.Prelude.{◌≡◌, ℕ, ◌+◌, Bool, true, false, not, ◌⊎◌, inl, inr, ◌≤◌, le_refl, ap, nat_lt, List, [], ◌∷◌, ◌++◌, length, Option, Some, None, refl, sym, ◌∙◌, subst, option_map, slice_get, slice_set, if◌then◌else◌, ◌==◌, Side, Client, Target, Name, Descriptors, Sockets, Accepted, Blocked, Again, Starved, KernelState, Fault, timed_out, Live, Failed, verdict, is_live, noted, fresh, is_nonempty, Connection, Ticket, Doing, Idle, Tries, Holds, Closed, Retired, Event, Listening, Polling, SlotState, WorkerState, is_held, State, over_kernel, may_accept, after_accept, token_of, with_note, posted, post_at, delivered_at, delivered, put_by_poller, put_by_worker, popped, heard, noted_slot, is_limited, expired_place, with_place, may_release, doing, given_by, Failure, failure, failure_by, Named, held_connection}
 use Rattle.token.specs.declared.name.Name.TheVariants as name
 use Rattle.kernel_model.specs.Kernel as kernel
 use Rattle.relay_core.specs.declared.verdict.Fault.TheVariants as reason

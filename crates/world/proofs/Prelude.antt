@@ -14,7 +14,7 @@ pub use Rattle.claims.specs.Words.{StepKind, some_wait}
 pub use Rattle.flow.proofs.Front.{take-front, waiting-dropped, waiting_ends}
 pub use Rattle.flow.specs.Stream.{Stream, closed, dropped, empty_stream, ended, front, taken_in, waiting}
 pub use Rattle.kernel_model.specs.Ends.{EndState, arrival, finish, is_nonempty, is_readable, is_writable, new_room, opened}
-pub use Rattle.kernel_model.specs.Kernel.{KernelState, Registered, changed, end_at, is_quiet, is_quiet_end, lowest_free, name_of, open_both, reported, with_end}
+pub use Rattle.kernel_model.specs.Kernel.{KernelState, Registered, changed, end_at, is_quiet_end, lowest_free, name_of, open_both, reported, with_end}
 pub use Rattle.kernel_model.specs.Names.{has, same, same_end, with_name, without_name, without_names}
 pub use Rattle.kernel_model.specs.Outcome.{Meets, Told, guard}
 pub use Rattle.kernel_model.specs.Replies.{after_join, after_read, after_shut, after_write, bytes_read, is_count, is_zero}

@@ -1,5 +1,5 @@
 -- Who has a slot, through a post, and through what a worker does as it gives the slot up.
-use Rattle.world.proofs.Prelude.{◌≡◌, ℕ, ◌+◌, ◌≤◌, ◌==◌, Bool, true, false, not, ◌||◌, List, [], ◌∷◌, ◌++◌, slice_get, Option, Some, None, is_some, is_none, refl, ap, arith, option_map, if◌then◌else◌, and_parts, Sockets, Told, KernelState, verdict, is_live, next_call, Standing, place_of, is_nonempty, Connection, Nobody, Free, Doing, Idle, Tries, Holds, Closed, Retired, SlotState, WorkerState, State, with_note, with_ticket, with_worker, with_place, doing, post, may_release, release, closed_world, close, retire, is_worn, freed, free, one, total, of_slot, tried, CoreLaws, Act, acted, worked}
+use Rattle.world.proofs.Prelude.{◌≡◌, ℕ, ◌+◌, ◌≤◌, ◌==◌, Bool, true, false, not, ◌||◌, List, [], ◌∷◌, ◌++◌, slice_get, Option, Some, None, is_some, is_none, refl, ap, arith, option_map, if◌then◌else◌, and_parts, Sockets, Told, KernelState, verdict, is_live, next_call, Standing, place_of, is_nonempty, Connection, Nobody, Free, Doing, Idle, Holds, Closed, Retired, SlotState, WorkerState, State, with_note, with_ticket, with_worker, with_place, doing, post, may_release, release, closed_world, close, retire, is_worn, freed, free, one, total, of_slot, tried, CoreLaws, Act, acted, worked}
 use Rattle.kernel_model.specs.Kernel as kernel
 use Rattle.world.proofs.TurnsTotals.{total_push}
 use Rattle.world.proofs.TurnsKept.{Kept, kept_none, kept_bind, kept_map, kept_when, kept_guard}

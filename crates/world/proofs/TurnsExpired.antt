@@ -1,5 +1,5 @@
 -- A connection that fails by the idle limit: nothing of its slot changes but its verdict.
-use Rattle.world.proofs.Prelude.{◌≡◌, ℕ, true, Some, refl, sym, subst, slice_get, is_overdue, timed_out, Connection, Doing, Idle, Tries, Holds, Closed, Retired, SlotState, WorkerState, State, with_place, expired, expired_place, expire}
+use Rattle.world.proofs.Prelude.{◌≡◌, ℕ, true, Some, refl, sym, subst, slice_get, is_overdue, timed_out, Connection, Doing, Holds, SlotState, WorkerState, State, with_place, expired, expired_place, expire}
 use Rattle.world.proofs.TurnsKept.{Kept, kept_none, kept_bind, kept_then, kept_guard}
 use Rattle.world.proofs.TurnsFacts.{facts, SlotOk, Turns, same_self, keep_others}
 use Rattle.world.proofs.TurnsHeld.{Held, held_by, stays_held}

@@ -1,5 +1,5 @@
 -- Who has a slot, through what a worker does with a slot that it holds, and after.
-use Rattle.world.proofs.Prelude.{◌≡◌, ◌∙◌, ℕ, ◌-◌, ◌≤◌, ◌==◌, Bool, true, false, not, ◌&&◌, nat_lt, [], slice_get, slice_set, Option, Some, is_some, refl, ap, sym, subst, arith, option_map, option_and_then, if◌then◌else◌, Reply, noted, place_of, is_nonempty, Connection, Holder, Nobody, By, Free, Doing, Idle, Tries, Holds, Closed, Retired, SlotState, WorkerState, is_held, is_by_worker, State, with_place, doing, heard, take, OpenSlot, slot_call, call, free, one, total, CoreLaws}
+use Rattle.world.proofs.Prelude.{◌≡◌, ◌∙◌, ℕ, ◌-◌, ◌≤◌, ◌==◌, Bool, true, false, not, ◌&&◌, nat_lt, [], slice_get, slice_set, Option, Some, is_some, refl, ap, sym, subst, arith, option_map, option_and_then, if◌then◌else◌, Reply, noted, place_of, is_nonempty, Connection, Holder, Nobody, By, Free, Doing, Holds, Closed, SlotState, WorkerState, is_held, is_by_worker, State, with_place, doing, heard, take, OpenSlot, slot_call, call, free, one, total, CoreLaws}
 use Rattle.world.proofs.TurnsTotals.{total_at}
 use Rattle.world.proofs.TurnsKept.{Kept, kept_none, kept_bind, kept_map, kept_when, kept_map_map, kept_at}
 use Rattle.world.proofs.TurnsFacts.{Facts, facts, SlotOk, Turns, Same, same_self, keep_others, holds, closes, worker_holds, worker_closes, is_free, is_shaped, standing, are_own, one_same, Turned, turned}

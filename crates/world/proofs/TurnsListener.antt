@@ -1,6 +1,6 @@
 -- The listener's name in a list of names, and through the calls on the kernel. While the accept flag is
 -- down, the listener is armed and nobody waits, or somebody waits and its name is queued or in the batch.
-use Rattle.world.proofs.Prelude.{◌≡◌, ◌∙◌, ℕ, Bool, true, false, not, ◌||◌, nat_lt, List, [], ◌∷◌, ◌++◌, Option, refl, if◌then◌else◌, Name, Listener, Waker, End, EndName, Reply, Descriptors, Sockets, Told, same, has, with_name, without_name, without_names, EndState, KernelState, Registered, end_at, Call, Write, Join, Shut, Read, Change, Arrive, Fin, Reset, Room, State, OpenConnection, descriptor, made, change_at, is_covered}
+use Rattle.world.proofs.Prelude.{◌≡◌, ◌∙◌, ℕ, Bool, true, false, not, ◌||◌, nat_lt, List, [], ◌∷◌, ◌++◌, Option, refl, if◌then◌else◌, Name, Listener, Waker, End, EndName, Reply, Descriptors, Sockets, Told, same, has, with_name, without_name, without_names, EndState, KernelState, end_at, Call, Write, Join, Shut, Read, Change, Arrive, State, OpenConnection, descriptor, made, change_at, is_covered}
 use Rattle.kernel_model.specs.Kernel as kernel
 use Rattle.world.proofs.TurnsKept.{Kept, kept_bind, kept_map, kept_when, kept_then, kept_next}
 

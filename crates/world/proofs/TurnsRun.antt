@@ -1,5 +1,5 @@
 -- Who has a slot, after any list of events.
-use Rattle.world.proofs.Prelude.{◌≡◌, ◌≢◌, ◌⊎◌, inl, inr, ◌∙◌, ℕ, zero, suc, ◌+◌, ◌≤◌, ◌==◌, true, ◌&&◌, List, [], ◌∷◌, ◌++◌, replicate, slice_get, Option, Some, None, is_some, refl, ap, sym, subst, arith, eqb-true, ne_eqb, eq-eqb, option_map, option_and_then, cases_eq, and_parts, Limits, Connection, Ticket, Doing, Idle, Tries, Holds, Closed, Retired, Event, SlotState, WorkerState, State, opening, unused, resting, numbers_below, connection_at, claimed, claim, worked, step, run, Throughout, TakesOwnNotes, ClaimsByOwnTicket, TriedOnOwn, one, total, of_slot, tried, worker_tickets, tickets, EdgesHold, SupportHolds, CoreLaws}
+use Rattle.world.proofs.Prelude.{◌≡◌, ◌≢◌, ◌⊎◌, inl, inr, ◌∙◌, ℕ, zero, suc, ◌+◌, ◌≤◌, ◌==◌, true, ◌&&◌, List, [], ◌∷◌, ◌++◌, replicate, slice_get, Option, Some, None, is_some, refl, ap, sym, subst, arith, eqb-true, ne_eqb, eq-eqb, option_map, option_and_then, cases_eq, and_parts, Limits, Connection, Ticket, Doing, Tries, Holds, Event, SlotState, WorkerState, State, opening, unused, resting, numbers_below, connection_at, claimed, claim, worked, step, run, Throughout, TakesOwnNotes, ClaimsByOwnTicket, TriedOnOwn, one, total, of_slot, tried, worker_tickets, tickets, EdgesHold, SupportHolds, CoreLaws}
 use Rattle.world.specs.declared.event.Event.TheVariants as event
 use Rattle.world.specs.declared.event.Act.TheVariants as act
 use Rattle.world.proofs.TurnsTotals.{total_push, total_none, total_le, total_le_at, get-replicate, get_beside}

@@ -1,5 +1,5 @@
 -- Who has a slot, through what the workers do.
-use Rattle.world.proofs.Prelude.{◌≡◌, ℕ, ◌+◌, ◌≤◌, ◌==◌, Bool, true, false, not, ◌&&◌, List, [], ◌∷◌, ◌++◌, length, slice_get, Some, is_some, refl, ap, arith, is_nonempty, Ticket, Holder, Nobody, By, Free, Doing, Idle, Tries, Holds, Closed, Retired, SlotState, WorkerState, is_held, State, with_worker, with_place, doing, put_by_worker, popped, pop, claim, one, total, of_slot, tried, worker_tickets, tickets}
+use Rattle.world.proofs.Prelude.{◌≡◌, ℕ, ◌+◌, ◌≤◌, ◌==◌, Bool, true, false, not, ◌&&◌, List, [], ◌∷◌, ◌++◌, length, slice_get, Some, is_some, refl, ap, arith, is_nonempty, Ticket, Holder, Nobody, By, Free, Doing, Idle, Tries, Holds, SlotState, WorkerState, is_held, State, with_worker, with_place, doing, put_by_worker, popped, pop, claim, one, total, of_slot, tried, worker_tickets, tickets}
 use Rattle.world.proofs.TurnsTotals.{total_moved, total_at}
 use Rattle.world.proofs.TurnsKept.{Kept, kept_some, kept_none, kept_map, kept_when}
 use Rattle.world.proofs.TurnsFacts.{Facts, facts, SlotOk, Turns, keep_slots, keep_others, names, worker_holds, worker_closes, worker_retires, is_number, right_tickets, one_same, one_other, Replaced, replaced, Turned, turned, turned_elsewhere}

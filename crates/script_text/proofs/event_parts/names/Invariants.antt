@@ -1,6 +1,4 @@
-use Rattle.std.proofs.Common.{◌≡◌, ◌+◌, ◌≤◌, ◌++◌, length}
-use Rattle.std.specs.Prelude.{option_map}
-use Rattle.script_text.specs.Events.{all_names}
+use Rattle.script_text.proofs.Prelude.{◌≡◌, ◌+◌, ◌≤◌, ◌++◌, length, option_map, all_names}
 use Rattle.script_text.proofs.event_parts.names.Given as goal
 
 -- the names so far, and those of the words that are left, are the names of all words

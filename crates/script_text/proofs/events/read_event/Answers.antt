@@ -1,6 +1,4 @@
-use Rattle.std.proofs.Common.{◌≡◌, ap, sym, ◌∙◌, rules, None}
-use Rattle.std.specs.Prelude.{option_map}
-use Rattle.script_text.specs.Events.{said_of, event_of, event_of_words}
+use Rattle.script_text.proofs.Prelude.{◌≡◌, ap, sym, ◌∙◌, rules, None, option_map, said_of, event_of, event_of_words}
 use Rattle.script_text.proofs.FirstWords.{no_event, plain_event_of}
 use Rattle.script_text.proofs.events.read_event.Goals as goal
 

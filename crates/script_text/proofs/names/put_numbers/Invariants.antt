@@ -1,7 +1,4 @@
-use Rattle.std.proofs.Common.{List, ℕ, Option, drop}
-use Rattle.std.specs.Fmt.{decimal}
-use Rattle.script_text.specs.Names.{spaced}
-use Rattle.script_text.specs.Pages.{Adds}
+use Rattle.script_text.proofs.Prelude.{List, ℕ, Option, drop, decimal, spaced, Adds}
 use Rattle.script_text.proofs.names.put_numbers.Given as goal
 
 -- what is left, added to what is written, is all numbers, added to what was written

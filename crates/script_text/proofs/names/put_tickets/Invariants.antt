@@ -1,6 +1,4 @@
-use Rattle.std.proofs.Common.{List, ℕ, Option, drop}
-use Rattle.script_text.specs.Names.{ticket_text, spaced}
-use Rattle.script_text.specs.Pages.{Adds}
+use Rattle.script_text.proofs.Prelude.{List, ℕ, Option, drop, ticket_text, spaced, Adds}
 use Rattle.script_text.proofs.names.put_tickets.Given as goal
 
 -- what is left, added to what is written, is all tickets, added to what was written

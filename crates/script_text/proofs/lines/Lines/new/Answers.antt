@@ -1,6 +1,4 @@
-use Rattle.std.proofs.Common.{arith, ap, length, ◌==◌}
-use Rattle.std.proofs.lemmas.List.Splits.{length-slice_split}
-use Rattle.std.proofs.lemmas.List.Sums.{count_by-le-length}
+use Rattle.script_text.proofs.Prelude.{arith, ap, length, ◌==◌, length-slice_split, count_by-le-length}
 use Rattle.script_text.proofs.lines.Lines.new.Goals as goal
 
 pub invariant_of-result : goal.invariant_of-result

@@ -2,7 +2,7 @@ use Rattle.std.proofs.Common.{◌≡◌, ◌+◌, ◌<◌, ◌^◌, length}
 use Rattle.script_text.specs.Texts.{telling_lines}
 use Rattle.script_text.proofs.lines.Lines.next.Given as goal
 
--- what is left tells all that was left
+-- what is left determines all that was left
 abbrev pub invariant-loop-text : goal.invariant-loop-text
 invariant-loop-text l =
     (l.self-inside.number + length l.self-inside.texts < 2 ^ 63)

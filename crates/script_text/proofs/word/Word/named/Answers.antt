@@ -1,7 +1,5 @@
-use Rattle.std.proofs.Common.{ap, sym, ◌∙◌, arith}
-use Rattle.std.specs.Str.{bytes_eq}
+use Rattle.script_text.proofs.Prelude.{ap, sym, ◌∙◌, arith, bytes_eq, below_more}
 use Rattle.script_text.specs.declared.word.Word.TheVariants as word
-use borrow.Author.Count.{below_more}
 use Rattle.script_text.proofs.word.Word.named.Goals as goal
 
 pub loop-word-preserved : goal.loop-word-preserved

@@ -1,7 +1,4 @@
-use Rattle.std.proofs.Common.{◌≡◌, false, ℕ, ◌<◌, get_or, []}
-use Rattle.std.specs.Str.{bytes_eq}
-use Rattle.script_text.specs.Words.{word_text}
-use Rattle.script_text.specs.declared.word.Word.TheVariants.{Accept}
+use Rattle.script_text.proofs.Prelude.{◌≡◌, false, ℕ, ◌<◌, get_or, [], bytes_eq, word_text, Accept}
 use Rattle.script_text.proofs.word.Word.named.Given as goal
 
 -- the text is none of the words so far
