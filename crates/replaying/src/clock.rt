@@ -1,7 +1,9 @@
 //! Which seconds the clock showed, as far as it was read.
-use crate::recording::Numbered;
-use records::Act;
+use crate::reading::{broken, wanted};
+use crate::recording::{Numbered, Recording};
+use records::{Act, Polling, ReplayFault};
 use std::alloc::{AllocError, Global};
+use std::mem;
 
 /// The readings of the clock, by the counts around them. The lists `before` and `after` rise by their first numbers,
 /// and have with each the latest second up to there.
@@ -9,8 +11,15 @@ use std::alloc::{AllocError, Global};
 pub(crate) struct Clock {
     before: Vec<(u64, u64)>,
     after: Vec<(u64, u64)>,
-    /// For each reading of `before` the least count after it or a later one.
-    least: Vec<u64>,
+}
+
+/// A turn, a round or the beginning of a poller made a reading of its own between these two counts.
+#[derive(Clone, Copy)]
+struct Window {
+    from: u64,
+    to: u64,
+    /// The line of the act before which it did.
+    line: u64,
 }
 
 impl Clock {
@@ -19,7 +28,6 @@ impl Clock {
         let mut clock = Clock {
             before: Vec::new(alloc),
             after: Vec::new(alloc),
-            least: Vec::new(alloc),
         };
         clock.take(records)?;
         Ok(clock)
@@ -30,13 +38,11 @@ impl Clock {
             if let Act::Second(second) = numbered.record.act {
                 self.before.push((numbered.record.before, second))?;
                 self.after.push((numbered.record.after, second))?;
-                self.least.push(numbered.record.after)?;
             }
         }
         self.after.sort()?;
         rise(self.before.as_mut_slice());
         rise(self.after.as_mut_slice());
-        least_from(self.least.as_mut_slice());
         Ok(())
     }
 
@@ -53,12 +59,27 @@ impl Clock {
         (self.earliest(from), latest)
     }
 
-    /// Whether it was read between these two counts.
-    pub(crate) fn is_read(&self, from: u64, to: u64) -> bool {
-        match self.least.get(count_below(self.before.as_slice(), from)) {
-            Some(after) => *after < to,
-            None => false,
+    /// Refuses with `Broken` for the first act before which its thread made no reading of its own. Each window takes
+    /// the last reading in it that is left, and those that begin last come first: no other choice leaves more.
+    pub(crate) fn check_readings(
+        &self,
+        alloc: Global,
+        recording: &Recording,
+    ) -> Result<(), ReplayFault> {
+        let mut left = Vec::new(alloc);
+        for reading in self.after.as_slice() {
+            left.push((reading.0, true))?;
         }
+        for window in windows_of(alloc, recording)?.as_slice().iter().rev() {
+            if !take_reading(left.as_mut_slice(), window) {
+                return Err(broken(
+                    alloc,
+                    window.line,
+                    wanted("the clock was not read for this"),
+                ));
+            }
+        }
+        Ok(())
     }
 
     /// The first of the records that its readings are from whose second is before one that was read before.
@@ -99,13 +120,70 @@ fn rise(readings: &mut [(u64, u64)]) {
     }
 }
 
-/// Gives each place the least number from there on.
-fn least_from(counts: &mut [u64]) {
-    let mut least = u64::MAX;
-    for count in counts.iter_mut().rev() {
-        least = least.min(*count);
-        *count = least;
+/// All windows of which each reading is recorded, in the order of their beginnings.
+fn windows_of(alloc: Global, recording: &Recording) -> Result<Vec<Window>, AllocError> {
+    let mut windows = Vec::new(alloc);
+    for list in recording.lists.iter() {
+        add_windows(&mut windows, recording, list.as_slice())?;
     }
+    windows.sort_by_key(|window: &Window| window.from)?;
+    Ok(windows)
+}
+
+/// Adds those of a slot or of a poller.
+fn add_windows(
+    windows: &mut Vec<Window>,
+    recording: &Recording,
+    acts: &[Numbered],
+) -> Result<(), AllocError> {
+    let mut from = 0;
+    let mut is_first = true;
+    for numbered in acts {
+        let (line, record) = (numbered.line, &numbered.record);
+        if is_read_before(is_first, &record.act) && recording.reads_seconds(record.before) {
+            let to = record.before;
+            windows.push(Window { from, to, line })?;
+        }
+        from = record.after;
+        is_first = is_wait(&record.act);
+    }
+    Ok(())
+}
+
+/// Whether a reading was made before an act: before each turn, and before an act of a poller that is its first one, or
+/// the first after a wait.
+fn is_read_before(is_first: bool, act: &Act) -> bool {
+    match act {
+        Act::Begin(_) => true,
+        Act::Poller(_, Polling::Reported(_) | Polling::Open(_, _, _)) => false,
+        Act::Poller(_, _) => is_first,
+        _ => false,
+    }
+}
+
+/// Whether an act is a wait that did not fail, or one of its reports.
+fn is_wait(act: &Act) -> bool {
+    matches!(
+        act,
+        Act::Poller(
+            _,
+            Polling::Gave(_) | Polling::Interrupted | Polling::Reported(_)
+        )
+    )
+}
+
+/// Takes the last of these readings, by their counts, that is left in a window. Answers whether there is one.
+fn take_reading(left: &mut [(u64, bool)], window: &Window) -> bool {
+    let below = left.partition_point(|reading| reading.0 < window.to);
+    for reading in left.iter_mut().take(below).rev() {
+        if reading.0 < window.from {
+            return false;
+        }
+        if mem::take(&mut reading.1) {
+            return true;
+        }
+    }
+    false
 }
 
 fn second_at(readings: &[(u64, u64)], index: usize) -> u64 {

@@ -7,7 +7,7 @@ use crate::history::History;
 use crate::recording::Numbered;
 use crate::results::Results;
 use crate::slot_replay::{Phase, SlotReplay, State};
-use records::{Act, Header, Made, Opening, Record};
+use records::{Act, Header, Made, Opening, Polling, Record};
 use std::mem;
 use token::{MAX_GENERATION, Side};
 use world::{Event, Lead, Limits, Polling as Polled};
@@ -34,6 +34,7 @@ impl SlotReplay<'_> {
         }
         if is_void(self.next, generation) {
             self.state.void = generation;
+            self.state.free_from = record.after;
             self.state.phase = Phase::Void(None);
             return Ok(());
         }
@@ -53,7 +54,7 @@ impl SlotReplay<'_> {
 
     /// Time begins at the second of the poller's round.
     fn enter(&mut self, record: Record, generation: u64) {
-        let since = self.second_last_poll(record.before);
+        let since = self.last_wait(record.before);
         let (earliest, latest) = self.findings.clock.between(since, record.before);
         self.posted = self.last;
         self.state = State {
@@ -69,17 +70,20 @@ impl SlotReplay<'_> {
         };
     }
 
-    /// The count when the poll before the last one of the slot's poller had ended, both before this count. The round
-    /// has read its second since then, before its poll or after it.
-    fn second_last_poll(&self, count: u64) -> u64 {
-        let Some(polls) = self.findings.polls.get(self.poller) else {
-            return 0;
-        };
-        let place = polls.partition_point(|poll| poll.record.before < count);
-        match polls.get(..place) {
-            Some([.., poll, _]) => poll.record.after,
-            _ => 0,
+    /// The count when the last wait of the slot's poller before this count had ended. The round has read its second
+    /// since then. A report has the counts of its wait.
+    fn last_wait(&self, count: u64) -> u64 {
+        let acts = self.findings.recording.poller(self.poller);
+        let place = acts.partition_point(|act| act.record.before < count);
+        for last in acts.get(..place).unwrap_or(&[]).iter().rev() {
+            if !matches!(
+                last.record.act,
+                Act::Poller(_, Polling::Accept(_) | Polling::Open(_, _, _))
+            ) {
+                return last.record.after;
+            }
         }
+        0
     }
 
     /// Stand-ins for what the target of a connection is sent first. Its length shows by the first write there.

@@ -2,7 +2,7 @@
 use crate::recording::{Last, Recording, split_of};
 use dispatch::Split;
 use records::{
-    Act, Header, MAX_RECORD, Polling, Record, ReplayFault, Wrong, read_header, read_line,
+    Act, Header, MAX_RECORD, Made, Polling, Record, ReplayFault, Wrong, read_header, read_line,
 };
 use std::alloc::{AllocError, Global};
 use std::io::Read;
@@ -127,10 +127,21 @@ fn record_of<'a>(recording: &Recording, line: &'a [u8]) -> Result<Record, Wrong<
     if record.before >= record.after {
         return Err(wanted("the count before an act is below the one after it"));
     }
+    if takes_both(&record.act) && record.after - record.before > 1 {
+        return Err(wanted("begin, end and settle take both counts at once"));
+    }
     match outside(recording, &record.act) {
         Some(text) => Err(wanted(text)),
         None => Ok(record),
     }
+}
+
+/// Whether an act takes both its counts at once.
+fn takes_both(act: &Act) -> bool {
+    matches!(
+        act,
+        Act::Begin(_) | Act::End(_) | Act::Wire(_, Made::Settle)
+    )
 }
 
 /// This is wanted of a line whose words are right.

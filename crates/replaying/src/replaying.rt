@@ -12,7 +12,7 @@ use crate::reading::{broken, read, wanted};
 use crate::recording::{Last, Recording};
 use crate::results::{Flawed, Results, Whose};
 use crate::round::check_rounds;
-use crate::rounds::{find_posts, polls};
+use crate::rounds::find_posts;
 use crate::slot_replay::{Findings, SlotReplay};
 use crate::threads::check_threads;
 use crate::writing::{write_flaw, write_results};
@@ -65,15 +65,14 @@ fn replay_recording<W: Write>(
     output: &mut W,
 ) -> Result<Outcome, ReplayFault> {
     let clock = read_clock(alloc, recording)?;
-    check_rounds(alloc, recording, &clock)?;
+    clock.check_readings(alloc, recording)?;
+    check_rounds(alloc, recording)?;
     check_threads(alloc, recording)?;
     let posts = find_posts(alloc, recording, &clock)?;
-    let polls = polls(alloc, recording)?;
     let findings = Findings {
         recording,
         clock: &clock,
         posts: posts.as_slice(),
-        polls: polls.as_slice(),
         rests,
     };
     replay_and_write(alloc, findings, wanted, left_out, output)

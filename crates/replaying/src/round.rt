@@ -1,12 +1,10 @@
 //! What a poller does in a round, one act after the other: it waits for reports once, and then accepts connections,
 //! each of which it opens at once.
-use crate::clock::Clock;
 use crate::reading::{broken, wanted};
 use crate::recording::{Last, Recording};
-use crate::rounds::MAX_REPORTS;
-use records::{Accepted, Act, Opening, Polling, Record, ReplayFault};
+use records::{Accepted, Act, Made, Opening, Polling, Record, ReplayFault};
 use std::alloc::{AllocError, Global};
-use token::Name;
+use token::{Name, Token};
 
 /// The most calls of accept(2) in a round.
 const MAX_ACCEPTS: usize = 4;
@@ -15,7 +13,6 @@ const MAX_ACCEPTS: usize = 4;
 #[derive(Drop)]
 struct Round<'a> {
     recording: &'a Recording,
-    clock: &'a Clock,
     /// The generation of the last connection that it opened in each slot, 0 where it opened none.
     opened: Vec<u64>,
     /// The wait with which the round began, if it has begun, and what that reported so far.
@@ -28,15 +25,10 @@ struct Round<'a> {
 }
 
 /// Refuses with `Broken` for the first act of a poller that it does not do in its round.
-pub(crate) fn check_rounds(
-    alloc: Global,
-    recording: &Recording,
-    clock: &Clock,
-) -> Result<(), ReplayFault> {
+pub(crate) fn check_rounds(alloc: Global, recording: &Recording) -> Result<(), ReplayFault> {
     for poller in 0..recording.header.pollers {
         let mut round = Round {
             recording,
-            clock,
             opened: vec![in alloc; 0; recording.header.slots]?,
             poll: None,
             reported: Vec::new(alloc),
@@ -101,41 +93,45 @@ impl Round<'_> {
         if self.accepted {
             return Some("the accepted connection is opened before the next wait");
         }
-        if self.lacks_second(poll) {
-            return Some("the clock was not read since the wait before");
-        }
         self.poll = Some(*poll);
         self.reported.clear();
         self.accepts = MAX_ACCEPTS;
         None
     }
 
-    /// Whether no second was read since the wait before this one: each round reads one, before its wait or after it.
-    fn lacks_second(&self, poll: &Record) -> bool {
-        match &self.poll {
-            Some(last) if self.recording.reads_seconds(poll.before) => {
-                !self.clock.is_read(last.after, poll.before)
-            }
-            _ => false,
-        }
-    }
-
     /// The wait reported this.
     fn report(&mut self, name: Name) -> Result<Option<&'static str>, AllocError> {
         if let Name::End(token) = name {
             match self.opened.get(token.slot()) {
-                Some(opened) if token.generation() <= *opened => {}
-                _ => return Ok(Some("what is reported was not opened before")),
+                Some(opened) if token.generation() == *opened && !self.is_closed(token) => {}
+                _ => return Ok(Some("what is reported was not open when the wait began")),
             }
-        }
-        if self.reported.len() == MAX_REPORTS {
-            return Ok(Some("a poll gives 256 reports at most"));
         }
         if self.reported.contains(&name) {
             return Ok(Some("a wait reports each end once"));
         }
         self.reported.push(name)?;
         Ok(None)
+    }
+
+    /// Whether an end of the last connection in its slot was closed when the wait began.
+    fn is_closed(&self, token: Token) -> bool {
+        let acts = self.recording.slot(token.slot());
+        let began = match &self.poll {
+            Some(poll) => poll.before,
+            None => 0,
+        };
+        let ended = acts.partition_point(|act| act.record.after < began);
+        for last in acts.get(..ended).unwrap_or(&[]).iter().rev().take(2) {
+            match last.record.act {
+                Act::Poller(_, Polling::Open(_, generation, _)) => {
+                    return generation > token.generation();
+                }
+                Act::Wire(other, Made::Drop) if other == token => return true,
+                _ => {}
+            }
+        }
+        false
     }
 
     /// What accept(2) answered. Where it was starved the round calls it no more.

@@ -9,7 +9,7 @@ use std::alloc::{AllocError, Global};
 use token::Name;
 
 /// The most reports of a poll.
-pub(crate) const MAX_REPORTS: usize = 256;
+const MAX_REPORTS: usize = 256;
 
 /// The rounds of a poller, one after the other.
 #[derive(Clone, Copy)]
@@ -173,22 +173,6 @@ fn polled(act: &Act) -> Option<usize> {
         Act::Poller(_, Polling::Interrupted) => Some(0),
         _ => None,
     }
-}
-
-/// The polls of each poller, in order.
-pub(crate) fn polls(
-    alloc: Global,
-    recording: &Recording,
-) -> Result<Vec<Vec<Numbered>>, AllocError> {
-    let mut polls = lists(alloc, recording.header.pollers)?;
-    for (poller, list) in polls.iter_mut().enumerate() {
-        for numbered in recording.poller(poller) {
-            if polled(&numbered.record.act).is_some() {
-                list.push(*numbered)?;
-            }
-        }
-    }
-    Ok(polls)
 }
 
 fn add(lists: &mut Vec<Vec<Post>>, at: usize, post: Post) -> Result<(), AllocError> {

@@ -18,8 +18,6 @@ pub(crate) struct Findings<'a> {
     pub recording: &'a Recording,
     pub clock: &'a Clock,
     pub posts: &'a [Vec<Post>],
-    /// The polls of each poller.
-    pub polls: &'a [Vec<Numbered>],
     /// Whether all came to rest.
     pub rests: bool,
 }

@@ -1,16 +1,20 @@
 //! How many threads were at work at once: a turn is made by the poller of its slot, while that does nothing else, or
 //! by a worker.
 use crate::reading::{broken, wanted};
-use crate::recording::{Numbered, Recording};
-use records::{Act, Made, ReplayFault};
+use crate::recording::{Numbered, Recording, lists};
+use crate::sequence::first_overlap;
+use records::{Act, Made, Record, ReplayFault};
 use std::alloc::{AllocError, Global};
 
 /// The most calls of a turn that a poller makes.
 const OWN_BUDGET: usize = 8;
 
-/// What one thread did at a slot without a break: a turn, or the closing of a socket.
+/// What one thread did at a slot without a break: a turn, with the closing that follows it, or another closing.
 #[derive(Clone, Copy)]
 struct Span {
+    /// The poller of the slot, and whether it is known that it did this.
+    poller: usize,
+    is_pollers: bool,
     /// The line with which it begins.
     line: u64,
     from: u64,
@@ -41,43 +45,80 @@ struct AtWork {
 
 /// Refuses with `Broken` for a turn for which no thread is left.
 pub(crate) fn check_threads(alloc: Global, recording: &Recording) -> Result<(), ReplayFault> {
-    let changes = changes_of(alloc, recording)?;
+    let mut spans = Vec::new(alloc);
+    for slot in 0..recording.header.slots {
+        for span in spans_of(alloc, recording, slot)? {
+            spans.push(span.lasting(recording.whole))?;
+        }
+    }
+    let acts = acts_of_pollers(alloc, recording, spans.as_slice())?;
+    let changes = changes_of(alloc, acts.as_slice(), spans.as_slice())?;
     let mut at_work = AtWork {
         own: vec![in alloc; 0usize; recording.header.pollers]?,
         workers: 0,
     };
-    match at_work.first_over(changes.as_slice(), recording.header.workers) {
+    let over = at_work.first_over(changes.as_slice(), recording.header.workers);
+    match first_at_once(acts.as_slice()).or(over) {
         Some(line) => Err(broken(alloc, line, wanted("more turns at once than threads"))),
         None => Ok(()),
     }
 }
 
-/// When threads begin and end what they do at slots, in order.
-fn changes_of(alloc: Global, recording: &Recording) -> Result<Vec<Change>, AllocError> {
+/// What each poller did for certain, in order.
+fn acts_of_pollers(
+    alloc: Global,
+    recording: &Recording,
+    spans: &[Span],
+) -> Result<Vec<Vec<Numbered>>, AllocError> {
+    let mut acts = lists(alloc, recording.header.pollers)?;
+    for (poller, list) in acts.iter_mut().enumerate() {
+        for numbered in recording.poller(poller) {
+            list.push(*numbered)?;
+        }
+        for span in spans {
+            if span.is_pollers && span.poller == poller {
+                list.push(span.numbered())?;
+            }
+        }
+        list.sort_by_key(|numbered: &Numbered| numbered.record.before)?;
+    }
+    Ok(acts)
+}
+
+/// The line of the first of these acts that a poller began while it did another one.
+fn first_at_once(acts: &[Vec<Numbered>]) -> Option<u64> {
+    for list in acts {
+        if let Some(numbered) = list.get(first_overlap(list.as_slice())) {
+            return Some(numbered.line);
+        }
+    }
+    None
+}
+
+/// When threads begin and end what else they do at slots, in order.
+fn changes_of(
+    alloc: Global,
+    acts: &[Vec<Numbered>],
+    spans: &[Span],
+) -> Result<Vec<Change>, AllocError> {
     let mut changes = Vec::new(alloc);
-    for slot in 0..recording.header.slots {
-        let poller = recording.split.poller_of(slot);
-        for span in spans_of(alloc, recording.slot(slot))? {
-            let span = span.lasting(recording.whole);
-            add(&mut changes, recording.poller(poller), poller, span)?;
+    for span in spans {
+        match acts.get(span.poller) {
+            Some(acts) if !span.is_pollers => add(&mut changes, acts.as_slice(), *span)?,
+            _ => {}
         }
     }
     changes.sort_by_key(|change: &Change| change.count)?;
     Ok(changes)
 }
 
-fn add(
-    changes: &mut Vec<Change>,
-    acts: &[Numbered],
-    poller: usize,
-    span: Span,
-) -> Result<(), AllocError> {
+fn add(changes: &mut Vec<Change>, acts: &[Numbered], span: Span) -> Result<(), AllocError> {
     let is_own = span.calls <= OWN_BUDGET && !is_busy(acts, span.from, span.to);
     let begins = Change {
         count: span.from,
         line: span.line,
         begins: true,
-        poller: if is_own { Some(poller) } else { None },
+        poller: if is_own { Some(span.poller) } else { None },
     };
     changes.push(begins)?;
     changes.push(Change {
@@ -89,7 +130,7 @@ fn add(
 }
 
 /// Whether a poller, which did these acts one after the other, did one between these two counts.
-fn is_busy(acts: &[Numbered], from: u64, to: u64) -> bool {
+pub(crate) fn is_busy(acts: &[Numbered], from: u64, to: u64) -> bool {
     let ended = acts.partition_point(|act| act.record.after < from);
     match acts.get(ended) {
         Some(act) => act.record.before < to,
@@ -97,25 +138,47 @@ fn is_busy(acts: &[Numbered], from: u64, to: u64) -> bool {
     }
 }
 
-/// What was done at a slot, as spans.
-fn spans_of(alloc: Global, acts: &[Numbered]) -> Result<Vec<Span>, AllocError> {
+/// What was done at a slot, as spans. A turn that spent a poller's budget and not the workers' is the poller's, and so
+/// is the closing of a connection that came to nothing.
+fn spans_of(alloc: Global, recording: &Recording, slot: usize) -> Result<Vec<Span>, AllocError> {
     let mut spans: Vec<Span> = Vec::new(alloc);
-    for numbered in acts {
-        if begins_span(&numbered.record.act) {
-            spans.push(span_from(numbered))?;
+    let (failed, budget) = (recording.failed.is_some(), recording.header.budget);
+    let mut last = Act::Ended;
+    for numbered in recording.slot(slot) {
+        let act = numbered.record.act;
+        if begins_span(&last, &act, failed) {
+            let is_turn = matches!(act, Act::Begin(_));
+            if let (Act::End(_), true, Some(span)) = (last, is_turn, spans.last_mut()) {
+                span.is_pollers = span.calls == OWN_BUDGET && OWN_BUDGET < budget;
+            }
+            spans.push(Span {
+                poller: recording.split.poller_of(slot),
+                is_pollers: !is_turn && !failed,
+                ..span_from(numbered)
+            })?;
         } else if let Some(span) = spans.last_mut() {
             span.go_on(numbered);
         }
+        last = act;
     }
     Ok(spans)
 }
 
-fn begins_span(act: &Act) -> bool {
-    matches!(act, Act::Begin(_) | Act::Wire(_, Made::Drop))
+/// Whether an act begins a span. What follows a turn's end is its own closing, unless the relay failed.
+fn begins_span(last: &Act, act: &Act, failed: bool) -> bool {
+    match act {
+        Act::Begin(_) => true,
+        Act::Wire(_, Made::Drop) => {
+            failed || !matches!(last, Act::End(_) | Act::Wire(_, Made::Drop))
+        }
+        _ => false,
+    }
 }
 
 fn span_from(numbered: &Numbered) -> Span {
     Span {
+        poller: 0,
+        is_pollers: false,
         line: numbered.line,
         from: numbered.record.before,
         to: numbered.record.after,
@@ -125,11 +188,23 @@ fn span_from(numbered: &Numbered) -> Span {
 }
 
 impl Span {
+    /// A span as one act.
+    fn numbered(&self) -> Numbered {
+        Numbered {
+            line: self.line,
+            record: Record {
+                before: self.from,
+                after: self.to,
+                act: Act::Begin(0),
+            },
+        }
+    }
+
     /// The turn goes on with this act.
     fn go_on(&mut self, numbered: &Numbered) {
         match numbered.record.act {
             Act::Poller(_, _) => return,
-            Act::Wire(_, Made::Settle) | Act::End(_) => self.is_over = true,
+            Act::Wire(_, Made::Settle | Made::Drop) | Act::End(_) => self.is_over = true,
             _ => self.calls = self.calls.saturating_add(1),
         }
         self.to = numbered.record.after;

@@ -2,6 +2,7 @@
 use crate::flaw::Flaw;
 use crate::recording::Numbered;
 use crate::slot_replay::{Phase, SlotReplay};
+use crate::threads::is_busy;
 use records::{Act as Recorded, Made, Record};
 use relay_core::Verdict;
 use token::Side;
@@ -17,14 +18,6 @@ impl SlotReplay<'_> {
             Phase::Open => {}
             Phase::Free => return Err(Flaw::Because("no connection is open in the slot")),
             _ => return Err(Flaw::Because("the turn before has not ended")),
-        }
-        if self.findings.recording.reads_seconds(record.before)
-            && !self
-                .findings
-                .clock
-                .is_read(self.state.free_from, record.before)
-        {
-            return Err(Flaw::Because("the clock was not read for this turn"));
         }
         let since = self.gather_notes(record.before)?;
         let (earliest, latest) = self.findings.clock.between(since, record.before);
@@ -118,6 +111,9 @@ impl SlotReplay<'_> {
                 self.state.phase = Phase::Void(Some(side));
                 Ok(())
             }
+            Phase::Void(None) if self.is_left(record.before) => {
+                Err(Flaw::Because("its poller did something else before it closed this"))
+            }
             Phase::Void(dropped) => self.drop_void(side, dropped),
             Phase::Closing(None) => {
                 self.state.phase = Phase::Closing(Some(side));
@@ -142,6 +138,12 @@ impl SlotReplay<'_> {
             Some(failed) => failed < count,
             None => false,
         }
+    }
+
+    /// Whether the poller of a connection that came to nothing did something else up to this count.
+    fn is_left(&self, count: u64) -> bool {
+        let acts = self.findings.recording.poller(self.poller);
+        !self.has_failed(count) && is_busy(acts, self.state.free_from.saturating_add(1), count)
     }
 
     /// An end is dropped outside a turn. After the second one the slot is free.
