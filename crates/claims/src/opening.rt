@@ -73,6 +73,7 @@ fn words_and_seats(
 }
 
 // The words, and the seat that may make all others.
+#[tactic(auto, using(crate::proofs::Opens::opening_rule))]
 fn words_and_first_seat(
     alloc: Global,
     slots: usize,

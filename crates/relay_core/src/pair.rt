@@ -170,6 +170,7 @@ impl Pair {
 
     /// Holds a live pair that has no next call against the idle limit: if it has moved nothing for `limit` seconds at
     /// the second `now`, it fails, and the answer is true. Otherwise nothing changes. A limit of 0 is none.
+    #[tactic(auto, using(crate::proofs::Expiries::overdue_as))]
     pub fn expire(&mut self, now: u64, limit: u64) -> bool
         ensures value { self.new ≡ expired now limit self.old }
         ensures told { result ≡ is_overdue now limit self.old }

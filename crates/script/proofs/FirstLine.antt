@@ -1,24 +1,6 @@
 -- What a text is by its first line, and the lines after it one by one.
-use Rattle.std.proofs.Common.{◌≡◌, ℕ, ◌≤◌, true, List, [], ◌∷◌, ◌++◌, length, Some, None, Result, Ok, Err, refl, sym, ap, ◌∙◌, subst}
-use Rattle.std.specs.Prelude.{IsErrOf}
-use Rattle.std.specs.Result.{IsErrAnd}
-use Rattle.std.proofs.lemmas.Bool.{le-ltb}
-use Rattle.world.specs.declared.limits.Limits.{Limits}
-use Rattle.world.specs.declared.event.Event.{Event}
-use Rattle.script.specs.declared.fault.Fault.{Fault}
-use Rattle.script.specs.declared.fault.Fault.TheVariants.{TooLong, NoWorld, Malformed, NotAllowed, NoMemory}
+use Rattle.script.proofs.Prelude.{◌≡◌, ℕ, ◌≤◌, true, List, [], ◌∷◌, ◌++◌, length, Some, None, Result, Ok, Err, refl, sym, ap, ◌∙◌, subst, IsErrOf, IsErrAnd, le-ltb, Limits, Event, Fault, Malformed, NoMemory, Script, FlowPlan, WorldPlan, NumberedEvent, Step, NumberedStep, NumberedLine, lines_of, telling_lines, header_of, step_of, said_of, event_of, GivesBy, and_then, Plan, FlowOf, WorldOf, SaidLine, BeginsWell, starts_with_event, starts_with_step, most_bytes, or_malformed, headed, parsed, plan_of, said_by, said_line, said_lines, steps_of, events_of}
 use Rattle.script_text.specs.declared.header.Header.TheVariants as header
-use Rattle.script.specs.declared.script.Script.{Script}
-use Rattle.script.specs.Plans.{FlowPlan, WorldPlan}
-use Rattle.script_text.specs.declared.step.NumberedEvent.{NumberedEvent}
-use Rattle.script_text.specs.declared.step.Step.{Step}
-use Rattle.script_text.specs.declared.step.NumberedStep.{NumberedStep}
-use Rattle.script_text.specs.Texts.{NumberedLine, lines_of, telling_lines}
-use Rattle.script_text.specs.Headers.{header_of}
-use Rattle.script_text.specs.Steps.{step_of}
-use Rattle.script_text.specs.Events.{said_of, event_of}
-use Rattle.script.specs.Faults.{GivesBy, and_then}
-use Rattle.script.specs.Scripts.{Plan, FlowOf, WorldOf, SaidLine, BeginsWell, starts_with_event, starts_with_step, most_bytes, or_malformed, headed, parsed, plan_of, said_by, said_line, said_lines, steps_of, events_of}
 
 -- a text that is not too long is what its first line says
 pub headed_is : (text : List ℕ) (ls : List NumberedLine) (first : NumberedLine) (rest : List NumberedLine)
@@ -62,11 +44,8 @@ world_read text ls first rest limits given events plan short lines is world read
 -- a fault of what is after the header is one of the text
 passes_on : {X Y : Type 0} (view : Y → X) (wrap : X → Plan) (r : Result X Fault) (fault : Fault) → GivesBy view r (Err fault)
     → GivesBy said_by (and_then (λ (x : X). Ok (wrap x)) r) (Err fault)
-passes_on view wrap r TooLong is = rw is refl
-passes_on view wrap r NoWorld is = rw is refl
-passes_on view wrap r (Malformed line) is = rw is refl
-passes_on view wrap r (NotAllowed line word) is = rw is refl
 passes_on view wrap r NoMemory is = tt
+passes_on view wrap r _ is = rw is refl
 
 err_is : {X : Type 0} (r : Result X Fault) (fault : Fault) → IsErrAnd r (λ f. f ≡ fault) → r ≡ Err fault
 err_is (Ok x) fault is = absurd is

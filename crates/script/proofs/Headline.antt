@@ -1,15 +1,6 @@
 -- The headline of every run, for the events of a script.
-use Rattle.std.proofs.Common.{◌≡◌, ℕ, List, [], ◌∷◌, Option, Some, None, Ok, option_and_then}
-use Rattle.std.specs.Prelude.{IfSome}
-use Rattle.world.specs.States.{State, opening}
-use Rattle.world.specs.Steps.{step}
-use Rattle.world.specs.Runs.{run}
-use Rattle.script_text.specs.declared.step.NumberedEvent.{NumberedEvent}
-use Rattle.script.specs.Faults.{and_then, or_not_allowed, played}
-use Rattle.script.specs.Plans.{events_in}
-use Rattle.script_text.specs.Words.{event_word}
-use Rattle.script.specs.Plays.{line_happened}
-use Rattle.script.specs.Runs.{EveryRunIsSound, EveryRun}
+use Rattle.script.proofs.Prelude.{◌≡◌, ℕ, List, [], ◌∷◌, Option, Some, None, Ok, option_and_then, IfSome, State, step, run, NumberedEvent, and_then, or_not_allowed, played, events_in, event_word, line_happened, EveryRunIsSound, EveryRun}
+use Rattle.world.specs.States.{opening}
 
 -- events that happened line by line are a run
 goes_on : (e : NumberedEvent) (es : List NumberedEvent) (w : State) → ((q : State) → played line_happened q es ≡ Ok w → run q (events_in es) ≡ Some w)

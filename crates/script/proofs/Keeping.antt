@@ -1,22 +1,5 @@
 -- Every step keeps the bytes in order and whole, and the end after them.
-use Rattle.std.proofs.Common.{◌≡◌, ℕ, List, [], ◌∷◌, ◌++◌, Bool, true, false, not, ◌&&◌, ◌||◌, cond, Option, Some, None, Ok, take, drop, refl, sym, ◌∙◌, ap, arith, append_assoc, append-nil, subst, length, nat_lt, nat_le, ◌≤◌, ◌⊎◌, inl, inr}
-use Rattle.std.specs.Prelude.{IfSome}
-use Rattle.std.proofs.lemmas.List.{take-append-drop, nil_from_length}
-use Rattle.std.proofs.Math.Seq.{drop-nil}
-use Rattle.std.proofs.lemmas.Bool.{ltb-false, leb-true}
-use Rattle.flow.specs.Stream.{waiting, front, dropped}
-use Rattle.flow.proofs.Front.{waiting-dropped, take-front, waiting_ends}
-use Rattle.kernel_model.specs.Ends.{is_nonempty}
-use Rattle.kernel_model.specs.Replies.{is_count}
-use Rattle.script_text.specs.declared.step.Step.{Step}
-use Rattle.script_text.specs.declared.step.Step.TheVariants.{Arrive, Fin, Room, Read, End, Wrote, Shut}
-use Rattle.script_text.specs.declared.step.NumberedStep.{NumberedStep}
-use Rattle.script.specs.declared.transfer.Transfer.{Transfer}
-use Rattle.script.specs.Faults.{and_then, or_not_allowed, played}
-use Rattle.script.specs.Plans.{FlowPlan}
-use Rattle.script_text.specs.Steps.{word_of}
-use Rattle.script.specs.Transfers.{opening, stepped, read_size, line_stepped}
-use Rattle.script.specs.Laws.{brought, given, is_fin, has_ended, KeepsBytes, KeepsEnd}
+use Rattle.script.proofs.Prelude.{◌≡◌, ℕ, List, [], ◌∷◌, ◌++◌, Bool, true, false, not, ◌&&◌, ◌||◌, cond, Option, Some, None, Ok, take, drop, refl, sym, ◌∙◌, ap, arith, append_assoc, append-nil, subst, length, nat_lt, nat_le, ◌≤◌, ◌⊎◌, inl, inr, IfSome, take-append-drop, nil_from_length, drop-nil, ltb-false, leb-true, waiting, front, dropped, waiting-dropped, take-front, waiting_ends, is_nonempty, is_count, Step, Arrive, Fin, Room, Read, End, Wrote, Shut, NumberedStep, Transfer, and_then, or_not_allowed, played, FlowPlan, word_of, opening, stepped, read_size, line_stepped, brought, given, is_fin, has_ended, KeepsBytes, KeepsEnd}
 
 pub record Sound (t : Transfer) : Type 0 where
   pub bytes : t.source.arrived ≡ t.destination.taken ++ (waiting t.flow ++ t.source.unread)
@@ -60,7 +43,7 @@ or_true : (b : Bool) → true ≡ (b || true)
 or_true true = refl
 or_true false = refl
 
--- a list that is not told to be nonempty is empty
+-- a list that is not known to be nonempty is empty
 is_empty_list : (xs : List ℕ) → not (is_nonempty xs) ≡ true → xs ≡ []
 is_empty_list xs off = nil_from_length xs (omega (arith, ltb-false 0 (length xs) (is_off (is_nonempty xs) off)))
 

@@ -1,3 +1,4 @@
+pub mod Prelude
 pub mod FirstLine
 pub mod Playing
 pub mod Keeping

@@ -1,9 +1,5 @@
 -- Lines that are played one after the other.
-use Rattle.std.proofs.Common.{◌≡◌, ℕ, Bool, zero, suc, ◌+◌, List, [], ◌∷◌, take, Some, Result, Ok, Err, refl, sym, subst, add-one}
-use Rattle.std.specs.Prelude.{slice_get}
-use Rattle.script.specs.declared.fault.Fault.{Fault}
-use Rattle.script.specs.declared.fault.Fault.TheVariants.{TooLong, NoWorld, Malformed, NotAllowed, NoMemory}
-use Rattle.script.specs.Faults.{Gives, Refused, StopsAt, and_then, played}
+use Rattle.script.proofs.Prelude.{◌≡◌, ℕ, Bool, zero, suc, ◌+◌, List, [], ◌∷◌, take, Some, Result, Ok, Err, refl, sym, subst, add-one, slice_get, Fault, NoMemory, Gives, Refused, StopsAt, and_then, played}
 
 one_step : {X : Type 0} (r : Result X Fault) → and_then (λ (x : X). Ok x) r ≡ r
 one_step (Ok x) = refl
@@ -35,11 +31,8 @@ played_more stepped x y ls i l came here = rw add-one (one_more stepped x y ls i
 refused_ends : {X L : Type 0} (stepped : X → L → Result X Fault) (t : Bool) (fault : Fault) (ls : List L) (r : Result X Fault)
     → Refused t r fault → Gives (and_then (λ (x : X). played stepped x ls) r) (Err fault)
 refused_ends stepped t fault ls (Ok x) is = rw is.0 tt
-refused_ends stepped t fault ls (Err TooLong) is = rw is refl
-refused_ends stepped t fault ls (Err NoWorld) is = rw is refl
-refused_ends stepped t fault ls (Err (Malformed line)) is = rw is refl
-refused_ends stepped t fault ls (Err (NotAllowed line word)) is = rw is refl
 refused_ends stepped t fault ls (Err NoMemory) is = rw is tt
+refused_ends stepped t fault ls _ is = rw is refl
 
 goes_on : {X L : Type 0} (stepped : X → L → Result X Fault) (fault : Fault) (y : X) (ls : List L) (i : ℕ)
     → ((x : X) → played stepped x (take i ls) ≡ Ok y → Gives (played stepped x ls) (Err fault))

@@ -1,23 +1,6 @@
 -- From what was computed of the text that was read, and what was written of it, to the whole input.
-use Rattle.std.proofs.Common.{◌≡◌, ◌≢◌, ◌⊎◌, ℕ, ◌+◌, ◌<◌, ◌≤◌, List, [], ap, length, length-append, take, Option, Some, None, Result, Ok, Err, inl, inr, refl, sym, ◌∙◌, subst, arith}
-use Rattle.std.specs.Prelude.{IfSome, IfOk}
-use Rattle.std.proofs.lemmas.Result.{IfOk-at_ok}
-use Rattle.std.proofs.lemmas.List.{take_all, length-take-le}
-use Rattle.std.proofs.lemmas.Bool.{cases_lt, lt-ltb}
-use Rattle.std.specs.Io.KnownBytes.{Appends}
-use Rattle.input.specs.Reads.{TakesSome}
-use Rattle.script.specs.declared.fault.Fault.{Fault}
-use Rattle.script.specs.declared.fault.Fault.TheVariants.{TooLong, NoWorld, Malformed, NotAllowed, NoMemory}
-use Rattle.script.specs.declared.running.Outcome.{Outcome}
-use Rattle.script.specs.declared.running.Outcome.TheVariants.{Report, Refused}
-use Rattle.script.specs.declared.running.ScriptFault.{ScriptFault}
-use Rattle.script.specs.declared.script.Script.{Script}
-use Rattle.script.specs.declared.script.Reached.{Reached}
-use Rattle.script.specs.Faults.{Gives, GivesBy}
-use Rattle.script.specs.Scripts.{Plan, BeginsWell, TakesMemory, most_bytes, parsed, said_by}
-use Rattle.script.specs.Plays.{reached_by}
-use Rattle.script.specs.Reports.{fault_line}
-use Rattle.script.specs.Runs.{LeadsTo, Tells, WritesReport, AnswersFault, WritesFault, EveryByte, EveryEnd}
+use Rattle.script.proofs.Prelude.{◌≡◌, ◌≢◌, ◌⊎◌, ℕ, ◌+◌, ◌<◌, ◌≤◌, List, [], ap, length, length-append, take, Option, Some, None, Result, Ok, Err, inl, inr, refl, sym, ◌∙◌, subst, arith, IfSome, IfOk, IfOk-at_ok, take_all, length-take-le, cases_lt, lt-ltb, Appends, TakesSome, Fault, TooLong, NoMemory, Outcome, Report, ScriptFault, Script, Reached, Gives, Plan, TakesMemory, most_bytes, parsed, said_by, reached_by, fault_line, LeadsTo, Tells, WritesReport, AnswersFault, WritesFault, EveryByte, EveryEnd}
+use Rattle.script.specs.declared.running.Outcome.TheVariants.{Refused}
 use Rattle.script.proofs.Keeping.{keeps_bytes, keeps_end}
 
 -- a text that is too long is no script
@@ -26,22 +9,11 @@ long_is_none text p long is =
     let clash : Err TooLong ≡ Ok p = rw (lt-ltb most_bytes (length text) long) at is in
     absurd (cc)
 
--- a text that is no script
-pub no_script : (text : List ℕ) (fault : Fault) → GivesBy said_by (parsed text) (Err fault) → (fault ≡ NoMemory → BeginsWell text) → LeadsTo text (Err fault)
-no_script text TooLong is may = inl is
-no_script text NoWorld is may = inl is
-no_script text (Malformed line) is may = inl is
-no_script text (NotAllowed line word) is may = inl is
-no_script text NoMemory is may = inr (may refl)
-
 -- a text that is a script, and what that leads to
 pub by_script : (text : List ℕ) (script : Script) (r : Result Reached Fault) → parsed text ≡ Ok (said_by script) → Gives (reached_by script) r → LeadsTo text r
 by_script text script (Ok reached) is to = (script, (is, to))
-by_script text script (Err TooLong) is to = inr (script, (is, to))
-by_script text script (Err NoWorld) is to = inr (script, (is, to))
-by_script text script (Err (Malformed line)) is to = inr (script, (is, to))
-by_script text script (Err (NotAllowed line word)) is to = inr (script, (is, to))
 by_script text script (Err NoMemory) is to = inl (script, is)
+by_script text script _ is to = inr (script, (is, to))
 
 -- a front that is one byte longer than a script may be is as long as the input, or too long as the input is
 long_parsed : (input : List ℕ) → most_bytes < length input → parsed (take (most_bytes + 1) input) ≡ parsed input
@@ -57,14 +29,10 @@ long_may input long (inr (short, well)) = omega (arith, short, length-take-le (m
 leads_too : (text input : List ℕ) (r : Result Reached Fault) → parsed text ≡ parsed input → (TakesMemory text → TakesMemory input) → LeadsTo text r → LeadsTo input r
 leads_too text input (Ok reached) same may (script, (is, to)) = (script, (sym same ∙ is, to))
 leads_too text input (Err NoMemory) same may to = may to
-leads_too text input (Err TooLong) same may (inl is) = inl (sym same ∙ is)
-leads_too text input (Err TooLong) same may (inr (script, (is, to))) = inr (script, (sym same ∙ is, to))
-leads_too text input (Err NoWorld) same may (inl is) = inl (sym same ∙ is)
-leads_too text input (Err NoWorld) same may (inr (script, (is, to))) = inr (script, (sym same ∙ is, to))
-leads_too text input (Err (Malformed line)) same may (inl is) = inl (sym same ∙ is)
-leads_too text input (Err (Malformed line)) same may (inr (script, (is, to))) = inr (script, (sym same ∙ is, to))
-leads_too text input (Err (NotAllowed line word)) same may (inl is) = inl (sym same ∙ is)
-leads_too text input (Err (NotAllowed line word)) same may (inr (script, (is, to))) = inr (script, (sym same ∙ is, to))
+leads_too text input _ same may to = elim to [
+  | inl is ↦ inl (sym same ∙ is)
+  | inr found ↦ inr (found.0, (sym same ∙ found.1.0, found.1.1))
+]
 
 -- what was computed of the front holds of the whole input
 of_front : (input : List ℕ) (r : Result Reached Fault) → LeadsTo (take (most_bytes + 1) input) r → LeadsTo input r

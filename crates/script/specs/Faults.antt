@@ -1,4 +1,4 @@
--- The faults of a script, and the one line that tells each. Part of the promises.
+-- The faults of a script, and the one line of each. Part of the promises.
 use Rattle.std.specs.Prelude.{◌≡◌, ℕ, Bool, IsTrue, List, [], ◌∷◌, ◌++◌, codes, take, slice_get, Option, Some, None, Result, Ok, Err}
 use Rattle.std.specs.Fmt.{decimal}
 use Rattle.script_text.specs.declared.word.Word.{Word}
@@ -60,7 +60,7 @@ pub record StopsAt {X L : Type 0} (stepped : X → L → Result X Fault) (takes 
   pub before : played stepped old (take index ls) ≡ Ok new
   pub refused : Refused (takes new line) (stepped new line) fault
 
--- All steps were made, or those before the first that is refused. So a line that is not allowed is never told as out of
+-- All steps were made, or those before the first that is refused. So a line that is not allowed is never reported as out of
 -- memory.
 abbrev pub Plays : {X L : Type 0} → (X → L → Result X Fault) → (X → L → Bool) → X → List L → Result (Unit {0}) Fault → X → Type 0
 Plays stepped takes old ls (Ok x) new = played stepped old ls ≡ Ok new

@@ -43,6 +43,7 @@ impl FlowScript {
     }
 
     /// The state after all steps, or the fault of the first that is not allowed, or that memory ran out.
+    #[tactic(auto, using(crate::proofs::Playing::plays_give))]
     pub fn carry_out(&self, alloc: Global) -> Result<Transfer, Fault>
         ensures { Gives (run_of self.now) result }
     {

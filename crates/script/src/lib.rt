@@ -7,7 +7,7 @@
 //! one, and [`Reached::report`] is the report. [`run`] does all three, from a reader to a writer; [`run_each`] writes
 //! what is new in the report after each step.
 //!
-//! A script that has a fault gives one line in place of the report. [`cause`] tells a person more: which word is
+//! A script that has a fault gives one line in place of the report. [`cause`] says more: which word is
 //! malformed and what is expected there, or why a step is not allowed. [`run`] passes text and fault to its
 //! [`Explain`].
 //!

@@ -117,6 +117,7 @@ pub fn answer<W: Write, X: Explain>(
 }
 
 /// The state after the script that a text stands for, or its fault.
+#[tactic(auto, using(crate::proofs::Telling::by_script))]
 fn compute(alloc: Global, text: &[u8]) -> Result<Reached, Fault>
     ensures { LeadsTo text.now result }
 {

@@ -45,6 +45,7 @@ impl WorldScript {
     }
 
     /// The world after all events, or the fault of the first one that is not allowed, or that memory ran out.
+    #[tactic(auto, using(crate::proofs::Playing::plays_give))]
     pub fn carry_out(&self, alloc: Global) -> Result<World, Fault>
         ensures { Gives (world_of self.now) result }
     {

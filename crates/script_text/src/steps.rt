@@ -35,6 +35,7 @@ fn arrive<'a>(alloc: Global, words: Pieces<'a>) -> Result<Step, NotRead<'a>>
 }
 
 /// A step that carries no bytes.
+#[tactic(auto, using(crate::proofs::FirstWords::other_step))]
 fn plain_step(first: Word, words: Pieces<'_>) -> Result<Step, Wrong<'_>>
     ensures { Reads (plain_step (word_text first) words.entry) result }
 {

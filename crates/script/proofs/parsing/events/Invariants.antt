@@ -1,6 +1,4 @@
-use Rattle.std.proofs.Common.{◌≡◌, ◌++◌, true, length, Ok}
-use Rattle.script.specs.Faults.{and_then}
-use Rattle.script.specs.Scripts.{events_of, said_lines, starts_with_event}
+use Rattle.script.proofs.Prelude.{◌≡◌, ◌++◌, true, length, Ok, and_then, events_of, said_lines, starts_with_event}
 use Rattle.script.proofs.parsing.events.Given as goal
 
 -- the events so far, and those of the lines that are left, are the events of all lines; and if there is an event,

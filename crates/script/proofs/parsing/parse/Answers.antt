@@ -1,8 +1,4 @@
-use Rattle.std.proofs.Common.{Some, Err, Vec, Global, ap, ◌∙◌, rules}
-use Rattle.script_text.specs.declared.step.NumberedStep.{NumberedStep}
-use Rattle.script_text.specs.declared.step.NumberedEvent.{NumberedEvent}
-use Rattle.script.specs.declared.fault.Fault.{Fault}
-use Rattle.script.specs.Scripts.{said_lines}
+use Rattle.script.proofs.Prelude.{Some, Err, Vec, Global, ap, ◌∙◌, rules, NumberedStep, NumberedEvent, Fault, said_lines}
 use Rattle.script.proofs.FirstLine.{bad_first, flow_read, flow_fails, world_read, world_fails, flow_begins, world_begins, same_fault}
 use Rattle.script.proofs.parsing.parse.Goals as goal
 

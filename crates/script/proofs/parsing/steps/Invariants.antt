@@ -1,6 +1,4 @@
-use Rattle.std.proofs.Common.{◌≡◌, ◌++◌, true, length, Ok}
-use Rattle.script.specs.Faults.{and_then}
-use Rattle.script.specs.Scripts.{steps_of, starts_with_step}
+use Rattle.script.proofs.Prelude.{◌≡◌, ◌++◌, true, length, Ok, and_then, steps_of, starts_with_step}
 use Rattle.script.proofs.parsing.steps.Given as goal
 
 -- the steps so far, and those of the lines that are left, are the steps of all lines; and if there is a step, the

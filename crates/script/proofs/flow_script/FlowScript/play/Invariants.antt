@@ -1,6 +1,4 @@
-use Rattle.std.proofs.Common.{◌≡◌, take, Ok}
-use Rattle.script.specs.Faults.{played}
-use Rattle.script.specs.Transfers.{line_stepped}
+use Rattle.script.proofs.Prelude.{◌≡◌, take, Ok, played, line_stepped}
 use Rattle.script.proofs.flow_script.FlowScript.play.Given as goal
 
 -- so far the state is that of the steps up to here

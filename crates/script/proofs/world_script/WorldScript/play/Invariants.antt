@@ -1,6 +1,4 @@
-use Rattle.std.proofs.Common.{◌≡◌, take, Ok}
-use Rattle.script.specs.Faults.{played}
-use Rattle.script.specs.Plays.{line_happened}
+use Rattle.script.proofs.Prelude.{◌≡◌, take, Ok, played, line_happened}
 use Rattle.script.proofs.world_script.WorldScript.play.Given as goal
 
 -- so far the world is that of the events up to here
