@@ -76,7 +76,8 @@ def ends_a_connect_that_nobody_answers():
 def gives_up_a_target_that_does_not_answer():
     with unanswered() as port:
         relay = Relay(port, slots=1, options=["--connect-timeout", "1", "--stats", "9"], typed=True, stop_after=1)
-        client, waiting = relay.connect(), Relay(port).connect()
+        waiting = Relay(port).connect()
+        client = relay.connect()
         assert is_silent(client, 0.8) and is_closed_soon(client) and is_silent(waiting, 1)
         *_, line, sums = relay.ended()
         assert line == "[WARN  relayd] fail s=0 g=1 side=target call=read kind=timedout" and numbers_in(sums)["timedout"] == 1
