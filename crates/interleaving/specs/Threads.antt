@@ -269,13 +269,7 @@ beginning g most = record { generation = g; out = None; left = most; todo = turn
 -- it does so with the oldest of these tickets
 abbrev pub begun : System → ℕ → ℕ → List ℕ → Option System
 begun st i most [] = None
-begun st i most (g ∷ rest) = Some (with_thread (record st { tickets = rest }) i (record {
-  generation = g;
-  out = None;
-  left = most;
-  todo =
-      turn;
-}))
+begun st i most (g ∷ rest) = Some (with_thread (record st { tickets = rest }) i (beginning g most))
 
 -- a turn makes at most the budget of calls, and fewer in the poller's thread
 abbrev pub begins : System → ℕ → ℕ → Thread → Option System
@@ -323,10 +317,7 @@ step st (Vanish who) = option_and_then (λ (w : Watched). over_kernel st (kernel
 step st (Accept reply) = when (poller_rests st && (st.flag && (not st.accepted && nat_lt 0 st.free)))
     (over_kernel (after_accept st reply) (kernel.accept st.kernel reply))
 step st Drop = guard (poller_rests st && st.accepted) (record st { accepted = false })
-step st (Poll names) = when (poller_rests st && (length st.batch == 0)) (over_kernel (record st {
-  batch =
-      names.items;
-}) (kernel.poll st.kernel names.items))
+step st (Poll names) = when (poller_rests st && (length st.batch == 0)) (batched st names.items)
 step st Deliver = when (poller_rests st) (delivers st st.batch)
 step st Sweep = guard (poller_rests st && (is_limited st && nat_lt 0 st.entry)) (posted st st.entry)
 step st Open = option_and_then (λ (t : Thread). guard (rests t) (with_thread st 0 (goes_on t open_slot))) (slice_get st.threads 0)
