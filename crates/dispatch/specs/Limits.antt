@@ -1,10 +1,6 @@
 -- Numbers of the server that clauses name. Part of the promises.
 use Rattle.std.specs.Prelude.{ℕ}
 
--- a slot whose connection had this generation is used no more: 2^47 - 1 (`MAX_GENERATION` of `token`)
-abbrev pub last_generation : ℕ
-last_generation = 140737488355327
-
 -- the most tickets that stay for turns of the poller's own thread while it has not found all workers busy
 abbrev pub own_turns : ℕ
 own_turns = 16

@@ -1,5 +1,6 @@
 // Makes the server of a script and its threads from settings, as the product makes them.
 ghost use Rattle.std.specs.Prelude.{◌≤◌, ◌≡◌, length};
+ghost use Rattle.token.specs.Names.{last_generation};
 ghost use Rattle.drill.specs.Sizes.{IsServerSize};
 
 use crate::clock::ScriptClock;
@@ -124,7 +125,7 @@ fn fronts_of(
 
 /// Has each slot begin at this generation.
 fn start_each(pollers: &mut Vec<Poller<KernelFront>>, generation: u64)
-    requires { generation ≤ 140737488355327 }
+    requires { generation ≤ last_generation }
 {
     for poller in pollers.iter_mut() {
         start_all(poller, generation);
@@ -133,7 +134,7 @@ fn start_each(pollers: &mut Vec<Poller<KernelFront>>, generation: u64)
 
 /// Has each of a poller's slots begin at this generation.
 fn start_all(poller: &mut Poller<KernelFront>, generation: u64)
-    requires { generation ≤ 140737488355327 }
+    requires { generation ≤ last_generation }
 {
     let part = poller.part();
     for slot in 0..poller.table().len() {

@@ -1,7 +1,6 @@
 // A wire whose calls the modelled kernel of its slot's machine answers.
-ghost use Rattle.std.specs.Prelude.{◌≡◌, true};
-ghost use Rattle.relay_core.specs.Calls.{side_of};
-ghost use Rattle.engine.specs.Classes.{class_of};
+ghost use Rattle.std.specs.Prelude.{◌≡◌};
+ghost use Rattle.engine.specs.Classes.{class_by};
 ghost use Rattle.engine.specs.Tallies.{counted};
 
 use crate::calls::Asked;
@@ -60,9 +59,8 @@ impl EndWire {
     }
 
     /// Counts an error of a call by its class, and returns it.
-    fn refuse(&mut self, call: Call, kind: ErrorKind) -> io::Error
-        requires { side_of call ≡ Side.Target }
-        ensures { self.new.tally ≡ counted (class_of call self.old.tally.joined kind) self.old.tally }
+    fn refuse(&mut self, call: CallKind, kind: ErrorKind) -> io::Error
+        ensures { self.new.tally ≡ counted (class_by call self.old.tally.joined kind) self.old.tally }
     {
         self.tally.refuse(call, kind);
         io::Error::from(kind)
@@ -88,13 +86,12 @@ impl Wire for EndWire {
     ghost told = { λ w. counts_alone w.tally.faults w.tally.blocks };
 
     fn read(&mut self, buffer: &mut [u8]) -> io::Result<usize> {
-        let call = Call::Read(Side::Target, buffer.len());
         match self.ask(CallKind::Read, &[], buffer) {
             Ok(count) => {
                 self.tally.connect();
                 Ok(count.min(buffer.len()))
             }
-            Err(kind) => Err(self.refuse(call, kind)),
+            Err(kind) => Err(self.refuse(CallKind::Read, kind)),
         }
     }
 
@@ -110,14 +107,14 @@ impl Wire for EndWire {
                 self.tally.connect();
                 Ok(count)
             }
-            Err(kind) => Err(self.refuse(Call::Write(Side::Target), kind)),
+            Err(kind) => Err(self.refuse(CallKind::Write, kind)),
         }
     }
 
     fn shut_write(&mut self) -> io::Result<()> {
         match self.ask(CallKind::Shut, &[], &mut []) {
             Ok(_) => Ok(()),
-            Err(kind) => Err(self.refuse(Call::Shut(Side::Target), kind)),
+            Err(kind) => Err(self.refuse(CallKind::Shut, kind)),
         }
     }
 
@@ -127,7 +124,7 @@ impl Wire for EndWire {
                 self.tally.connect();
                 Ok(())
             }
-            Err(kind) => Err(self.refuse(Call::Join(Side::Target), kind)),
+            Err(kind) => Err(self.refuse(CallKind::Join, kind)),
         }
     }
 

@@ -5,7 +5,9 @@ use Rattle.std.specs.declared.io.ErrorKind.TheVariants.{ConnectionReset, BrokenP
 use Rattle.relay_core.specs.declared.Kind.{Kind}
 use Rattle.relay_core.specs.declared.Kind.TheVariants as kind
 use Rattle.relay_core.specs.declared.call.Call.{Call}
-use Rattle.relay_core.specs.declared.call.Call.TheVariants as call
+use Rattle.relay_core.specs.declared.call.CallKind.{CallKind}
+use Rattle.relay_core.specs.declared.call.CallKind.TheVariants.{Shut}
+use Rattle.relay_core.specs.Calls.{kind_of}
 use Rattle.engine.specs.declared.class.Class.{Class}
 use Rattle.engine.specs.declared.class.Class.TheVariants as class
 
@@ -36,15 +38,19 @@ would_wait joined NotConnected = not joined
 would_wait joined error = false
 
 -- every call but a shutdown may have to wait
-abbrev pub may_wait : Call → Bool
-may_wait (call.Shut side) = false
+abbrev pub may_wait : CallKind → Bool
+may_wait Shut = false
 may_wait call = true
 
-abbrev pub class_of : Call → Bool → ErrorKind → Class
-class_of call joined error =
+-- the class of an error of a call of this kind on a socket that is known to be connected, or not
+abbrev pub class_by : CallKind → Bool → ErrorKind → Class
+class_by call joined error =
     if is_interrupted error then class.Interrupted
     else if may_wait call && would_wait joined error then class.Blocked
     else class.Failed (kind_of_error error)
+
+abbrev pub class_of : Call → Bool → ErrorKind → Class
+class_of call = class_by (kind_of call)
 
 -- a socket's pending error, reported under a kind that is a failure of every call
 abbrev pub pending_kind : ErrorKind → ErrorKind

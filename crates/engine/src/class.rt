@@ -1,8 +1,8 @@
 ghost use Rattle.std.specs.Prelude.{◌≡◌, Bool, true};
 ghost use Rattle.relay_core.specs.Calls.{side_of};
-ghost use Rattle.engine.specs.Classes.{class_of, kind_of_error, kind_told, pending_kind};
+ghost use Rattle.engine.specs.Classes.{class_by, class_of, kind_of_error, kind_told, pending_kind};
 
-use relay_core::{Call, Kind, Side};
+use relay_core::{Call, CallKind, Kind, Side};
 use std::io::ErrorKind;
 
 /// What an error of a call means.
@@ -22,7 +22,14 @@ pub fn class_of(call: &Call, kind: ErrorKind, joined: bool) -> Class
     requires client { side_of call.now ≡ Side.Client → joined ≡ true }
     ensures { result ≡ class_of call.now joined kind }
 {
-    let may_wait = !matches!(call, Call::Shut(_));
+    class_by(call.kind(), kind, joined)
+}
+
+/// The same by the kind of the call, for a wire, which does not know whose side it is.
+pub fn class_by(call: CallKind, kind: ErrorKind, joined: bool) -> Class
+    ensures { result ≡ class_by call joined kind }
+{
+    let may_wait = call != CallKind::Shut;
     match kind {
         ErrorKind::Interrupted => Class::Interrupted,
         ErrorKind::WouldBlock if may_wait => Class::Blocked,
@@ -46,7 +53,7 @@ pub fn pending(kind: ErrorKind) -> ErrorKind
 }
 
 /// How a call failed, by the kind of its error.
-pub(crate) fn kind_of(kind: ErrorKind) -> Kind
+pub fn kind_of(kind: ErrorKind) -> Kind
     ensures { result ≡ kind_of_error kind }
 {
     match kind {

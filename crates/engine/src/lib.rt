@@ -2,7 +2,7 @@
 //! made on one of two [`Wire`]s, and the pair gets the answer, up to a budget of calls.
 //!
 //! A wire is a socket that never waits, or anything that answers like one. It counts its faults and its answers
-//! "would block", and [`turn`] reads those counts to tell the two kinds of error apart. [`class_of`] is the rule by
+//! "would block", and [`turn`] reads those counts to tell the two kinds of error apart. [`class_by`] is the rule by
 //! which wires count, and [`Tally`] counts by it. [`ScriptWire`] is an in-memory wire that plays a list of answers.
 //!
 //! The definitions are in `specs/`: what is asked of a wire and what it gives in `Asked.antt`, what its calls do in
@@ -18,7 +18,7 @@ mod tally;
 mod turning;
 mod wire;
 
-pub use class::{Class, class_of, error_of, pending};
+pub use class::{Class, class_by, class_of, error_of, kind_of, pending};
 pub use moment::Moment;
 pub use outcome::Turn;
 pub use scripted::{Play, PlayList, ScriptWire};

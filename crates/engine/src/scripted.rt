@@ -1,15 +1,14 @@
 //! An in-memory wire that plays lists of answers, for tests.
 ghost use Rattle.std.specs.Prelude.{◌≡◌, ◌≤◌, Some, [], ◌++◌, take, drop, length, vec_len, IfOk, IfErr};
 ghost use Rattle.std.specs.IoError.{error_kind};
-ghost use Rattle.relay_core.specs.Calls.{side_of};
-ghost use Rattle.engine.specs.Classes.{class_of};
+ghost use Rattle.engine.specs.Classes.{class_by};
 ghost use Rattle.engine.specs.Scripts.{bytes_of};
 ghost use Rattle.engine.specs.Tallies.{counted};
 
 use crate::class::error_of;
 use crate::tally::Tally;
 use crate::wire::Wire;
-use relay_core::{Call, Kind, Side};
+use relay_core::{CallKind, Kind};
 use std::alloc::{AllocError, Global};
 use std::collections::VecDeque;
 use std::io;
@@ -188,9 +187,8 @@ fn error_kind_of(play: Option<Play>) -> ErrorKind {
 }
 
 /// Counts the error of a call that got this play, and gives it.
-fn refuse(tally: &mut Tally, call: Call, play: Option<Play>) -> io::Error
-    requires { side_of call ≡ Side.Target }
-    ensures { tally.new ≡ counted (class_of call tally.old.joined (error_kind result)) tally.old }
+fn refuse(tally: &mut Tally, call: CallKind, play: Option<Play>) -> io::Error
+    ensures { tally.new ≡ counted (class_by call tally.old.joined (error_kind result)) tally.old }
 {
     let kind = error_kind_of(play);
     tally.refuse(call, kind);
@@ -240,11 +238,10 @@ impl Wire for ScriptWire {
     ghost told = { λ w. w };
 
     fn read(&mut self, buffer: &mut [u8]) -> io::Result<usize> {
-        let call = Call::Read(Side::Target, buffer.len());
         let count = match read_next(&mut self.reads, buffer) {
             Ok(count) => count,
             Err(Some(Play::End)) => 0,
-            Err(play) => return Err(refuse(&mut self.tally, call, play)),
+            Err(play) => return Err(refuse(&mut self.tally, CallKind::Read, play)),
         };
         self.tally.connect();
         Ok(count)
@@ -257,7 +254,7 @@ impl Wire for ScriptWire {
                 most
             }
             Some(Play::Zero) => 0,
-            play => return Err(refuse(&mut self.tally, Call::Write(Side::Target), play)),
+            play => return Err(refuse(&mut self.tally, CallKind::Write, play)),
         };
         // There is room for the bytes of every Take.
         let room = self.taken.capacity() - self.taken.len();
@@ -272,7 +269,7 @@ impl Wire for ScriptWire {
     fn shut_write(&mut self) -> io::Result<()> {
         match self.closings.pop_front() {
             None | Some(Play::Shut) => Ok(()),
-            play => Err(refuse(&mut self.tally, Call::Shut(Side::Target), play)),
+            play => Err(refuse(&mut self.tally, CallKind::Shut, play)),
         }
     }
 
@@ -282,7 +279,7 @@ impl Wire for ScriptWire {
                 self.tally.connect();
                 Ok(())
             }
-            play => Err(refuse(&mut self.tally, Call::Join(Side::Target), play)),
+            play => Err(refuse(&mut self.tally, CallKind::Join, play)),
         }
     }
 

@@ -1,10 +1,9 @@
-ghost use Rattle.std.specs.Prelude.{◌≡◌, true};
-ghost use Rattle.relay_core.specs.Calls.{side_of};
-ghost use Rattle.engine.specs.Classes.{class_of};
+ghost use Rattle.std.specs.Prelude.{◌≡◌};
+ghost use Rattle.engine.specs.Classes.{class_by};
 ghost use Rattle.engine.specs.Tallies.{tally, connected, counted, fault_more};
 
-use crate::class::{Class, class_of};
-use relay_core::{Call, Side};
+use crate::class::{Class, class_by};
+use relay_core::CallKind;
 use std::io::ErrorKind;
 use std::marker::Model;
 
@@ -65,13 +64,11 @@ impl Tally {
         self.joined = true;
     }
 
-    /// A call answered with an error of this kind, which is counted by its class. A client's socket has to be known
-    /// to be connected.
-    pub fn refuse(&mut self, call: Call, kind: ErrorKind)
-        requires client { side_of call ≡ Side.Client → self.old.joined ≡ true }
-        ensures { self.new ≡ counted (class_of call self.old.joined kind) self.old }
+    /// A call of this kind answered with an error, which is counted by its class.
+    pub fn refuse(&mut self, call: CallKind, kind: ErrorKind)
+        ensures { self.new ≡ counted (class_by call self.old.joined kind) self.old }
     {
-        match class_of(&call, kind, self.joined) {
+        match class_by(call, kind, self.joined) {
             Class::Interrupted => {}
             Class::Blocked => self.blocks = self.blocks.wrapping_add(1),
             Class::Failed(_) => self.faults = self.faults.wrapping_add(1),

@@ -1,10 +1,10 @@
-// What one end of the queue of tickets does. Its clauses name its fields, which `queue.rt` cannot reach.
+// What one end of the queue of tickets keeps, and the steps whose clauses name that.
 ghost use Rattle.std.specs.Prelude.{◌≡◌, ◌≢◌, true, false, IfOk, OnOk, IfErr, OnErr, IfSome, IfNone, IsNone, IsTrue, ◌↔◌};
 ghost use Rattle.std.specs.Arc.{arc_value};
 ghost use Rattle.crossbeam_queue.specs.Passes.{view, IsPassOf, ruled_capacity};
 ghost use Rattle.ready.specs.Steps.{HeldOnce, PutOne, TookOne};
 
-use crate::flags::{AllBusy, Wake, push_ticket};
+use crate::flags::{Wake, push_ticket};
 use crate::idle::IdleEnds;
 use crate::rule::{Line, LinePass, pop};
 use crate::sleeper::{Awake, FoundEmpty, LookedInVain, Sleeper, look, look_again};
@@ -21,7 +21,7 @@ pub(crate) struct Shared {
 
 #[derive(Drop)]
 pub(crate) struct End {
-    shared: Arc<Shared>,
+    pub(crate) shared: Arc<Shared>,
     sleeper: Sleeper,
     pass: LinePass<Ticket>,
     // The last `take` gave a ticket, and nothing has been put since.
@@ -43,22 +43,12 @@ impl End {
         }
     }
 
-    pub(crate) fn put(&mut self, rt: &impl Wait, ticket: Ticket) -> Result<(), Full<Ticket>>
-        ensures put { OnOk result (PutOne (view self.old.pass) ticket (view self.new.pass)) }
-        ensures given_back { IfErr result (λ full. full.0 ≡ ticket) }
-        ensures full { OnErr result (HeldOnce (ruled_capacity (arc_value self.old.shared).line) (view self.old.pass)) }
-        ensures unchanged { OnErr result ((view self.new.pass ≡ view self.old.pass) × (self.new.comes_back ≡ self.old.comes_back)) }
-        ensures comes_back { OnOk result (self.new.comes_back ≡ false) }
-        ensures same { (self.new.shared ≡ self.old.shared) × (self.new.sleeper ≡ self.old.sleeper) }
-    {
-        if let Some(wake) = self.push(rt, ticket)? {
-            self.shared.ends.wake_one(rt, wake);
-        }
-        Ok(())
-    }
-
     // Puts a ticket at the back. The wake that it needs: none if this end will come back for it itself.
-    fn push(&mut self, rt: &impl Wait, ticket: Ticket) -> Result<Option<Wake>, Full<Ticket>>
+    pub(crate) fn push(
+        &mut self,
+        rt: &impl Wait,
+        ticket: Ticket,
+    ) -> Result<Option<Wake>, Full<Ticket>>
         ensures put { OnOk result (PutOne (view self.old.pass) ticket (view self.new.pass)) }
         ensures wake { IfOk result (λ wake. IsNone wake ↔ IsTrue self.old.comes_back) }
         ensures given_back { IfErr result (λ full. full.0 ≡ ticket) }
@@ -133,13 +123,5 @@ impl End {
         requires mine { looked.0.end ≡ self.now.sleeper.number }
     {
         self.sleeper.park(rt, looked)
-    }
-
-    pub(crate) fn all_busy(&self) -> Option<AllBusy> {
-        self.shared.ends.all_busy()
-    }
-
-    pub(crate) fn close(&self) {
-        self.shared.ends.close();
     }
 }

@@ -78,7 +78,10 @@ impl ReadyQueue {
         ensures unchanged { OnErr result (self.new ≡ self.old) }
         ensures capacity { self.new.capacity ≡ self.old.capacity }
     {
-        self.end.put(rt, ticket)
+        if let Some(wake) = self.end.push(rt, ticket)? {
+            self.end.shared.ends.wake_one(rt, wake);
+        }
+        Ok(())
     }
 
     /// Takes the ticket at the front. None: the queue was empty at one moment during the call.
@@ -103,14 +106,14 @@ impl ReadyQueue {
 
     /// Whether no end sleeps in [`ReadyQueue::take`] or is about to, by one look. None: one does.
     pub fn all_busy(&self) -> Option<AllBusy> {
-        self.end.all_busy()
+        self.end.shared.ends.all_busy()
     }
 
     /// Lets `take` answer none at every end once the queue is empty, and wakes all ends that sleep.
     pub fn close(&mut self)
         ensures { self.new ≡ self.old }
     {
-        self.end.close();
+        self.end.shared.ends.close();
     }
 }
 

@@ -2,16 +2,15 @@
 ghost use Rattle.std.specs.Prelude.{◌≡◌, None};
 ghost use Rattle.records.specs.declared.act.Made.TheVariants.{Drop};
 ghost use Rattle.std.specs.IoError.{error_kind};
-ghost use Rattle.engine.specs.Classes.{kind_of_error};
 ghost use Rattle.engine.specs.Wires.{counts_alone};
 ghost use Rattle.recording.specs.Records.{answered, made_of, refused, BegunBy, EndedBy, WireRecords, Settled};
 
 use crate::recorder::{Begun, Inner, Recorder, Sink};
 use dispatch::Settle;
-use engine::{Class, Wire, class_of};
+use engine::{Wire, kind_of};
 use records::{Act, Answer, Made};
-use relay_core::{Call, Kind, Side};
-use std::io::{self, ErrorKind};
+use relay_core::{Kind, Side};
+use std::io;
 use token::Token;
 
 /// A wire that does and promises what the one in it does and promises, and records each call, and its end. Recording
@@ -68,16 +67,6 @@ impl Counts {
         } else {
             Answer::Interrupted
         }
-    }
-}
-
-/// How a call failed, by the kind of its error.
-fn kind_of(kind: ErrorKind) -> Kind
-    ensures { result ≡ kind_of_error kind }
-{
-    match class_of(&Call::Shut(Side::Target), kind, true) {
-        Class::Failed(kind) => kind,
-        Class::Interrupted | Class::Blocked => Kind::Other,
     }
 }
 

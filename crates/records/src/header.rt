@@ -3,7 +3,8 @@ ghost use Rattle.std.specs.Prelude.{Some};
 ghost use Rattle.records.specs.Texts.{header_text};
 
 use crate::names::yes_or_no;
-use crate::words::{Words, Wrong, is, number, said};
+use crate::words::{Wrong, end, said, word};
+use input::{Pieces, is, number};
 use std::fmt::{self, Display};
 
 /// The sizes of the relay that was recorded.
@@ -44,7 +45,7 @@ impl Display for Header {
 /// It refuses a line of another form, and sizes that no relay has: 0 or over 4,096 slots, 0 or over 16 pollers or workers,
 /// a ring of 0 or over 65,536 bytes, a budget of 0 or over 1,024 calls, and an idle limit of over 86,400 seconds.
 pub fn read_header(line: &[u8]) -> Result<Header, Wrong<'_>> {
-    let mut words = Words::new(line, b' ');
+    let mut words = Pieces::new(line, b' ');
     for word in &["relayd", "recording", "1"] {
         first(&mut words, word)?;
     }
@@ -82,50 +83,50 @@ pub fn read_header(line: &[u8]) -> Result<Header, Wrong<'_>> {
         idle: idle(&mut words)?,
         proxy: proxy(&mut words)?,
     };
-    words.end()?;
+    end(&mut words)?;
     Ok(header)
 }
 
 /// One of the words with which every recording begins.
-fn first<'a>(words: &mut Words<'a>, text: &str) -> Result<(), Wrong<'a>> {
+fn first<'a>(words: &mut Pieces<'a>, text: &str) -> Result<(), Wrong<'a>> {
     let wanted = "a recording begins with relayd recording 1";
-    let word = words.word(wanted)?;
+    let word = word(words, wanted)?;
     said(if is(word, text) { Some(()) } else { None }, word, wanted)
 }
 
 /// The number after a key, which ends with its `=`.
-fn value_after(key: &str, word: &[u8]) -> Option<u64> {
+fn value_after(key: &str, word: &[u8]) -> Option<usize> {
     number(word.strip_prefix(key.as_bytes())?)
 }
 
 /// A size, which is 1 at least.
 fn size<'a>(
-    words: &mut Words<'a>,
+    words: &mut Pieces<'a>,
     key: &str,
-    most: u64,
+    most: usize,
     wanted: &'static str,
 ) -> Result<usize, Wrong<'a>> {
-    let word = words.word(wanted)?;
+    let word = word(words, wanted)?;
     match value_after(key, word) {
-        Some(value) if 1 <= value && value <= most => Ok(value as usize),
+        Some(value) if 1 <= value && value <= most => Ok(value),
         _ => said(None, word, wanted),
     }
 }
 
 /// The idle limit.
-fn idle<'a>(words: &mut Words<'a>) -> Result<u64, Wrong<'a>> {
+fn idle<'a>(words: &mut Pieces<'a>) -> Result<u64, Wrong<'a>> {
     let wanted = "idle=0 to idle=86400 is wanted";
-    let word = words.word(wanted)?;
+    let word = word(words, wanted)?;
     match value_after("idle=", word) {
-        Some(value) if value <= 86_400 => Ok(value),
+        Some(value) if value <= 86_400 => Ok(value as u64),
         _ => said(None, word, wanted),
     }
 }
 
 /// Whether targets are told addresses.
-fn proxy<'a>(words: &mut Words<'a>) -> Result<bool, Wrong<'a>> {
+fn proxy<'a>(words: &mut Pieces<'a>) -> Result<bool, Wrong<'a>> {
     let wanted = "proxy=yes or proxy=no is wanted";
-    let word = words.word(wanted)?;
+    let word = word(words, wanted)?;
     if is(word, "proxy=yes") {
         Ok(true)
     } else if is(word, "proxy=no") {

@@ -1,6 +1,7 @@
 // How a record is read: word by word, from left to right.
 use crate::act::{Accepted, Act, Answer, Made, Opening, Polling, Record};
-use crate::words::{Words, Wrong, is, named, number, said};
+use crate::words::{Wrong, end, named, number, said, word};
+use input::{Pieces, is};
 use token::{Kind, Name, Side, Token};
 
 /// What a call can be answered, other than that it was interrupted or failed.
@@ -58,12 +59,12 @@ static OPENINGS: [(&str, Opening); 3] = [
 /// leading zeros.
 pub fn read_line(line: &[u8]) -> Result<Record, Wrong<'_>> {
     let wanted = "the count before the act and the one after it are wanted";
-    let mut words = Words::new(line, b' ');
-    let before = words.number(wanted)?;
-    let after = words.number(wanted)?;
+    let mut words = Pieces::new(line, b' ');
+    let before = number(&mut words, wanted)? as u64;
+    let after = number(&mut words, wanted)? as u64;
     match act(&mut words) {
         Ok(act) => {
-            words.end()?;
+            end(&mut words)?;
             Ok(Record { before, after, act })
         }
         Err(wrong) => Err(wrong),
@@ -71,9 +72,9 @@ pub fn read_line(line: &[u8]) -> Result<Record, Wrong<'_>> {
 }
 
 /// What happened, by the first word of it.
-fn act<'a>(words: &mut Words<'a>) -> Result<Act, Wrong<'a>> {
+fn act<'a>(words: &mut Pieces<'a>) -> Result<Act, Wrong<'a>> {
     let wanted = "pP, second, S, S.G.SIDE, end or full is wanted";
-    let word = words.word(wanted)?;
+    let word = word(words, wanted)?;
     if is(word, "second") {
         second(words)
     } else if is(word, "end") {
@@ -88,23 +89,23 @@ fn act<'a>(words: &mut Words<'a>) -> Result<Act, Wrong<'a>> {
             Err(wrong) => Err(wrong),
         }
     } else {
-        match number(word) {
-            Some(slot) => turn(slot as usize, words),
+        match input::number(word) {
+            Some(slot) => turn(slot, words),
             None => said(None, word, wanted),
         }
     }
 }
 
 /// The second that the clock showed.
-fn second<'a>(words: &mut Words<'a>) -> Result<Act, Wrong<'a>> {
-    match words.number("a number of seconds is wanted") {
-        Ok(second) => Ok(Act::Second(second)),
+fn second<'a>(words: &mut Pieces<'a>) -> Result<Act, Wrong<'a>> {
+    match number(words, "a number of seconds is wanted") {
+        Ok(second) => Ok(Act::Second(second as u64)),
         Err(wrong) => Err(wrong),
     }
 }
 
 /// What was done with the wire of this end.
-fn wire<'a>(token: Token, words: &mut Words<'a>) -> Result<Act, Wrong<'a>> {
+fn wire<'a>(token: Token, words: &mut Pieces<'a>) -> Result<Act, Wrong<'a>> {
     match made(words) {
         Ok(made) => Ok(Act::Wire(token, made)),
         Err(wrong) => Err(wrong),
@@ -113,19 +114,19 @@ fn wire<'a>(token: Token, words: &mut Words<'a>) -> Result<Act, Wrong<'a>> {
 
 /// The poller that `pP` names.
 fn poller_named(word: &[u8]) -> Option<usize> {
-    Some(number(word.strip_prefix(b"p")?)? as usize)
+    input::number(word.strip_prefix(b"p")?)
 }
 
 /// The slot and the generation at the front of `S.G` or `S.G.SIDE`.
-fn place(words: &mut Words<'_>) -> Option<(usize, u64)> {
-    let slot = words.next_number()?;
-    let generation = words.next_number()?;
-    Some((slot as usize, generation))
+fn place(words: &mut Pieces<'_>) -> Option<(usize, u64)> {
+    let slot = input::number(words.next()?)?;
+    let generation = input::number(words.next()?)?;
+    Some((slot, generation as u64))
 }
 
 /// The end that `S.G.SIDE` names.
 fn end_named(word: &[u8]) -> Option<Token> {
-    let mut parts = Words::new(word, b'.');
+    let mut parts = Pieces::new(word, b'.');
     let (slot, generation) = place(&mut parts)?;
     let side = Side::named(parts.next()?)?;
     if parts.next().is_some() {
@@ -139,7 +140,7 @@ fn end_named(word: &[u8]) -> Option<Token> {
 
 /// The slot and the generation that `S.G` names.
 fn place_named(word: &[u8]) -> Option<(usize, u64)> {
-    let mut parts = Words::new(word, b'.');
+    let mut parts = Pieces::new(word, b'.');
     let place = place(&mut parts)?;
     match parts.next() {
         None => Some(place),
@@ -148,9 +149,9 @@ fn place_named(word: &[u8]) -> Option<(usize, u64)> {
 }
 
 /// The beginning or the end of a turn at a slot.
-fn turn<'a>(slot: usize, words: &mut Words<'a>) -> Result<Act, Wrong<'a>> {
+fn turn<'a>(slot: usize, words: &mut Pieces<'a>) -> Result<Act, Wrong<'a>> {
     let wanted = "begin or end is wanted";
-    let word = words.word(wanted)?;
+    let word = word(words, wanted)?;
     if is(word, "begin") {
         Ok(Act::Begin(slot))
     } else if is(word, "end") {
@@ -161,9 +162,9 @@ fn turn<'a>(slot: usize, words: &mut Words<'a>) -> Result<Act, Wrong<'a>> {
 }
 
 /// What a poller did.
-fn polling<'a>(words: &mut Words<'a>) -> Result<Polling, Wrong<'a>> {
+fn polling<'a>(words: &mut Pieces<'a>) -> Result<Polling, Wrong<'a>> {
     let wanted = "poll, report, accept or open is wanted";
-    let word = words.word(wanted)?;
+    let word = word(words, wanted)?;
     if is(word, "poll") {
         polled(words)
     } else if is(word, "report") {
@@ -181,25 +182,25 @@ fn polling<'a>(words: &mut Words<'a>) -> Result<Polling, Wrong<'a>> {
 }
 
 /// What a wait for reports gave.
-fn polled<'a>(words: &mut Words<'a>) -> Result<Polling, Wrong<'a>> {
+fn polled<'a>(words: &mut Pieces<'a>) -> Result<Polling, Wrong<'a>> {
     let wanted = "a number of reports, interrupted or failed is wanted";
-    let word = words.word(wanted)?;
+    let word = word(words, wanted)?;
     if is(word, "interrupted") {
         Ok(Polling::Interrupted)
     } else if is(word, "failed") {
         Ok(Polling::Failed)
     } else {
-        match number(word) {
-            Some(count) => Ok(Polling::Gave(count as usize)),
+        match input::number(word) {
+            Some(count) => Ok(Polling::Gave(count)),
             None => said(None, word, wanted),
         }
     }
 }
 
 /// What a report names.
-fn reported<'a>(words: &mut Words<'a>) -> Result<Name, Wrong<'a>> {
+fn reported<'a>(words: &mut Pieces<'a>) -> Result<Name, Wrong<'a>> {
     let wanted = "listener, waker or S.G.SIDE is wanted";
-    let word = words.word(wanted)?;
+    let word = word(words, wanted)?;
     if is(word, "listener") {
         Ok(Name::Listener)
     } else if is(word, "waker") {
@@ -213,9 +214,9 @@ fn reported<'a>(words: &mut Words<'a>) -> Result<Name, Wrong<'a>> {
 }
 
 /// What accept(2) answered.
-fn accepted<'a>(words: &mut Words<'a>) -> Result<Polling, Wrong<'a>> {
+fn accepted<'a>(words: &mut Pieces<'a>) -> Result<Polling, Wrong<'a>> {
     let wanted = "one of again, blocked, ok and starved is wanted";
-    let word = words.word(wanted)?;
+    let word = word(words, wanted)?;
     match named(word, &ACCEPTED) {
         Some(accepted) => Ok(Polling::Accept(accepted)),
         None => said(None, word, wanted),
@@ -223,12 +224,12 @@ fn accepted<'a>(words: &mut Words<'a>) -> Result<Polling, Wrong<'a>> {
 }
 
 /// Where a connection was opened, or why it was not.
-fn opened<'a>(words: &mut Words<'a>) -> Result<Polling, Wrong<'a>> {
+fn opened<'a>(words: &mut Pieces<'a>) -> Result<Polling, Wrong<'a>> {
     let place = "a slot and a generation as S.G are wanted";
-    let word = words.word(place)?;
-    let (slot, generation) = said(place_named(word), word, place)?;
+    let at = word(words, place)?;
+    let (slot, generation) = said(place_named(at), at, place)?;
     let wanted = "one of ok, connect and register is wanted";
-    let word = words.word(wanted)?;
+    let word = word(words, wanted)?;
     match named(word, &OPENINGS) {
         Some(opening) => Ok(Polling::Open(slot, generation, opening)),
         None => said(None, word, wanted),
@@ -236,9 +237,9 @@ fn opened<'a>(words: &mut Words<'a>) -> Result<Polling, Wrong<'a>> {
 }
 
 /// What was done with a wire.
-fn made<'a>(words: &mut Words<'a>) -> Result<Made, Wrong<'a>> {
+fn made<'a>(words: &mut Pieces<'a>) -> Result<Made, Wrong<'a>> {
     let wanted = "one of drop, join, read, settle, shut and write is wanted";
-    let word = words.word(wanted)?;
+    let word = word(words, wanted)?;
     if is(word, "read") {
         read(words)
     } else if is(word, "write") {
@@ -257,25 +258,25 @@ fn made<'a>(words: &mut Words<'a>) -> Result<Made, Wrong<'a>> {
 }
 
 /// A read, and what it is answered.
-fn read<'a>(words: &mut Words<'a>) -> Result<Made, Wrong<'a>> {
-    let most = words.number("the number of bytes that were asked for is wanted")?;
+fn read<'a>(words: &mut Pieces<'a>) -> Result<Made, Wrong<'a>> {
+    let most = number(words, "the number of bytes that were asked for is wanted")?;
     match answered(words, &READ) {
-        Ok(answer) => Ok(Made::Read(most as usize, answer)),
+        Ok(answer) => Ok(Made::Read(most, answer)),
         Err(wrong) => Err(wrong),
     }
 }
 
 /// A write, and what it is answered.
-fn write<'a>(words: &mut Words<'a>) -> Result<Made, Wrong<'a>> {
-    let length = words.number("the number of bytes that were offered is wanted")?;
+fn write<'a>(words: &mut Pieces<'a>) -> Result<Made, Wrong<'a>> {
+    let length = number(words, "the number of bytes that were offered is wanted")?;
     match answered(words, &WRITE) {
-        Ok(answer) => Ok(Made::Write(length as usize, answer)),
+        Ok(answer) => Ok(Made::Write(length, answer)),
         Err(wrong) => Err(wrong),
     }
 }
 
 /// A join, and what it is answered.
-fn join<'a>(words: &mut Words<'a>) -> Result<Made, Wrong<'a>> {
+fn join<'a>(words: &mut Pieces<'a>) -> Result<Made, Wrong<'a>> {
     match answered(words, &JOIN) {
         Ok(answer) => Ok(Made::Join(answer)),
         Err(wrong) => Err(wrong),
@@ -283,7 +284,7 @@ fn join<'a>(words: &mut Words<'a>) -> Result<Made, Wrong<'a>> {
 }
 
 /// A shutdown, and what it is answered.
-fn shut<'a>(words: &mut Words<'a>) -> Result<Made, Wrong<'a>> {
+fn shut<'a>(words: &mut Pieces<'a>) -> Result<Made, Wrong<'a>> {
     match answered(words, &SHUT) {
         Ok(answer) => Ok(Made::Shut(answer)),
         Err(wrong) => Err(wrong),
@@ -291,13 +292,13 @@ fn shut<'a>(words: &mut Words<'a>) -> Result<Made, Wrong<'a>> {
 }
 
 /// What a call is answered.
-fn answered<'a>(words: &mut Words<'a>, answers: &Answers) -> Result<Answer, Wrong<'a>> {
-    let word = words.word(answers.wanted)?;
+fn answered<'a>(words: &mut Pieces<'a>, answers: &Answers) -> Result<Answer, Wrong<'a>> {
+    let word = word(words, answers.wanted)?;
     if let Some(answer) = named(word, answers.named) {
         return Ok(answer);
     }
-    match number(word) {
-        Some(count) if answers.counts => Ok(Answer::Moved(count as usize)),
+    match input::number(word) {
+        Some(count) if answers.counts => Ok(Answer::Moved(count)),
         _ => unmade(word, words, answers.wanted),
     }
 }
@@ -305,7 +306,7 @@ fn answered<'a>(words: &mut Words<'a>, answers: &Answers) -> Result<Answer, Wron
 /// A call that was interrupted or failed.
 fn unmade<'a>(
     word: &'a [u8],
-    words: &mut Words<'a>,
+    words: &mut Pieces<'a>,
     wanted: &'static str,
 ) -> Result<Answer, Wrong<'a>> {
     if is(word, "interrupted") {
@@ -318,9 +319,9 @@ fn unmade<'a>(
 }
 
 /// A kind of failure.
-fn kind<'a>(words: &mut Words<'a>) -> Result<Kind, Wrong<'a>> {
+fn kind<'a>(words: &mut Pieces<'a>) -> Result<Kind, Wrong<'a>> {
     let wanted =
         "one of aborted, notconnected, other, pipe, refused, reset, timedout and zero is wanted";
-    let word = words.word(wanted)?;
+    let word = word(words, wanted)?;
     said(Kind::named(word), word, wanted)
 }

@@ -21,7 +21,7 @@ use Rattle.ready.specs.declared.ticket.Ticket.{Ticket}
 use Rattle.dispatch.specs.declared.shared.Own.{Own}
 use Rattle.ready.specs.Steps.{EndState}
 use Rattle.dispatch.specs.Hands.{HandState, ticket_room}
-use Rattle.dispatch.specs.Limits.{last_generation}
+use Rattle.token.specs.Names.{last_generation}
 use Rattle.rounds.specs.Deliveries.{at_slot}
 use Rattle.dispatch.specs.Acts.{Act, AreMade, Register, Adopt, placing}
 use Rattle.rounds.specs.Openings.{times, slots_in, AreIn, AreOpened, SlotsCounted, OnlyTook, Between, LetGo, Started, Connected, AcceptDone, IsOpened, IsLost, IsSpent, AreLost, Fate, next_in, Opened, Dropped, Spent, Held, DropsFor}

@@ -11,7 +11,7 @@ use Rattle.rounds.specs.Deliveries.{at_slot}
 use Rattle.dispatch.specs.Acts as act
 use Rattle.dispatch.specs.Splits.{IsIn}
 use Rattle.dispatch.specs.Hands.{ticket_room}
-use Rattle.dispatch.specs.Limits.{last_generation}
+use Rattle.token.specs.Names.{last_generation}
 use Rattle.rounds.specs.Pollers.{PollerState, Counted, counted_up}
 use Rattle.log.specs.declared.level.Level.{Level}
 use Rattle.log.specs.declared.level.Level.TheVariants as level

@@ -3,7 +3,7 @@ use Rattle.std.specs.Prelude.{◌≡◌, ◌⊎◌, ℕ, ◌+◌, ◌≤◌, min
 use Rattle.rounds.specs.declared.episodes.Episodes.{Episodes}
 use Rattle.rounds.specs.declared.opening.Opening.{Opening}
 use Rattle.dispatch.specs.declared.part.Part.{Part}
-use Rattle.dispatch.specs.Limits.{last_generation}
+use Rattle.token.specs.Names.{last_generation}
 use Rattle.dispatch.specs.Splits.{IsIn}
 
 -- What the front reported at the last wait, whether that failed, how many milliseconds it could take (0 if the front

@@ -9,7 +9,7 @@ ghost use Rattle.dispatch.specs.Acts.{AreMade, open_slot, placing};
 ghost use Rattle.dispatch.specs.Acts as act;
 ghost use Rattle.dispatch.specs.Posts.{HoldsOnly, OnlyWorn};
 ghost use Rattle.dispatch.specs.Hands.{ticket_room};
-ghost use Rattle.dispatch.specs.Limits.{last_generation};
+ghost use Rattle.token.specs.Names.{last_generation};
 ghost use Rattle.rounds.specs.Leads.{LeadTold};
 ghost use Rattle.rounds.specs.Openings.{next_in, Between, DropCounted, DropsFor, Fate, IsNext, LetGo, OneAccepted, OpeningLogged, Placed, Registered, SameQueues, Started};
 ghost use Rattle.rounds.specs.Pollers.{AreGenerations};

@@ -1,7 +1,7 @@
 //! What a poller keeps between its rounds.
 ghost use Rattle.std.specs.Prelude.{◌≡◌, ◌-◌, ◌<◌, ◌≤◌, ◌↔◌, [], length, IfOk, OnOk, OnErr, IsTrue, replicate, slice_set, true, false};
 ghost use Rattle.dispatch.specs.Acts as act;
-ghost use Rattle.dispatch.specs.Limits.{last_generation};
+ghost use Rattle.token.specs.Names.{last_generation};
 ghost use Rattle.dispatch.specs.Splits.{IsIn};
 ghost use Rattle.rounds.specs.Drops.{all_told_at, dropped_for, AreTold};
 ghost use Rattle.rounds.specs.Episodes.{no_episodes, opened_after};

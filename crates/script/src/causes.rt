@@ -4,8 +4,9 @@
 use crate::limits::{MAX_BYTES, MAX_SHOWN};
 use crate::machine::Machine;
 use crate::{Fault, Script, parse};
+use input::Pieces;
 use script_text::{
-    Header, Line, Lines, NotRead, Page, Piece, Pieces, Wrong, read_event, read_header, read_step,
+    Header, Line, Lines, NotRead, Page, Piece, Wrong, read_event, read_header, read_step,
 };
 use std::alloc::Global;
 

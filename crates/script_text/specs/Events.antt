@@ -1,5 +1,6 @@
 -- The events of a world's script, and the lines that say them. Part of the promises.
 use Rattle.std.specs.Prelude.{ℕ, ◌+◌, nat_lt, nat_le, ◌&&◌, if◌then◌else◌, List, [], ◌∷◌, length, codes, Option, Some, None, option_map, option_and_then}
+use Rattle.token.specs.Names.{last_generation}
 use Rattle.std.specs.Str.{bytes_eq}
 use Rattle.token.specs.declared.side.Side.{Side}
 use Rattle.token.specs.Sides.{side_named}
@@ -46,7 +47,7 @@ worker_of word = number_below 16 word
 
 -- the generations of a name, 1 to 2^47 - 1
 abbrev pub generation_of : List ℕ → Option ℕ
-generation_of word = option_and_then (λ n. if nat_lt 0 n && nat_le n 140737488355327 then Some n else None) (number_of word)
+generation_of word = option_and_then (λ n. if nat_lt 0 n && nat_le n last_generation then Some n else None) (number_of word)
 
 -- `SLOT.GEN.SIDE`, by its parts
 abbrev pub end_of : List (List ℕ) → Option Name

@@ -1,6 +1,7 @@
 -- The header of a script, which says what the script covers, and its sizes. Part of the promises. It is the first line
 -- that is not skipped.
 use Rattle.std.specs.Prelude.{ℕ, ◌≤◌, nat_lt, nat_le, ◌&&◌, if◌then◌else◌, List, [], ◌∷◌, codes, length, Option, Some, None, option_map, option_and_then}
+use Rattle.token.specs.Names.{last_generation}
 use Rattle.std.specs.Str.{bytes_eq}
 use Rattle.world.specs.declared.limits.Limits.{Limits}
 use Rattle.world.specs.States.{IsWithinLimits}
@@ -15,7 +16,7 @@ size_of key most word = option_and_then (λ n. if nat_lt 0 n && nat_le n most th
 
 -- `gen=G` with G from 0 to 2^47 - 2
 abbrev pub generation_of : List ℕ → Option ℕ
-generation_of word = option_and_then (λ n. if nat_lt n 140737488355327 then Some n else None) (value_after (codes "gen=") word)
+generation_of word = option_and_then (λ n. if nat_lt n last_generation then Some n else None) (value_after (codes "gen=") word)
 
 -- `ring=R`, the bytes of a ring
 abbrev pub ring_of : List ℕ → Option ℕ

@@ -4,12 +4,9 @@ use Rattle.std.specs.List.{slice_split, list_all}
 use Rattle.std.specs.Str.{bytes_eq}
 use Rattle.std.specs.Result.{result_ok}
 use Rattle.hex.specs.Hex.{decode_of}
+pub use Rattle.input.specs.Texts.{is_digit, is_plain, number_of, pieces_left, pieces_of, value_of, with_digit}
 
--- Lines end at LF, and the last may lack it. Words are separated by single spaces, and by no other
--- byte.
-abbrev pub pieces_of : ℕ → List ℕ → List (List ℕ)
-pieces_of separator text = slice_split (λ byte. byte == separator) text
-
+-- Lines end at LF, and the last may lack it. Words are separated by single spaces, and by no other byte.
 abbrev pub lines_of : List ℕ → List (List ℕ)
 lines_of text = pieces_of 10 text
 
@@ -20,11 +17,6 @@ words_of line = pieces_of 32 line
 pub record NumberedLine : Type 0 where
   pub number : ℕ
   pub text : List ℕ
-
--- the pieces between separators of what is left of a text, if anything is
-abbrev pub pieces_left : ℕ → Option (List ℕ) → List (List ℕ)
-pieces_left separator None = []
-pieces_left separator (Some rest) = pieces_of separator rest
 
 -- an empty line, and one that begins with #, says nothing
 abbrev pub says_nothing : List ℕ → Bool
@@ -38,30 +30,7 @@ telling_lines n (text ∷ texts) =
     if says_nothing text then telling_lines (n + 1) texts
     else (record { number = n; text = text }) ∷ telling_lines (n + 1) texts
 
--- decimal digits
-abbrev pub is_digit : ℕ → Bool
-is_digit byte = nat_le 48 byte && nat_le byte 57
-
--- a number, and one more digit after it
-abbrev pub with_digit : ℕ → ℕ → ℕ
-with_digit n digit = n * 10 + (digit - 48)
-
--- the value of decimal digits, the highest first
-abbrev pub value_of : List ℕ → ℕ
-value_of digits = fold with_digit 0 digits
-
--- one digit at least, and none but a lone 0 in front
-abbrev pub is_plain : List ℕ → Bool
-is_plain [] = false
-is_plain (digit ∷ []) = true
-is_plain (digit ∷ next ∷ digits) = not (digit == 48)
-
--- the number that a text is in decimal digits without leading zeros, if that is below 2^64
-abbrev pub number_of : List ℕ → Option ℕ
-number_of text =
-    if is_plain text && (list_all is_digit text && nat_lt (value_of text) (2 ^ 64)) then Some (value_of text) else None
-
--- the same, if it is below a bound too
+-- the number that a text is, if it is below a bound
 abbrev pub number_below : ℕ → List ℕ → Option ℕ
 number_below bound text = option_and_then (λ n. if nat_lt n bound then Some n else None) (number_of text)
 

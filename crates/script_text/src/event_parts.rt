@@ -6,10 +6,10 @@ ghost use Rattle.script_text.specs.Events.{generation_of, end_of, name_of, are_n
 ghost use Rattle.token.specs.Kinds.{kind_named};
 
 use crate::limits::MAX_SLOTS;
-use crate::lines::Pieces;
 use crate::readers::{count, is_full, last, said, side, word};
-use crate::values::{is, number, number_below};
+use crate::values::number_below;
 use crate::wrong::{NotRead, Wrong};
+use input::{Pieces, is, number};
 use kernel_model::{MAX_POLLED, Reply};
 use std::alloc::{AllocError, Global};
 use token::{Kind, MAX_GENERATION, Name, Side, Token};

@@ -8,10 +8,10 @@ ghost use Rattle.script_text.specs.Events.{said_of, slot_of, accepting_of, chang
 use crate::Word;
 use crate::event_parts::{names, reply, reported};
 use crate::limits::MAX_WORKERS;
-use crate::lines::Pieces;
 use crate::readers::{count, first_word, last, last_bytes, said, side, slot, word, worker};
-use crate::values::{is, number_below};
+use crate::values::number_below;
 use crate::wrong::{NotRead, Wrong};
+use input::{Pieces, is};
 use kernel_model::Accepting;
 use std::alloc::Global;
 use world::{Act, Change, Event, Listening, Polling};

@@ -1,15 +1,16 @@
 // The header: the first line of a script that is not skipped.
 ghost use Rattle.std.specs.Prelude.{◌≡◌, ◌≤◌, ◌<◌, [], unwrap_or, IfSome, IfOk, option_and_then};
+ghost use Rattle.token.specs.Names.{last_generation};
 ghost use Rattle.world.specs.States.{IsWithinLimits};
 ghost use Rattle.script_text.specs.Reading.{first_as, Reads, Takes};
 ghost use Rattle.script_text.specs.Headers.{size_of, generation_of, ring_of, idle_of, lead_of, short_enough, optional, with_extras, limits_of, lone_ring, header_of, IsRing, IsWithin};
 ghost use Rattle.script_text.specs.Texts.{bytes_of};
 
 use crate::limits::{MAX_BUDGET, MAX_IDLE, MAX_SLOTS, MAX_WORKERS};
-use crate::lines::Pieces;
 use crate::readers::{end_or, last, said, word};
-use crate::values::{is, is_hex_text, value_after};
+use crate::values::{is_hex_text, value_after};
 use crate::wrong::Wrong;
+use input::{Pieces, is};
 use flow::Flow;
 use token::MAX_GENERATION;
 use world::{Lead, Limits};
@@ -124,7 +125,7 @@ fn behind(generation: Option<u64>, idle: Option<u64>, has_lead: bool) -> &'stati
 /// The generation that `gen=G` says as the first word, 0 to 2^47 - 2; or none, and the word stays.
 fn generation(words: &mut Pieces<'_>) -> Option<u64>
     ensures value { optional generation_of 0 words.old ≡ record { value = unwrap_or result 0; words = words.new } }
-    ensures range { IfSome result (λ generation. generation < 140737488355327) }
+    ensures range { IfSome result (λ generation. generation < last_generation) }
 {
     let generation = value_after(b"gen=", words.peek()?)?;
     if generation >= MAX_GENERATION as usize {

@@ -1,6 +1,6 @@
 //! The texts of scripts: what their lines say, and what is written of a world.
 //!
-//! [`Lines`] gives the lines of a text that are not skipped, and [`Pieces`] the words of a line. [`read_header`]
+//! [`Lines`] gives the lines of a text that are not skipped, whose words are the pieces of `input`. [`read_header`]
 //! reads the first line, and [`read_step`] and [`read_event`] read the others, by what the header covers. A line that
 //! says none of these has a first word from the left that is [`Wrong`], with what is expected there.
 //!
@@ -41,7 +41,7 @@ pub use ends::{NOT_HERE, end_reason, ended_reason, read_reason, room_reason, wro
 pub use event_line::{put_event, put_header};
 pub use events::read_event;
 pub use header::{Header, read_header};
-pub use lines::{Line, Lines, Pieces};
+pub use lines::{Line, Lines};
 pub use names::put_names;
 pub use page::{Page, Piece};
 pub use reasons::event_reason;

@@ -8,10 +8,10 @@ ghost use Rattle.script_text.specs.Reading.{first_as, word_then, line_end, if_la
 ghost use Rattle.script_text.specs.Events.{slot_of, worker_of};
 
 use crate::limits::{MAX_SLOTS, MAX_WORKERS};
-use crate::lines::Pieces;
-use crate::values::{bytes, is, number, number_below};
+use crate::values::{bytes, number_below};
 use crate::wrong::{NotRead, Wrong};
 use crate::{Bytes, Word};
+use input::{Pieces, is, number};
 use std::alloc::Global;
 use token::Side;
 

@@ -5,10 +5,10 @@ ghost use Rattle.script_text.specs.Texts.{number_of};
 ghost use Rattle.script_text.specs.Reading.{word_then, if_last, full_of, Reads, ReadsBy};
 ghost use Rattle.script_text.specs.Steps.{plain_step, arrive_step, step_of};
 
-use crate::lines::Pieces;
 use crate::readers::{count, first_word, is_full, last, last_bytes};
 use crate::wrong::{NotRead, Wrong};
 use crate::{Step, Word};
+use input::Pieces;
 use std::alloc::Global;
 
 /// What is wanted where a line has another first word.

@@ -1,39 +1,13 @@
 ghost use Rattle.std.specs.Prelude.{◌≡◌, IfOk, IfErr, IsSome};
-ghost use Rattle.std.specs.Str.{bytes_eq};
 ghost use Rattle.std.specs.List.{list_all};
-ghost use Rattle.script_text.specs.Texts.{number_of, number_below, value_after, bytes_of, is_digit, is_lower_hex, is_hex_text, is_plain};
+ghost use Rattle.script_text.specs.Texts.{number_below, value_after, bytes_of, is_lower_hex, is_hex_text};
 
 use crate::Bytes;
 use crate::limits::MAX_DIGITS;
+use input::{is_digit, number};
 use std::alloc::{AllocError, Global};
 
-/// Whether a word is this text.
-pub(crate) fn is(word: &[u8], text: &str) -> bool
-    ensures { result ≡ bytes_eq word.now text.now }
-{
-    word == text.as_bytes()
-}
-
-/// The number that a text stands for in decimal digits without leading zeros, if it is below 2^64.
-pub(crate) fn number(text: &[u8]) -> Option<usize>
-    ensures { result ≡ number_of text.now }
-{
-    if !is_plain(text) {
-        return None;
-    }
-    let mut value: usize = 0;
-    for byte in text {
-        if !is_digit(*byte) {
-            return None;
-        }
-        value = value
-            .checked_mul(10)?
-            .checked_add(usize::from(*byte - b'0'))?;
-    }
-    Some(value)
-}
-
-/// The same, if it is also below a bound.
+/// The number that a text stands for, if it is below a bound.
 pub(crate) fn number_below(bound: usize, text: &[u8]) -> Option<usize>
     ensures { result ≡ number_below bound text.now }
 {
@@ -46,24 +20,6 @@ pub(crate) fn value_after(key: &[u8], word: &[u8]) -> Option<usize>
     ensures { result ≡ value_after key.now word.now }
 {
     number(word.strip_prefix(key)?)
-}
-
-/// Whether a byte is a decimal digit.
-fn is_digit(byte: u8) -> bool
-    ensures { result ≡ is_digit byte }
-{
-    b'0' <= byte && byte <= b'9'
-}
-
-/// Whether a text is not empty, and has no leading zero unless it is a single zero.
-fn is_plain(text: &[u8]) -> bool
-    ensures { result ≡ is_plain text.now }
-{
-    match text {
-        [] => false,
-        [_] => true,
-        [first, ..] => *first != b'0',
-    }
 }
 
 /// The bytes that a text stands for in lower-case hexadecimal, 1 to 1,024 of them. Memory is asked for only if it

@@ -6,14 +6,13 @@ use Rattle.std.specs.declared.io.ErrorKind.TheVariants.{WouldBlock}
 use Rattle.std.specs.declared.net.SocketAddr.{SocketAddr}
 use Rattle.std.specs.IoError.{error_kind}
 use Rattle.token.specs.Names.{EndName}
-use Rattle.token.specs.declared.side.Side.TheVariants.{Target}
 use Rattle.readiness.specs.Words.{WordName}
-use Rattle.relay_core.specs.declared.call.Call.{Call}
-use Rattle.relay_core.specs.declared.call.Call.TheVariants as call
+use Rattle.relay_core.specs.declared.call.CallKind.{CallKind}
+use Rattle.relay_core.specs.declared.call.CallKind.TheVariants as call
 use Rattle.engine.specs.Asked.{Asked, Read, Write, Join, Shut, Given, Brought, Took, Done, Refused}
 use Rattle.engine.specs.declared.class.Class.{Class}
 use Rattle.engine.specs.declared.class.Class.TheVariants as class
-use Rattle.engine.specs.Classes.{class_of, pending_kind}
+use Rattle.engine.specs.Classes.{class_by, pending_kind}
 use Rattle.engine.specs.Tallies.{Tallied, tally, connected, counted, fault_more}
 use Rattle.engine.specs.Wires.{call_gave}
 use Rattle.sockets.specs.declared.patience.Patience.{Patience}
@@ -62,12 +61,12 @@ patient patience socket = record socket { patience = patience }
 abbrev pub SameButWatched : Socket → Socket → Type 0
 SameButWatched old new = new ≡ record old { watched = new.watched }
 
--- the call that was asked for. Its class depends on no side, but for what is known of the connection
-abbrev pub call_of : Asked → Call
-call_of (Read most) = call.Read Target most
-call_of (Write offer) = call.Write Target
-call_of Join = call.Join Target
-call_of Shut = call.Shut Target
+-- which call was asked for
+abbrev pub call_of : Asked → CallKind
+call_of (Read most) = call.Read
+call_of (Write offer) = call.Write
+call_of Join = call.Join
+call_of Shut = call.Shut
 
 -- bytes that it took show that it is connected. None of an offer that isn't empty is a fault
 abbrev pub took : ℕ → ℕ → Tallied → Tallied
@@ -76,7 +75,7 @@ took count offered t = if count == 0 then (if offered == 0 then t else fault_mor
 -- bytes, the end of input or an address show that it is connected, and a shutdown shows nothing. An error is counted
 -- by its class
 abbrev pub tally_after : Asked → Given → Tallied → Tallied
-tally_after asked (Refused kind) t = counted (class_of (call_of asked) t.joined kind) t
+tally_after asked (Refused kind) t = counted (class_by (call_of asked) t.joined kind) t
 tally_after (Read most) (Brought bytes) t = connected t
 tally_after (Write offer) (Took count) t = took count (length offer) t
 tally_after Join Done t = connected t
@@ -88,13 +87,11 @@ SendsAfter (Write offer) old new = IsOffered (length offer) old new
 SendsAfter asked old new = new ≡ old
 
 -- a read that would block ends that the wire reads the socket, and a failure of any call begins it
-abbrev pub goes_on : Call → Class → Bool → Bool
+abbrev pub goes_on : CallKind → Class → Bool → Bool
 goes_on call class.Interrupted reads = reads
 goes_on call (class.Failed kind) reads = true
-goes_on (call.Read side most) class.Blocked reads = false
-goes_on (call.Write side) class.Blocked reads = reads
-goes_on (call.Join side) class.Blocked reads = reads
-goes_on (call.Shut side) class.Blocked reads = reads
+goes_on call.Read class.Blocked reads = false
+goes_on call class.Blocked reads = reads
 
 -- a write that took no byte of an offer that isn't empty is a failure
 abbrev pub goes_on_after : ℕ → ℕ → Bool → Bool
@@ -102,7 +99,7 @@ goes_on_after count offered reads = if count == 0 then (if offered == 0 then rea
 
 -- whether the wire reads the socket after an answer
 abbrev pub reads_after : Asked → Given → Bool → Bool → Bool
-reads_after asked (Refused kind) joined reads = goes_on (call_of asked) (class_of (call_of asked) joined kind) reads
+reads_after asked (Refused kind) joined reads = goes_on (call_of asked) (class_by (call_of asked) joined kind) reads
 reads_after (Write offer) (Took count) joined reads = goes_on_after count (length offer) reads
 reads_after asked given joined reads = reads
 

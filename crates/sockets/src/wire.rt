@@ -1,9 +1,8 @@
 ghost use Rattle.std.specs.Prelude.{◌≡◌, true, false, Some, None, IfSome, OnOk, OnErr};
 ghost use Rattle.std.specs.IoError.{error_kind};
 ghost use Rattle.token.specs.Names.{end_number};
-ghost use Rattle.relay_core.specs.Calls.{side_of};
 ghost use Rattle.engine.specs.Asked as ask;
-ghost use Rattle.engine.specs.Classes.{class_of, pending_kind};
+ghost use Rattle.engine.specs.Classes.{class_by, pending_kind};
 ghost use Rattle.engine.specs.Tallies.{connected, counted};
 ghost use Rattle.engine.specs.Wires.{call_gave};
 ghost use Rattle.sockets.specs.Delays.{IsOffered};
@@ -15,11 +14,11 @@ use crate::patience::Patience;
 use crate::socket::Socket;
 use crate::stream::Stream;
 use dispatch::Settle;
-use engine::{Class, Tally, Wire, class_of};
+use engine::{Class, Tally, Wire, class_by};
 use log::{Level, Log};
 use mio::Registry;
 use readiness::{Attention, Told};
-use relay_core::{Call, Side};
+use relay_core::CallKind;
 use std::io;
 use std::marker::Model;
 use std::net::SocketAddr;
@@ -29,7 +28,7 @@ use token::Token;
 /// knows its answer: after a read that would block, it answers "would block" by itself until it is told of a report
 /// that names reading, or a call fails.
 ///
-/// It counts its answers by [`class_of`](engine::class_of). It specifies the system calls that it makes, and gives
+/// It counts its answers by [`class_by`](engine::class_by). It specifies the system calls that it makes, and gives
 /// their answers unchanged. It does not specify its bytes, since only the system knows which bytes come.
 #[derive(Drop)]
 pub struct SocketWire<S = Socket> {
@@ -203,25 +202,24 @@ impl<S: Stream> SocketWire<S> {
 
     /// Counts an error of a call by its class, and gives it. After a read that would block the wire does not read,
     /// and after a failure it does.
-    fn refuse(&mut self, call: Call, error: io::Error) -> io::Error
-        requires { side_of call ≡ Side.Target }
+    fn refuse(&mut self, call: CallKind, error: io::Error) -> io::Error
         ensures same { result ≡ error }
-        ensures counted { self.new.socket.tally ≡ counted (class_of call self.old.socket.tally.joined (error_kind error))
+        ensures counted { self.new.socket.tally ≡ counted (class_by call self.old.socket.tally.joined (error_kind error))
             self.old.socket.tally }
-        ensures reads { self.new.socket.reads ≡ goes_on call (class_of call self.old.socket.tally.joined (error_kind error))
+        ensures reads { self.new.socket.reads ≡ goes_on call (class_by call self.old.socket.tally.joined (error_kind error))
             self.old.socket.reads }
         ensures joined { self.new.socket.tally.joined ≡ self.old.socket.tally.joined }
         ensures rest { self.new.socket ≡ record self.old.socket { tally = self.new.socket.tally; reads = self.new.socket.reads } }
         ensures stream { self.new.stream ≡ self.old.stream }
     {
-        let class = class_of(&call, error.kind(), self.tally.joined());
+        let class = class_by(call, error.kind(), self.tally.joined());
         self.heed(call, class, &error);
         self.tally.refuse(call, error.kind());
         error
     }
 
     /// Whether the wire reads its socket after an error of this class. A failure is kept for the log.
-    fn heed(&mut self, call: Call, class: Class, error: &io::Error)
+    fn heed(&mut self, call: CallKind, class: Class, error: &io::Error)
         ensures { self.new ≡ record self.old { socket = record self.old.socket { reads = goes_on call class self.old.socket.reads } } }
     {
         match class {
@@ -231,8 +229,8 @@ impl<S: Stream> SocketWire<S> {
                 self.keep(error);
             }
             Class::Blocked => match call {
-                Call::Read(..) => self.attention.rest(),
-                Call::Write(_) | Call::Join(_) | Call::Shut(_) => {}
+                CallKind::Read => self.attention.rest(),
+                CallKind::Write | CallKind::Join | CallKind::Shut => {}
             },
         }
     }
@@ -301,14 +299,14 @@ impl<S: Stream> Wire for SocketWire<S> {
     fn read(&mut self, buffer: &mut [u8]) -> io::Result<usize> {
         if !self.looks() {
             let blocked = io::Error::from(io::ErrorKind::WouldBlock);
-            return Err(self.refuse(Call::Read(Side::Target, buffer.len()), blocked));
+            return Err(self.refuse(CallKind::Read, blocked));
         }
         match self.stream.read(buffer) {
             Ok(count) => {
                 self.connect();
                 Ok(count)
             }
-            Err(error) => Err(self.refuse(Call::Read(Side::Target, buffer.len()), error)),
+            Err(error) => Err(self.refuse(CallKind::Read, error)),
         }
     }
 
@@ -320,14 +318,14 @@ impl<S: Stream> Wire for SocketWire<S> {
                 self.took(count, offer.len());
                 Ok(count)
             }
-            Err(error) => Err(self.refuse(Call::Write(Side::Target), error)),
+            Err(error) => Err(self.refuse(CallKind::Write, error)),
         }
     }
 
     fn shut_write(&mut self) -> io::Result<()> {
         match self.stream.shut_write() {
             Ok(()) => Ok(()),
-            Err(error) => Err(self.refuse(Call::Shut(Side::Target), error)),
+            Err(error) => Err(self.refuse(CallKind::Shut, error)),
         }
     }
 
@@ -337,7 +335,7 @@ impl<S: Stream> Wire for SocketWire<S> {
                 self.connect();
                 Ok(())
             }
-            Err(error) => Err(self.refuse(Call::Join(Side::Target), error)),
+            Err(error) => Err(self.refuse(CallKind::Join, error)),
         }
     }
 

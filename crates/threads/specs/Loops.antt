@@ -1,5 +1,6 @@
 -- What a thread's loop does with tickets, and with free slots. Part of the promises.
 use Rattle.std.specs.Prelude.{◌≡◌, ◌≢◌, ◌⊎◌, ℕ, zero, suc, ◌+◌, ◌<◌, ◌≤◌, ◌==◌, ◌&&◌, Bool, true, false, nat_lt, if◌then◌else◌, List, [], ◌∷◌, ◌++◌, length, map, Result, Ok, Err, slice_get}
+use Rattle.token.specs.Names.{last_generation}
 use Rattle.std.specs.List.{count_by, sum_by, All}
 use Rattle.claims.specs.declared.view.Exchange.{Exchange}
 use Rattle.claims.specs.declared.view.Exchange.TheVariants.{Adopted}
@@ -50,7 +51,7 @@ times_in slot slots = count_by (λ s. s == slot) slots
 
 -- the slot of a connection that a turn ended is free, unless its generation was the last
 abbrev pub freed_by : Ticket → Result Worked ServerFault → List ℕ
-freed_by ticket (Ok worked.Ended) = if nat_lt ticket.generation 140737488355327 then ticket.slot ∷ [] else []
+freed_by ticket (Ok worked.Ended) = if nat_lt ticket.generation last_generation then ticket.slot ∷ [] else []
 freed_by ticket answer = []
 
 abbrev pub freed : List Run → List ℕ

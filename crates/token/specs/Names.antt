@@ -13,9 +13,13 @@ pub record EndName : Type 0 where
 abbrev pub IsSlot : ℕ → Type 0
 IsSlot slot = slot ≤ 32767
 
--- the generations that have a name, 1 to 2^47 - 1: a slot that was never opened has generation 0
+-- 2^47 - 1, the last generation that has a name: the slot of such a connection is not used again
+abbrev pub last_generation : ℕ
+last_generation = 140737488355327
+
+-- the generations that have a name: a slot that was never opened has generation 0
 abbrev pub IsGeneration : ℕ → Type 0
-IsGeneration generation = (1 ≤ generation) × (generation ≤ 140737488355327)
+IsGeneration generation = (1 ≤ generation) × (generation ≤ last_generation)
 
 -- the names that there are
 abbrev pub IsEndName : EndName → Type 0

@@ -5,7 +5,7 @@ use Rattle.token.specs.declared.side.Side.{Side}
 use Rattle.token.specs.declared.side.Side.TheVariants.{Client, Target}
 use Rattle.token.specs.declared.name.Name.{Name}
 use Rattle.token.specs.declared.name.Name.TheVariants.{Listener, Waker, End}
-use Rattle.token.specs.Names.{EndName, IsEndName, end_number}
+use Rattle.token.specs.Names.{EndName, IsEndName, end_number, last_generation}
 
 -- the number of a name
 abbrev pub name_number : Name → ℕ
@@ -32,9 +32,9 @@ abbrev pub name_of : ℕ → Option Name
 name_of number =
     if number == 0 then Some Listener
     else if number == 1 then Some Waker
-    else if nat_le 1 (number / 65536) && nat_le (number / 65536) 140737488355327 then Some (End (end_of number))
+    else if nat_le 1 (number / 65536) && nat_le (number / 65536) last_generation then Some (End (end_of number))
     else None
 
 -- the generation of a slot that is opened again; none after the last that has a name
 abbrev pub generation_after : ℕ → Option ℕ
-generation_after generation = if generation == 140737488355327 then None else Some (generation + 1)
+generation_after generation = if generation == last_generation then None else Some (generation + 1)

@@ -1,5 +1,5 @@
 ghost use Rattle.std.specs.Prelude.{◌≡◌, ◌≤◌, ◌<◌, ◌+◌, ◌↔◌, Some, Ok, Err, IsErrOf};
-ghost use Rattle.token.specs.Names.{EndName, IsSlot, IsGeneration, end_number};
+ghost use Rattle.token.specs.Names.{EndName, IsSlot, IsGeneration, end_number, last_generation};
 ghost use Rattle.token.specs.Numbers.{name_of, generation_after};
 ghost use Rattle.token.specs.declared.name.Name.TheVariants.{End};
 
@@ -101,7 +101,7 @@ impl Token {
 /// [`MAX_GENERATION`]. The caller may pass 0, the generation of a slot that was never opened, but none over
 /// [`MAX_GENERATION`].
 pub fn next_gen(generation: u64) -> Option<u64>
-    requires { generation ≤ 140737488355327 }
+    requires { generation ≤ last_generation }
     ensures { result ≡ generation_after generation }
 {
     if generation == MAX_GENERATION {

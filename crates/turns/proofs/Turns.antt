@@ -26,7 +26,7 @@ use Rattle.turns.specs.declared.worker.Worked.TheVariants as worked
 use Rattle.dispatch.specs.Outgoing.{Inserted, KeepsTicket, TookNothing, outgoing, tickets_out, slots_out, without_first}
 use Rattle.dispatch.specs.Posts.{HoldsOnly}
 use Rattle.dispatch.specs.Hands.{HandState, HasRoom}
-use Rattle.dispatch.specs.Limits.{last_generation}
+use Rattle.token.specs.Names.{last_generation}
 use Rattle.dispatch.specs.Acts.{Act, AreMade, leaving, giving}
 use Rattle.dispatch.specs.Acts as act
 use Rattle.turns.specs.Turns.{WasHeld, ActsLeft, TurnInOrder, OwnTurnInOrder, program, AtWork, TicketsKept, SlotsKept, SlotGiven, TurnDone, ClaimedTurn, TurnEnd, LeftSlot, TurnMade, OwnTurn, NoOwnTurn, marks_after}

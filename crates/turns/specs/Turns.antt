@@ -17,7 +17,8 @@ use Rattle.turns.specs.declared.worker.Worked.{Worked}
 use Rattle.turns.specs.declared.worker.Worked.TheVariants as worked
 use Rattle.dispatch.specs.Acts.{Act, AreMade, busy_turn, gone_turn, quiet_turn, again_turn, ended_turn}
 use Rattle.dispatch.specs.Hands.{HasRoom}
-use Rattle.dispatch.specs.Limits.{heavy_marks, last_generation}
+use Rattle.token.specs.Names.{last_generation}
+use Rattle.dispatch.specs.Limits.{heavy_marks}
 use Rattle.dispatch.specs.Posts.{HoldsOnly}
 use Rattle.dispatch.specs.Outgoing.{Inserted, KeepsTicket, KeepsSlot, TookNothing, tickets_out, slots_out, without_first}
 

@@ -3,7 +3,7 @@ ghost use Rattle.std.specs.Prelude.{◌≡◌, ◌<◌, nat_lt, length};
 ghost use Rattle.claims.specs.Seats.{HoldsNot};
 ghost use Rattle.dispatch.specs.Acts as act;
 ghost use Rattle.dispatch.specs.Acts.{AreMade, giving};
-ghost use Rattle.dispatch.specs.Limits.{last_generation};
+ghost use Rattle.token.specs.Names.{last_generation};
 ghost use Rattle.dispatch.specs.Outgoing.{tickets_out, slots_out, Inserted, KeepsTicket, KeepsSlot};
 ghost use Rattle.turns.specs.Shares.{Passed};
 ghost use Rattle.turns.specs.Turns.{SlotGiven};

@@ -7,7 +7,7 @@ ghost use Rattle.engine.specs.Turns.{outcome_of, IsServed};
 ghost use Rattle.dispatch.specs.Acts.{AreMade, leaving};
 ghost use Rattle.dispatch.specs.Acts as act;
 ghost use Rattle.dispatch.specs.Hands.{HasRoom};
-ghost use Rattle.dispatch.specs.Limits.{last_generation};
+ghost use Rattle.token.specs.Names.{last_generation};
 ghost use Rattle.dispatch.specs.Outgoing.{KeepsSlot, TookNothing};
 ghost use Rattle.dispatch.specs.Posts.{HoldsOnly, OnlyWorn};
 ghost use Rattle.turns.specs.Turns.{ActsLeft, AtWork, ClaimedTurn, TurnEnd, TurnInOrder, LeftSlot, TurnMade, Plays};

@@ -1,6 +1,7 @@
 -- The state of the whole machine, its limits, and how it begins. Part of the promises.
 use Rattle.std.specs.Prelude.{ℕ, suc, zero, ◌==◌, ◌<◌, ◌≤◌, Bool, true, false, List, [], ◌∷◌, ◌++◌, replicate, Option, Some, None}
 use Rattle.token.specs.declared.name.Name.{Name}
+use Rattle.token.specs.Names.{last_generation}
 use Rattle.kernel_model.specs.Kernel.{KernelState, idle}
 use Rattle.world.specs.declared.limits.Limits.{Limits}
 use Rattle.world.specs.declared.actors.Ticket.{Ticket}
@@ -34,7 +35,7 @@ pub record IsWithinLimits (l : Limits) : Type 0 where
   pub workers : (1 ≤ l.workers) × (l.workers ≤ 16)
   pub ring : (1 ≤ l.ring) × (l.ring ≤ 65536)
   pub budget : (1 ≤ l.budget) × (l.budget ≤ 1024)
-  pub generation : l.generation < 140737488355327
+  pub generation : l.generation < last_generation
 
 -- the numbers below n, in order
 abbrev pub numbers_below : ℕ → List ℕ

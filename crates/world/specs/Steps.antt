@@ -6,7 +6,7 @@ use Rattle.token.specs.declared.side.Side.{Side}
 use Rattle.token.specs.declared.side.Side.TheVariants.{Client, Target}
 use Rattle.token.specs.declared.name.Name.{Name}
 use Rattle.token.specs.declared.name.Name.TheVariants as name
-use Rattle.token.specs.Names.{EndName}
+use Rattle.token.specs.Names.{EndName, last_generation}
 use Rattle.kernel_model.specs.declared.reply.Reply.{Reply}
 use Rattle.kernel_model.specs.declared.watched.Watched.{Watched}
 use Rattle.kernel_model.specs.declared.watched.Watched.TheVariants as watched
@@ -110,7 +110,7 @@ listen st listening.Drop = guard st.accepted (record st { accepted = false })
 
 -- the token of one end in a slot, where slot and generation have one
 abbrev pub token_of : ℕ → Side → ℕ → Option EndName
-token_of s side g = guard (nat_le s 32767 && (nat_le 1 g && nat_le g 140737488355327)) (record { slot = s; side = side; generation = g })
+token_of s side g = guard (nat_le s 32767 && (nat_le 1 g && nat_le g last_generation)) (record { slot = s; side = side; generation = g })
 
 -- a slot with the fresh connection of this second, made as the limits say, and the note of its opening
 abbrev pub opened_place : ℕ → ℕ → Limits → ℕ → Descriptors → SlotState
@@ -343,7 +343,7 @@ retire st w k d = None
 
 -- a slot whose last generation was used is not opened again
 abbrev pub is_worn : ℕ → Bool
-is_worn g = nat_le 140737488355327 g
+is_worn g = nat_le last_generation g
 
 abbrev pub freed : List ℕ → ℕ → SlotState → List ℕ
 freed slots s p = if is_worn p.generation then slots else slots ++ s ∷ []

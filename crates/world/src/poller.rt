@@ -1,5 +1,6 @@
 // The poller's events.
 ghost use Rattle.std.specs.Prelude.{◌≡◌};
+ghost use Rattle.token.specs.Names.{last_generation};
 ghost use Rattle.world.specs.Steps.{token_of};
 
 use crate::actors::Ticket;
@@ -67,7 +68,7 @@ impl World {
         requires first { slice_get self.old.free 0 ≡ Some slot }
         requires inside { slot < length self.old.slots }
         requires before { slice_get self.old.table slot ≡ Some old }
-        requires next { old < 140737488355327 }
+        requires next { old < last_generation }
         ensures { Meets (opening_of self.old slot) self.old self.new result }
     {
         let generation = old + 1;

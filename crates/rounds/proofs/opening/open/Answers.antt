@@ -2,7 +2,7 @@ use Rattle.std.proofs.Common.{rules, Option, OnErr, IfSome, ◌≡◌, ◌+◌, 
 use Rattle.dispatch.specs.Acts.{Act, AreMade, open_slot}
 use Rattle.dispatch.specs.Acts as act
 use Rattle.dispatch.specs.Hands.{HandState, ticket_room}
-use Rattle.dispatch.specs.Limits.{last_generation}
+use Rattle.token.specs.Names.{last_generation}
 use Rattle.rounds.specs.Pollers.{PollerState}
 use Rattle.token.specs.declared.token.Token.{Token}
 use Rattle.rounds.specs.Openings.{next_in, DropCounted, OpeningLogged}

@@ -1,5 +1,10 @@
 -- What stands before and after the first separator.
-use Rattle.script_text.proofs.Prelude.{◌≡◌, ℕ, ◌+◌, List, [], ◌∷◌, Some, None, Bool, true, false, cond, take, drop, arith, subst, refl, slice_split, position, ltb-true, ltb-false, cond_some, fails_before_first, slice_split_first, slice_split_none}
+use Rattle.std.proofs.Common.{◌≡◌, ℕ, ◌+◌, List, [], ◌∷◌, Some, None, Bool, true, false, cond, take, drop, arith, subst, refl}
+use Rattle.std.specs.List.{slice_split, position}
+use Rattle.std.proofs.lemmas.Bool.{ltb-true, ltb-false}
+use Rattle.std.proofs.lemmas.Option.{cond_some}
+use Rattle.std.proofs.lemmas.List.Sums.{fails_before_first}
+use Rattle.std.proofs.lemmas.List.Splits.{slice_split_first, slice_split_none}
 
 -- a choice of nothing was no choice of something
 nothing_chosen : (b : Bool) (n : ℕ) → cond b (Some n) None ≡ None → b ≡ false

@@ -1,5 +1,9 @@
 -- Which texts are no numbers.
-use Rattle.script_text.proofs.Prelude.{◌≡◌, ℕ, ◌+◌, ◌<◌, ◌≤◌, ◌^◌, List, [], ◌∷◌, Bool, true, false, ◌&&◌, cond, Some, None, length, drop, get_or, refl, ap, add-one, ◌∙◌, arith, drop-cons, drop_of_length-le, fold, list_all, le-ltb, lt-ltb, is_digit, is_plain, value_of, with_digit, number_of}
+use Rattle.std.proofs.Common.{◌≡◌, ℕ, ◌+◌, ◌<◌, ◌≤◌, ◌^◌, List, [], ◌∷◌, Bool, true, false, ◌&&◌, cond, Some, None, length, drop, get_or, refl, ap, add-one, ◌∙◌, arith, drop-cons, drop_of_length-le}
+use Rattle.std.specs.Prelude.{fold}
+use Rattle.std.specs.List.{list_all}
+use Rattle.std.proofs.lemmas.Bool.{le-ltb, lt-ltb}
+use Rattle.input.specs.Texts.{is_digit, is_plain, value_of, with_digit, number_of}
 
 -- the value grows with each digit
 value_grows : (n : ℕ) (digits : List ℕ) → n ≤ fold with_digit n digits

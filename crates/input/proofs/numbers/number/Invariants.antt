@@ -1,5 +1,8 @@
-use Rattle.script_text.proofs.Prelude.{◌≡◌, ◌<◌, ◌^◌, drop, fold, list_all, is_digit, value_of, with_digit}
-use Rattle.script_text.proofs.values.number.Given as goal
+use Rattle.std.proofs.Common.{◌≡◌, ◌<◌, ◌^◌, drop}
+use Rattle.std.specs.Prelude.{fold}
+use Rattle.std.specs.List.{list_all}
+use Rattle.input.specs.Texts.{is_digit, value_of, with_digit}
+use Rattle.input.proofs.numbers.number.Given as goal
 
 -- the value so far, with the digits that are left, is the value of all
 abbrev pub invariant-loop-byte : goal.invariant-loop-byte

@@ -1,6 +1,6 @@
 use Rattle.std.proofs.Common.{sym, ◌∙◌, arith}
-use Rattle.script_text.proofs.Digits.{too_large_at, whole_number}
-use Rattle.script_text.proofs.values.number.Goals as goal
+use Rattle.input.proofs.Digits.{too_large_at, whole_number}
+use Rattle.input.proofs.numbers.number.Goals as goal
 
 pub returns-in_err-checked_mul : goal.returns-in_err-checked_mul
 returns-in_err-checked_mul c =

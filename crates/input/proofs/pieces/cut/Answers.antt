@@ -1,7 +1,7 @@
 use Rattle.std.proofs.Common.{sym, ◌∙◌, ◌+◌}
 use Rattle.std.proofs.lemmas.List.{take_rest}
-use Rattle.script_text.proofs.Cuts.{split_at_first, split_nowhere}
-use Rattle.script_text.proofs.lines.cut.Goals as goal
+use Rattle.input.proofs.Cuts.{split_at_first, split_nowhere}
+use Rattle.input.proofs.pieces.cut.Goals as goal
 
 pub returns-in-Some : goal.returns-in-Some
 returns-in-Some c =

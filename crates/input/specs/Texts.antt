@@ -1,0 +1,35 @@
+-- How a text is cut into pieces, and which texts are numbers. Part of the promises.
+use Rattle.std.specs.Prelude.{ℕ, ◌-◌, ◌+◌, ◌*◌, ◌^◌, ◌==◌, nat_lt, nat_le, Bool, true, false, not, ◌&&◌, if◌then◌else◌, List, [], ◌∷◌, fold, Option, Some, None}
+use Rattle.std.specs.List.{slice_split, list_all}
+
+-- the pieces between separators
+abbrev pub pieces_of : ℕ → List ℕ → List (List ℕ)
+pieces_of separator text = slice_split (λ byte. byte == separator) text
+
+-- those of what is left of a text, if anything is
+abbrev pub pieces_left : ℕ → Option (List ℕ) → List (List ℕ)
+pieces_left separator None = []
+pieces_left separator (Some rest) = pieces_of separator rest
+
+-- decimal digits
+abbrev pub is_digit : ℕ → Bool
+is_digit byte = nat_le 48 byte && nat_le byte 57
+
+-- a number, and one more digit after it
+abbrev pub with_digit : ℕ → ℕ → ℕ
+with_digit n digit = n * 10 + (digit - 48)
+
+-- the value of decimal digits, the highest first
+abbrev pub value_of : List ℕ → ℕ
+value_of digits = fold with_digit 0 digits
+
+-- one digit at least, and none but a lone 0 in front
+abbrev pub is_plain : List ℕ → Bool
+is_plain [] = false
+is_plain (digit ∷ []) = true
+is_plain (digit ∷ next ∷ digits) = not (digit == 48)
+
+-- the number that a text is in decimal digits without leading zeros, if that is below 2^64
+abbrev pub number_of : List ℕ → Option ℕ
+number_of text =
+    if is_plain text && (list_all is_digit text && nat_lt (value_of text) (2 ^ 64)) then Some (value_of text) else None
