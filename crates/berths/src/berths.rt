@@ -22,12 +22,13 @@ pub struct Berth<C, T> {
 #[derive(Drop)]
 pub struct Occupied<B>(pub B);
 
-/// A place for each slot, empty or with one berth, which the threads share by `&`.
+/// A place for each slot, empty or with one berth, which the threads share by `&`. A berth is some 460 bytes, and a turn
+/// hands it on several times, so it stays where it was made.
 ///
 /// In a clause it is the number of slots.
 #[derive(Drop)]
 pub struct Berths<C, T> {
-    places: Vec<Mutex<Option<Berth<C, T>>>>,
+    places: Vec<Mutex<Option<Box<Berth<C, T>>>>>,
 }
 
 impl<C, T> Model for Berths<C, T> {
@@ -70,8 +71,8 @@ impl<C, T> Berths<C, T> {
         rt: &impl Wait,
         seat: &ClaimSeat,
         slot: usize,
-        berth: Berth<C, T>,
-    ) -> Result<(), Occupied<Berth<C, T>>>
+        berth: Box<Berth<C, T>>,
+    ) -> Result<(), Occupied<Box<Berth<C, T>>>>
         requires inside { slot < self.now }
         requires holder { Holds seat.now slot }
         ensures given_back { IfErr result (λ given. given.0 ≡ berth) }
@@ -81,7 +82,7 @@ impl<C, T> Berths<C, T> {
     }
 
     /// Takes the berth out of the place of a slot that the caller's seat holds. None means Gone: the place was empty.
-    pub fn take_out(&self, rt: &impl Wait, seat: &ClaimSeat, slot: usize) -> Option<Berth<C, T>>
+    pub fn take_out(&self, rt: &impl Wait, seat: &ClaimSeat, slot: usize) -> Option<Box<Berth<C, T>>>
         requires inside { slot < self.now }
         requires holder { Holds seat.now slot }
     {
@@ -94,7 +95,7 @@ impl<C, T> Berths<C, T> {
         rt: &impl Wait,
         _holder: &ClaimSeat,
         slot: usize,
-    ) -> MutexGuard<'_, Option<Berth<C, T>>>
+    ) -> MutexGuard<'_, Option<Box<Berth<C, T>>>>
         requires inside { slot < self.now }
         requires holder { Holds _holder.now slot }
     {
@@ -104,9 +105,9 @@ impl<C, T> Berths<C, T> {
 
 // Puts a berth into a place, unless one is there. Its wires need not be droppable, so it cannot be lost here.
 fn fill<C, T>(
-    place: &mut Option<Berth<C, T>>,
-    berth: Berth<C, T>,
-) -> Result<(), Occupied<Berth<C, T>>>
+    place: &mut Option<Box<Berth<C, T>>>,
+    berth: Box<Berth<C, T>>,
+) -> Result<(), Occupied<Box<Berth<C, T>>>>
     ensures put { OnOk result (IsNone place.old × (place.new ≡ Some berth)) }
     ensures given_back { IfErr result (λ given. given.0 ≡ berth) }
     ensures unchanged { OnErr result (place.new ≡ place.old) }

@@ -186,11 +186,11 @@ pub trait Moves<F: Front>: Acts {
         places: &Places<F::Client, F::Target>,
         seat: &ClaimSeat,
         slot: usize,
-    ) -> Option<Berth<F::Client, F::Target>>
+    ) -> Option<Box<Berth<F::Client, F::Target>>>
         requires inside { slot < places.now }
         requires holder { Holds seat.now slot }
         ensures made { Self.made act.TakeOut slot self.old self.new }
-        ensures moved { IfSome result (λ berth. moved berth self.new) };
+        ensures moved { IfSome result (λ berth. moved berth.value self.new) };
 
     /// Puts a connection into its place, unless one is there ([`Berths::put_in`]).
     fn put_in<R: Wait>(
@@ -199,12 +199,12 @@ pub trait Moves<F: Front>: Acts {
         places: &Places<F::Client, F::Target>,
         seat: &ClaimSeat,
         slot: usize,
-        berth: Berth<F::Client, F::Target>,
-    ) -> Result<(), Occupied<Berth<F::Client, F::Target>>>
+        berth: Box<Berth<F::Client, F::Target>>,
+    ) -> Result<(), Occupied<Box<Berth<F::Client, F::Target>>>>
         requires inside { slot < places.now }
         requires holder { Holds seat.now slot }
         ensures made { Self.made act.PutIn slot self.old self.new }
-        ensures moved { moved berth self.new };
+        ensures moved { moved berth.value self.new };
 
     /// Has both sockets of a slot's connection send at once what they held back ([`Settle::settle`]).
     fn settle(&mut self, slot: usize, berth: &mut Berth<F::Client, F::Target>)
@@ -214,9 +214,9 @@ pub trait Moves<F: Front>: Acts {
         ensures target { F.Target.settled berth.new.target };
 
     /// Closes both sockets of a slot's connection.
-    fn close(&mut self, slot: usize, berth: Berth<F::Client, F::Target>)
+    fn close(&mut self, slot: usize, berth: Box<Berth<F::Client, F::Target>>)
         ensures made { Self.made act.Close slot self.old self.new }
-        ensures moved { moved berth self.new };
+        ensures moved { moved berth.value self.new };
 
     /// [`Shared::count_moved`].
     fn count_moved(&self, shared: &Shared<F>, slot: usize, pair: &Pair)
@@ -306,7 +306,7 @@ impl<F: Front> Moves<F> for () {
         places: &Places<F::Client, F::Target>,
         seat: &ClaimSeat,
         slot: usize,
-    ) -> Option<Berth<F::Client, F::Target>> {
+    ) -> Option<Box<Berth<F::Client, F::Target>>> {
         places.berths.take_out(rt, seat, slot)
     }
 
@@ -316,8 +316,8 @@ impl<F: Front> Moves<F> for () {
         places: &Places<F::Client, F::Target>,
         seat: &ClaimSeat,
         slot: usize,
-        berth: Berth<F::Client, F::Target>,
-    ) -> Result<(), Occupied<Berth<F::Client, F::Target>>>
+        berth: Box<Berth<F::Client, F::Target>>,
+    ) -> Result<(), Occupied<Box<Berth<F::Client, F::Target>>>>
         requires inside { slot < places.now }
         requires holder { Holds seat.now slot }
         ensures { Unit {0} }
@@ -330,7 +330,7 @@ impl<F: Front> Moves<F> for () {
         berth.target.settle();
     }
 
-    fn close(&mut self, _slot: usize, berth: Berth<F::Client, F::Target>)
+    fn close(&mut self, _slot: usize, berth: Box<Berth<F::Client, F::Target>>)
         ensures { Unit {0} }
     {
         drop(berth);

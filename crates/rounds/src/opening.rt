@@ -130,11 +130,11 @@ fn prepare<F: Front, A: Moves<F>, N: Log>(
     poller: &mut Poller<F>,
     client: F::Client,
     names: Names,
-) -> Result<Berth<F::Client, F::Target>, Dropped>
+) -> Result<Box<Berth<F::Client, F::Target>>, Dropped>
     requires { length hand.old.slots < hand.old.capacity }
     ensures acts { Registered A.made names.client.slot result acts.old acts.new }
-    ensures slot { IfOk result (λ berth. berth.pair.slot ≡ names.client.slot) }
-    ensures generation { IfOk result (λ berth. berth.pair.generation ≡ names.client.generation) }
+    ensures slot { IfOk result (λ berth. berth.value.pair.slot ≡ names.client.slot) }
+    ensures generation { IfOk result (λ berth. berth.value.pair.generation ≡ names.client.generation) }
     ensures prepared { OnOk result (hand.new ≡ hand.old) }
     ensures cause { IfErr result (λ dropped. DropsFor (F.may_refuse client) (F.may_tell client) poller.old.opening.proxy dropped) }
     ensures failed { OnErr result (hand.new ≡ record hand.old { slots = hand.old.slots ++ names.client.slot ∷ [] }) }
@@ -188,25 +188,49 @@ pub(crate) fn connect<F: Front, A: Moves<F>, N: Log>(
     poller: &mut Poller<F>,
     mut client: F::Client,
     names: Names,
-) -> Result<Berth<F::Client, F::Target>, Cause>
+) -> Result<Box<Berth<F::Client, F::Target>>, Cause>
     ensures acts { Registered A.made names.client.slot result acts.old acts.new }
-    ensures pair { IfOk result (λ berth. berth.pair ≡ fresh names.client.slot names.client.generation poller.old.opening.ring
-        poller.old.second berth.pair.up.lead) }
-    ensures second { IfOk result (λ berth. berth.second ≡ poller.old.second) }
-    ensures lead { IfOk result (λ berth. LeadTold (F.may_tell client) poller.old.opening.proxy (Some berth.pair.up.lead)) }
+    ensures pair { IfOk result (λ berth. berth.value.pair ≡ fresh names.client.slot names.client.generation poller.old.opening.ring
+        poller.old.second berth.value.pair.up.lead) }
+    ensures second { IfOk result (λ berth. berth.value.second ≡ poller.old.second) }
+    ensures lead { IfOk result (λ berth. LeadTold (F.may_tell client) poller.old.opening.proxy (Some berth.value.pair.up.lead)) }
     ensures cause { IfErr result (λ cause. DropsFor (F.may_refuse client) (F.may_tell client) poller.old.opening.proxy cause) }
     ensures same { poller.new ≡ poller.old }
 {
     let second = poller.second;
     match reach(rt, alloc, acts, poller, &mut client, names) {
-        Ok((pair, target)) => Ok(Berth {
-            pair,
-            second,
-            client,
-            target,
-        }),
+        Ok((pair, target)) => {
+            let berth = Berth {
+                pair,
+                second,
+                client,
+                target,
+            };
+            boxed::<F, N>(rt, alloc, clients, berth)
+        }
         Err(cause) => {
             log_unopened::<F, N>(rt, clients, &client, cause);
+            Err(cause)
+        }
+    }
+}
+
+/// A connection that has a place in memory of its own. If there is none for it, both sockets are closed, and the log may
+/// say whose they were.
+fn boxed<F: Front, N: Log>(
+    rt: &N,
+    alloc: Global,
+    clients: ClientsAt,
+    berth: Berth<F::Client, F::Target>,
+) -> Result<Box<Berth<F::Client, F::Target>>, Cause>
+    ensures same { IfOk result (λ boxed. boxed.value ≡ berth) }
+    ensures memory { IfErr result (λ cause. cause ≡ Cause.Memory) }
+{
+    match Box::new(alloc, berth) {
+        Ok(boxed) => Ok(boxed),
+        Err(failed) => {
+            let cause = Cause::Memory;
+            log_unopened::<F, N>(rt, clients, &failed.value.client, cause);
             Err(cause)
         }
     }
@@ -278,18 +302,18 @@ fn place<F: Front + Counting, A: Moves<F>, R: Wait + Logs>(
     shared: &Shared<F>,
     own: &mut Own,
     poller: &mut Poller<F>,
-    berth: Berth<F::Client, F::Target>,
+    berth: Box<Berth<F::Client, F::Target>>,
     uncounted: Uncounted,
 ) -> Result<(), ServerFault>
     requires between { Between shared.now.claims own.old poller.old }
-    requires next { IsNext poller.old (record { slot = berth.pair.slot; generation = berth.pair.generation }) }
+    requires next { IsNext poller.old (record { slot = berth.value.pair.slot; generation = berth.value.pair.generation }) }
     requires room { 1 ≤ ticket_room own.old.hand }
     ensures between { Between shared.now.claims own.new poller.new }
     ensures worn { IfErr result (λ fault. OnlyWorn fault own.new.seat) }
     ensures placed { OnOk result (Placed (OpeningLogged (R.logged rt.now) F.counted)
-        (λ made. AreMade A.made berth.pair.slot made acts.old acts.new)
-        (record { slot = berth.pair.slot; generation = berth.pair.generation }) poller.old poller.new own.old own.new) }
-    ensures in_order { OnErr result (AreMade A.made berth.pair.slot placing acts.old acts.new) }
+        (λ made. AreMade A.made berth.value.pair.slot made acts.old acts.new)
+        (record { slot = berth.value.pair.slot; generation = berth.value.pair.generation }) poller.old poller.new own.old own.new) }
+    ensures in_order { OnErr result (AreMade A.made berth.value.pair.slot placing acts.old acts.new) }
     ensures poller { poller.new ≡ record poller.old {
       table = poller.new.table;
       opened = poller.new.opened;
@@ -323,7 +347,7 @@ pub(crate) fn start<F: Front, A: Moves<F>, R: Wait>(
     shared: &Shared<F>,
     own: &mut Own,
     ticket: Ticket,
-    berth: Berth<F::Client, F::Target>,
+    berth: Box<Berth<F::Client, F::Target>>,
 ) -> Result<(), ServerFault>
     requires same { own.old.seat.table ≡ shared.now.claims }
     requires inside { ticket.slot < shared.now.claims.words }

@@ -20,7 +20,7 @@ use token::Side;
 /// ends only by [`put_in`] or [`Visit::close`], since it cannot be dropped: what is put back is what was taken out.
 pub(crate) struct Visit<F: Front> {
     ticket: Ticket,
-    berth: Berth<F::Client, F::Target>,
+    berth: Box<Berth<F::Client, F::Target>>,
 }
 
 /// No connection of this slot is out of its place. Only then may the slot be released: the next holder would find the
@@ -69,7 +69,7 @@ pub(crate) fn take_out<F: Front, A: Moves<F>, R: Wait>(
     requires holder { HoldsOnly ticket.slot own.now.seat }
     ensures made { A.made act.TakeOut ticket.slot acts.old acts.new }
     ensures out { IfOk result (λ visit. visit.ticket ≡ ticket) }
-    ensures moved { IfOk result (λ visit. A.moved visit.berth acts.new) }
+    ensures moved { IfOk result (λ visit. A.moved visit.berth.value acts.new) }
     ensures empty { IfErr result (λ back. back ≡ ticket.slot) }
 {
     let slot = ticket.slot;
@@ -100,9 +100,9 @@ pub(crate) fn put_in<F: Front, A: Moves<F>, R: Wait>(
     requires inside { visit.ticket.slot < shared.now.claims.words }
     requires holder { HoldsOnly visit.ticket.slot own.now.seat }
     ensures back { result ≡ visit.ticket.slot }
-    ensures counted { A.counted visit.ticket.slot visit.berth.pair acts.old }
+    ensures counted { A.counted visit.ticket.slot visit.berth.value.pair acts.old }
     ensures made { A.made act.PutIn visit.ticket.slot acts.old acts.new }
-    ensures moved { A.moved visit.berth acts.new }
+    ensures moved { A.moved visit.berth.value acts.new }
 {
     let Visit { ticket, berth } = visit;
     let slot = ticket.slot;
@@ -121,7 +121,7 @@ impl<F: Front> Visit<F> {
 
     /// The connection's pair.
     pub(crate) fn pair(&self) -> &Pair
-        ensures { result.now ≡ self.now.berth.pair }
+        ensures { result.now ≡ self.now.berth.value.pair }
     {
         &self.berth.pair
     }
@@ -132,15 +132,16 @@ impl<F: Front> Visit<F> {
         requires least { 1 ≤ terms.budget }
         requires most { terms.budget ≤ 1024 }
         ensures ticket { self.new.ticket ≡ self.old.ticket }
-        ensures outcome { result ≡ outcome_of self.new.berth.pair }
+        ensures outcome { result ≡ outcome_of self.new.berth.value.pair }
         ensures run { Plays (IsServed F.Client.told F.Client.does) (IsServed F.Target.told F.Target.does) terms notes
-            self.old.berth self.new.berth }
+            self.old.berth.value self.new.berth.value }
     {
-        tell_notes(&mut self.berth.pair, notes);
+        let berth = &mut *self.berth;
+        tell_notes(&mut berth.pair, notes);
         turn_with(
-            &mut self.berth.pair,
-            &mut self.berth.client,
-            &mut self.berth.target,
+            &mut berth.pair,
+            &mut berth.client,
+            &mut berth.target,
             terms.budget,
             terms.moment,
             buffer,
@@ -151,11 +152,11 @@ impl<F: Front> Visit<F> {
     pub(crate) fn settle<A: Moves<F>>(&mut self, acts: &mut A)
         ensures made { A.made act.Settle self.old.ticket.slot acts.old acts.new }
         ensures ticket { self.new.ticket ≡ self.old.ticket }
-        ensures pair { self.new.berth.pair ≡ self.old.berth.pair }
-        ensures client { F.Client.settled self.new.berth.client }
-        ensures target { F.Target.settled self.new.berth.target }
+        ensures pair { self.new.berth.value.pair ≡ self.old.berth.value.pair }
+        ensures client { F.Client.settled self.new.berth.value.client }
+        ensures target { F.Target.settled self.new.berth.value.target }
     {
-        acts.settle(self.ticket.slot, &mut self.berth);
+        acts.settle(self.ticket.slot, &mut *self.berth);
     }
 
     /// The client's address, if it is known.
@@ -184,9 +185,9 @@ impl<F: Front> Visit<F> {
     /// Counts the connection as ended, and closes both sockets.
     pub(crate) fn close<A: Moves<F>>(self, acts: &mut A, shared: &Shared<F>) -> Closed
         ensures closed { result ≡ self.ticket.slot }
-        ensures counted { A.counted self.ticket.slot self.berth.pair acts.old }
+        ensures counted { A.counted self.ticket.slot self.berth.value.pair acts.old }
         ensures made { A.made act.Close self.ticket.slot acts.old acts.new }
-        ensures moved { A.moved self.berth acts.new }
+        ensures moved { A.moved self.berth.value acts.new }
     {
         let Visit { ticket, berth } = self;
         acts.count_ended(shared, ticket.slot, &berth.pair);

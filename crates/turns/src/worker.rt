@@ -198,7 +198,7 @@ fn run<F: Front, A: Moves<F>, G: Gate, R: Wait + Log>(
     terms: Terms,
 ) -> Result<Worked, ServerFault>
     requires work { AtWork shared.now.claims visit.ticket.slot own.old }
-    requires own { visit.berth.pair.generation ≡ visit.ticket.generation }
+    requires own { visit.berth.value.pair.generation ≡ visit.ticket.generation }
     requires budget { (1 ≤ terms.budget) × (terms.budget ≤ 1024) }
     ensures done { (turn : ClaimedTurn visit.ticket result own.old own.new)
         × ActsLeft A.made visit.ticket result 2 false turn.woke acts.old acts.new }
@@ -243,11 +243,11 @@ fn play<F: Front, A: Acts, G: Gate>(
     requires holder { HoldsOnly visit.old.ticket.slot seat.old }
     ensures holder { HoldsOnly visit.old.ticket.slot seat.new }
     ensures ticket { visit.new.ticket ≡ visit.old.ticket }
-    ensures outcome { result ≡ outcome_of visit.new.berth.pair }
+    ensures outcome { result ≡ outcome_of visit.new.berth.value.pair }
     ensures made { A.made act.TakeNotes visit.old.ticket.slot acts.old acts.new }
     ensures played { (notes : ℕ) × Adds visit.old.ticket.slot (exchange.Take notes ∷ []) seat.old seat.new
         × Plays (IsServed F.Client.told F.Client.does) (IsServed F.Target.told F.Target.does) terms notes
-        visit.old.berth visit.new.berth }
+        visit.old.berth.value visit.new.berth.value }
 {
     let slot = visit.ticket().slot;
     let notes = acts.take(&shared.claims, seat, slot);
@@ -266,7 +266,7 @@ fn again<F: Front, A: Moves<F>, R: Wait>(
     visit: Visit<F>,
 ) -> Result<Worked, ServerFault>
     requires work { AtWork shared.now.claims visit.ticket.slot own.old }
-    requires due { outcome_of visit.berth.pair ≡ Turn.Again }
+    requires due { outcome_of visit.berth.value.pair ≡ Turn.Again }
     ensures done { (turn : TurnEnd visit.ticket result own.old own.new)
         × ActsLeft A.made visit.ticket result 3 false turn.woke acts.old acts.new }
     ensures answer { IfOk result (λ worked. worked ≡ Worked.Again) }
@@ -311,7 +311,7 @@ fn rest<F: Front, A: Moves<F>, R: Wait>(
     mut visit: Visit<F>,
 )
     requires work { AtWork shared.now.claims visit.ticket.slot own.old }
-    requires quiet { outcome_of visit.berth.pair ≡ Turn.Quiet }
+    requires quiet { outcome_of visit.berth.value.pair ≡ Turn.Quiet }
     ensures done { (turn : TurnEnd visit.ticket (Ok Worked.Quiet) own.old own.new)
         × ActsLeft A.made visit.ticket (Ok Worked.Quiet) 3 false turn.woke acts.old acts.new }
 {
@@ -328,8 +328,8 @@ fn leave_settled<F: Front, A: Moves<F>, R: Wait>(
     visit: Visit<F>,
 )
     requires work { AtWork shared.now.claims visit.ticket.slot own.old }
-    requires client { F.Client.settled visit.berth.client }
-    requires target { F.Target.settled visit.berth.target }
+    requires client { F.Client.settled visit.berth.value.client }
+    requires target { F.Target.settled visit.berth.value.target }
     ensures done { (turn : TurnEnd visit.ticket (Ok Worked.Quiet) own.old own.new)
         × ActsLeft A.made visit.ticket (Ok Worked.Quiet) 4 false turn.woke acts.old acts.new }
 {
@@ -367,7 +367,7 @@ fn end<F: Front, A: Moves<F>, R: Wait + Log>(
     visit: Visit<F>,
 )
     requires work { AtWork shared.now.claims visit.ticket.slot own.old }
-    requires over { (outcome_of visit.berth.pair ≡ Turn.Done) ⊎ (outcome_of visit.berth.pair ≡ Turn.Failed) }
+    requires over { (outcome_of visit.berth.value.pair ≡ Turn.Done) ⊎ (outcome_of visit.berth.value.pair ≡ Turn.Failed) }
     ensures done { (turn : TurnEnd visit.ticket (Ok Worked.Ended) own.old own.new)
         × ActsLeft A.made visit.ticket (Ok Worked.Ended) 3 false turn.woke acts.old acts.new }
 {

@@ -76,21 +76,21 @@ pub returns-in-Ok : goal.returns-in-Ok
 returns-in-Ok g c =
     let first = sym c.take_slot.ensures.value ∙ c.in-Some.is in
     let hand = c.in-Ok.ensures.prepared ∙ c.take_slot.ensures.left in
-    let here : c.in-Ok.berth.pair.slot ≡ c.in-Some.slot = c.in-Ok.ensures.slot ∙ ap (λ (t : Token). t.slot) c.in-Some-next_names.ensures.client in
-    let registered : g.A.Acts.made act.Register c.in-Ok.berth.pair.slot c.args.acts.now c.prepare.new.acts =
+    let here : c.in-Ok.berth.value.pair.slot ≡ c.in-Some.slot = c.in-Ok.ensures.slot ∙ ap (λ (t : Token). t.slot) c.in-Some-next_names.ensures.client in
+    let registered : g.A.Acts.made act.Register c.in-Ok.berth.value.pair.slot c.args.acts.now c.prepare.new.acts =
     subst (λ (s : ℕ). g.A.Acts.made act.Register s c.args.acts.now c.prepare.new.acts) (sym c.in-Ok.ensures.slot) c.in-Ok.ensures.acts in
-    let numbered : c.in-Ok.berth.pair.generation ≡ slice_index c.args.poller.now.table c.in-Some.slot + 1 =
+    let numbered : c.in-Ok.berth.value.pair.generation ≡ slice_index c.args.poller.now.table c.in-Some.slot + 1 =
     c.in-Ok.ensures.generation ∙ ap (λ (t : Token). t.generation) c.in-Some-next_names.ensures.client
     ∙ ap (λ (table : List ℕ). slice_index table c.in-Some.slot + 1) c.table.ensures.table in
-    let next : record { slot = c.in-Ok.berth.pair.slot; generation = c.in-Ok.berth.pair.generation } ≡ next_in c.args.poller.now c.in-Some.slot =
-    ap (λ (s : ℕ). record { slot = s; generation = c.in-Ok.berth.pair.generation }) here ∙ ap (λ (n : ℕ). record { slot = c.in-Some.slot; generation = n }) numbered in
+    let next : record { slot = c.in-Ok.berth.value.pair.slot; generation = c.in-Ok.berth.value.pair.generation } ≡ next_in c.args.poller.now c.in-Some.slot =
+    ap (λ (s : ℕ). record { slot = s; generation = c.in-Ok.berth.value.pair.generation }) here ∙ ap (λ (n : ℕ). record { slot = c.in-Some.slot; generation = n }) numbered in
     record {
       between = c.place.ensures.between;
       worn = c.place.ensures.worn;
       counted = placed_counts c.place.result c.args.poller.now c.prepare.new.poller c.place.new.poller (OpeningLogged (g.R.Logs.logged c.args.rt.now) g.F.Counting.counted)
           (DropCounted g.F.Counting.counted) (λ (s : ℕ) (acts : List Act). AreMade g.A.Acts.made s acts c.prepare.new.acts c.place.new.acts)
           (λ (s : ℕ) (acts : List Act). AreMade g.A.Acts.made s acts c.args.acts.now c.place.new.acts) c.args.own.now.seat c.place.new.own.seat c.args.own.now.hand.slots
-          c.in-Some.slot (record { slot = c.in-Ok.berth.pair.slot; generation = c.in-Ok.berth.pair.generation }) first c.in-Ok.ensures.same next
+          c.in-Some.slot (record { slot = c.in-Ok.berth.value.pair.slot; generation = c.in-Ok.berth.value.pair.generation }) first c.in-Ok.ensures.same next
           (λ acts made. (c.prepare.new.acts, registered, made)) (on_ok c.place.result (λ x. x.counted) c.place.ensures.placed);
       in_order = subst (λ (o : Option ℕ). OnErr c.place.result (IfSome o (λ (s : ℕ). AreMade g.A.Acts.made s open_slot c.args.acts.now c.place.new.acts))) (sym first)
           (on_err c.place.result (λ made. subst (λ (s : ℕ). AreMade g.A.Acts.made s open_slot c.args.acts.now c.place.new.acts) here (c.prepare.new.acts, registered, made))
@@ -98,7 +98,7 @@ returns-in-Ok g c =
       done = on_ok c.place.result
           (λ x. record {
             done = opened_there c.args.poller.now c.place.new.poller c.args.own.now c.prepare.new.hand hand c.in-Some.slot first
-                c.prepare.new.poller c.place.new.own (record { slot = c.in-Ok.berth.pair.slot; generation = c.in-Ok.berth.pair.generation }) c.in-Ok.ensures.same here
+                c.prepare.new.poller c.place.new.own (record { slot = c.in-Ok.berth.value.pair.slot; generation = c.in-Ok.berth.value.pair.generation }) c.in-Ok.ensures.same here
                 x.done x.free x.slots;
             room = subst (λ (h : HandState). ticket_room h ≤ ticket_room c.place.new.own.hand + 1) hand x.room;
           })
@@ -117,14 +117,14 @@ place-requires-clause-between g c = record {
 pub place-requires-clause-next : goal.place-requires-clause-next
 place-requires-clause-next g c =
     let named = c.in-Some-next_names.ensures.client in
-    let here : c.in-Ok.berth.pair.slot ≡ c.in-Some.slot = c.in-Ok.ensures.slot ∙ ap (λ (t : Token). t.slot) named in
+    let here : c.in-Ok.berth.value.pair.slot ≡ c.in-Some.slot = c.in-Ok.ensures.slot ∙ ap (λ (t : Token). t.slot) named in
     let table : c.prepare.new.poller.table ≡ c.table.result.now = ap (λ (p : PollerState). p.table) c.in-Ok.ensures.same ∙ sym c.table.ensures.table in
     record {
-      inside = subst (λ (t : List ℕ). c.in-Ok.berth.pair.slot < length t) (sym table)
+      inside = subst (λ (t : List ℕ). c.in-Ok.berth.value.pair.slot < length t) (sym table)
           (subst (λ (s : ℕ). s < length c.table.result.now) (sym here) c.in-Some-next_names.ensures.inside);
       own = search rules;
-      generation = subst (λ (t : List ℕ). c.in-Ok.berth.pair.generation ≡ slice_index t c.in-Ok.berth.pair.slot + 1) (sym table)
-          (subst (λ (s : ℕ). c.in-Ok.berth.pair.generation ≡ slice_index c.table.result.now s + 1) (sym here)
+      generation = subst (λ (t : List ℕ). c.in-Ok.berth.value.pair.generation ≡ slice_index t c.in-Ok.berth.value.pair.slot + 1) (sym table)
+          (subst (λ (s : ℕ). c.in-Ok.berth.value.pair.generation ≡ slice_index c.table.result.now s + 1) (sym here)
           (c.in-Ok.ensures.generation ∙ ap (λ (t : Token). t.generation) named));
       most = search rules;
     }

@@ -17,9 +17,9 @@ use Rattle.rounds.proofs.opening.place.Goals as goal
 pub returns-in_ok-start-in-Adopted : goal.returns-in_ok-start-in-Adopted
 returns-in_ok-start-in-Adopted g c =
     let ticket : Ticket = record { slot = c.slot-slot.result; generation = c.generation-generation.result } in
-    let named : ticket ≡ record { slot = c.args.berth.pair.slot; generation = c.args.berth.pair.generation } =
+    let named : ticket ≡ record { slot = c.args.berth.value.pair.slot; generation = c.args.berth.value.pair.generation } =
     ap (λ (s : ℕ). record { slot = s; generation = c.generation-generation.result }) c.slot-slot.ensures
-    ∙ ap (λ (n : ℕ). record { slot = c.args.berth.pair.slot; generation = n }) c.generation-generation.ensures in
+    ∙ ap (λ (n : ℕ). record { slot = c.args.berth.value.pair.slot; generation = n }) c.generation-generation.ensures in
     let change = c.in-Adopted.ensures.change in
     let started = c.in_ok-start-in-Adopted.ensures.started in
     record {
@@ -75,14 +75,14 @@ returns-in_err-start-in-Adopted g c =
 
 pub returns-in-NotFree : goal.returns-in-NotFree
 returns-in-NotFree g c =
-    let ticket : Ticket = record { slot = c.args.berth.pair.slot; generation = 0 } in
+    let ticket : Ticket = record { slot = c.args.berth.value.pair.slot; generation = 0 } in
     let change = subst (λ (slot : ℕ). Adds slot (exchange.NotFree ∷ []) c.args.own.now.seat c.adopt.new.seat) c.slot-slot.ensures c.in-NotFree.ensures.change in
     record {
       between = record {
         same = change.only.table ∙ c.requires.between.same;
         idle = holds_nothing_again c.requires.between.idle change.only
-            (ap (λ (a : Account). a.holds) (account_after c.args.berth.pair.slot (exchange.NotFree ∷ []) c.args.own.now.seat c.adopt.new.seat change)
-            ∙ c.requires.between.idle.nowhere c.args.berth.pair.slot);
+            (ap (λ (a : Account). a.holds) (account_after c.args.berth.value.pair.slot (exchange.NotFree ∷ []) c.args.own.now.seat c.adopt.new.seat change)
+            ∙ c.requires.between.idle.nowhere c.args.berth.value.pair.slot);
         sized = ap (λ (s : PollerState). length s.table) c.count_lost.ensures ∙ c.requires.between.sized;
       };
       worn = tt;
