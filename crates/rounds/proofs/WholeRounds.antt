@@ -12,16 +12,16 @@ use Rattle.rounds.specs.Deliveries.{all_reported, at_slot, ArePosted, Delivered}
 use Rattle.dispatch.specs.Hands.{HandState}
 use Rattle.dispatch.specs.declared.front.Waiting.{Waiting}
 use Rattle.dispatch.specs.declared.front.Waiting.TheVariants.{No, Brief, Long}
-use Rattle.rounds.specs.Openings.{times, slots_in, AreIn, AreOpened, SlotsCounted, OnlyTook, AcceptDone}
+use Rattle.rounds.specs.Openings.{times, slots_in, AreIn, AreOpened, SlotsCounted, OnlyTook, AcceptDone, OnlyAccepted}
 use Rattle.dispatch.specs.Outgoing.{outgoing, tickets_out}
 use Rattle.rounds.specs.Pollers.{PollerState, Counted, HasOpenedAll}
 use Rattle.dispatch.specs.declared.part.Part.{Part}
 use Rattle.relay_log.specs.declared.faults.ServerFault.{ServerFault}
 use Rattle.relay_log.specs.declared.faults.ServerFault.TheVariants.{Worn}
-use Rattle.rounds.specs.Rounds.{RoundDone, RoundKeeps, AcceptEnded, ListenerKept, ListensToOpen, MayWait, MayWaitBriefly, WaitedAsMay}
+use Rattle.rounds.specs.Rounds.{RoundDone, RoundKeeps, AcceptEnded, ListenerKept, ListensToOpen, MayWait, MayWaitBriefly, WaitLasted, WaitedAsMay}
 use Rattle.std.proofs.lemmas.Bool.{cases_lt}
 use Rattle.rounds.specs.Sweeps.{swept_after, sweep_of}
-use Rattle.rounds.proofs.Connections.{SamePoller, accept_none, tried}
+use Rattle.rounds.proofs.Connections.{SamePoller, accept_none}
 use Rattle.rounds.proofs.Reports.{posted_none, no_sweep, same_sweep}
 
 -- what the poller keeps, but for the reports and the flags
@@ -169,13 +169,13 @@ kept p q (inr closed) = inr (inl closed.0, closed.1)
 -- the poller waits only where it may, and for as long
 pub waits_if : (waiting : Waiting) (limit : ℕ) (p q r : PollerState) (a b : Own) → q ≡ record p { listening = q.listening }
     → (waiting ≡ Long → MayWait limit q b × (b ≡ a)) → (waiting ≡ Brief → MayWaitBriefly limit q b) → OnlyTook a b
-    → (waiting ≡ No → r.waited ≡ 0) → (waiting ≡ Brief → r.waited ≤ 1) → WaitedAsMay limit p r a
-waits_if Long limit p q r a b same may brief took none short some =
+    → WaitLasted waiting r.waited → WaitedAsMay limit p r a
+waits_if Long limit p q r a b same may brief took lasted some =
     inl (subst (λ (o : Own). MayWait limit p o) (may refl).1 (subst (λ (s : PollerState). MayWait limit s b) same (may refl).0))
-waits_if Brief limit p q r a b same may brief took none short some =
+waits_if Brief limit p q r a b same may brief took lasted some =
     let left = subst (λ (s : PollerState). MayWaitBriefly limit s b) same (brief refl) in
-    inr (short refl, (left.0, sym took.tickets ∙ left.1, left.2))
-waits_if No limit p q r a b same may brief took none short some = absurd (some (none refl))
+    inr (lasted.brief refl, (left.0, sym took.tickets ∙ left.1, left.2))
+waits_if No limit p q r a b same may brief took lasted some = absurd (some (lasted.none refl))
 
 -- what the steps of a round leave as it is, but that a front may listen no longer; the end of a round may change the
 -- last two
@@ -221,7 +221,7 @@ swept_lasts {limit} {had} {p} before is =
       listening = before.listening;
     })
 
-pub accepted_lasts : {limit : ℕ} {had : Own} {p q r : PollerState} → Lasting limit had p q → r ≡ tried q r → Lasting limit had p r
+pub accepted_lasts : {limit : ℕ} {had : Own} {p q r : PollerState} → Lasting limit had p q → OnlyAccepted q r → Lasting limit had p r
 accepted_lasts {limit} {had} {p} before is =
     subst (λ (s : PollerState). Lasting limit had p s) (sym is) (record {
       opening = before.opening;
@@ -237,7 +237,7 @@ abbrev IsRead : PollerState → Type 0
 IsRead p = p.batch ≡ p.reported
 
 pub still_read : (p q r s t : PollerState) → IsRead p → q ≡ record p { accepting = q.accepting } → r ≡ record q { second = r.second; swept = r.swept }
-    → s ≡ tried r s → t ≡ record s { listening = t.listening; over = t.over } → IsRead t
+    → OnlyAccepted r s → t ≡ record s { listening = t.listening; over = t.over } → IsRead t
 still_read p q r s t read delivered swept accepted ended =
     subst (λ (u : PollerState). IsRead u) (sym ended) (subst (λ (u : PollerState). IsRead u) (sym accepted)
     (subst (λ (u : PollerState). IsRead u) (sym swept) (subst (λ (u : PollerState). IsRead u) (sym delivered) read)))

@@ -25,8 +25,7 @@ accept_next-requires g c =
       between = between_took c.args.shared.now.claims c.loop-try.own c.may_accept.new.own c.loop-try.poller c.loop-try.poller c.loop-try.invariant.between c.may_accept.ensures.took
           refl;
       room = omega arith;
-      slot = c.may_accept.ensures.slot c.if-not-may_accept.false;
-      flag = (c.may_accept.ensures.may c.if-not-may_accept.false).flag;
+      may = c.may_accept.ensures.may c.if-not-may_accept.false;
     }
 
 pub returns-then-not-may_accept : goal.returns-then-not-may_accept
