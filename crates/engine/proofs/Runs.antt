@@ -47,70 +47,48 @@ over_more now m q reply a [] p h =
     let same : p ≡ m = cc in rw (same, a) refl
 over_more now m q reply a (first ∷ replies) p h = over_next now p m q reply first replies (λ x e. over_more now m q reply a replies x e) (answered now p first) h
 
--- what the end of a list brings and carries comes after the rest
-brought_next : (now : ℕ) (d : Direction) (reply : AnswerValue) (replies : List AnswerValue) (m : PairState) (before : List ℕ) →
-    ((x : PairState) → over now x replies ≡ Some m → all_brought now x d (replies ++ reply ∷ []) ≡ all_brought now x d replies ++ all_brought now m d (reply ∷ [])) →
-    (o : Option PairState) → option_and_then (λ (x : PairState). over now x replies) o ≡ Some m →
-    before ++ or_nothing (option_map (λ (x : PairState). all_brought now x d (replies ++ reply ∷ [])) o)
-    ≡ (before ++ or_nothing (option_map (λ (x : PairState). all_brought now x d replies) o)) ++ all_brought now m d (reply ∷ [])
-brought_next now d reply replies m before rest None e = absurd (cc)
-brought_next now d reply replies m before rest (Some x) e = ap (λ (xs : List ℕ). before ++ xs) (rest x e)
-    ∙ sym (append_assoc before (all_brought now x d replies) (all_brought now m d (reply ∷ [])))
+-- what the end of a list comes to stands after what the rest comes to, be it bytes, calls or a count
+join_next : {X : Type 0} (join : X → X → X) (assoc : (a b c : X) → join (join a b) c ≡ join a (join b c)) (get : Option X → X) (some : (x : X) → get (Some x) ≡ x)
+    (now : ℕ) (replies : List AnswerValue) (m : PairState) (whole front : PairState → X) (before last : X)
+    → ((x : PairState) → over now x replies ≡ Some m → whole x ≡ join (front x) last)
+    → (o : Option PairState) → option_and_then (λ (x : PairState). over now x replies) o ≡ Some m
+    → join before (get (option_map whole o)) ≡ join (join before (get (option_map front o))) last
+join_next join assoc get some now replies m whole front before last rest None e = absurd (cc)
+join_next join assoc get some now replies m whole front before last rest (Some x) e =
+    ap (λ y. join before y) (some (whole x) ∙ rest x e) ∙ sym (assoc before (front x) last) ∙ ap (λ y. join (join before y) last) (sym (some (front x)))
 
 pub brought_more : (now : ℕ) (d : Direction) (reply : AnswerValue) (m : PairState) (replies : List AnswerValue) (p : PairState) → over now p replies ≡ Some m
     → all_brought now p d (replies ++ reply ∷ []) ≡ all_brought now p d replies ++ all_brought now m d (reply ∷ [])
 brought_more now d reply m [] p h = let same : p ≡ m = cc in ap (λ (x : PairState). all_brought now x d (reply ∷ [])) same
 brought_more now d reply m (first ∷ replies) p h =
-    brought_next now d reply replies m (or_nothing (option_map (λ (call : Call). brought d call first) (next_call p))) (λ x e. brought_more now d reply m replies x e)
+    join_next (λ (a b : List ℕ). a ++ b) append_assoc or_nothing (λ x. refl) now replies m (λ (x : PairState). all_brought now x d (replies ++ reply ∷ [])) (λ (x : PairState). all_brought now x d replies)
+    (or_nothing (option_map (λ (call : Call). brought d call first) (next_call p))) (all_brought now m d (reply ∷ [])) (λ x e. brought_more now d reply m replies x e)
     (answered now p first) h
-
-carried_next : (now : ℕ) (d : Direction) (reply : AnswerValue) (replies : List AnswerValue) (m : PairState) (before : List ℕ) →
-    ((x : PairState) → over now x replies ≡ Some m → all_carried now x d (replies ++ reply ∷ []) ≡ all_carried now x d replies ++ all_carried now m d (reply ∷ [])) →
-    (o : Option PairState) → option_and_then (λ (x : PairState). over now x replies) o ≡ Some m →
-    before ++ or_nothing (option_map (λ (x : PairState). all_carried now x d (replies ++ reply ∷ [])) o)
-    ≡ (before ++ or_nothing (option_map (λ (x : PairState). all_carried now x d replies) o)) ++ all_carried now m d (reply ∷ [])
-carried_next now d reply replies m before rest None e = absurd (cc)
-carried_next now d reply replies m before rest (Some x) e = ap (λ (xs : List ℕ). before ++ xs) (rest x e)
-    ∙ sym (append_assoc before (all_carried now x d replies) (all_carried now m d (reply ∷ [])))
 
 pub carried_more : (now : ℕ) (d : Direction) (reply : AnswerValue) (m : PairState) (replies : List AnswerValue) (p : PairState) → over now p replies ≡ Some m
     → all_carried now p d (replies ++ reply ∷ []) ≡ all_carried now p d replies ++ all_carried now m d (reply ∷ [])
 carried_more now d reply m [] p h = let same : p ≡ m = cc in ap (λ (x : PairState). all_carried now x d (reply ∷ [])) same
 carried_more now d reply m (first ∷ replies) p h =
-    carried_next now d reply replies m (or_nothing (option_map (λ (call : Call). carried p d call first) (next_call p))) (λ x e. carried_more now d reply m replies x e)
+    join_next (λ (a b : List ℕ). a ++ b) append_assoc or_nothing (λ x. refl) now replies m (λ (x : PairState). all_carried now x d (replies ++ reply ∷ [])) (λ (x : PairState). all_carried now x d replies)
+    (or_nothing (option_map (λ (call : Call). carried p d call first) (next_call p))) (all_carried now m d (reply ∷ [])) (λ x e. carried_more now d reply m replies x e)
     (answered now p first) h
-
-count_next : (now : ℕ) (test : AnswerValue → Bool) (side : Side) (reply : AnswerValue) (replies : List AnswerValue) (m : PairState) (before : ℕ) →
-    ((x : PairState) → over now x replies ≡ Some m → count_on test side now x (replies ++ reply ∷ []) ≡ count_on test side now x replies + count_on test side now m (reply ∷ [])) →
-    (o : Option PairState) → option_and_then (λ (x : PairState). over now x replies) o ≡ Some m →
-    before + unwrap_or (option_map (λ (x : PairState). count_on test side now x (replies ++ reply ∷ [])) o) 0
-    ≡ (before + unwrap_or (option_map (λ (x : PairState). count_on test side now x replies) o) 0) + count_on test side now m (reply ∷ [])
-count_next now test side reply replies m before rest None e = absurd (cc)
-count_next now test side reply replies m before rest (Some x) e = ap (λ (n : ℕ). before + n) (rest x e)
-    ∙ sym (add_assoc before (count_on test side now x replies) (count_on test side now m (reply ∷ [])))
 
 pub count_more : (now : ℕ) (test : AnswerValue → Bool) (side : Side) (reply : AnswerValue) (m : PairState) (replies : List AnswerValue) (p : PairState)
     → over now p replies ≡ Some m → count_on test side now p (replies ++ reply ∷ []) ≡ count_on test side now p replies + count_on test side now m (reply ∷ [])
 count_more now test side reply m [] p h = let same : p ≡ m = cc in ap (λ (x : PairState). count_on test side now x (reply ∷ [])) same
     ∙ sym (zero-add (count_on test side now m (reply ∷ [])))
 count_more now test side reply m (first ∷ replies) p h =
-    count_next now test side reply replies m (unwrap_or (option_map (λ (call : Call). one_if test side call first) (next_call p)) 0)
-    (λ x e. count_more now test side reply m replies x e) (answered now p first) h
-
-made_next : (now : ℕ) (side : Side) (reply : AnswerValue) (replies : List AnswerValue) (m : PairState) (before : List Made) →
-    ((x : PairState) → over now x replies ≡ Some m → made_on side now x (replies ++ reply ∷ []) ≡ made_on side now x replies ++ made_on side now m (reply ∷ [])) →
-    (o : Option PairState) → option_and_then (λ (x : PairState). over now x replies) o ≡ Some m →
-    before ++ unwrap_or (option_map (λ (x : PairState). made_on side now x (replies ++ reply ∷ [])) o) []
-    ≡ (before ++ unwrap_or (option_map (λ (x : PairState). made_on side now x replies) o) []) ++ made_on side now m (reply ∷ [])
-made_next now side reply replies m before rest None e = absurd (cc)
-made_next now side reply replies m before rest (Some x) e = ap (λ (xs : List Made). before ++ xs) (rest x e)
-    ∙ sym (append_assoc before (made_on side now x replies) (made_on side now m (reply ∷ [])))
+    join_next (λ (a b : ℕ). a + b) add_assoc (λ (o : Option ℕ). unwrap_or o 0) (λ x. refl) now replies m (λ (x : PairState). count_on test side now x (replies ++ reply ∷ []))
+    (λ (x : PairState). count_on test side now x replies) (unwrap_or (option_map (λ (call : Call). one_if test side call first) (next_call p)) 0)
+    (count_on test side now m (reply ∷ [])) (λ x e. count_more now test side reply m replies x e) (answered now p first) h
 
 pub made_more : (now : ℕ) (side : Side) (reply : AnswerValue) (m : PairState) (replies : List AnswerValue) (p : PairState) → over now p replies ≡ Some m
     → made_on side now p (replies ++ reply ∷ []) ≡ made_on side now p replies ++ made_on side now m (reply ∷ [])
 made_more now side reply m [] p h = let same : p ≡ m = cc in ap (λ (x : PairState). made_on side now x (reply ∷ [])) same
 made_more now side reply m (first ∷ replies) p h =
-    made_next now side reply replies m (unwrap_or (option_map (λ (call : Call). made_if side p call first) (next_call p)) []) (λ x e. made_more now side reply m replies x e)
+    join_next (λ (a b : List Made). a ++ b) append_assoc (λ (o : Option (List Made)). unwrap_or o []) (λ x. refl) now replies m
+    (λ (x : PairState). made_on side now x (replies ++ reply ∷ [])) (λ (x : PairState). made_on side now x replies)
+    (unwrap_or (option_map (λ (call : Call). made_if side p call first) (next_call p)) []) (made_on side now m (reply ∷ [])) (λ x e. made_more now side reply m replies x e)
     (answered now p first) h
 
 -- calls after calls

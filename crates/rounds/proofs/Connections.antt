@@ -24,7 +24,7 @@ use Rattle.dispatch.specs.Hands.{HandState, ticket_room}
 use Rattle.token.specs.Names.{last_generation}
 use Rattle.rounds.specs.Deliveries.{at_slot}
 use Rattle.dispatch.specs.Acts.{Act, AreMade, Register, Adopt, placing}
-use Rattle.rounds.specs.Openings.{times, slots_in, AreIn, AreOpened, SlotsCounted, OnlyTook, Between, LetGo, Started, Connected, AcceptDone, IsOpened, IsLost, IsSpent, AreLost, Fate, next_in, Opened, Dropped, Spent, Held, DropsFor}
+use Rattle.rounds.specs.Openings.{times, slots_in, AreIn, AreOpened, SlotsCounted, OnlyTook, Between, LetGo, Started, Connected, AcceptDone, IsOpened, IsLost, IsSpent, AreLost, Fate, next_in, Opened, Dropped, Spent, Held, DropsFor, OnlyAccepted, OnlyOpened}
 use Rattle.dispatch.specs.Splits.{IsIn}
 use Rattle.rounds.specs.Pollers.{PollerState, Counted, counted_up}
 use Rattle.dispatch.specs.declared.part.Part.{Part}
@@ -160,13 +160,20 @@ module _ {p q r : PollerState} {a b c : Own} where
     slots = slots_both a b c one.opened two.opened one.lost two.lost one.slots two.slots;
   }
 
--- what a poller has to say of a change that opens nothing
-pub record SamePoller (old new : PollerState) : Type 0 where
-  pub table : new.table ≡ old.table
-  pub opened : new.opened ≡ old.opened
-  pub lost : new.lost ≡ old.lost
-  pub batch : new.batch ≡ old.batch
-  pub part : new.part ≡ old.part
+-- what connections say of a poller
+pub record Fields : Type 0 where
+  pub table : List ℕ
+  pub opened : ℕ
+  pub lost : ℕ
+  pub batch : List ℕ
+  pub part : Part
+
+abbrev pub fields_of : PollerState → Fields
+fields_of p = record { table = p.table; opened = p.opened; lost = p.lost; batch = p.batch; part = p.part }
+
+-- a change that opens nothing leaves that as it is
+abbrev pub SamePoller : PollerState → PollerState → Type 0
+SamePoller old new = fields_of new ≡ fields_of old
 
 counted_same : (old new : ℕ) → new ≡ old → Counted old 0 new
 counted_same old new same = subst (λ (n : ℕ). Counted old 0 n) (sym same) (counted_none old)
@@ -182,11 +189,11 @@ accept_took p q a b same took = record {
     tries = [];
     are = tries_none;
     made = subst (λ (s : SeatState). ActsMade [] a.seat s) (sym took.seat) (acts_none a.seat);
-    table = same.table;
-    counted = counted_same p.opened q.opened same.opened;
-    unused = counted_same p.lost q.lost same.lost;
-    batch = same.batch;
-    part = same.part;
+    table = ap (λ (f : Fields). f.table) same;
+    counted = counted_same p.opened q.opened (ap (λ (f : Fields). f.opened) same);
+    unused = counted_same p.lost q.lost (ap (λ (f : Fields). f.lost) same);
+    batch = ap (λ (f : Fields). f.batch) same;
+    part = ap (λ (f : Fields). f.part) same;
     own = λ slot out. refl;
     tickets = took.tickets ∙ sym (append-nil a.hand.tickets);
     ready = took.ready;
@@ -335,49 +342,13 @@ registered_once made from to same (inr act) = inr (to, subst (λ (s : ℕ). made
 pub accept_none : (p q : PollerState) (a : Own) → SamePoller p q → AcceptDone p q a a
 accept_none p q a same = accept_took p q a a same (took_none a)
 
--- a connection was closed unopened
-pub same_dropped : (p r q : PollerState) (episodes : Episodes) (dropped : ℕ) → r ≡ record p { episodes = episodes } → q ≡ record r { dropped = dropped } → SamePoller p q
-same_dropped p r q episodes dropped one two = record {
-  table = ap (λ (s : PollerState). s.table) two ∙ ap (λ (s : PollerState). s.table) one;
-  opened = ap (λ (s : PollerState). s.opened) two ∙ ap (λ (s : PollerState). s.opened) one;
-  lost = ap (λ (s : PollerState). s.lost) two ∙ ap (λ (s : PollerState). s.lost) one;
-  batch = ap (λ (s : PollerState). s.batch) two ∙ ap (λ (s : PollerState). s.batch) one;
-  part = ap (λ (s : PollerState). s.part) two ∙ ap (λ (s : PollerState). s.part) one;
-}
-
--- the flags and the tries are no matter of the connections
-pub same_two : (p a q : PollerState) (tries : ℕ) (accepting starved : Bool) (episodes : Episodes)
-    → a ≡ record p { tries = tries } → q ≡ record a { accepting = accepting; starved = starved; episodes = episodes } → SamePoller p q
-same_two p a q tries accepting starved episodes one two = record {
-  table = ap (λ (s : PollerState). s.table) two ∙ ap (λ (s : PollerState). s.table) one;
-  opened = ap (λ (s : PollerState). s.opened) two ∙ ap (λ (s : PollerState). s.opened) one;
-  lost = ap (λ (s : PollerState). s.lost) two ∙ ap (λ (s : PollerState). s.lost) one;
-  batch = ap (λ (s : PollerState). s.batch) two ∙ ap (λ (s : PollerState). s.batch) one;
-  part = ap (λ (s : PollerState). s.part) two ∙ ap (λ (s : PollerState). s.part) one;
-}
-
-pub same_tries : (p q : PollerState) (tries : ℕ) (left : Bool) → q ≡ record p { tries = tries; left = left } → SamePoller p q
-same_tries p q tries left is = record {
-  table = ap (λ (s : PollerState). s.table) is;
-  opened = ap (λ (s : PollerState). s.opened) is;
-  lost = ap (λ (s : PollerState). s.lost) is;
-  batch = ap (λ (s : PollerState). s.batch) is;
-  part = ap (λ (s : PollerState). s.part) is;
-}
-
-pub same_left : (p q : PollerState) (left : Bool) → q ≡ record p { left = left } → SamePoller p q
-same_left p q left is = same_tries p q p.tries left is
-
-same_still : (p : PollerState) → SamePoller p p
-same_still p = record { table = refl; opened = refl; lost = refl; batch = refl; part = refl }
-
 -- a slot was taken for the next try
 pub accept_and_took : {p q : PollerState} {a b c : Own} → AcceptDone p q a b → OnlyTook b c → AcceptDone p q a c
-accept_and_took {p} {q} {a} {b} {c} done took = accept_both done (accept_took q q b c (same_still q) took)
+accept_and_took {p} {q} {a} {b} {c} done took = accept_both done (accept_took q q b c refl took)
 
 -- and the try was made
 pub accept_and_next : {p q r : PollerState} {a b c d : Own} → AcceptDone p q a b → OnlyTook b c → AcceptDone q r c d → AcceptDone p r a d
-accept_and_next {p} {q} {r} {a} {b} {c} {d} done took next = accept_both (accept_both done (accept_took q q b c (same_still q) took)) next
+accept_and_next {p} {q} {r} {a} {b} {c} {d} done took next = accept_both (accept_both done (accept_took q q b c refl took)) next
 
 pub room_same : (a b : Own) → OnlyTook a b → ticket_room b.hand ≡ ticket_room a.hand
 room_same a b took = ap (λ (n : ℕ). n - length b.hand.tickets) took.capacity ∙ ap (λ (ts : List Ticket). a.hand.capacity - length ts) took.tickets
@@ -391,63 +362,34 @@ pub ended_by : (p : PollerState) (own : Own) → (p.starved ≡ true) ⊎ HasLef
 ended_by p own (inl starved) = inl (inl starved)
 ended_by p own (inr left) = inr (inl left)
 
--- what trying accept(2) may change of what the poller keeps
-abbrev pub tried : PollerState → PollerState → PollerState
-tried p q = record p {
-  table = q.table;
-  accepting = q.accepting;
-  starved = q.starved;
-  left = q.left;
-  tries = q.tries;
-  opened = q.opened;
-  dropped = q.dropped;
-  lost = q.lost;
-  episodes = q.episodes;
-}
+pub accept_again : (p q r : PollerState) → OnlyAccepted p q → OnlyAccepted q r → OnlyAccepted p r
+accept_again p q r one two = subst (λ (s : PollerState). OnlyAccepted s r) one two
 
-pub accept_again : (p q r : PollerState) → q ≡ tried p q → r ≡ tried q r → r ≡ tried p r
-accept_again p q r one two = two ∙ ap (λ (s : PollerState). tried s r) one
+pub accept_still : (p q : PollerState) (tries : ℕ) (left : Bool) → q ≡ record p { tries = tries; left = left } → OnlyAccepted p q
+accept_still p q tries left is = subst (λ (s : PollerState). OnlyAccepted p s) (sym is) refl
 
-pub accept_still : (p q : PollerState) (tries : ℕ) (left : Bool) → q ≡ record p { tries = tries; left = left } → q ≡ tried p q
-accept_still p q tries left is = subst (λ (s : PollerState). s ≡ tried p s) (sym is) refl
-
-pub accept_left : (p q : PollerState) (left : Bool) → q ≡ record p { left = left } → q ≡ tried p q
+pub accept_left : (p q : PollerState) (left : Bool) → q ≡ record p { left = left } → OnlyAccepted p q
 accept_left p q left is = accept_still p q p.tries left is
 
 pub accept_refused : (p a q : PollerState) (tries : ℕ) (accepting starved : Bool) (episodes : Episodes)
-    → a ≡ record p { tries = tries } → q ≡ record a { accepting = accepting; starved = starved; episodes = episodes } → q ≡ tried p q
+    → a ≡ record p { tries = tries } → q ≡ record a { accepting = accepting; starved = starved; episodes = episodes } → OnlyAccepted p q
 accept_refused p a q tries accepting starved episodes one two =
-    accept_again p a q (accept_still p a tries p.left one) (subst (λ (s : PollerState). s ≡ tried a s) (sym two) refl)
+    accept_again p a q (accept_still p a tries p.left one) (subst (λ (s : PollerState). OnlyAccepted a s) (sym two) refl)
 
 pub accept_opened : (p a q : PollerState) (tries : ℕ) (starved : Bool) (table : List ℕ) (opened dropped lost : ℕ) (episodes : Episodes)
-    → a ≡ record p { tries = tries; starved = starved } → q ≡ record a { table = table; opened = opened; dropped = dropped; lost = lost; episodes = episodes } → q ≡ tried p q
+    → a ≡ record p { tries = tries; starved = starved } → q ≡ record a { table = table; opened = opened; dropped = dropped; lost = lost; episodes = episodes } → OnlyAccepted p q
 accept_opened p a q tries starved table opened dropped lost episodes one two =
-    accept_again p a q (subst (λ (s : PollerState). s ≡ tried p s) (sym one) refl) (subst (λ (s : PollerState). s ≡ tried a s) (sym two) refl)
+    accept_again p a q (subst (λ (s : PollerState). OnlyAccepted p s) (sym one) refl) (subst (λ (s : PollerState). OnlyAccepted a s) (sym two) refl)
 
--- that the log was told of a client that waits for a slot opens nothing
-pub same_full : {p q : PollerState} (episodes : Episodes) → q ≡ record p { episodes = episodes } → SamePoller p q
-same_full episodes is = record {
-  table = ap (λ (s : PollerState). s.table) is;
-  opened = ap (λ (s : PollerState). s.opened) is;
-  lost = ap (λ (s : PollerState). s.lost) is;
-  batch = ap (λ (s : PollerState). s.batch) is;
-  part = ap (λ (s : PollerState). s.part) is;
-}
+pub accept_told : (p q : PollerState) (episodes : Episodes) → q ≡ record p { episodes = episodes } → OnlyAccepted p q
+accept_told p q episodes is = subst (λ (s : PollerState). OnlyAccepted p s) (sym is) refl
 
-pub accept_told : (p q : PollerState) (episodes : Episodes) → q ≡ record p { episodes = episodes } → q ≡ tried p q
-accept_told p q episodes is = subst (λ (s : PollerState). s ≡ tried p s) (sym is) refl
+pub opens_lost : (p q : PollerState) (lost : ℕ) → q ≡ record p { lost = lost } → OnlyOpened p q
+opens_lost p q lost is = subst (λ (s : PollerState). OnlyOpened p s) (sym is) refl
 
--- what opening a connection may change of what the poller keeps
-abbrev opens : PollerState → PollerState → PollerState
-opens p q = record p { table = q.table; opened = q.opened; dropped = q.dropped; lost = q.lost; episodes = q.episodes }
-
-pub opens_lost : (p q : PollerState) (lost : ℕ) → q ≡ record p { lost = lost } → q ≡ opens p q
-opens_lost p q lost is = subst (λ (s : PollerState). s ≡ opens p s) (sym is) refl
-
-pub opens_dropped : (p r q : PollerState) (episodes : Episodes) (dropped : ℕ) → r ≡ record p { episodes = episodes } → q ≡ record r { dropped = dropped } → q ≡ opens p q
+pub opens_dropped : (p r q : PollerState) (episodes : Episodes) (dropped : ℕ) → r ≡ record p { episodes = episodes } → q ≡ record r { dropped = dropped } → OnlyOpened p q
 opens_dropped p r q episodes dropped one two =
-    subst (λ (s : PollerState). s ≡ opens p s) (sym two) (ap (λ (s : PollerState). record s { dropped = dropped }) one
-    ∙ sym (ap (λ (s : PollerState). opens p (record s { dropped = dropped })) one))
+    subst (λ (s : PollerState). OnlyOpened p s) (sym two) (subst (λ (s : PollerState). OnlyOpened p (record s { dropped = dropped })) (sym one) refl)
 
 pub lost_counts : (p q : PollerState) (opened dropped : ℕ → Type 0) (made : ℕ → List Act → Type 0) (a b : SeatState) (slots : List ℕ) (slot : ℕ)
     → slice_get slots 0 ≡ Some slot → q ≡ record p { lost = counted_up p.lost 1 } → IsSpent p slot → made slot []
@@ -505,8 +447,8 @@ no_names table slot last = by_table (cases_lt slot (length table)) where
 pub room_still : (h k : HandState) (slots : List ℕ) → k ≡ record h { slots = slots } → ticket_room h ≤ ticket_room k + 1
 room_still h k slots is = let same : ticket_room k ≡ ticket_room h = ap (λ (x : HandState). ticket_room x) is in omega arith
 
-pub opens_placed : (p r q : PollerState) → r ≡ p → q ≡ record r { table = q.table; opened = q.opened; lost = q.lost; episodes = q.episodes } → q ≡ opens p q
-opens_placed p r q same is = subst (λ (s : PollerState). q ≡ opens s q) same (subst (λ (s : PollerState). s ≡ opens r s) (sym is) refl)
+pub opens_placed : (p r q : PollerState) → r ≡ p → q ≡ record r { table = q.table; opened = q.opened; lost = q.lost; episodes = q.episodes } → OnlyOpened p q
+opens_placed p r q same is = subst (λ (s : PollerState). OnlyOpened s q) same (subst (λ (s : PollerState). OnlyOpened r s) (sym is) refl)
 
 -- a call refuses what a call of its own refused, and no more is said where it does
 pub passed_up : {T E : Type 0} (r : Result T E) (e : E) (P : E → Type 0) → IsErrAnd r (λ y. y ≡ e) → P e → IfErr r P

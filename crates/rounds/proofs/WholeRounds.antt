@@ -12,44 +12,31 @@ use Rattle.rounds.specs.Deliveries.{all_reported, at_slot, ArePosted, Delivered}
 use Rattle.dispatch.specs.Hands.{HandState}
 use Rattle.dispatch.specs.declared.front.Waiting.{Waiting}
 use Rattle.dispatch.specs.declared.front.Waiting.TheVariants.{No, Brief, Long}
-use Rattle.rounds.specs.Openings.{times, slots_in, AreIn, AreOpened, SlotsCounted, OnlyTook, AcceptDone}
+use Rattle.rounds.specs.Openings.{times, slots_in, AreIn, AreOpened, SlotsCounted, OnlyTook, AcceptDone, OnlyAccepted}
 use Rattle.dispatch.specs.Outgoing.{outgoing, tickets_out}
 use Rattle.rounds.specs.Pollers.{PollerState, Counted, HasOpenedAll}
 use Rattle.dispatch.specs.declared.part.Part.{Part}
 use Rattle.relay_log.specs.declared.faults.ServerFault.{ServerFault}
 use Rattle.relay_log.specs.declared.faults.ServerFault.TheVariants.{Worn}
-use Rattle.rounds.specs.Rounds.{RoundDone, RoundKeeps, AcceptEnded, ListenerKept, ListensToOpen, MayWait, MayWaitBriefly, WaitedAsMay}
+use Rattle.rounds.specs.Rounds.{RoundDone, RoundKeeps, AcceptEnded, ListenerKept, ListensToOpen, MayWait, MayWaitBriefly, WaitLasted, WaitedAsMay}
 use Rattle.std.proofs.lemmas.Bool.{cases_lt}
 use Rattle.rounds.specs.Sweeps.{swept_after, sweep_of}
-use Rattle.rounds.proofs.Connections.{SamePoller, accept_none, tried}
+use Rattle.rounds.proofs.Connections.{Fields, SamePoller, accept_none, fields_of}
 use Rattle.rounds.proofs.Reports.{posted_none, no_sweep, same_sweep}
 
 -- what the poller keeps, but for the reports and the flags
 pub record SameTable (old new : PollerState) : Type 0 where
-  pub table : new.table ≡ old.table
-  pub opened : new.opened ≡ old.opened
-  pub lost : new.lost ≡ old.lost
-  pub part : new.part ≡ old.part
+  pub fields : SamePoller (record old { batch = new.batch }) new
   pub second : new.second ≡ old.second
   pub swept : new.swept ≡ old.swept
 
 pub begun_is : {p q : PollerState} → q ≡ record p { batch = [] } → SameTable p q
-begun_is same = record {
-  table = ap (λ (s : PollerState). s.table) same;
-  opened = ap (λ (s : PollerState). s.opened) same;
-  lost = ap (λ (s : PollerState). s.lost) same;
-  part = ap (λ (s : PollerState). s.part) same;
-  second = ap (λ (s : PollerState). s.second) same;
-  swept = ap (λ (s : PollerState). s.swept) same;
-}
+begun_is {p} same = subst (λ (s : PollerState). SameTable p s) (sym same) (record { fields = refl; second = refl; swept = refl })
 
 pub looked_is : {p q r : PollerState} → q ≡ record p { batch = [] } → r ≡ record q { listening = r.listening; reported = r.reported; failed = r.failed; waited = r.waited; batch = r.batch }
     → SameTable p r
-looked_is begun looked = record {
-  table = ap (λ (s : PollerState). s.table) looked ∙ ap (λ (s : PollerState). s.table) begun;
-  opened = ap (λ (s : PollerState). s.opened) looked ∙ ap (λ (s : PollerState). s.opened) begun;
-  lost = ap (λ (s : PollerState). s.lost) looked ∙ ap (λ (s : PollerState). s.lost) begun;
-  part = ap (λ (s : PollerState). s.part) looked ∙ ap (λ (s : PollerState). s.part) begun;
+looked_is {p} {q} {r} begun looked = record {
+  fields = ap fields_of looked ∙ ap (λ (s : PollerState). fields_of (record s { batch = r.batch })) begun;
   second = ap (λ (s : PollerState). s.second) looked ∙ ap (λ (s : PollerState). s.second) begun;
   swept = ap (λ (s : PollerState). s.swept) looked ∙ ap (λ (s : PollerState). s.swept) begun;
 }
@@ -61,19 +48,19 @@ module _ (p q r v t : PollerState) (a b c d e : Own) (begun : SameTable p q) (to
     (own_then : AreIn r.part (sweep_of r v)) (sweep : SamePoller r v)
     (accepted : AcceptDone v t d e) (swept : t.swept ≡ v.swept) where
   table_is : v.table ≡ p.table
-  table_is = sweep.table ∙ flag.table ∙ begun.table
+  table_is = ap (λ (f : Fields). f.table) sweep ∙ ap (λ (f : Fields). f.table) flag ∙ ap (λ (f : Fields). f.table) begun.fields
 
   part_is : r.part ≡ p.part
-  part_is = flag.part ∙ begun.part
+  part_is = ap (λ (f : Fields). f.part) flag ∙ ap (λ (f : Fields). f.part) begun.fields
 
   batch_is : t.batch ≡ q.batch
-  batch_is = accepted.connected.batch ∙ sweep.batch ∙ flag.batch
+  batch_is = accepted.connected.batch ∙ ap (λ (f : Fields). f.batch) sweep ∙ ap (λ (f : Fields). f.batch) flag
 
   reported_is : all_reported p.table t.batch ≡ all_reported q.table q.batch
-  reported_is = ap (λ (g : List ℕ). all_reported g t.batch) (sym begun.table) ∙ ap (λ (bs : List ℕ). all_reported q.table bs) batch_is
+  reported_is = ap (λ (g : List ℕ). all_reported g t.batch) (sym (ap (λ (f : Fields). f.table) begun.fields)) ∙ ap (λ (bs : List ℕ). all_reported q.table bs) batch_is
 
   sweep_is : sweep_of p t ≡ sweep_of r v
-  sweep_is = same_sweep p r v t (flag.table ∙ begun.table) (unswept ∙ begun.swept) swept
+  sweep_is = same_sweep p r v t (ap (λ (f : Fields). f.table) flag ∙ ap (λ (f : Fields). f.table) begun.fields) (unswept ∙ begun.swept) swept
 
   made_is : ActsMade (delivered.posts ++ (posted.posts ++ accepted.connected.tries)) a.seat e.seat
   made_is =
@@ -118,14 +105,14 @@ module _ (p q r v t : PollerState) (a b c d e : Own) (begun : SameTable p q) (to
     swept = subst (λ (ts : List Ticket). ArePosts ts posted.posts) (sym sweep_is) posted.are;
     tried = accepted.connected.are;
     made = made_is;
-    part = accepted.connected.part ∙ sweep.part ∙ part_is;
-    own_reports = subst (λ (part : Part). AreIn part (all_reported p.table t.batch)) begun.part (subst (λ (ts : List Ticket). AreIn q.part ts) (sym reported_is) own);
+    part = accepted.connected.part ∙ ap (λ (f : Fields). f.part) sweep ∙ part_is;
+    own_reports = subst (λ (part : Part). AreIn part (all_reported p.table t.batch)) (ap (λ (f : Fields). f.part) begun.fields) (subst (λ (ts : List Ticket). AreIn q.part ts) (sym reported_is) own);
     own_sweep = subst (λ (part : Part). AreIn part (sweep_of p t)) part_is (subst (λ (ts : List Ticket). AreIn r.part ts) (sym sweep_is) own_then);
-    own_openings = subst (λ (part : Part). AreIn part accepted.opened) (sweep.part ∙ part_is) accepted.connected.own;
+    own_openings = subst (λ (part : Part). AreIn part accepted.opened) (ap (λ (f : Fields). f.part) sweep ∙ part_is) accepted.connected.own;
     tickets = tickets_are;
     table = subst (λ (g : List ℕ). AreOpened g accepted.opened t.table) table_is accepted.connected.table;
-    counted = subst (λ (n : ℕ). Counted n (length accepted.opened) t.opened) (sweep.opened ∙ flag.opened ∙ begun.opened) accepted.connected.counted;
-    unused = subst (λ (n : ℕ). Counted n (length accepted.lost) t.lost) (sweep.lost ∙ flag.lost ∙ begun.lost) accepted.connected.unused;
+    counted = subst (λ (n : ℕ). Counted n (length accepted.opened) t.opened) (ap (λ (f : Fields). f.opened) sweep ∙ ap (λ (f : Fields). f.opened) flag ∙ ap (λ (f : Fields). f.opened) begun.fields) accepted.connected.counted;
+    unused = subst (λ (n : ℕ). Counted n (length accepted.lost) t.lost) (ap (λ (f : Fields). f.lost) sweep ∙ ap (λ (f : Fields). f.lost) flag ∙ ap (λ (f : Fields). f.lost) begun.fields) accepted.connected.unused;
     gave = accepted.connected.gave ∙ ap (λ (f : EndState ℕ). f.history.put) (free_then ∙ free) ∙ took.gave;
     slots = slots_are;
   }
@@ -133,7 +120,7 @@ module _ (p q r v t : PollerState) (a b c d e : Own) (begun : SameTable p q) (to
 -- nothing was reported, nothing was posted for time, and nothing was accepted
 pub round_ended : (p q : PollerState) (a b : Own) → SameTable p q → q.batch ≡ [] → OnlyTook a b → RoundDone p q a b
 round_ended p q a b begun none took =
-    let still : SamePoller q q = record { table = refl; opened = refl; lost = refl; batch = refl; part = refl } in
+    let still : SamePoller q q = refl in
     let unswept : sweep_of q q ≡ [] = no_sweep q q.swept refl in
     round_of p q q q q a b b b b begun took
     (subst (λ (bs : List ℕ). Delivered q.table bs b.seat b.seat b.hand b.hand) (sym none) (posted_none b.seat b.hand))
@@ -169,13 +156,13 @@ kept p q (inr closed) = inr (inl closed.0, closed.1)
 -- the poller waits only where it may, and for as long
 pub waits_if : (waiting : Waiting) (limit : ℕ) (p q r : PollerState) (a b : Own) → q ≡ record p { listening = q.listening }
     → (waiting ≡ Long → MayWait limit q b × (b ≡ a)) → (waiting ≡ Brief → MayWaitBriefly limit q b) → OnlyTook a b
-    → (waiting ≡ No → r.waited ≡ 0) → (waiting ≡ Brief → r.waited ≤ 1) → WaitedAsMay limit p r a
-waits_if Long limit p q r a b same may brief took none short some =
+    → WaitLasted waiting r.waited → WaitedAsMay limit p r a
+waits_if Long limit p q r a b same may brief took lasted some =
     inl (subst (λ (o : Own). MayWait limit p o) (may refl).1 (subst (λ (s : PollerState). MayWait limit s b) same (may refl).0))
-waits_if Brief limit p q r a b same may brief took none short some =
+waits_if Brief limit p q r a b same may brief took lasted some =
     let left = subst (λ (s : PollerState). MayWaitBriefly limit s b) same (brief refl) in
-    inr (short refl, (left.0, sym took.tickets ∙ left.1, left.2))
-waits_if No limit p q r a b same may brief took none short some = absurd (some (none refl))
+    inr (lasted.brief refl, (left.0, sym took.tickets ∙ left.1, left.2))
+waits_if No limit p q r a b same may brief took lasted some = absurd (some (lasted.none refl))
 
 -- what the steps of a round leave as it is, but that a front may listen no longer; the end of a round may change the
 -- last two
@@ -199,17 +186,6 @@ looked_lasts {limit} {had} p q r begun looked listens waits = record {
   listening = subst (λ (s : PollerState). Listens s r) begun listens;
 }
 
-pub delivered_lasts : {limit : ℕ} {had : Own} {p q r : PollerState} → Lasting limit had p q → r ≡ record q { accepting = r.accepting } → Lasting limit had p r
-delivered_lasts {limit} {had} {p} before is =
-    subst (λ (s : PollerState). Lasting limit had p s) (sym is) (record {
-      opening = before.opening;
-      most = before.most;
-      heavy = before.heavy;
-      waits = before.waits;
-      over = before.over;
-      listening = before.listening;
-    })
-
 pub swept_lasts : {limit : ℕ} {had : Own} {p q r : PollerState} → Lasting limit had p q → r ≡ record q { second = r.second; swept = r.swept } → Lasting limit had p r
 swept_lasts {limit} {had} {p} before is =
     subst (λ (s : PollerState). Lasting limit had p s) (sym is) (record {
@@ -221,7 +197,7 @@ swept_lasts {limit} {had} {p} before is =
       listening = before.listening;
     })
 
-pub accepted_lasts : {limit : ℕ} {had : Own} {p q r : PollerState} → Lasting limit had p q → r ≡ tried q r → Lasting limit had p r
+pub accepted_lasts : {limit : ℕ} {had : Own} {p q r : PollerState} → Lasting limit had p q → OnlyAccepted q r → Lasting limit had p r
 accepted_lasts {limit} {had} {p} before is =
     subst (λ (s : PollerState). Lasting limit had p s) (sym is) (record {
       opening = before.opening;
@@ -232,12 +208,15 @@ accepted_lasts {limit} {had} {p} before is =
       listening = before.listening;
     })
 
+pub delivered_lasts : {limit : ℕ} {had : Own} {p q r : PollerState} → Lasting limit had p q → r ≡ record q { accepting = r.accepting } → Lasting limit had p r
+delivered_lasts {limit} {had} {p} {q} before is = accepted_lasts before (subst (λ (s : PollerState). OnlyAccepted q s) (sym is) refl)
+
 -- from the look on, the batch is what was reported
 abbrev IsRead : PollerState → Type 0
 IsRead p = p.batch ≡ p.reported
 
 pub still_read : (p q r s t : PollerState) → IsRead p → q ≡ record p { accepting = q.accepting } → r ≡ record q { second = r.second; swept = r.swept }
-    → s ≡ tried r s → t ≡ record s { listening = t.listening; over = t.over } → IsRead t
+    → OnlyAccepted r s → t ≡ record s { listening = t.listening; over = t.over } → IsRead t
 still_read p q r s t read delivered swept accepted ended =
     subst (λ (u : PollerState). IsRead u) (sym ended) (subst (λ (u : PollerState). IsRead u) (sym accepted)
     (subst (λ (u : PollerState). IsRead u) (sym swept) (subst (λ (u : PollerState). IsRead u) (sym delivered) read)))

@@ -194,6 +194,25 @@ pub record OneAccepted (old new : PollerState) (had has : Own) : Type 0 where
   pub done : AcceptDone old new had has
   pub room : ticket_room had.hand ≤ ticket_room has.hand + 1
 
+-- accepting changes at most this of what the poller keeps
+abbrev pub OnlyAccepted : PollerState → PollerState → Type 0
+OnlyAccepted old new = new ≡ record old {
+  table = new.table;
+  accepting = new.accepting;
+  starved = new.starved;
+  left = new.left;
+  tries = new.tries;
+  opened = new.opened;
+  dropped = new.dropped;
+  lost = new.lost;
+  episodes = new.episodes;
+}
+
+-- and opening a connection, or failing to, at most this
+abbrev pub OnlyOpened : PollerState → PollerState → Type 0
+OnlyOpened old new =
+    new ≡ record old { table = new.table; opened = new.opened; dropped = new.dropped; lost = new.lost; episodes = new.episodes }
+
 -- a thread's ends of the queues are as they were
 pub record SameQueues (old new : Own) : Type 0 where
   pub ready : new.ready ≡ old.ready

@@ -2,6 +2,8 @@
 use Rattle.std.specs.Prelude.{◌≡◌, ◌≢◌, ◌⊎◌, ℕ, ◌+◌, ◌<◌, ◌≤◌, true, false, List, [], ◌++◌, length, Contains}
 use Rattle.ready.specs.declared.ticket.Ticket.{Ticket}
 use Rattle.ready.specs.Steps.{HeldOnce}
+use Rattle.dispatch.specs.declared.front.Waiting.{Waiting}
+use Rattle.dispatch.specs.declared.front.Waiting.TheVariants as waiting
 use Rattle.dispatch.specs.declared.shared.Own.{Own}
 use Rattle.rounds.specs.Acts.{Act, due_of, ActsMade, ArePosts, AreTries}
 use Rattle.rounds.specs.Deliveries.{all_reported, ArePosted}
@@ -106,6 +108,17 @@ pub record MayAccept (p : PollerState) (own : Own) : Type 0 where
 -- did not lack what that needs, and no client was left to other pollers
 abbrev pub MayNotWait : ℕ → PollerState → Own → Type 0
 MayNotWait limit p own = (is_due limit p ≡ true) ⊎ ((own.hand.tickets ≢ []) ⊎ ((p.starved ≡ false) × (p.left ≡ false) × MayAccept p own))
+
+-- a wait for reports is as long as it may be now: for as long as the front waits, for a millisecond, or no wait at all
+pub record WaitsAsMay (wait : Waiting) (limit : ℕ) (p : PollerState) (own : Own) : Type 0 where
+  pub long : wait ≡ waiting.Long → MayWait limit p own
+  pub brief : wait ≡ waiting.Brief → MayWaitBriefly limit p own
+  pub haste : wait ≡ waiting.No → MayNotWait limit p own
+
+-- how many milliseconds such a wait can have taken
+pub record WaitLasted (wait : Waiting) (millis : ℕ) : Type 0 where
+  pub none : wait ≡ waiting.No → millis ≡ 0
+  pub brief : wait ≡ waiting.Brief → millis ≤ 1
 
 -- a client waits for a slot: the listener was reported, and connections would be opened, but no slot was free even
 -- before any was

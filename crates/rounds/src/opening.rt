@@ -11,7 +11,7 @@ ghost use Rattle.dispatch.specs.Posts.{HoldsOnly, OnlyWorn};
 ghost use Rattle.dispatch.specs.Hands.{ticket_room};
 ghost use Rattle.token.specs.Names.{last_generation};
 ghost use Rattle.rounds.specs.Leads.{LeadTold};
-ghost use Rattle.rounds.specs.Openings.{next_in, Between, DropCounted, DropsFor, Fate, IsNext, LetGo, OneAccepted, OpeningLogged, Placed, Registered, SameQueues, Started};
+ghost use Rattle.rounds.specs.Openings.{next_in, Between, DropCounted, DropsFor, Fate, IsNext, LetGo, OneAccepted, OnlyOpened, OpeningLogged, Placed, Registered, SameQueues, Started};
 ghost use Rattle.rounds.specs.Pollers.{AreGenerations};
 
 use crate::dropping::Dropped;
@@ -81,13 +81,7 @@ pub fn open<F: Front + Counting, A: Moves<F>, R: Wait + Logs>(
         (λ slot. AreMade A.made slot open_slot acts.old acts.new)) }
     ensures done { OnOk result (OneAccepted poller.old poller.new own.old own.new) }
     ensures ready { own.new.ready ≡ own.old.ready }
-    ensures poller { poller.new ≡ record poller.old {
-      table = poller.new.table;
-      opened = poller.new.opened;
-      dropped = poller.new.dropped;
-      lost = poller.new.lost;
-      episodes = poller.new.episodes;
-    } }
+    ensures poller { OnlyOpened poller.old poller.new }
 {
     let Some(slot) = own.hand.take_slot() else {
         poller.count_lost(uncounted);

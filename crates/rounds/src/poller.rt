@@ -188,13 +188,6 @@ impl<F: Front> Poller<F> {
         self.over
     }
 
-    /// Whether a connection may be waiting to be accepted.
-    pub fn is_accepting(&self) -> bool
-        ensures { result ≡ self.now.accepting }
-    {
-        self.accepting
-    }
-
     /// Each slot's generation: how many connections it has had, or counts as having had.
     pub fn table(&self) -> &[u64]
         ensures table { result.now ≡ self.now.table }

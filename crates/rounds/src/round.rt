@@ -9,9 +9,9 @@ ghost use Rattle.rounds.specs.Deliveries.{Delivered, all_reported};
 ghost use Rattle.rounds.specs.Drops.{AreTold};
 ghost use Rattle.dispatch.specs.Hands.{ticket_room};
 ghost use Rattle.rounds.specs.Limits.{max_accepts, spare_room};
-ghost use Rattle.rounds.specs.Openings.{AreIn, Between, OnlyTook, AcceptDone, OneAccepted};
+ghost use Rattle.rounds.specs.Openings.{AreIn, Between, OnlyTook, AcceptDone, OneAccepted, OnlyAccepted};
 ghost use Rattle.rounds.specs.Pollers.{HasOpenedAll};
-ghost use Rattle.rounds.specs.Rounds.{AcceptEnded, EndedEarly, HasLeft, IsFull, IsOver, ListensToOpen, LooksForAll, MayAccept, MayNotWait, MayWait, MayWaitBriefly, NoSlot, NoneToAccept, NotBegun, RoundDone, RoundEnded, RoundKeeps, RoundRefused, TookAll, WaitedAsMay};
+ghost use Rattle.rounds.specs.Rounds.{AcceptEnded, EndedEarly, HasLeft, IsFull, IsOver, ListensToOpen, LooksForAll, MayAccept, MayNotWait, MayWait, MayWaitBriefly, NoSlot, NoneToAccept, NotBegun, RoundDone, RoundEnded, RoundKeeps, RoundRefused, TookAll, WaitLasted, WaitedAsMay, WaitsAsMay};
 ghost use Rattle.dispatch.specs.Posts.{OnlyWorn};
 
 use crate::accepting::{Accepted, accepted_of};
@@ -157,9 +157,7 @@ fn poll<F: Front, R: Log>(
     _limit: u64,
     wait: Waiting,
 ) -> Result<(), ServerFault>
-    requires wait { wait ≡ Waiting.Long → MayWait _limit poller.old _own.now }
-    requires brief { wait ≡ Waiting.Brief → MayWaitBriefly _limit poller.old _own.now }
-    requires haste { wait ≡ Waiting.No → MayNotWait _limit poller.old _own.now }
+    requires wait { WaitsAsMay wait _limit poller.old _own.now }
     requires closed { ListensToOpen poller.old }
     ensures same { poller.new ≡ record poller.old {
       reported = poller.new.reported;
@@ -167,8 +165,7 @@ fn poll<F: Front, R: Log>(
       waited = poller.new.waited;
       batch = poller.new.batch;
     } }
-    ensures waited { wait ≡ Waiting.No → poller.new.waited ≡ 0 }
-    ensures brief { wait ≡ Waiting.Brief → poller.new.waited ≤ 1 }
+    ensures waited { WaitLasted wait poller.new.waited }
     ensures batch { poller.new.batch ≡ poller.new.reported }
     ensures failed { OnErr result ((poller.new.failed ≡ true) × (poller.new.batch ≡ [])) }
     ensures fault { IfErr result (λ fault. fault ≡ ServerFault.Poll) }
@@ -240,17 +237,7 @@ fn accept<F: Front, R: Wait + Log>(
     ensures done { OnOk result (AcceptDone poller.old poller.new own.old own.new) }
     ensures ended { OnOk result (AcceptEnded poller.new own.new) }
     ensures ready { own.new.ready ≡ own.old.ready }
-    ensures poller { poller.new ≡ record poller.old {
-      table = poller.new.table;
-      accepting = poller.new.accepting;
-      starved = poller.new.starved;
-      left = poller.new.left;
-      tries = poller.new.tries;
-      opened = poller.new.opened;
-      dropped = poller.new.dropped;
-      lost = poller.new.lost;
-      episodes = poller.new.episodes;
-    } }
+    ensures poller { OnlyAccepted poller.old poller.new }
     ensures told { OnOk result (AreTold poller.new.second poller.new.episodes.drops) }
 {
     tell_if_full(rt, shared, own, poller);
@@ -311,17 +298,7 @@ fn accept_all<F: Front, R: Wait + Log>(
     ensures done { OnOk result (AcceptDone poller.old poller.new own.old own.new) }
     ensures ended { OnOk result (AcceptEnded poller.new own.new) }
     ensures ready { own.new.ready ≡ own.old.ready }
-    ensures poller { poller.new ≡ record poller.old {
-      table = poller.new.table;
-      accepting = poller.new.accepting;
-      starved = poller.new.starved;
-      left = poller.new.left;
-      tries = poller.new.tries;
-      opened = poller.new.opened;
-      dropped = poller.new.dropped;
-      lost = poller.new.lost;
-      episodes = poller.new.episodes;
-    } }
+    ensures poller { OnlyAccepted poller.old poller.new }
 {
     poller.reset_tries();
     for _try in 0..MAX_ACCEPTS {
@@ -341,7 +318,6 @@ fn may_accept<F: Front, R: Wait>(rt: &R, own: &mut Own, poller: &Poller<F>) -> b
     ensures took { OnlyTook own.old own.new }
     ensures ended { result ≡ false → NoneToAccept poller.now own.new }
     ensures still { result ≡ false → own.new ≡ own.old }
-    ensures slot { result ≡ true → 1 ≤ length own.new.hand.slots }
     ensures may { result ≡ true → MayAccept poller.now own.new }
 {
     poller.accepting && !poller.has_opened_all() && has_slot(rt, own)
@@ -358,25 +334,14 @@ fn accept_next<F: Front, R: Wait + Log>(
 ) -> Result<bool, ServerFault>
     requires between { Between shared.now.claims own.old poller.old }
     requires room { 1 ≤ ticket_room own.old.hand }
-    requires slot { 1 ≤ length own.old.hand.slots }
-    requires flag { poller.old.accepting ≡ true }
+    requires may { MayAccept poller.old own.old }
     ensures between { Between shared.now.claims own.new poller.new }
     ensures worn { IfErr result (λ fault. OnlyWorn fault own.new.seat) }
     ensures done { OnOk result (OneAccepted poller.old poller.new own.old own.new) }
     ensures ready { own.new.ready ≡ own.old.ready }
     ensures tries { IfOk result (λ more. more ≡ true → poller.new.tries ≡ poller.old.tries - 1) }
     ensures ended { IfOk result (λ more. more ≡ false → (poller.new.starved ≡ true) ⊎ HasLeft poller.new) }
-    ensures poller { poller.new ≡ record poller.old {
-      table = poller.new.table;
-      accepting = poller.new.accepting;
-      starved = poller.new.starved;
-      left = poller.new.left;
-      tries = poller.new.tries;
-      opened = poller.new.opened;
-      dropped = poller.new.dropped;
-      lost = poller.new.lost;
-      episodes = poller.new.episodes;
-    } }
+    ensures poller { OnlyAccepted poller.old poller.new }
 {
     if poller.leaves() {
         return Ok(false);

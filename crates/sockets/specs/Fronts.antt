@@ -1,5 +1,5 @@
 -- Where a server listens, and what is reported. Part of the promises.
-use Rattle.std.specs.Prelude.{◌≡◌, ◌≢◌, ℕ, ◌*◌, max, min, Bool, true, false, ◌||◌, if◌then◌else◌, List, map, Option, Some, None, Result, Ok, Err}
+use Rattle.std.specs.Prelude.{◌≡◌, ◌≢◌, ℕ, ◌*◌, max, min, Bool, true, false, ◌||◌, if◌then◌else◌, List, [], map, OnOk, IsTrue, ◌↔◌, Option, Some, None, Result, Ok, Err}
 use Rattle.std.specs.IoError.{error_kind}
 use Rattle.std.specs.declared.io.Error.{Error}
 use Rattle.std.specs.declared.io.ErrorKind.TheVariants.{Interrupted}
@@ -15,6 +15,8 @@ use Rattle.token.specs.declared.name.Name.{Name}
 use Rattle.token.specs.declared.name.Name.TheVariants.{Listener, Waker, End}
 use Rattle.readiness.specs.Words.{WordName, word_of}
 use Rattle.settings.specs.Addresses.{SocketAddress}
+use Rattle.dispatch.specs.declared.front.Waiting.{Waiting}
+use Rattle.dispatch.specs.declared.front.Waiting.TheVariants as waiting
 use Rattle.dispatch.specs.declared.route.Route.{Route}
 use Rattle.sockets.specs.declared.forwarding.Forwarding.{Forwarding}
 use Rattle.sockets.specs.Wires.{Made, NamedHere}
@@ -71,6 +73,15 @@ wait_of pollers = 100 * max (min pollers 16) 2
 -- how many times in a row a front leaves a client at most
 abbrev pub most_left : ℕ
 most_left = 16
+
+-- What a wait for reports says of this front, beside what it says of any: whether it failed, how long it could take if it
+-- was a long one, and how many times in a row a client was left. After a brief one that gave no report that is as many as
+-- there may be, so the next client is accepted; no other wait changes it
+pub record WaitEnded (wait : Waiting) (answer : Result (Unit {0}) Error) (old new : Watched) : Type 0 where
+  pub fails : IsTrue new.failed ↔ Fails answer
+  pub asked : wait ≡ waiting.Long → new.waited ≡ old.wait
+  pub quiet : OnOk answer (wait ≡ waiting.Brief → new.reported ≡ [] → new.left ≡ most_left)
+  pub kept : wait ≢ waiting.Brief → new.left ≡ old.left
 
 -- a socket that listens: the address that the system was asked for, and the one that it told, which has its port where
 -- any port was asked for

@@ -4,7 +4,7 @@ ghost use Rattle.std.specs.declared.io.ErrorKind.TheVariants.{Interrupted};
 ghost use Rattle.mio.specs.Event.{event_token};
 ghost use Rattle.mio.specs.Events.{items};
 ghost use Rattle.token.specs.Numbers.{name_of};
-ghost use Rattle.sockets.specs.Fronts.{Fails, end_in, heard_of, most_left, names_reading, numbers, v4_of, wait_of, IsLocal, IsRoute, MayTell};
+ghost use Rattle.sockets.specs.Fronts.{Fails, end_in, heard_of, most_left, names_reading, numbers, v4_of, wait_of, IsLocal, IsRoute, MayTell, WaitEnded};
 ghost use Rattle.dispatch.specs.Splits.{parts_of};
 ghost use Rattle.dispatch.specs.declared.front.Unopened.TheVariants.{Connect, Register};
 ghost use Rattle.sockets.specs.Wires.{SameButWatched, fresh_wire, patient, under, unlimited};
@@ -385,12 +385,9 @@ impl<R: Dial> Front for Sockets<'_, R> {
         ensures failed { OnErr result (batch.new.items ≡ []) }
         ensures reported { batch.new.items ≡ self.new.reported }
         ensures fault { IfErr result (λ error. error_kind error ≢ Interrupted → self.new.failed ≡ true) }
-        ensures fails { IsTrue self.new.failed ↔ Fails result }
-        ensures asked { wait ≡ Waiting.Long → self.new.waited ≡ self.old.wait }
         ensures waited { wait ≡ Waiting.No → self.new.waited ≡ 0 }
         ensures brief { wait ≡ Waiting.Brief → self.new.waited ≤ 1 }
-        ensures quiet { OnOk result (wait ≡ Waiting.Brief → batch.new.items ≡ [] → self.new.left ≡ most_left) }
-        ensures kept { wait ≢ Waiting.Brief → self.new.left ≡ self.old.left }
+        ensures here { WaitEnded wait result self.old self.new }
         ensures same { self.new ≡ record self.old {
           reported = self.new.reported;
           failed = self.new.failed;

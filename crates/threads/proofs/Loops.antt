@@ -549,16 +549,6 @@ own_worn why answer a b (fault, is, was) worn ran =
       (was ∙ ap (λ (f : ServerFault). Met f) only.0, only.1),
     )
 
--- a look before the next turn found a fault
-pub cut_found : (count : ℕ) (why : Why) (p q : PollerState) (a b : Own) → why ≡ FaultFound → SharedAndRan count [] p q a b → count < 16 → TurnsCut why p q a b
-cut_found count why p q a b is made few = record {
-  count = count;
-  made = subst (λ (fs : List ServerFault). SharedAndRan (count + length fs) fs p q a b) (sym (ap faults_by is))
-      (subst (λ (n : ℕ). SharedAndRan n [] p q a b) (let e : count ≡ count + 0 = omega arith in e) made);
-  few = few;
-  reason = inl is;
-}
-
 -- in the next turn the seat was worn
 pub cut_worn : (count : ℕ) (why : Why) (p r q : PollerState) (a b c : Own) → WornEnd why c → SharedAndRan count [] p r a b → OwnTurnsRan 1 (faults_by why) b c
     → q ≡ record p { heavy = q.heavy } → count < 16 → TurnsCut why p q a c

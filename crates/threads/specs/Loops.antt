@@ -195,10 +195,6 @@ pub record Asked (said : Bool → Type 0) (old new : PollerState) : Type 0 where
   pub stopped : found ≡ true → ((new ≡ old) × HasOpenedAll old) ⊎ (new ≡ record old { most = 0 })
   pub goes_on : found ≡ false → new ≡ old
 
--- from now on a poller may open no more connections
-abbrev pub MayStop : PollerState → PollerState → Type 0
-MayStop p q = (q ≡ p) ⊎ (q ≡ record p { most = 0 })
-
 -- A poller's thread made a round, after a look at the flag that stops openings
 pub record RoundMade (said : Bool → Type 0) (p q : PollerState) (a b : Own) : Type 0 where
   pub begun : PollerState

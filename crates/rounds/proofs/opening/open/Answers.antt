@@ -6,7 +6,7 @@ use Rattle.token.specs.Names.{last_generation}
 use Rattle.rounds.specs.Pollers.{PollerState}
 use Rattle.token.specs.declared.token.Token.{Token}
 use Rattle.rounds.specs.Openings.{next_in, DropCounted, OpeningLogged}
-use Rattle.rounds.proofs.Connections.{some_first, opened_never, opened_not, opened_there, on_ok, same_dropped, opens_lost, opens_dropped, opens_placed, lost_counts, dropped_counts, placed_counts, registered_once, on_err, no_names, room_still}
+use Rattle.rounds.proofs.Connections.{some_first, opened_never, opened_not, opened_there, on_ok, fields_of, opens_lost, opens_dropped, opens_placed, lost_counts, dropped_counts, placed_counts, registered_once, on_err, no_names, room_still}
 use Rattle.rounds.proofs.opening.open.Goals as goal
 
 pub returns-in_default : goal.returns-in_default
@@ -64,7 +64,7 @@ returns-in-Err g c =
       in_order = tt;
       done = record {
         done = opened_not c.args.poller.now c.count_dropped.new.self c.args.own.now c.take_slot.new.self c.take_slot.ensures.left c.in-Some.slot first c.prepare.new.hand here
-            (same_dropped c.args.poller.now c.prepare.new.poller c.count_dropped.new.self _ _ c.in-Err.ensures.told c.count_dropped.ensures.poller);
+            (ap fields_of c.count_dropped.ensures.poller ∙ ap fields_of c.in-Err.ensures.told);
         room = subst (λ (h : HandState). ticket_room h ≤ ticket_room c.prepare.new.hand + 1) c.take_slot.ensures.left
             (room_still c.take_slot.new.self c.prepare.new.hand _ c.in-Err.ensures.failed);
       };

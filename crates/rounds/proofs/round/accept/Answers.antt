@@ -1,7 +1,7 @@
 use Rattle.std.proofs.Common.{ℕ, ◌≤◌, ◌∙◌, ap, subst, sym}
 use Rattle.rounds.specs.Pollers.{PollerState}
 use Rattle.rounds.specs.Rounds.{AcceptEnded}
-use Rattle.rounds.proofs.Connections.{accept_again, accept_both, accept_none, accept_told, accept_took, between_took, not_ok, passed_up, room_same, same_full, took_none}
+use Rattle.rounds.proofs.Connections.{accept_again, accept_both, accept_none, accept_told, accept_took, between_took, not_ok, passed_up, fields_of, room_same, took_none}
 use Rattle.rounds.proofs.round.accept.Goals as goal
 
 pub accept_all-requires : goal.accept_all-requires
@@ -30,9 +30,9 @@ returns g c = record {
   between = between_took c.args.shared.now.claims c.accept_all.new.own c.accept_all.new.own c.accept_all.new.poller c.tell_counted.new.self
       c.accept_all.ensures.between (took_none c.accept_all.new.own) (ap (λ (s : PollerState). s.table) c.tell_counted.ensures.told);
   worn = tt;
-  done = accept_both (accept_took c.args.poller.now c.tell_if_full.new.poller c.args.own.now c.tell_if_full.new.own (same_full _ c.tell_if_full.ensures.poller)
+  done = accept_both (accept_took c.args.poller.now c.tell_if_full.new.poller c.args.own.now c.tell_if_full.new.own (ap fields_of c.tell_if_full.ensures.poller)
       c.tell_if_full.ensures.took)
-      (accept_both c.in_ok-accept_all.ensures.done (accept_none c.accept_all.new.poller c.tell_counted.new.self c.accept_all.new.own (same_full _ c.tell_counted.ensures.told)));
+      (accept_both c.in_ok-accept_all.ensures.done (accept_none c.accept_all.new.poller c.tell_counted.new.self c.accept_all.new.own (ap fields_of c.tell_counted.ensures.told)));
   ended = subst (λ (s : PollerState). AcceptEnded s c.accept_all.new.own) (sym c.tell_counted.ensures.told) c.in_ok-accept_all.ensures.ended;
   ready = c.accept_all.ensures.ready ∙ c.tell_if_full.ensures.took.ready;
   poller = accept_again c.args.poller.now c.accept_all.new.poller c.tell_counted.new.self

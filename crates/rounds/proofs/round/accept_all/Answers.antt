@@ -1,6 +1,6 @@
 use Rattle.std.proofs.Common.{refl, false, inl, inr, ◌+◌, ◌∙◌, ap, length, arith}
 use Rattle.rounds.specs.Pollers.{PollerState}
-use Rattle.rounds.proofs.Connections.{between_took, not_ok, passed_up, room_same, accept_none, accept_again, accept_still, same_tries, accept_and_took, accept_and_next, ended_by, room_left}
+use Rattle.rounds.proofs.Connections.{between_took, not_ok, passed_up, room_same, accept_none, accept_again, accept_still, fields_of, accept_and_took, accept_and_next, ended_by, room_left}
 use Rattle.rounds.proofs.round.accept_all.Goals as goal
 
 pub loop-try-init : goal.loop-try-init
@@ -12,7 +12,7 @@ loop-try-init g c = record {
   };
   room = omega arith;
   tries = ap (λ (s : PollerState). 0 + s.tries) c.reset_tries.ensures;
-  done = accept_none c.args.poller.now c.reset_tries.new.self c.args.own.now (same_tries c.args.poller.now c.reset_tries.new.self 4 false c.reset_tries.ensures);
+  done = accept_none c.args.poller.now c.reset_tries.new.self c.args.own.now (ap fields_of c.reset_tries.ensures);
   poller = accept_still c.args.poller.now c.reset_tries.new.self 4 false c.reset_tries.ensures;
 }
 
@@ -25,8 +25,7 @@ accept_next-requires g c =
       between = between_took c.args.shared.now.claims c.loop-try.own c.may_accept.new.own c.loop-try.poller c.loop-try.poller c.loop-try.invariant.between c.may_accept.ensures.took
           refl;
       room = omega arith;
-      slot = c.may_accept.ensures.slot c.if-not-may_accept.false;
-      flag = (c.may_accept.ensures.may c.if-not-may_accept.false).flag;
+      may = c.may_accept.ensures.may c.if-not-may_accept.false;
     }
 
 pub returns-then-not-may_accept : goal.returns-then-not-may_accept

@@ -1,6 +1,6 @@
 use Rattle.std.proofs.Common.{◌≡◌, ◌+◌, ◌≤◌}
 use Rattle.dispatch.specs.Hands.{ticket_room}
-use Rattle.rounds.specs.Openings.{Between, AcceptDone}
+use Rattle.rounds.specs.Openings.{Between, AcceptDone, OnlyAccepted}
 use Rattle.rounds.proofs.round.accept_all.Given as goal
 
 -- each try takes at most one ticket in hand
@@ -10,15 +10,5 @@ invariant-loop-try g l = record {
   room : 4 ≤ l._try + ticket_room l.own.hand;
   tries : l._try + l.poller.tries ≡ 4;
   done : AcceptDone l.fn.poller l.poller l.fn.own l.own;
-  poller : l.poller ≡ record l.fn.poller {
-    table = l.poller.table;
-    accepting = l.poller.accepting;
-    starved = l.poller.starved;
-    left = l.poller.left;
-    tries = l.poller.tries;
-    opened = l.poller.opened;
-    dropped = l.poller.dropped;
-    lost = l.poller.lost;
-    episodes = l.poller.episodes;
-  };
+  poller : OnlyAccepted l.fn.poller l.poller;
 }

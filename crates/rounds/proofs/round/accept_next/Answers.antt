@@ -1,19 +1,19 @@
-use Rattle.std.proofs.Common.{refl, false, ◌-◌, arith}
-use Rattle.rounds.proofs.Connections.{accept_again, accept_both, accept_left, accept_none, accept_opened, accept_refused, same_left, same_two}
+use Rattle.std.proofs.Common.{◌∙◌, ap, arith}
+use Rattle.rounds.proofs.Connections.{accept_again, accept_both, accept_left, accept_none, accept_opened, accept_refused, fields_of}
 use Rattle.rounds.proofs.round.accept_next.Goals as goal
 
 pub returns-then-leaves-clause-done : goal.returns-then-leaves-clause-done
 returns-then-leaves-clause-done g c = record {
-  done = accept_none c.args.poller.now c.leaves.new.self c.args.own.now (same_left c.args.poller.now c.leaves.new.self c.leaves.result c.leaves.ensures);
+  done = accept_none c.args.poller.now c.leaves.new.self c.args.own.now (ap fields_of c.leaves.ensures);
   room = omega arith;
 }
 
 pub returns-in-Err-clause-done : goal.returns-in-Err-clause-done
 returns-in-Err-clause-done g c = record {
   done = accept_both
-      (accept_none c.args.poller.now c.leaves.new.self c.args.own.now (same_left c.args.poller.now c.leaves.new.self c.leaves.result c.leaves.ensures))
+      (accept_none c.args.poller.now c.leaves.new.self c.args.own.now (ap fields_of c.leaves.ensures))
       (accept_none c.leaves.new.self c.not_accepted.new.poller c.args.own.now
-      (same_two c.leaves.new.self c.accept.new.self c.not_accepted.new.poller _ _ _ _ c.in-Err.ensures.refused c.not_accepted.ensures.flag));
+      (ap fields_of c.not_accepted.ensures.flag ∙ ap fields_of c.in-Err.ensures.refused));
   room = omega arith;
 }
 
@@ -23,9 +23,9 @@ returns-in_ok-open-in-Ok-clause-done g c =
     record {
       done = accept_both
           (accept_both
-          (accept_none c.args.poller.now c.leaves.new.self c.args.own.now (same_left c.args.poller.now c.leaves.new.self c.leaves.result c.leaves.ensures))
+          (accept_none c.args.poller.now c.leaves.new.self c.args.own.now (ap fields_of c.leaves.ensures))
           (accept_none old c.accept.new.self c.args.own.now
-          (same_two old (record old { tries = old.tries - 1 }) c.accept.new.self (old.tries - 1) old.accepting false old.episodes refl c.in-Ok.ensures.accepted)))
+          (ap fields_of c.in-Ok.ensures.accepted)))
           c.in_ok-open-in-Ok.ensures.done.done;
       room = c.in_ok-open-in-Ok.ensures.done.room;
     }

@@ -5,7 +5,7 @@ use Rattle.ready.specs.Steps.{EndState}
 use Rattle.rounds.specs.Drops.{AreTold}
 use Rattle.dispatch.specs.Hands.{ticket_room}
 use Rattle.rounds.specs.Pollers.{PollerState}
-use Rattle.rounds.proofs.Connections.{SamePoller, accept_both, accept_took, between_took, room_same, took_none, passed_up, not_ok}
+use Rattle.rounds.proofs.Connections.{Fields, accept_both, accept_took, between_took, fields_of, room_same, took_none, passed_up, not_ok}
 use Rattle.rounds.proofs.Reports.{few_tickets, capacity_kept, reported_le, few_sweep}
 use Rattle.rounds.proofs.WholeRounds.{SameTable, begun_is, ended_still, looked_is, round_of, round_ended, swept_is, looked_lasts, delivered_lasts, swept_lasts, accepted_lasts, still_read, ended_early, begun_not_early, but_worn, keeps, over_before, listens_still}
 use Rattle.rounds.specs.Rounds.{WaitedAsMay}
@@ -46,7 +46,7 @@ returns-in_err-look g c =
       between = record {
         same = ap (λ (s : SeatState). s.table) c.look.ensures.took.seat ∙ c.requires.same;
         idle = subst (λ (s : SeatState). HoldsNothing s) (sym c.look.ensures.took.seat) c.requires.idle;
-        sized = ap (λ (t : List ℕ). length t) looked.table ∙ c.requires.sized;
+        sized = ap (λ (f : Fields). length f.table) looked.fields ∙ c.requires.sized;
       };
       early = λ early. begun_not_early c.slots.result c.args.shared.now.claims.words (ticket_room c.args.own.now.hand) (c.begin.ensures.room.0 c.if-not-begin.false) c.slots.ensures early;
       waits = inr same.waits;
@@ -151,13 +151,6 @@ returns g c =
     (ap (λ (s : PollerState). s.swept) c.deliver_batch.ensures.poller ∙ looked.swept)
     c.in_ok-keep_time.ensures.swept.swept
     (ap (λ (s : PollerState). s.swept) c.take_back.ensures.poller ∙ ap (λ (s : PollerState). s.swept) c.accept.ensures.poller) in
-    let flags : SamePoller c.accept.new.poller c.take_back.new.poller = record {
-      table = ap (λ (s : PollerState). s.table) c.take_back.ensures.poller;
-      opened = ap (λ (s : PollerState). s.opened) c.take_back.ensures.poller;
-      lost = ap (λ (s : PollerState). s.lost) c.take_back.ensures.poller;
-      batch = ap (λ (s : PollerState). s.batch) c.take_back.ensures.poller;
-      part = ap (λ (s : PollerState). s.part) c.take_back.ensures.poller;
-    } in
     record {
       between = record {
         same = ap (λ (s : SeatState). s.table) c.take_back.ensures.took.seat ∙ c.accept.ensures.between.same;
@@ -174,26 +167,14 @@ returns g c =
           c.deliver_batch.ensures.ready
           c.deliver_batch.ensures.free
           c.deliver_batch.ensures.own
-          (record {
-            table = ap (λ (s : PollerState). s.table) c.deliver_batch.ensures.poller;
-            opened = ap (λ (s : PollerState). s.opened) c.deliver_batch.ensures.poller;
-            lost = ap (λ (s : PollerState). s.lost) c.deliver_batch.ensures.poller;
-            batch = ap (λ (s : PollerState). s.batch) c.deliver_batch.ensures.poller;
-            part = ap (λ (s : PollerState). s.part) c.deliver_batch.ensures.poller;
-          })
+          (ap fields_of c.deliver_batch.ensures.poller)
           (ap (λ (s : PollerState). s.swept) c.deliver_batch.ensures.poller)
           c.in_ok-keep_time.ensures.swept.posted
           c.keep_time.ensures.queues.ready
           c.keep_time.ensures.queues.free
           c.keep_time.ensures.own
-          (record {
-            table = ap (λ (s : PollerState). s.table) c.keep_time.ensures.poller;
-            opened = ap (λ (s : PollerState). s.opened) c.keep_time.ensures.poller;
-            lost = ap (λ (s : PollerState). s.lost) c.keep_time.ensures.poller;
-            batch = ap (λ (s : PollerState). s.batch) c.keep_time.ensures.poller;
-            part = ap (λ (s : PollerState). s.part) c.keep_time.ensures.poller;
-          })
-          (accept_both c.in_ok-accept.ensures.done (accept_took c.accept.new.poller c.take_back.new.poller c.accept.new.own c.take_back.new.own flags c.take_back.ensures.took))
+          (ap fields_of c.keep_time.ensures.poller)
+          (accept_both c.in_ok-accept.ensures.done (accept_took c.accept.new.poller c.take_back.new.poller c.accept.new.own c.take_back.new.own (ap fields_of c.take_back.ensures.poller) c.take_back.ensures.took))
           (ap (λ (s : PollerState). s.swept) c.take_back.ensures.poller ∙ ap (λ (s : PollerState). s.swept) c.accept.ensures.poller);
       ended = inr (record {
         read = still_read c.look.new.poller c.deliver_batch.new.poller c.keep_time.new.poller c.accept.new.poller c.take_back.new.poller c.look.ensures.batch
@@ -228,7 +209,7 @@ deliver_batch-requires g c =
     let same = room_same c.args.own.now c.look.new.own c.look.ensures.took in
     record {
       between = between_took c.args.shared.now.claims c.args.own.now c.look.new.own c.args.poller.now c.look.new.poller
-          (record { same = c.requires.same; idle = c.requires.idle; sized = c.requires.sized }) c.look.ensures.took looked.table;
+          (record { same = c.requires.same; idle = c.requires.idle; sized = c.requires.sized }) c.look.ensures.took (ap (λ (f : Fields). f.table) looked.fields);
       room = omega arith;
     }
 
