@@ -1,10 +1,8 @@
 // The turn in progress, and what must hold of turns.
 use crate::outside::Outside;
+use dispatch::OWN_BUDGET;
 use token::Token;
 use world::{Act, Event};
-
-/// The most calls of a turn of a poller's own thread.
-const OWN_BUDGET: usize = 8;
 
 /// A turn in progress.
 #[derive(Clone, Copy)]

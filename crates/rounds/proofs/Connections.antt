@@ -40,7 +40,7 @@ use Rattle.dispatch.specs.Fronts.{cause_of}
 use Rattle.dispatch.specs.declared.front.Unopened.{Unopened}
 use Rattle.dispatch.specs.declared.front.Unopened.TheVariants as unopened
 use Rattle.dispatch.specs.declared.route.Route.{Route}
-use Rattle.rounds.specs.Leads.{lacks, lead_of}
+use Rattle.rounds.specs.Leads.{lacks, lead_of, LeadTold}
 use Rattle.rounds.specs.Rounds.{AcceptEnded, HasLeft}
 
 -- counts
@@ -454,6 +454,12 @@ opens_placed p r q same is = subst (λ (s : PollerState). OnlyOpened s q) same (
 pub passed_up : {T E : Type 0} (r : Result T E) (e : E) (P : E → Type 0) → IsErrAnd r (λ y. y ≡ e) → P e → IfErr r P
 passed_up (Ok x) e P is p = tt
 passed_up (Err y) e P is p = subst P (sym is) p
+
+-- for want of memory for a connection that was started
+pub unboxed_drops : {T : Type 0} (r : Result T Cause) (may_refuse : Unopened → Type 0) (may_tell : Route → Type 0) (proxy : Bool) (lead : List ℕ)
+    → IfErr r (λ c. c ≡ cause.Memory) → LeadTold may_tell proxy (Some lead) → IfErr r (λ c. DropsFor may_refuse may_tell proxy c)
+unboxed_drops (Ok x) may_refuse may_tell proxy lead is told = tt
+unboxed_drops (Err c) may_refuse may_tell proxy lead is told = subst (λ (d : Cause). DropsFor may_refuse may_tell proxy d) (sym is) (lead, told)
 
 pub not_ok : {T E : Type 0} (r : Result T E) (X : Type 0) → IsErr r → OnOk r X
 not_ok (Ok x) X is = cc

@@ -289,6 +289,16 @@ fn log_unopened<F: Front, N: Log>(rt: &N, clients: ClientsAt, client: &F::Client
     }
 }
 
+/// The ticket of a connection.
+fn ticket_of<F: Front>(berth: &Box<Berth<F::Client, F::Target>>) -> Ticket
+    ensures { result ≡ record { slot = berth.now.value.pair.slot; generation = berth.now.value.pair.generation } }
+{
+    Ticket {
+        slot: berth.pair.slot(),
+        generation: berth.pair.generation(),
+    }
+}
+
 /// Places a prepared connection in its slot, which has it from then on.
 fn place<F: Front + Counting, A: Moves<F>, R: Wait + Logs>(
     rt: &R,
@@ -316,18 +326,17 @@ fn place<F: Front + Counting, A: Moves<F>, R: Wait + Logs>(
     } }
     ensures ready { own.new.ready ≡ own.old.ready }
 {
-    let (slot, generation) = (berth.pair.slot(), berth.pair.generation());
+    let ticket = ticket_of::<F>(&berth);
     if let Some(from) = F::peer(&berth.client) {
-        log_peer(rt, shared.clients, slot, generation, &from);
+        log_peer(rt, shared.clients, ticket.slot, ticket.generation, &from);
     }
-    match acts.adopt(&shared.claims, &mut own.seat, slot) {
+    match acts.adopt(&shared.claims, &mut own.seat, ticket.slot) {
         Adopted::NotFree => poller.count_lost(uncounted),
         Adopted::Adopted => {
-            let ticket = Ticket { slot, generation };
             poller.count_opened(acts, shared, ticket, uncounted);
             start(rt, acts, shared, own, ticket, berth)?;
             poller.end_episodes(rt);
-            log_open(rt, slot, generation);
+            log_open(rt, ticket.slot, ticket.generation);
         }
     }
     Ok(())

@@ -16,10 +16,8 @@ use Rattle.rounds.proofs.opening.place.Goals as goal
 
 pub returns-in_ok-start-in-Adopted : goal.returns-in_ok-start-in-Adopted
 returns-in_ok-start-in-Adopted g c =
-    let ticket : Ticket = record { slot = c.slot-slot.result; generation = c.generation-generation.result } in
-    let named : ticket ≡ record { slot = c.args.berth.value.pair.slot; generation = c.args.berth.value.pair.generation } =
-    ap (λ (s : ℕ). record { slot = s; generation = c.generation-generation.result }) c.slot-slot.ensures
-    ∙ ap (λ (n : ℕ). record { slot = c.args.berth.value.pair.slot; generation = n }) c.generation-generation.ensures in
+    let ticket : Ticket = c.ticket_of-ticket.result in
+    let named = c.ticket_of-ticket.ensures in
     let change = c.in-Adopted.ensures.change in
     let started = c.in_ok-start-in-Adopted.ensures.started in
     record {
@@ -42,7 +40,7 @@ returns-in_ok-start-in-Adopted g c =
         counted = inl (
           is_opened c.args.poller.now c.count_opened.new.self ticket c.count_opened.ensures.poller c.end_episodes.new.self c.end_episodes.ensures,
           subst (λ (t : Ticket). OpeningLogged (g.R.Logs.logged c.args.rt.now) g.F.Counting.counted t) named (c.log_open.ensures, c.count_opened.ensures.counted),
-          subst (λ (s : ℕ). AreMade g.A.Acts.made s placing c.args.acts.now c.start.new.acts) c.slot-slot.ensures
+          subst (λ (s : ℕ). AreMade g.A.Acts.made s placing c.args.acts.now c.start.new.acts) (ap (λ (t : Ticket). t.slot) c.ticket_of-ticket.ensures)
               (c.adopt.new.self, c.adopt.ensures.made, (c.count_opened.new.acts, c.count_opened.ensures.made, c.start.ensures.made)),
         );
         free = c.start.ensures.queues.free;
@@ -57,7 +55,7 @@ returns-in_ok-start-in-Adopted g c =
 
 pub returns-in_err-start-in-Adopted : goal.returns-in_err-start-in-Adopted
 returns-in_err-start-in-Adopted g c =
-    let ticket : Ticket = record { slot = c.slot-slot.result; generation = c.generation-generation.result } in
+    let ticket : Ticket = c.ticket_of-ticket.result in
     let failed = c.from_residual.ensures.0 in
     record {
       between = record {
@@ -67,7 +65,7 @@ returns-in_err-start-in-Adopted g c =
       };
       worn = passed_up c.from_residual.result c.in_err-start-in-Adopted.field-0.0 _ c.from_residual.ensures.1 c.in_err-start-in-Adopted.ensures.worn;
       placed = not_ok c.from_residual.result _ failed;
-      in_order = if_fails c.from_residual.result (subst (λ (s : ℕ). AreMade g.A.Acts.made s placing c.args.acts.now c.start.new.acts) c.slot-slot.ensures
+      in_order = if_fails c.from_residual.result (subst (λ (s : ℕ). AreMade g.A.Acts.made s placing c.args.acts.now c.start.new.acts) (ap (λ (t : Ticket). t.slot) c.ticket_of-ticket.ensures)
           (c.adopt.new.self, c.adopt.ensures.made, (c.count_opened.new.acts, c.count_opened.ensures.made, c.start.ensures.made)));
       poller = places_opened c.args.poller.now c.count_opened.new.self _ _ c.count_opened.ensures.poller;
       ready = c.start.ensures.queues.ready;
@@ -76,7 +74,7 @@ returns-in_err-start-in-Adopted g c =
 pub returns-in-NotFree : goal.returns-in-NotFree
 returns-in-NotFree g c =
     let ticket : Ticket = record { slot = c.args.berth.value.pair.slot; generation = 0 } in
-    let change = subst (λ (slot : ℕ). Adds slot (exchange.NotFree ∷ []) c.args.own.now.seat c.adopt.new.seat) c.slot-slot.ensures c.in-NotFree.ensures.change in
+    let change = subst (λ (slot : ℕ). Adds slot (exchange.NotFree ∷ []) c.args.own.now.seat c.adopt.new.seat) (ap (λ (t : Ticket). t.slot) c.ticket_of-ticket.ensures) c.in-NotFree.ensures.change in
     record {
       between = record {
         same = change.only.table ∙ c.requires.between.same;
@@ -96,7 +94,7 @@ returns-in-NotFree g c =
             ap (λ (s : PollerState). s.episodes) c.count_lost.ensures,
           ),
           change,
-          subst (λ (s : ℕ). AreMade g.A.Acts.made s (Adopt ∷ []) c.args.acts.now c.adopt.new.self) c.slot-slot.ensures (c.adopt.new.self, c.adopt.ensures.made, refl),
+          subst (λ (s : ℕ). AreMade g.A.Acts.made s (Adopt ∷ []) c.args.acts.now c.adopt.new.self) (ap (λ (t : Ticket). t.slot) c.ticket_of-ticket.ensures) (c.adopt.new.self, c.adopt.ensures.made, refl),
         );
         free = refl;
         slots = refl;
@@ -108,5 +106,5 @@ returns-in-NotFree g c =
     }
 
 pub start-requires-clause-holder : goal.start-requires-clause-holder
-start-requires-clause-holder g c = holds_from c.slot-slot.result (exchange.Adopted c.in-Adopted.ensures.change.0 ∷ []) c.args.own.now.seat c.adopt.new.seat
+start-requires-clause-holder g c = holds_from c.ticket_of-ticket.result.slot (exchange.Adopted c.in-Adopted.ensures.change.0 ∷ []) c.args.own.now.seat c.adopt.new.seat
     c.in-Adopted.ensures.change.1 c.requires.between.idle refl
