@@ -94,7 +94,8 @@ returns-in-NotFree g c =
             ap (λ (s : PollerState). s.episodes) c.count_lost.ensures,
           ),
           change,
-          subst (λ (s : ℕ). AreMade g.A.Acts.made s (Adopt ∷ []) c.args.acts.now c.adopt.new.self) (ap (λ (t : Ticket). t.slot) c.ticket_of-ticket.ensures) (c.adopt.new.self, c.adopt.ensures.made, refl),
+          subst (λ (s : ℕ). AreMade g.A.Acts.made s (Adopt ∷ []) c.args.acts.now c.adopt.new.self) (ap (λ (t : Ticket). t.slot) c.ticket_of-ticket.ensures)
+              (c.adopt.new.self, c.adopt.ensures.made, refl),
         );
         free = refl;
         slots = refl;
