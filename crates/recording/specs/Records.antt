@@ -1,5 +1,5 @@
 -- What is put into a recording: what a call is recorded as, and which steps that takes. Part of the promises.
-use Rattle.std.specs.Prelude.{ℕ, ◌==◌, if◌then◌else◌, List, [], ◌∷◌, ◌++◌, length, Option, Some, None, Result, Ok, Err, ◌≡◌}
+use Rattle.std.specs.Prelude.{ℕ, Bool, true, false, ◌==◌, if◌then◌else◌, List, [], ◌∷◌, ◌++◌, length, Option, Some, None, Result, Ok, Err, ◌≡◌}
 use Rattle.std.specs.declared.io.Error.{Error}
 use Rattle.std.specs.IoError.{error_kind}
 use Rattle.std.specs.declared.io.ErrorKind.{ErrorKind}
@@ -92,6 +92,14 @@ made_of (ask.Read most) answer = made.Read most answer
 made_of (ask.Write offer) answer = made.Write (length offer) answer
 made_of ask.Join answer = made.Join answer
 made_of ask.Shut answer = made.Shut answer
+
+-- the wire of this end was dropped
+abbrev pub dropped : EndName → Act
+dropped name = Wire name made.Drop
+
+abbrev pub drops : Act → Bool
+drops (Wire name made.Drop) = true
+drops act = false
 
 -- a step on a thread's handle of the recording, `S`: the count before an act, if anything is recorded still; the count
 -- after it; both, of an act that takes no time; a record that was put; another handle. `did` is what a step makes of `S`

@@ -32,9 +32,7 @@ impl<C, S: Sink> Drop for RecordedClock<'_, C, S> {
             recorder,
             has_limit: _,
         } = self;
-        let begun = Begun::unrecorded();
-        inner.end(&begun);
-        begun.skip();
+        inner.end(Begun::unrecorded()).skip();
         drop(recorder);
     }
 }

@@ -67,9 +67,7 @@ impl<F: Drop, S: Sink> Drop for RecordedFront<F, S> {
             poller: _,
             recorder,
         } = self;
-        let begun = Begun::unrecorded();
-        inner.end(&begun);
-        begun.skip();
+        inner.end(Begun::unrecorded()).skip();
         drop(recorder);
     }
 }

@@ -14,8 +14,9 @@
 //! # Inside
 //!
 //! Only a [`Recorder`] takes counts and makes records, over any [`Sink`]. The count before an act is a value that the
-//! wrapped part asks for and that cannot be dropped (`Begun`, `Inner`), so each act is made after it and recorded. The
-//! writer sleeps and ends as the log's does ([`log_queue::ParkedQueue`]).
+//! wrapped part asks for and that cannot be dropped (`Begun`, `Inner`), so each act is made after it and recorded. That
+//! a wire was closed is recorded by what its drop returns (`Gone`). The writer sleeps and ends as the log's does
+//! ([`log_queue::ParkedQueue`]).
 #![tactic(auto)]
 
 mod clock;

@@ -1,13 +1,13 @@
 // What a thread records by. Only here is a record made, and a wrapped part reached.
-ghost use Rattle.std.specs.Prelude.{◌≡◌, None, [], ◌∷◌};
+ghost use Rattle.std.specs.Prelude.{◌≡◌, None, false, [], ◌∷◌};
 ghost use Rattle.std.specs.Borrow.{sem};
 ghost use Rattle.recording.specs.Lending.{LendsInner};
-ghost use Rattle.recording.specs.Records.{reports, Step, Began, Ended, AtOnce, Put, Another, Ends, RecordsAtOnce};
+ghost use Rattle.recording.specs.Records.{drops, dropped, reports, Step, Began, Ended, AtOnce, Put, Another, Ends, RecordsAtOnce};
 
 use engine::Wire;
-use records::{Act, Polling, Record};
+use records::{Act, Made, Polling, Record};
 use std::marker::Model;
-use token::unpack;
+use token::{Token, unpack};
 
 /// A count that all threads of a relay share, and a queue of records. Each thread has handles of its own.
 ///
@@ -48,6 +48,9 @@ pub struct Recorder<S> {
 /// each count before an act is taken for one record.
 pub(crate) struct Begun(Option<u64>);
 
+/// A part was dropped, and this was the count before that, if it is recorded. Nothing else makes one.
+pub(crate) struct Gone(Option<u64>);
+
 /// A part that is wrapped. What is done with it is done after the count before it was taken. It cannot be dropped
 /// before that either.
 pub(crate) struct Inner<T>(T);
@@ -76,11 +79,26 @@ impl<S: Sink> Recorder<S> {
         Begun(self.sink.begin())
     }
 
-    /// An act that began then has ended.
+    /// An act that began then has ended. That a wire was dropped is recorded by [`Recorder::record_gone`] alone.
     pub(crate) fn record(&mut self, begun: Begun, act: Act)
+        requires { drops act ≡ false }
         ensures { Ends S.did begun.0 (act ∷ []) self.old.sink self.new.sink }
     {
         let Begun(before) = begun;
+        self.record_from(before, act);
+    }
+
+    /// The wire of this end was dropped.
+    pub(crate) fn record_gone(&mut self, gone: Gone, name: Token)
+        ensures { Ends S.did gone.0 (dropped name ∷ []) self.old.sink self.new.sink }
+    {
+        let Gone(before) = gone;
+        self.record_from(before, Act::Wire(name, Made::Drop));
+    }
+
+    fn record_from(&mut self, before: Option<u64>, act: Act)
+        ensures { Ends S.did before (act ∷ []) self.old.sink self.new.sink }
+    {
         if let Some(before) = before {
             let after = self.sink.end();
             self.sink.put(Record { before, after, act });
@@ -89,6 +107,7 @@ impl<S: Sink> Recorder<S> {
 
     /// An act has ended just now that could have no other order than it has: it is recorded as taking no time.
     pub(crate) fn record_at_once(&mut self, act: Act)
+        requires { drops act ≡ false }
         ensures { RecordsAtOnce S.did act self.old.sink self.new.sink }
     {
         if let Some((before, after)) = self.sink.at_once() {
@@ -132,6 +151,15 @@ impl Begun {
     }
 }
 
+impl Gone {
+    /// That is not recorded.
+    pub(crate) fn skip(self)
+        requires { self.0 ≡ None }
+    {
+        let Gone(_) = self;
+    }
+}
+
 impl<T> Model for Inner<T> {
     ghost use Rattle.std.specs.Prelude.{◌≡◌};
 
@@ -172,11 +200,13 @@ impl<T> Inner<T> {
     }
 
     /// Drops the part, for an end that has begun.
-    pub(crate) fn end(self, _begun: &Begun)
+    pub(crate) fn end(self, begun: Begun) -> Gone
     where
         T: Drop,
+        ensures { result.0 ≡ begun.0 }
     {
-        let Inner(part) = self;
+        let (Inner(part), Begun(before)) = (self, begun);
         drop(part);
+        Gone(before)
     }
 }

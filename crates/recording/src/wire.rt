@@ -1,5 +1,5 @@
 // A wire that records what is done with it.
-ghost use Rattle.std.specs.Prelude.{◌≡◌, None};
+ghost use Rattle.std.specs.Prelude.{◌≡◌, ◌≢◌, None};
 ghost use Rattle.records.specs.declared.act.Made.TheVariants.{Drop};
 ghost use Rattle.std.specs.IoError.{error_kind};
 ghost use Rattle.engine.specs.Wires.{counts_alone};
@@ -82,7 +82,8 @@ fn begin<S: Sink>(name: &Option<Token>, recorder: &mut Recorder<S>) -> Begun
 
 /// It has ended.
 fn end<S: Sink>(name: Option<Token>, recorder: &mut Recorder<S>, begun: Begun, made: Made)
-    requires { name ≡ None → begun.0 ≡ None }
+    requires unnamed { name ≡ None → begun.0 ≡ None }
+    requires call { made ≢ Drop }
     ensures { EndedBy S.did name begun.0 made recorder.old.sink recorder.new.sink }
 {
     match name {
@@ -107,8 +108,11 @@ fn close<W: Drop, S: Sink>(inner: Inner<W>, name: Option<Token>, recorder: &mut 
     ensures { WireRecords S.did name Drop recorder.old.sink recorder.new.sink }
 {
     let begun = begin(&name, recorder);
-    inner.end(&begun);
-    end(name, recorder, begun, Made::Drop);
+    let gone = inner.end(begun);
+    match name {
+        Some(name) => recorder.record_gone(gone, name),
+        None => gone.skip(),
+    }
 }
 
 impl<W: Wire + Drop, S: Sink> Wire for RecordedWire<W, S> {

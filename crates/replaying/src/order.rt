@@ -8,9 +8,9 @@ use crate::sequence::{first_overlap, is_report};
 use records::{Act, Made, ReplayFault};
 use std::alloc::{AllocError, Global};
 
-/// Puts the lists of a recording in the order of the counts before the records. Refuses with `Broken` if what one
-/// thread at a time does overlaps, if two acts have the same count, if the last record has not the greatest counts,
-/// or if a recording that says it is complete is not.
+/// Puts the last list of a recording in the order of the counts before its records. Refuses with `Broken` if the lines
+/// of a slot or of a poller are in another order, if what one thread at a time does overlaps, if two acts have the same
+/// count, if the last record has not the greatest counts, or if a recording that says it is complete is not.
 ///
 /// Where a recording was stopped, threads lost what they had not handed over: then only the records before the first
 /// lost one are left. Answers how many were left out.
@@ -31,23 +31,36 @@ pub(crate) fn put_in_order(alloc: Global, recording: &mut Recording) -> Result<u
     }
 }
 
+/// The last list alone has the lines of several queues. Those of a slot, and of a poller, stand in the order of their
+/// counts: each is put into one queue by the thread that has the slot then, or is the poller.
 fn sort(recording: &mut Recording) -> Result<(), AllocError> {
-    for list in recording.lists.iter_mut() {
-        list.sort_by_key(|numbered: &Numbered| numbered.record.before)?;
+    match recording.lists.last_mut() {
+        Some(list) => Ok(list.sort_by_key(|numbered: &Numbered| numbered.record.before)?),
+        None => Ok(()),
+    }
+}
+
+/// Refuses two acts at once at a slot, or of a poller, and lines in another order. Of the last list nothing is known.
+fn check_sequences(alloc: Global, recording: &Recording) -> Result<(), ReplayFault> {
+    let sequences = recording.lists.len().saturating_sub(1);
+    for list in recording.lists.iter().take(sequences) {
+        let place = first_overlap(list.as_slice());
+        if let Some(numbered) = list.get(place) {
+            let why = disorder(list.get(place.saturating_sub(1)), numbered);
+            return Err(broken(alloc, numbered.line, wanted(why)));
+        }
     }
     Ok(())
 }
 
-/// Refuses two acts at once at a slot, or of a poller. Of the last list nothing is known.
-fn check_sequences(alloc: Global, recording: &Recording) -> Result<(), ReplayFault> {
-    let sequences = recording.lists.len().saturating_sub(1);
-    for list in recording.lists.iter().take(sequences) {
-        if let Some(numbered) = list.get(first_overlap(list.as_slice())) {
-            let wrong = wanted("the act before it at its slot, or of its poller, has not ended");
-            return Err(broken(alloc, numbered.line, wrong));
+/// Why an act does not follow the one on the line before it.
+fn disorder(last: Option<&Numbered>, next: &Numbered) -> &'static str {
+    match last {
+        Some(last) if next.record.after < last.record.before => {
+            "it stands after a later act at its slot, or of its poller"
         }
+        _ => "the act before it at its slot, or of its poller, has not ended",
     }
-    Ok(())
 }
 
 /// Refuses a count that two acts have, and a last record that has not the greatest.
