@@ -14,6 +14,7 @@ from loopback import WAIT, Relay, echo, in_thread, read_all, send_and_shut, star
 from shared import asked, is_open, left_out, line_of, name_of, reset, served, unused_port
 
 
+# refuses bit_down_after_a_short_read: a wire stops reading after a short read
 # refuses expires_without_limit: a connection without a next call fails, although there is no limit
 # refuses counts_swapped: the counts of the two ways are exchanged
 def either_end_may_end_first():
@@ -30,6 +31,8 @@ def either_end_may_end_first():
         assert read_all(one) == b"more," * 20 and relay.end()[-1].endswith(moved)
 
 
+# refuses reset_told_as_end: a read that finds the connection reset gives the end of input
+# refuses told_is_not_heard: a wire that does not read ignores the report that reaches it
 # refuses second_error_dropped: a read that was short reads once more, and drops the error that it finds
 def client_resets_behind_bytes():
     relay = Relay(target(echo))
@@ -54,6 +57,7 @@ def target_resets_behind_its_end():
 
 
 # refuses long_offer_told_as_whole: of an offer over 16,384 bytes only these are written, and all of it is counted
+# refuses short_write_told_as_whole: a short write is told as a whole one
 # refuses whole_ring_told_as_none: a write of 65,536 bytes is returned as one of none
 def both_sides_stall():
     # All bytes arrive both ways, although neither end reads at first.
@@ -69,6 +73,7 @@ def both_sides_stall():
         assert relay.end()[-1].endswith("up=12000000 down=12000000")
 
 
+# refuses blocked_read_goes_on: a wire goes on reading after a read that would block
 # refuses option_unasked: a socket gets an option of `--connect-timeout` or `--keepalive` that nobody asked for
 # refuses wires_are_not_told: no wire is told of its socket's reports, so each reads where there is nothing to read
 def makes_no_call_that_nobody_asked_for():
@@ -89,6 +94,7 @@ def makes_no_call_that_nobody_asked_for():
     assert {name: made[name] for name in made.keys() - {"recvfrom", "sendto"}} == wanted, accepted
 
 
+# refuses client_never_sends_at_once: a client's socket is never told to send at once
 def sends_small_parts_at_once():
     # A socket that waits for more to send would hold the second byte back until the first is acknowledged, which takes
     # its peer 40 ms here. Now and then a machine under load takes as long, so not every time counts.

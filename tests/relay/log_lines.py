@@ -60,6 +60,7 @@ def target_out_of_reach():
         assert [line for line in lines if line not in dropped] == told
 
 
+# refuses clients_always_at_debug: the level of what is logged of clients is debug, though it is to be info
 # refuses done_without_its_client: with --log-clients a connection that is done has no line with its client's address
 def logs_each_client_as_it_comes_and_goes():
     server = target(echo)

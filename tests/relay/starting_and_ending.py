@@ -22,6 +22,7 @@ from shared import (
 )
 
 
+# refuses parks_beside_a_closed_queue: an end parks although it read that the queue is closed
 # refuses first_poller_ends_the_workers: the first poller that has ended closes the queue of tickets
 def goes_on_behind_its_first_poller():
     # Each of two pollers opens one connection. The first one has ended when the second begins to move much.
@@ -313,6 +314,7 @@ def warns_before_it_runs():
         assert warned("127.0.0.1", "127.0.0.2", most) == [few(served, most)]
 
 
+# refuses listens_on_every_address: a server listens on every address
 def listens_on_its_address_alone():
     relay = Relay(target(echo))
     # The port at other addresses of loopback is left to others, and nobody is there.

@@ -16,8 +16,6 @@ mod numbers;
 #[cfg(test)]
 mod passing;
 #[cfg(test)]
-mod proxy;
-#[cfg(test)]
 mod queues;
 #[cfg(test)]
 mod record_lines;

@@ -1,6 +1,6 @@
-// What single calls of the queues answer, and many threads at one of them.
+// Many threads at one queue.
 use crate::passing::all_well;
-use ready::{FreeQueue, Full, ReadyQueue, Ticket};
+use ready::{ReadyQueue, Ticket};
 use std::alloc::AllocError;
 use std::sync::Wait;
 use std::test::Fail;
@@ -10,48 +10,6 @@ const EACH: u64 = 500;
 
 fn ticket(slot: usize, generation: u64) -> Ticket {
     Ticket { slot, generation }
-}
-
-/// Whether an end of a queue with room for one ticket puts one, and gives the next one back.
-fn gives_the_second_back(rt: &impl Wait, end: Option<&mut ReadyQueue>) -> bool {
-    match end {
-        Some(end) => {
-            end.put(rt, ticket(3, 1)).is_ok()
-                && matches!(end.put(rt, ticket(4, 2)), Err(Full(back)) if back == ticket(4, 2))
-        }
-        None => false,
-    }
-}
-
-// refuses new_makes_room_for_one_more: a queue has room for one ticket more than was asked for
-#[test]
-fn a_full_queue_gives_the_ticket_back(rt: HostRuntime) -> Result<(), Fail> {
-    let mut ends = ReadyQueue::new(rt.alloc(), 1, 1)?;
-    all_well(Ok(gives_the_second_back(&rt, ends.first_mut())))
-}
-
-/// What an end of a queue with the free slots 0 to 2 takes at first.
-static SLOTS: [Option<usize>; 4] = [Some(0), Some(1), Some(2), None];
-
-/// Whether it gives the free slots in order, and then the one that is given to it.
-fn gives_slots_in_order(rt: &impl Wait, end: Option<&mut FreeQueue>) -> bool {
-    let Some(end) = end else {
-        return false;
-    };
-    for slot in SLOTS {
-        if end.try_take(rt) != slot {
-            return false;
-        }
-    }
-    end.give(rt, 1).is_ok() && end.try_take(rt) == Some(1)
-}
-
-// refuses free_new_puts_the_slots_in_reverse: the queue of free slots begins with the last slot
-// refuses give_puts_another_slot: another slot is given back
-#[test]
-fn free_slots_come_in_order(rt: HostRuntime) -> Result<(), Fail> {
-    let mut ends = FreeQueue::new(&rt, rt.alloc(), 0, 3, 1)?;
-    all_well(Ok(gives_slots_in_order(&rt, ends.first_mut())))
 }
 
 /// Puts tickets of one slot, in rising order of their generation.

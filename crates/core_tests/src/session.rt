@@ -3,8 +3,8 @@
 ghost use Rattle.std.specs.Prelude.{◌≤◌};
 
 use crate::passing::{all_well, no_row};
-use engine::{Play, PlayList, ScriptWire, Turn, Wire, turn};
-use relay_core::{CallKind, Fault, Kind, Pair, Side, Verdict};
+use engine::{Class, Play, PlayList, ScriptWire, Turn, Wire, class_of, pending, turn};
+use relay_core::{Answer, Call, CallKind, Fault, Kind, Pair, Side, Verdict};
 use std::alloc::{AllocError, Global};
 use std::io::ErrorKind;
 use std::test::Fail;
@@ -70,13 +70,10 @@ impl Session {
         }
     }
 
-    /// Whether this is seen of it after a turn of this many calls, a report, and a second turn, and each side was
+    /// Whether this is seen of it after a turn of nine calls, a report, and a second turn, and each side was
     /// given what the other side gave, as far as it was sent.
-    fn goes(&mut self, budget: usize, wanted: Ended) -> bool
-        requires least { 1 ≤ budget }
-        requires most { budget ≤ 1024 }
-    {
-        let first = self.turn(budget);
+    fn goes(&mut self, wanted: Ended) -> bool {
+        let first = self.turn(9);
         self.pair.note();
         let last = self.turn(64);
         let (up, down) = self.pair.counts();
@@ -101,12 +98,12 @@ fn wire(alloc: Global, joined: bool, gives: &[u8], takes: usize) -> Result<Scrip
     ScriptWire::new(alloc, joined, reads, writes, plays(alloc, [Play::Shut])?)
 }
 
-/// The session in which each side gives these bytes, up before down.
-fn session_of(alloc: Global, up: &[u8], down: &[u8]) -> Result<Session, AllocError> {
+/// The session before its first turn.
+fn begun(alloc: Global) -> Result<Session, AllocError> {
     Ok(Session {
         pair: Pair::new(alloc, 0, 1, 4, 0, b"")?,
-        client: wire(alloc, true, up, 2)?,
-        target: wire(alloc, false, down, 3)?,
+        client: wire(alloc, true, b"abc", 2)?,
+        target: wire(alloc, false, b"xy", 3)?,
     })
 }
 
@@ -139,19 +136,7 @@ fn play(number: u8) -> Play {
     }
 }
 
-/// The session with one play more before a call.
-fn disturbed(
-    alloc: Global,
-    (up, down): (&[u8], &[u8]),
-    call: usize,
-    play: Play,
-) -> Result<Session, AllocError> {
-    let mut session = session_of(alloc, up, down)?;
-    session.disturb(call, play)?;
-    Ok(session)
-}
-
-/// Whether the session goes as the row says with its play before a call. The turn that ends it makes nine calls.
+/// Whether the session goes as the row says with its play before a call. A turn that ends it makes nine calls.
 fn goes(
     alloc: Global,
     call: usize,
@@ -162,8 +147,9 @@ fn goes(
         Ok(turn) => done(turn),
         Err(kind) => failed(call, kind),
     };
-    let mut session = disturbed(alloc, (b"abc", b"xy"), call, play(number))?;
-    Ok(session.goes(9, wanted))
+    let mut session = begun(alloc)?;
+    session.disturb(call, play(number))?;
+    Ok(session.goes(wanted))
 }
 
 /// The first row that goes otherwise.
@@ -178,31 +164,10 @@ fn first_wrong(alloc: Global) -> Result<Option<usize>, AllocError> {
     Ok(None)
 }
 
-// refuses interruption_counts: an interruption is counted as a fault
 // refuses none_taken_is_blocked: a write that took nothing is counted as one that would block
-// refuses offers_less: a write offers one byte of what waits
 #[test]
 fn goes_on_waits_or_fails_at_each_call(rt: HostRuntime) -> Result<(), Fail> {
     no_row(&rt, first_wrong(rt.alloc()))
-}
-
-/// Whether a byte that comes first in a read goes on alone in the write of this number. It takes a call more each.
-fn goes_bytewise(
-    alloc: Global,
-    first: &[u8],
-    rest: (&[u8], &[u8]),
-    read: usize,
-    write: usize,
-) -> Result<bool, AllocError> {
-    let mut session = disturbed(alloc, rest, read, Play::Bytes(first.to_vec(alloc)?))?;
-    session.disturb(write, Play::Take(1))?;
-    Ok(session.goes(10, done(Turn::Done)))
-}
-
-#[test]
-fn reads_one_byte_at_first(rt: HostRuntime) -> Result<(), Fail> {
-    all_well(goes_bytewise(rt.alloc(), b"a", (b"bc", b"xy"), 0, 2))?;
-    all_well(goes_bytewise(rt.alloc(), b"x", (b"abc", b"y"), 1, 3))
 }
 
 /// A wire of which the first play for each call does not fit it.
@@ -239,4 +204,45 @@ fn answers(wire: &mut ScriptWire) -> bool {
 fn answers_without_a_play_that_fits(rt: HostRuntime) -> Result<(), Fail> {
     let mut wire = unfit(rt.alloc())?;
     all_well(Ok(answers(&mut wire)))
+}
+
+/// Whether a pair that moved at second 9, nine seconds before its limit, stays live at second 0, where its wires have
+/// nothing, and a write of it that is offered nothing takes nothing.
+fn is_patient(
+    alloc: Global,
+    mut client: ScriptWire,
+    mut target: ScriptWire,
+) -> Result<bool, AllocError> {
+    let mut pair = Pair::new(alloc, 0, 1, 4, 9, b"")?;
+    let outcome = turn(&mut pair, &mut client, &mut target, 64, 0, 9);
+    Ok(outcome == Turn::Quiet && !pair.fits(Call::Write(Side::Target), Answer::Wrote(1)))
+}
+
+/// A wire without plays.
+fn silent(alloc: Global, joined: bool) -> Result<ScriptWire, AllocError> {
+    ScriptWire::new(
+        alloc,
+        joined,
+        Vec::new(alloc),
+        Vec::new(alloc),
+        Vec::new(alloc),
+    )
+}
+
+/// Whether a broken pipe is a failure of that kind, and a pending error is one of any kind.
+fn are_failures() -> bool {
+    let shut = Call::Shut(Side::Client);
+    class_of(&shut, ErrorKind::BrokenPipe, true) == Class::Failed(Kind::Pipe)
+        && pending(ErrorKind::NotConnected) == ErrorKind::Other
+}
+
+// refuses class_swaps_two_kinds: two kinds of failure are exchanged
+// refuses clock_going_back_expires: a clock that goes back shows movement as silence
+// refuses fits_more_than_offered: a write may take more than it was offered
+// refuses pending_may_be_not_connected: a pending error may be reported as not connected, which is no failure
+#[test]
+fn what_no_program_does(rt: HostRuntime) -> Result<(), Fail> {
+    let (client, target) = (silent(rt.alloc(), true)?, silent(rt.alloc(), false)?);
+    let is_well = is_patient(rt.alloc(), client, target)? && are_failures();
+    all_well(Ok(is_well))
 }

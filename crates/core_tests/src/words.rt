@@ -40,14 +40,14 @@ static ROWS: [(bool, Call, u64); 15] = [
 /// Makes a call at slot 0. Answers whether it may be made, and is answered so.
 fn is_answered(claims: &Claims, seat: &mut ClaimSeat, call: Call) -> bool
     requires same { seat.old.table ≡ claims.now }
-    requires inside { 0 < claims.now.words }
+    requires inside { 1 < claims.now.words }
     ensures { seat.new.table ≡ seat.old.table }
 {
     match call {
         Post(wanted) => claims.post(seat, 0) == wanted,
         Claim(wanted) => claims.claim(seat, 0) == wanted,
         Adopt(wanted) => claims.adopt(seat, 0) == wanted,
-        Take(wanted) => seat.holds(0) && claims.take(seat, 0) == wanted,
+        Take(wanted) => seat.holds(0) && !seat.holds(1) && claims.take(seat, 0) == wanted,
         Release(wanted) => seat.holds(0) && claims.release(seat, 0) == wanted,
         Retire => {
             let holds = seat.holds(0);
@@ -63,7 +63,7 @@ fn is_answered(claims: &Claims, seat: &mut ClaimSeat, call: Call) -> bool
 fn go(claims: &Claims, first: &mut ClaimSeat, second: &mut ClaimSeat) -> bool
     requires first { first.old.table ≡ claims.now }
     requires second { second.old.table ≡ claims.now }
-    requires inside { 0 < claims.now.words }
+    requires inside { 1 < claims.now.words }
 {
     for (by_another, call, word) in &ROWS {
         let answered = if *by_another {
@@ -78,7 +78,8 @@ fn go(claims: &Claims, first: &mut ClaimSeat, second: &mut ClaimSeat) -> bool
     true
 }
 
-/// Whether the rows go so at the first of two slots, with two of three seats, and the other slot stays free.
+/// Whether the rows go so at the first of two slots, with two of three seats, and the other slot stays free. There are
+/// no words for more slots than may be.
 fn goes_through_its_row(alloc: Global) -> Result<bool, AllocError> {
     let Ok((claims, mut seats)) = Claims::open(alloc, 2, 3) else {
         return Err(AllocError);
@@ -87,13 +88,16 @@ fn goes_through_its_row(alloc: Global) -> Result<bool, AllocError> {
         return Ok(false);
     };
     Ok(
-        claims.slots() == 2
+        Claims::open(alloc, 32_769, 1).is_err()
+            && claims.slots() == 2
             && claims.peek(0) == 3
             && go(&claims, &mut first, &mut second)
             && claims.peek(1) == 3,
     )
 }
 
+// refuses holds_looks_at_another_slot: whether a seat holds a slot is answered of slot 0
+// refuses open_one_slot_too_many: words are opened for one slot more than may be
 // refuses retire_sets_nothing: a retired slot is not marked as free
 // refuses words_opened_otherwise: an unused word says held and not free
 // refuses slots_counts_values: the number of slots is answered as the number of values of the table

@@ -5,18 +5,17 @@ use engine::Wire;
 use log::sink::{Discard, Lines, Memory};
 use log::{Level, Log, Logged};
 use settings::parse;
-use sockets::{Forwarding, Patience, SocketWire, Sockets, Wakers, bind, open_all};
+use sockets::{Forwarding, Patience, SocketWire, Sockets, bind, open_all};
 use std::alloc::{AllocError, Global};
-use std::io::{self, ErrorKind};
+use std::io::{self, ErrorKind, Write};
 use std::net::{SocketAddr, TcpListener, TcpStream};
 use std::test::Fail;
 use token::{Side, Token};
 
-/// Two fronts, what wakes them, and their address.
+/// Two fronts, and their address.
 #[derive(Drop)]
 struct Fronts<'r> {
     fronts: Vec<Sockets<'r, HostRuntime>>,
-    wakers: Wakers,
     address: SocketAddr,
 }
 
@@ -35,12 +34,8 @@ fn fronts_to(
         proxy: false,
         patience: Patience::NONE,
     };
-    let (fronts, wakers) = open_all(rt, rt.alloc(), bound, forwarding, split)?;
-    Ok(Fronts {
-        fronts,
-        wakers,
-        address,
-    })
+    let (fronts, _wakers) = open_all(rt, rt.alloc(), bound, forwarding, split)?;
+    Ok(Fronts { fronts, address })
 }
 
 /// Polls until each of these numbers was reported, many times at most.
@@ -55,33 +50,6 @@ fn reports<F: Front>(alloc: Global, front: &mut F, numbers: &[u64]) -> io::Resul
         }
     }
     Err(io::Error::from(ErrorKind::TimedOut))
-}
-
-/// Whether each of two fronts hears of the listener and of a slot of its part.
-fn hear_all(
-    alloc: Global,
-    wakers: &Wakers,
-    fronts: &mut [Sockets<'_, HostRuntime>],
-) -> io::Result<bool> {
-    for (front, slot) in fronts.iter_mut().zip([64, 65]) {
-        Sockets::<HostRuntime>::wake(wakers, slot);
-        reports(alloc, front, &[0, 1])?;
-    }
-    Ok(fronts.len() == 2)
-}
-
-// refuses listener_watched_by_one_poller: only one front watches the listening socket
-// The listening socket is reported to each front, and a slot's waker to the front of its part alone.
-#[test]
-fn fronts_share_the_listener(rt: HostRuntime) -> Result<(), Fail> {
-    let target = SocketAddr::from(([127, 0, 0, 1], 1));
-    let Fronts {
-        mut fronts,
-        wakers,
-        address,
-    } = fronts_to(&rt, target, Split::new(130, 2))?;
-    let _peer = TcpStream::connect(&rt, address)?;
-    all_well(hear_all(rt.alloc(), &wakers, fronts.as_mut_slice())?)
 }
 
 /// What a call answered: its count, or the kind of its error.
@@ -144,21 +112,42 @@ fn is_told(lines: &Lines) -> Result<bool, AllocError> {
     Ok(line.as_str().starts_with("[DEBUG relayd] register: ") && lines.len() == 1)
 }
 
+/// Whether a byte of the peer is reported under the client's number alone, and only once.
+fn is_reported_once<F: Front>(
+    alloc: Global,
+    front: &mut F,
+    mut peer: &TcpStream,
+) -> io::Result<bool> {
+    let mut batch = Vec::with_capacity(alloc, MAX_BATCH)?;
+    peer.write_all(b"a")?;
+    front.poll(&mut batch, Waiting::Long)?;
+    let is_reported = batch.as_slice() == [65_542].as_slice();
+    front.poll(&mut batch, Waiting::No)?;
+    Ok(is_reported && batch.is_empty())
+}
+
 /// Whether a client's wire and that of its target, which refuses, answer so, and it is logged.
-fn answer(rt: &HostRuntime, front: &mut Sockets<'_, HostRuntime>) -> io::Result<bool> {
+fn answer(
+    rt: &HostRuntime,
+    front: &mut Sockets<'_, HostRuntime>,
+    peer: &TcpStream,
+) -> io::Result<bool> {
     reports(rt.alloc(), front, &[0])?;
     let mut client = front.accept()?;
     let sink = Memory::new(rt.alloc());
     let log = Logged::new(rt, Level::Debug, &sink);
     let is_well = opens_once(rt, &log, front, &mut client)?
         && may_wait_in_bulk(&mut client)
-        && is_silent(&mut client);
+        && is_silent(&mut client)
+        && is_reported_once(rt.alloc(), front, peer)?;
     Ok(is_well && is_told(&sink.into_lines())?)
 }
 
 // refuses pending_error_swallowed: the error that is pending on a socket is overlooked
 // refuses pending_error_without_its_number: such an error is logged without the system's number
 // refuses registers_cause_is_not_kept: the log does not say why a socket cannot be reported
+// refuses poll_keeps_old_reports: the reports of the last poll stay in the batch
+// refuses watched_under_swapped_tokens: the two sockets are registered under each other's token
 // refuses sends_at_once_for_ever: a socket that has once sent at once does so in bulk, too
 // Nobody listens at the port of a client, so such a target refuses.
 #[test]
@@ -166,9 +155,9 @@ fn wires_answer_as_their_sockets(rt: HostRuntime) -> Result<(), Fail> {
     let listener = TcpListener::bind(&rt, "127.0.0.1:0")?;
     let holder = TcpStream::connect(&rt, listener.local_addr()?)?;
     let mut opened = fronts_to(&rt, holder.local_addr()?, Split::new(130, 2))?;
-    let _peer = TcpStream::connect(&rt, opened.address)?;
+    let peer = TcpStream::connect(&rt, opened.address)?;
     match opened.fronts.first_mut() {
-        Some(front) => all_well(answer(&rt, front)?),
+        Some(front) => all_well(answer(&rt, front, &peer)?),
         None => all_well(false),
     }
 }

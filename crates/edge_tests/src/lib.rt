@@ -11,6 +11,8 @@ mod ends;
 #[cfg(test)]
 mod fronts;
 #[cfg(test)]
+mod putting;
+#[cfg(test)]
 mod runs;
 #[cfg(test)]
 mod serving;

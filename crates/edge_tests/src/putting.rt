@@ -1,0 +1,36 @@
+// What stays in hand where a queue is full, which happens in no run.
+use crate::all_well;
+use dispatch::{Hand, put_tickets};
+use ready::{ReadyQueue, Ticket};
+use std::alloc::AllocError;
+use std::sync::Wait;
+use std::test::Fail;
+
+/// Whether of two tickets in hand the older one is put, and the other one stays.
+fn keeps_the_second(rt: &impl Wait, end: &mut ReadyQueue, mut hand: Hand) -> bool {
+    for slot in 3..5 {
+        if hand.has_room() {
+            hand.keep_ticket(Ticket {
+                slot,
+                generation: 1,
+            });
+        }
+    }
+    put_tickets(rt, end, &mut hand);
+    hand.tickets() == 1
+        && hand.take_ticket()
+            == Some(Ticket {
+                slot: 4,
+                generation: 1,
+            })
+}
+
+// refuses new_makes_room_for_one_more: a queue has room for one ticket more than was asked for
+// refuses older_ticket_dropped: a ticket in hand is lost where the queue refuses it
+#[test]
+fn what_a_full_queue_refuses(rt: HostRuntime) -> Result<(), Fail> {
+    let mut ends = ReadyQueue::new(rt.alloc(), 1, 1)?;
+    let hand = Hand::new(rt.alloc(), 2)?;
+    let end = ends.first_mut().ok_or(AllocError)?;
+    all_well(keeps_the_second(&rt, end, hand))
+}
