@@ -1,8 +1,8 @@
 -- What a thread does at a slot, act by act: each is one call of what all threads share. Part of the promises.
 use Rattle.std.specs.Prelude.{◌≡◌, ℕ, Bool, if◌then◌else◌, List, [], ◌∷◌}
 
--- `Claim`, `TakeNotes`, `Post`, `Release`, `Retire`, `Adopt` and `Discard` are exchanges of the slot's word; `Discard` is a
--- take of which the notes are thrown away. `TakeOut` and `PutIn` move the connection out of its place and back, `Call` is
+-- `Claim`, `TakeNotes`, `Post`, `Release`, `Retire`, `Adopt` and `Discard` are exchanges of the slot's word; `Discard`
+-- is a take whose notes are thrown away. `TakeOut` and `PutIn` move the connection out of its place and back, `Call` is
 -- its next call on a socket, and `Close` closes both sockets. `Give` puts the slot into the queue of free slots.
 -- `Register` opens both sockets and registers them for reports. `Enter` writes the generation into the poller's table.
 -- `Settle` has both sockets send what they held back, and `PutTicket` puts the slot's ticket into the ready queue
@@ -37,7 +37,7 @@ placing = Adopt ∷ Enter ∷ Discard ∷ PutIn ∷ Post ∷ Release ∷ []
 abbrev pub open_slot : List Act
 open_slot = Register ∷ placing
 
--- The acts of a turn but its calls. Where its release answers Wake, it puts the ticket
+-- The acts of a turn, without its calls. If its release answers Wake, it puts the ticket
 
 abbrev pub leaving : Bool → List Act
 leaving woke = Release ∷ (if woke then PutTicket ∷ [] else [])

@@ -1,4 +1,4 @@
--- What the statistics are told of a connection. Part of the promises.
+-- What the statistics count of a connection. Part of the promises.
 use Rattle.relay_core.specs.Pairs.{PairState, verdict}
 use Rattle.statistics.specs.declared.event.Event.{Event}
 use Rattle.statistics.specs.declared.event.Event.TheVariants.{Moved, Ended}

@@ -12,7 +12,7 @@ pub record HandState : Type 0 where
 abbrev pub empty_hand : ℕ → HandState
 empty_hand capacity = record { tickets = []; slots = []; capacity = capacity }
 
--- how many tickets more it takes
+-- how many more tickets fit
 abbrev pub ticket_room : HandState → ℕ
 ticket_room h = h.capacity - length h.tickets
 
@@ -21,7 +21,7 @@ pub record HasRoom (h : HandState) : Type 0 where
   pub tickets : length h.tickets < h.capacity
   pub slots : length h.slots < h.capacity
 
--- nothing came in, and as much fits as before or more
+-- nothing came in, so at least as much fits as before
 pub record Shrank (old new : HandState) : Type 0 where
   pub tickets : length new.tickets ≤ length old.tickets
   pub slots : length new.slots ≤ length old.slots

@@ -9,6 +9,6 @@ own_turns = 16
 abbrev pub own_budget : ℕ
 own_budget = 8
 
--- how many of a connection's next tickets go to the workers after such a turn that spent its budget
+-- after such a turn that spent its budget, how many of the connection's next tickets go to the workers
 abbrev pub heavy_marks : ℕ
 heavy_marks = 16

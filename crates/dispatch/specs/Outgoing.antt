@@ -1,6 +1,5 @@
--- What a thread was to put into the queues so far: what its end of a queue has put, and after it what is in hand for
--- that queue. Part of the promises. Nothing that was to be put is lost, doubled or moved while this list stays the
--- same.
+-- What a thread had to put into a queue so far: what its end of the queue has put, and then what is in hand for it.
+-- Part of the promises. While this list stays the same, nothing of it is lost, doubled or moved.
 use Rattle.std.specs.Prelude.{◌≡◌, ◌⊎◌, ℕ, List, [], ◌∷◌, ◌++◌, drop, map}
 use Rattle.ready.specs.declared.history.History.{History}
 use Rattle.ready.specs.declared.ticket.Ticket.{Ticket}
@@ -23,11 +22,11 @@ module _ {T : Type 0} where
   abbrev pub PutAll : EndState T → List T → Type 0
   PutAll end left = (left ≡ []) ⊎ HeldOnce end.capacity end.history
 
--- the tickets that a thread was to put so far, in order
+-- the tickets that a thread had to put so far, in order
 abbrev pub tickets_out : Own → List Ticket
 tickets_out own = outgoing own.ready.history own.hand.tickets
 
--- the free slots that it was to give so far, in order
+-- the free slots that it had to give so far, in order
 abbrev pub slots_out : Own → List ℕ
 slots_out own = outgoing own.free.history own.hand.slots
 

@@ -9,7 +9,7 @@ use Rattle.dispatch.specs.declared.shared.Own.{Own}
 abbrev pub IsWorn : SeatState → Type 0
 IsWorn seat = posts_of seat ≡ 2 ^ 56
 
--- a turn or a round is refused so only where its seat is worn
+-- a turn or a round is refused by this fault only if its seat is worn
 abbrev pub OnlyWorn : ServerFault → SeatState → Type 0
 OnlyWorn fault seat = (fault ≡ server_fault.Worn) × IsWorn seat
 

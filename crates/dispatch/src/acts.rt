@@ -13,10 +13,10 @@ use std::marker::Model;
 use std::sync::Wait;
 use token::Token;
 
-/// The acts of a thread at a slot's word, and those by which it hands on the slot. Each is one call of what all threads
-/// share, but for the poller's own table. A turn and an opening are generic over them, so that their clauses can say
-/// which acts they make, and in which order: nothing but the call of an act shows that it was made. In the product this
-/// is `()`, which makes each act and nothing else.
+/// The acts of a thread at a slot's word, and those by which it hands on the slot. Each is one call on what all threads
+/// share, except `enter`, which writes the poller's own table. A turn and an opening are generic over this trait, so
+/// that their clauses can say which acts they make, in which order: a proof has `made ..` only from a call. In the
+/// product this is `()`, which makes each act and nothing else.
 pub trait Acts {
     ghost use Rattle.std.specs.Prelude.{◌≡◌, ◌<◌, ℕ, [], ◌∷◌, length, slice_set, IfErr, OnOk, OnErr};
     ghost use Rattle.claims.specs.declared.view.Exchange.TheVariants as exchange;
@@ -43,7 +43,7 @@ pub trait Acts {
         ensures made { made act.TakeNotes slot self.old self.new }
         ensures change { Adds slot (exchange.Take result ∷ []) seat.old seat.new };
 
-    /// [`Claims::take`], of which the notes are thrown away. It answers how many there were.
+    /// [`Claims::take`] of notes that are thrown away. Returns how many there were.
     fn discard(&mut self, claims: &Claims, seat: &mut ClaimSeat, slot: usize) -> u64
         requires same { seat.old.table ≡ claims.now }
         requires inside { slot < claims.now.words }

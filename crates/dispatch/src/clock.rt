@@ -1,15 +1,15 @@
-//! The clock that tells turns and rounds the second.
+//! The clock from which turns and rounds read the second.
 ghost use Rattle.std.specs.Prelude.{◌≡◌, ℕ};
 
 use engine::Moment;
 
-/// A clock that counts whole seconds. A caller may rely on no order of its answers: it may stand still or go back,
-/// and then no connection fails sooner than it would, and no round posts sooner.
+/// A clock that counts whole seconds. It may stand still or go back: then no connection fails early, and no round
+/// sweeps early.
 pub trait Clock {
-    // Which seconds it may tell, if it says so.
+    // Which seconds it may show, if it says so.
     ghost tells: { Self → ℕ → Type 0 } = { λ _ _. Unit {0} };
 
-    /// The second that it shows now. It does not wait.
+    /// The second that it shows now. This never waits.
     fn second(&self) -> u64
         ensures { tells self.now result };
 }
@@ -17,9 +17,10 @@ pub trait Clock {
 /// The clock and the idle limit of a server, which are lent to turns and rounds.
 #[derive(Clone, Copy)]
 pub struct Timing<'a, C> {
-    /// What tells the second.
+    /// From where the second is read.
     pub clock: &'a C,
-    /// How many seconds a connection may move nothing, while no call is worth trying, before it fails; 0 for ever.
+    /// After this many seconds in which it moved nothing a connection without a call worth trying fails. 0: it never
+    /// does.
     pub limit: u64,
 }
 

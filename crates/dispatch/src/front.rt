@@ -12,26 +12,24 @@ use std::net::SocketAddr;
 use thiserror::Error;
 use token::Token;
 
-/// A wire that may hold bytes back. In addition to a wire's calls, it is told when a turn on its connection has ended
-/// quiet, and may tell the log why a call failed.
+/// A wire that may hold bytes back. Beside a wire's calls it has one for the quiet end of a turn on its connection, and
+/// two that only the log uses.
 pub trait Settle: Wire {
     // Whether it holds nothing back, if it says so.
     ghost settled: { Self → Type 0 } = { λ _. Unit {0} };
 
-    /// No call is worth trying on this connection before the next report. What was held back so that more could be
-    /// sent with it is sent now. It changes nothing that the wire specifies.
+    /// A turn on this connection ended quiet: no call is worth trying before the next report. So what was held back is
+    /// sent now. This changes nothing that the wire specifies.
     fn settle(&mut self)
         ensures same { Self.told self.new ≡ Self.told self.old }
         ensures settled { settled self.new };
 
-    /// The system's error of its last call that failed, by its number (errno(3)), if it keeps that. It is only for
-    /// the log.
+    /// The number of the system's error (errno(3)) of its last call that failed, if it keeps that.
     fn error(&self) -> Option<i32> {
         None
     }
 
-    /// Whether the system says that the socket is connected (getpeername(2)), if it says that. It is no call of the
-    /// connection, and only for the log.
+    /// Whether the system says that the socket is connected (getpeername(2)), if it is asked.
     fn is_connected(&self) -> Option<bool> {
         None
     }
@@ -62,7 +60,7 @@ impl From<Unopened> for Cause {
     }
 }
 
-/// A connection to the target that was started, and what is told of the client's.
+/// A connection to the target that was started, and the addresses of the client's connection.
 #[derive(Drop)]
 pub struct Opened<T> {
     /// The wire of the target.
@@ -93,19 +91,19 @@ pub trait Front {
     // Whether the last wait for reports failed, and not by a signal, if it says so.
     ghost failed: { Self → Bool } = { λ _. true };
 
-    // How many milliseconds its last wait for reports could take, if it says so: 0 where it was not to wait.
+    // How many milliseconds its last wait for reports could take, if it says so: 0 if it had to return at once.
     ghost waited: { Self → ℕ } = { λ _. 0 };
 
     // Whether clients can still come to it.
     ghost listens: { Self → Bool };
 
-    // Which addresses it may tell of a client's connection, if it says so.
+    // Which addresses it may give for a client's connection, if it says so.
     ghost may_tell: { Self.Client → Route → Type 0 } = { λ _ _. Unit {0} };
 
-    // Which refusals it may give to open a client's connection, if it says so.
+    // For which reasons it may refuse to open a client's connection, if it says so.
     ghost may_refuse: { Self.Client → Unopened → Type 0 } = { λ _ _. Unit {0} };
 
-    // Whether it ended the wait of the thread that opens this slot, if it says so.
+    // Whether the wait of the thread that opens this slot was ended, if it says so.
     ghost woke: { Self.Waker → ℕ → Type 0 } = { λ _ _. Unit {0} };
 
     /// The wire of a client.
@@ -117,9 +115,8 @@ pub trait Front {
     /// What another thread uses to end a wait for reports.
     type Waker;
 
-    /// Waits for reports, for a time that ends by itself, or not at all, and replaces the contents of the batch by
-    /// the numbers of their tokens, at most [`MAX_BATCH`] (epoll_wait(2)). After an error the batch is empty. It
-    /// allocates no memory.
+    /// Waits for reports, no longer than `wait` says, and replaces the contents of the batch by the numbers of their
+    /// tokens, at most [`MAX_BATCH`] (epoll_wait(2)). After an error the batch is empty. It allocates no memory.
     fn poll(&mut self, batch: &mut Vec<u64>, wait: Waiting) -> io::Result<()>
         requires room { MAX_BATCH ≤ vec_capacity batch.old }
         ensures most { vec_len batch.new ≤ MAX_BATCH }
@@ -131,7 +128,7 @@ pub trait Front {
         ensures failed { OnErr result (batch.new.items ≡ []) }
         ensures fault { IfErr result (λ error. error_kind error ≢ Interrupted → failed self.new ≡ true) };
 
-    /// Whether the next client is better left to another poller for now. A front that never says so leaves none.
+    /// Whether the next client is better left to another poller for now. By default none is.
     fn leaves(&mut self) -> bool
         ensures reported { reported self.new ≡ reported self.old }
         ensures failed { failed self.new ≡ failed self.old }
@@ -148,8 +145,8 @@ pub trait Front {
         ensures waited { waited self.new ≡ waited self.old }
         ensures listens { listens self.new ≡ listens self.old };
 
-    /// Gives up its share of the listening socket, which is closed with the last one. It may be called again, and
-    /// then changes nothing. From now on it accepts none.
+    /// Gives up its share of the listening socket, which is closed with the last share. From now on it accepts no
+    /// client. A second call changes nothing.
     fn stop_listening(&mut self)
         ensures listens { listens self.new ≡ false }
         ensures reported { reported self.new ≡ reported self.old }
@@ -157,9 +154,9 @@ pub trait Front {
         ensures waited { waited self.new ≡ waited self.old };
 
     /// Starts the connection to the target (connect(2)), and has both sockets reported for reading and writing, each
-    /// under its token. It tells the addresses of the client's connection, if it is to tell them. After an error no
+    /// under its token. It gives the addresses of the client's connection, if targets are sent them. After an error no
     /// target is left open, and the client may still be reported until it is closed; its wire may keep the cause for
-    /// the log. It changes nothing that the client's wire specifies. `rt` is for the log alone.
+    /// the log. It changes nothing that the client's wire specifies. Only the log uses `rt`.
     fn open<N: Log>(
         &mut self,
         rt: &N,
@@ -180,6 +177,6 @@ pub trait Front {
     fn wake(waker: &Self::Waker, slot: usize)
         ensures { woke waker.now slot };
 
-    /// A client's address, if it is known. It is only for the log.
+    /// A client's address, if it is known. Only the log uses it.
     fn peer(client: &Self::Client) -> Option<SocketAddr>;
 }

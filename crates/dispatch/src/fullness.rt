@@ -18,12 +18,12 @@ impl Fullness {
         }
     }
 
-    /// One more. Returns whether that was the last one, so that all are.
+    /// One poller more. Returns whether it was the last, so that all are full.
     pub fn enter(&self) -> bool {
         self.full.fetch_add(1, SeqCst).saturating_add(1) == self.pollers
     }
 
-    /// One less.
+    /// One poller less.
     pub fn leave(&self) {
         self.full.fetch_sub(1, SeqCst);
     }

@@ -1,4 +1,5 @@
-/// Called once all threads have been started, and before and after each turn, so that a test can hold a turn back.
+/// What is called once all threads have been started, and before and after each turn, so that a test can hold a turn
+/// back.
 pub trait Gate {
     /// All threads have been started. The thread that serves calls this once, before it polls.
     fn all_started(&self) {}

@@ -1,6 +1,6 @@
-//! What the threads of the relay share, and what each of them is lent. What they do with it stands above, in two
-//! crates beside each other: `rounds`, in which reports become notes and accepted connections are opened, and `turns`,
-//! in which tickets become turns. Nothing here starts a thread or knows a socket; `threads` and `sockets` do.
+//! What the threads of the relay share, and what each of them is lent. Two crates above this one use it: in `rounds`
+//! reports become notes and accepted connections are opened, and in `turns` tickets become turns. Nothing here starts a
+//! thread (`threads` does) or knows a socket (`sockets` does).
 //!
 //! - [`Front`] is where connections and reports come from: the system's sockets, or an in-memory fake. Its wires can
 //!   [`Settle`], and it gives the addresses of a client's connection ([`Route`]).
@@ -9,15 +9,16 @@
 //!   are made from [`Parts`].
 //! - There may be several pollers, each with a [`Part`] of the slots, as [`Split`] deals them, and with [`HeavyMarks`],
 //!   by which its thread leaves tickets to the workers.
-//! - [`Acts`] and [`Moves`] are the acts of a thread at a slot, by which a turn and an opening say in which order they make
-//!   them. Nothing else reaches the [`Places`] of the connections.
+//! - [`Acts`] and [`Moves`] are the acts of a thread at a slot. The clauses of a turn and of an opening say by them
+//!   what is done there, in which order. Nothing else reaches the [`Places`] of the connections.
 //! - [`Gate`] lets a test hold a turn back.
 //! - [`Clock`] shows the second, for the idle limit ([`Timing`]).
 //!
 //! # Inside
 //!
-//! A turn and an end are counted by the pair's own counts and verdict (`moved_by`, `ended_by` of
-//! `specs/Counted.antt`). At which slot a call counts, and what, its clause says of any [`Counting`].
+//! The statistics count a turn and an end by the pair's own counts and verdict (`moved_by`, `ended_by` of
+//! `specs/Counted.antt`). The clause of each call that counts says what it counts, and at which slot, over any
+//! [`Counting`].
 #![tactic(auto)]
 
 mod acts;

@@ -6,7 +6,7 @@ pub const MAX_BATCH: usize = 256;
 /// The most turns that the poller's thread runs after one round.
 pub const MAX_OWN_TURNS: usize = 16;
 
-/// The most calls that one of these turns makes. The reports of other connections wait for no longer.
+/// The most calls of one of these turns, for which the reports of other connections wait.
 pub const OWN_BUDGET: usize = 8;
 
 /// This many tickets of a connection go to the workers after a turn that spent the poller's budget.

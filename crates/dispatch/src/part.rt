@@ -2,8 +2,8 @@
 ghost use Rattle.std.specs.Prelude.{◌↔◌, IsTrue};
 ghost use Rattle.dispatch.specs.Splits.{IsIn};
 
-/// The slots of one poller, which alone opens connections there and delivers their reports: this many of them, one
-/// after the other from the first on.
+/// The slots of one poller: `slots` of them, from `first` on. It alone opens connections there and delivers their
+/// reports.
 #[derive(Clone, Copy)]
 pub struct Part {
     pub first: usize,

@@ -1,8 +1,7 @@
 //! The addresses of a client's connection.
 use std::net::SocketAddrV4;
 
-/// The two ends of a client's connection, as far as they are told: the client's own address, and the address on which
-/// it was accepted. One that cannot be told, or is no IPv4 address, is None.
+/// The two addresses of a client's connection. One that is not known, not of IPv4, or not asked for, is None.
 #[derive(Clone, Copy)]
 pub struct Route {
     /// The client's own address.
@@ -12,7 +11,7 @@ pub struct Route {
 }
 
 impl Route {
-    /// Neither address is told.
+    /// Neither address is given.
     pub const UNTOLD: Route = Route {
         client: None,
         accepted: None,

@@ -23,11 +23,11 @@ pub struct Shared<F: Front> {
     pub waker: F::Waker,
     /// The most calls that one turn makes, 1 to 1,024.
     pub budget: usize,
-    /// Where connections are counted, if they are. Each slot has a place there of its own.
+    /// Where connections are counted, with a place for each slot; None if they are not.
     pub statistics: Option<Arc<Statistics>>,
     /// How many pollers found all their slots taken.
     pub full: Fullness,
-    /// What the log has of clients.
+    /// Which lines the log gets about clients, and at which level.
     pub clients: ClientsAt,
     pub ghost sized: { places ≡ claims.words },
     pub ghost least_budget: { 1 ≤ budget },
@@ -37,8 +37,8 @@ pub struct Shared<F: Front> {
 /// A front of a server whose threads count.
 ///
 /// No clause can name what an atomic number holds, so the trait leaves open what was counted. Over any such front a
-/// proof has a fact `counted ..` only from a call that was made. Every front is one, and read there alone the fact
-/// says nothing.
+/// proof has a fact `counted ..` only from a call that was made. Every front implements it, and for one front alone the
+/// fact says nothing.
 pub trait Counting: Front {
     ghost use Rattle.std.specs.Prelude.{ℕ};
     ghost use Rattle.statistics.specs.declared.event.Event.{Event};

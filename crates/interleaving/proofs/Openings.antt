@@ -17,7 +17,7 @@ use Rattle.interleaving.specs.Threads.{registering, registered}
 use Rattle.interleaving.specs.Likeness.{taken_word}
 use Rattle.interleaving.proofs.Frames.{Follows, settles}
 
--- A slot that is to be opened is free: nobody has anything to do with it
+-- Before a slot is opened it is free: nobody has anything to do with it
 
 record Unused (st : System) (p : SlotState) (workers : List WorkerState) : Type 0 where
   pub holder : p.holder ≡ Free

@@ -12,8 +12,8 @@ pub enum Cause {
     Connect,
     /// A socket could not be registered for reports (epoll_ctl(2)).
     Register,
-    /// The client's address, or the one on which it was accepted, is not known, or is no IPv4 address, and the
-    /// target is to be sent it (accept(2), getsockname(2)).
+    /// The client's address, or the one on which it was accepted, is not known, or is no IPv4 address, and targets are
+    /// sent it (accept(2), getsockname(2)).
     Address,
 }
 

@@ -40,7 +40,7 @@ use Rattle.dispatch.specs.Fronts.{cause_of}
 use Rattle.dispatch.specs.declared.front.Unopened.{Unopened}
 use Rattle.dispatch.specs.declared.front.Unopened.TheVariants as unopened
 use Rattle.dispatch.specs.declared.route.Route.{Route}
-use Rattle.rounds.specs.Leads.{lacks, lead_of, LeadTold}
+use Rattle.rounds.specs.Leads.{lacks, lead_of, LeadGiven}
 use Rattle.rounds.specs.Rounds.{AcceptEnded, HasLeft}
 
 -- counts
@@ -381,8 +381,8 @@ pub accept_opened : (p a q : PollerState) (tries : ℕ) (starved : Bool) (table 
 accept_opened p a q tries starved table opened dropped lost episodes one two =
     accept_again p a q (subst (λ (s : PollerState). OnlyAccepted p s) (sym one) refl) (subst (λ (s : PollerState). OnlyAccepted a s) (sym two) refl)
 
-pub accept_told : (p q : PollerState) (episodes : Episodes) → q ≡ record p { episodes = episodes } → OnlyAccepted p q
-accept_told p q episodes is = subst (λ (s : PollerState). OnlyAccepted p s) (sym is) refl
+pub accept_logged : (p q : PollerState) (episodes : Episodes) → q ≡ record p { episodes = episodes } → OnlyAccepted p q
+accept_logged p q episodes is = subst (λ (s : PollerState). OnlyAccepted p s) (sym is) refl
 
 pub opens_lost : (p q : PollerState) (lost : ℕ) → q ≡ record p { lost = lost } → OnlyOpened p q
 opens_lost p q lost is = subst (λ (s : PollerState). OnlyOpened p s) (sym is) refl
@@ -457,7 +457,7 @@ passed_up (Err y) e P is p = subst P (sym is) p
 
 -- for want of memory for a connection that was started
 pub unboxed_drops : {T : Type 0} (r : Result T Cause) (may_refuse : Unopened → Type 0) (may_tell : Route → Type 0) (proxy : Bool) (lead : List ℕ)
-    → IfErr r (λ c. c ≡ cause.Memory) → LeadTold may_tell proxy (Some lead) → IfErr r (λ c. DropsFor may_refuse may_tell proxy c)
+    → IfErr r (λ c. c ≡ cause.Memory) → LeadGiven may_tell proxy (Some lead) → IfErr r (λ c. DropsFor may_refuse may_tell proxy c)
 unboxed_drops (Ok x) may_refuse may_tell proxy lead is told = tt
 unboxed_drops (Err c) may_refuse may_tell proxy lead is told = subst (λ (d : Cause). DropsFor may_refuse may_tell proxy d) (sym is) (lead, told)
 
@@ -479,8 +479,8 @@ places_lost p q lost is = subst (λ (s : PollerState). s ≡ places p s) (sym is
 pub places_opened : (p q : PollerState) (table : List ℕ) (opened : ℕ) → q ≡ record p { table = table; opened = opened } → q ≡ places p q
 places_opened p q table opened is = subst (λ (s : PollerState). s ≡ places p s) (sym is) refl
 
-pub places_told : (p r q : PollerState) (episodes : Episodes) → r ≡ places p r → q ≡ record r { episodes = episodes } → q ≡ places p q
-places_told p r q episodes one two = subst (λ (s : PollerState). s ≡ places p s) (sym two) (ap (λ (s : PollerState). record s { episodes = episodes }) one)
+pub places_logged : (p r q : PollerState) (episodes : Episodes) → r ≡ places p r → q ≡ record r { episodes = episodes } → q ≡ places p q
+places_logged p r q episodes one two = subst (λ (s : PollerState). s ≡ places p s) (sym two) (ap (λ (s : PollerState). record s { episodes = episodes }) one)
 
 -- no connection was placed, since the slot was not free
 pub not_placed : (p q : PollerState) (a : Own) (seat : SeatState) (t : Ticket) → q ≡ record p { lost = counted_up p.lost 1 } → Adds t.slot (exchange.NotFree ∷ []) a.seat seat

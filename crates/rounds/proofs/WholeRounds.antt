@@ -111,8 +111,10 @@ module _ (p q r v t : PollerState) (a b c d e : Own) (begun : SameTable p q) (to
     own_openings = subst (λ (part : Part). AreIn part accepted.opened) (ap (λ (f : Fields). f.part) sweep ∙ part_is) accepted.connected.own;
     tickets = tickets_are;
     table = subst (λ (g : List ℕ). AreOpened g accepted.opened t.table) table_is accepted.connected.table;
-    counted = subst (λ (n : ℕ). Counted n (length accepted.opened) t.opened) (ap (λ (f : Fields). f.opened) sweep ∙ ap (λ (f : Fields). f.opened) flag ∙ ap (λ (f : Fields). f.opened) begun.fields) accepted.connected.counted;
-    unused = subst (λ (n : ℕ). Counted n (length accepted.lost) t.lost) (ap (λ (f : Fields). f.lost) sweep ∙ ap (λ (f : Fields). f.lost) flag ∙ ap (λ (f : Fields). f.lost) begun.fields) accepted.connected.unused;
+    counted = subst (λ (n : ℕ). Counted n (length accepted.opened) t.opened) (ap (λ (f : Fields). f.opened) sweep ∙ ap (λ (f : Fields). f.opened) flag
+        ∙ ap (λ (f : Fields). f.opened) begun.fields) accepted.connected.counted;
+    unused = subst (λ (n : ℕ). Counted n (length accepted.lost) t.lost) (ap (λ (f : Fields). f.lost) sweep ∙ ap (λ (f : Fields). f.lost) flag
+        ∙ ap (λ (f : Fields). f.lost) begun.fields) accepted.connected.unused;
     gave = accepted.connected.gave ∙ ap (λ (f : EndState ℕ). f.history.put) (free_then ∙ free) ∙ took.gave;
     slots = slots_are;
   }

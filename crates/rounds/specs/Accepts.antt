@@ -24,14 +24,14 @@ flag_after Again flag = flag
 flag_after Blocked flag = false
 flag_after Starved flag = flag
 
--- whether accept(2) is starved: until it is answered that none waits, or gives a connection
+-- whether accept(2) is starved: until it answers that none waits, or gives a connection
 abbrev pub starved_after : Accepted → Bool → Bool
 starved_after Again starved = starved
 starved_after Blocked starved = false
 starved_after Starved starved = true
 
--- what the log is told once for as long as it lasts: a lack was told, and that clients wait for a slot is over once
--- none waits
+-- what is logged once for as long as it lasts: a lack was logged, and that clients wait for a slot is over once none
+-- waits
 abbrev pub episodes_after : Accepted → Episodes → Episodes
 episodes_after Again e = e
 episodes_after Blocked e = record e { full = false }

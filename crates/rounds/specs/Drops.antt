@@ -1,5 +1,5 @@
 -- Which lines the log gets of accepted connections that are closed unopened. Part of the promises. The first of a cause
--- has a line of its own. Those that follow it are counted, and told by one line a second.
+-- has a line of its own. Those that follow it are counted, and logged by one line a second.
 use Rattle.std.specs.Prelude.{◌≡◌, ℕ, ◌+◌, ◌==◌, ◌||◌, nat_lt, Bool, false, List, Option, Some, None, if◌then◌else◌}
 use Rattle.relay_log.specs.Messages.{drop_message, drops_message}
 use Rattle.relay_log.specs.declared.cause.Cause.{Cause}
@@ -9,7 +9,7 @@ use Rattle.rounds.specs.declared.drops.Tally.{Tally}
 use Rattle.rounds.specs.declared.drops.Drops.{Drops}
 use Rattle.rounds.specs.declared.dropping.Owed.{Owed}
 
--- nothing was told of a cause, and nothing is counted
+-- nothing was logged of a cause, and nothing is counted
 abbrev pub no_tally : Tally
 no_tally = record { last = None; line = 0; more = 0 }
 
@@ -18,7 +18,7 @@ abbrev pub follows : ℕ → Option ℕ → Bool
 follows second None = false
 follows second (Some last) = nat_lt second (last + 2)
 
--- whether a drop at this second is counted: some are that no line has told, or it follows the last one
+-- whether a drop at this second is counted: others are counted already, or it follows the last one
 abbrev pub is_counted : ℕ → Tally → Bool
 is_counted second t = nat_lt 0 t.more || follows second t.last
 
@@ -28,11 +28,11 @@ dropped_at second t =
     if is_counted second t then record t { last = Some second; more = counted_up t.more 1 }
     else record t { last = Some second; line = second }
 
--- the line that the log is owed for it: one of its own, if it is not counted
+-- the line that must be logged for it: one of its own, if it is not counted
 abbrev pub owed_for : Cause → ℕ → Tally → Option Owed
 owed_for cause second t = if is_counted second t then None else Some (record { cause = cause; more = 0 })
 
--- the line that tells this many, if there are any
+-- the line for this many, if there are any
 abbrev pub owed : Cause → ℕ → Option Owed
 owed cause more = if nat_lt 0 more then Some (record { cause = cause; more = more }) else None
 
@@ -40,13 +40,13 @@ owed cause more = if nat_lt 0 more then Some (record { cause = cause; more = mor
 abbrev pub line_of : Owed → List ℕ
 line_of o = if nat_lt 0 o.more then drops_message o.cause o.more else drop_message o.cause
 
--- how many are to be told at this second: all that are counted, unless the second has had a line of that cause
+-- how many must be logged at this second: all that are counted, unless the second has had a line of that cause
 abbrev pub due_at : ℕ → Tally → ℕ
 due_at second t = if t.line == second then 0 else t.more
 
--- what is left once they are
-abbrev pub told_at : ℕ → Tally → Tally
-told_at second t = if nat_lt 0 (due_at second t) then record t { line = second; more = 0 } else t
+-- what is left once they are logged
+abbrev pub logged_at : ℕ → Tally → Tally
+logged_at second t = if nat_lt 0 (due_at second t) then record t { line = second; more = 0 } else t
 
 abbrev pub tally_of : Cause → Drops → Tally
 tally_of cause.Memory d = d.memory
@@ -71,16 +71,16 @@ dropped_for cause.Connect second d = record d { connect = dropped_at second d.co
 dropped_for cause.Register second d = record d { register = dropped_at second d.register }
 dropped_for cause.Address second d = record d { address = dropped_at second d.address }
 
-abbrev pub all_told_at : ℕ → Drops → Drops
-all_told_at second d = record {
-  memory = told_at second d.memory;
-  connect = told_at second d.connect;
-  register = told_at second d.register;
-  address = told_at second d.address;
+abbrev pub all_logged_at : ℕ → Drops → Drops
+all_logged_at second d = record {
+  memory = logged_at second d.memory;
+  connect = logged_at second d.connect;
+  register = logged_at second d.register;
+  address = logged_at second d.address;
 }
 
--- none is to be told at this second
-pub record AreTold (second : ℕ) (d : Drops) : Type 0 where
+-- none must be logged at this second
+pub record AreLogged (second : ℕ) (d : Drops) : Type 0 where
   pub memory : due_at second d.memory ≡ 0
   pub connect : due_at second d.connect ≡ 0
   pub register : due_at second d.register ≡ 0

@@ -23,7 +23,7 @@ use Rattle.relay_log.specs.declared.cause.Cause.TheVariants as cause
 use Rattle.dispatch.specs.declared.front.Unopened.{Unopened}
 use Rattle.dispatch.specs.declared.front.Unopened.TheVariants as unopened
 use Rattle.dispatch.specs.declared.route.Route.{Route}
-use Rattle.rounds.specs.Leads.{LeadTold}
+use Rattle.rounds.specs.Leads.{LeadGiven}
 use Rattle.dispatch.specs.declared.part.Part.{Part}
 use Rattle.rounds.specs.Drops.{dropped_for}
 use Rattle.rounds.specs.Episodes.{opened_after}
@@ -67,8 +67,8 @@ pub record OnlyTook (had has : Own) : Type 0 where
   pub gave : has.free.history.put ≡ had.free.history.put
   pub slots : SlotsCounted had has [] []
 
--- The slot of a connection was released. The ticket is in hand if that answered Wake, as it does where the seat knew of
--- a note
+-- The slot of a connection was released. The ticket is in hand if that answered Wake, as it does if the seat knew of a
+-- note
 pub record LetGo (ticket : Ticket) (old new : Own) : Type 0 where
   pub woke : Bool
   pub quiet : woke ≡ false → (account_at old.seat ticket.slot).known ≡ 0
@@ -110,8 +110,8 @@ pub record Connected (opened : List Ticket) (lost held : List ℕ) (old new : Po
   pub ready : has.ready ≡ had.ready
   pub gave : has.free.history.put ≡ had.free.history.put
 
--- What became of an accepted connection, as it counts: it was opened, or closed unopened with a line that says why or
--- tells how many more there were, or its slot is no longer used. An opening alone ends what the log is told once for as
+-- What became of an accepted connection, as it counts: it was opened, or closed unopened, which is logged with its
+-- cause or counted for a later line, or its slot is no longer used. An opening alone ends what is logged once for as
 -- long as it lasts
 abbrev pub IsOpened : PollerState → PollerState → Type 0
 IsOpened old new =
@@ -128,13 +128,13 @@ IsLost old new =
     (new.opened ≡ old.opened) × (new.dropped ≡ old.dropped) × (new.lost ≡ counted_up old.lost 1)
     × (new.episodes ≡ old.episodes)
 
--- Why an accepted connection is closed unopened: the front refused to open it; or the front opened it, and an address is
--- missing of the line that its target is to be sent, or none is, and memory ran out
+-- Why an accepted connection is closed unopened: the front refused to open it; or the front opened it, and an address
+-- of the line for its target is missing, or else memory ran out
 abbrev pub DropsFor : (Unopened → Type 0) → (Route → Type 0) → Bool → Cause → Type 0
-DropsFor may_refuse may_tell proxy cause.Memory = (lead : List ℕ) × LeadTold may_tell proxy (Some lead)
+DropsFor may_refuse may_tell proxy cause.Memory = (lead : List ℕ) × LeadGiven may_tell proxy (Some lead)
 DropsFor may_refuse may_tell proxy cause.Connect = may_refuse unopened.Connect
 DropsFor may_refuse may_tell proxy cause.Register = may_refuse unopened.Register
-DropsFor may_refuse may_tell proxy cause.Address = LeadTold may_tell proxy None
+DropsFor may_refuse may_tell proxy cause.Address = LeadGiven may_tell proxy None
 
 -- Which of the acts of an opening were made before its connection was placed: its sockets were registered; or else they may
 -- have been, and are closed again
@@ -144,7 +144,8 @@ Registered made slot (Err cause) from to = (to ≡ from) ⊎ made act.Register s
 
 -- What became of an accepted connection that was for this slot, with what is logged and counted of it, and the acts that were
 -- made there: it was opened; it was dropped; no connection can be opened in the slot; or one exchange found that it is not free
-pub data Fate (slot : ℕ) (opened dropped : Type 0) (made : List act.Act → Type 0) (old new : PollerState) (had has : SeatState) : Type 0 where
+pub data Fate (slot : ℕ) (opened dropped : Type 0) (made : List act.Act → Type 0)
+    (old new : PollerState) (had has : SeatState) : Type 0 where
   Opened : IsOpened old new → opened → made act.open_slot → Fate slot opened dropped made old new had has
   Dropped : IsDropped old new → dropped → made [] ⊎ made (act.Register ∷ []) → Fate slot opened dropped made old new had has
   Spent : IsLost old new → IsSpent old slot → made [] → Fate slot opened dropped made old new had has
@@ -172,7 +173,8 @@ pub record IsNext (p : PollerState) (t : Ticket) : Type 0 where
 
 -- Placing a connection in a free slot: it was opened there, or the slot was found not to be free and is no longer used.
 -- At most one ticket more is in hand
-pub record Placed (logged : Ticket → Type 0) (made : List act.Act → Type 0) (t : Ticket) (old new : PollerState) (had has : Own) : Type 0 where
+pub record Placed (logged : Ticket → Type 0) (made : List act.Act → Type 0) (t : Ticket)
+    (old new : PollerState) (had has : Own) : Type 0 where
   pub done : Connected (t ∷ []) [] [] old new had has ⊎ Connected [] (t.slot ∷ []) (t.slot ∷ []) old new had has
   pub counted : (IsOpened old new × logged t × made act.placing)
       ⊎ (IsLost old new × Adds t.slot (exchange.NotFree ∷ []) had.seat has.seat × made (act.Adopt ∷ []))

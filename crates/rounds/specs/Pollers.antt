@@ -12,8 +12,8 @@ use Rattle.dispatch.specs.Splits.{IsIn}
 -- last round left a client to other pollers, how many tries of accept(2) it left, what connections are opened with, the
 -- slots in which it opens them, each slot's heavy mark (how many of its next tickets are for the workers), how many it
 -- may open in all, how many it has opened and how many it has closed unopened, how many slots it no longer uses, the
--- second of the last round, that of the last sweep (at first, that at which it began), whether it is over, and what the
--- log is told once for as long as it lasts
+-- second of the last round, that of the last sweep (at first, that at which it began), whether it is over, and what is
+-- logged once for as long as it lasts
 pub record PollerState : Type 0 where
   pub reported : List ℕ
   pub failed : Bool

@@ -11,7 +11,7 @@ use Rattle.dispatch.specs.Hands.{HasRoom, ticket_room}
 use Rattle.rounds.specs.Openings.{AreIn, AreLost, AreOpened, SlotsCounted}
 use Rattle.dispatch.specs.Outgoing.{tickets_out}
 use Rattle.rounds.specs.Pollers.{PollerState, HasOpenedAll, Counted}
-use Rattle.rounds.specs.Drops.{AreTold}
+use Rattle.rounds.specs.Drops.{AreLogged}
 use Rattle.rounds.specs.Limits.{spare_room}
 use Rattle.rounds.specs.Sweeps.{is_due, sweep_of, swept_after}
 use Rattle.dispatch.specs.Posts.{OnlyWorn}
@@ -61,15 +61,15 @@ ListenerKept old new = (new.listening ≡ old.listening) ⊎ ((HasOpenedAll old 
 abbrev pub ListensToOpen : PollerState → Type 0
 ListensToOpen p = HasOpenedAll p → p.listening ≡ false
 
--- why no connection is to be accepted now: none may be waiting, or no slot is free, or all were opened
+-- why no connection can be accepted now: none may be waiting, or no slot is free, or all were opened
 abbrev pub NoneToAccept : PollerState → Own → Type 0
 NoneToAccept p own = (p.accepting ≡ false) ⊎ (NoSlot own ⊎ HasOpenedAll p)
 
--- accepting may end if no connection is to be accepted now, or if the system lacked what accept(2) needs
+-- accepting may end if no connection can be accepted now, or if the system lacked what accept(2) needs
 abbrev pub AcceptMayEnd : PollerState → Own → Type 0
 AcceptMayEnd p own = (p.starved ≡ true) ⊎ NoneToAccept p own
 
--- the poller waits only where no sweep is due, with no ticket in hand, and where accepting may end
+-- the poller waits only if no sweep is due, no ticket is in hand, and accepting may end
 abbrev pub MayWait : ℕ → PollerState → Own → Type 0
 MayWait limit p own = (is_due limit p ≡ false) × (own.hand.tickets ≡ []) × AcceptMayEnd p own
 
@@ -77,7 +77,7 @@ MayWait limit p own = (is_due limit p ≡ false) × (own.hand.tickets ≡ []) ×
 abbrev pub HasLeft : PollerState → Type 0
 HasLeft p = (p.left ≡ true) × (p.accepting ≡ true)
 
--- where it left a client, the poller waits for a millisecond at most
+-- if it left a client, the poller waits for a millisecond at most
 abbrev pub MayWaitBriefly : ℕ → PollerState → Own → Type 0
 MayWaitBriefly limit p own = (is_due limit p ≡ false) × (own.hand.tickets ≡ []) × HasLeft p
 
@@ -142,8 +142,8 @@ pub record IsOver (p : PollerState) (own : Own) : Type 0 where
 abbrev pub TookAll : ℕ → Own → Type 0
 TookAll slots own = HeldOnce 0 own.free.history ⊎ ((slots ≤ length own.hand.slots) ⊎ (HasRoom own.hand → ⊥))
 
--- once all connections that it may open were opened, the poller takes its slots in hand, and is over where all of them
--- are back
+-- once all connections that it may open were opened, the poller takes its slots in hand, and is over if all of them are
+-- back
 abbrev pub LooksForAll : PollerState → Own → Type 0
 LooksForAll p own = HasOpenedAll p → TookAll p.part.slots own × (IsBack p own → p.over ≡ true)
 
@@ -153,8 +153,8 @@ pub record SweepMade (limit : ℕ) (old new : PollerState) (had has : Own) : Typ
   pub swept : new.swept ≡ swept_after limit old.second old.swept
 
 -- A round that began and was not refused: it delivered what its front reported, its second is one that the clock may
--- tell, a sweep was made if one was due, accepting ended for a reason, the front does not listen once all connections
--- were opened, the poller is over where it can be, and no drop is left to be logged at this second
+-- show, a sweep was made if one was due, accepting ended for a reason, the front does not listen once all connections
+-- were opened, the poller is over if it can be, and no drop is left to be logged at this second
 pub record RoundEnded (tells : ℕ → Type 0) (limit : ℕ) (old new : PollerState) (has : Own) : Type 0 where
   pub read : new.batch ≡ new.reported
   pub second : tells new.second
@@ -162,7 +162,7 @@ pub record RoundEnded (tells : ℕ → Type 0) (limit : ℕ) (old new : PollerSt
   pub accepted : AcceptEnded new has
   pub closed : ListensToOpen new
   pub back : LooksForAll new has
-  pub drops : AreTold new.second new.episodes.drops
+  pub drops : AreLogged new.second new.episodes.drops
 
 -- What every round keeps: what connections are opened with, how many may be, and the heavy marks. The second of the last
 -- sweep is what it was, or that of a sweep that was due. It listens as before, or no longer. It is over as before, or

@@ -4,7 +4,7 @@ ghost use Rattle.rounds.specs.Accepts.{accepted_of};
 
 use std::io::ErrorKind;
 
-/// What an answer of accept(2) without a connection means.
+/// What an error of accept(2) means.
 #[derive(Clone, Copy, PartialEq, Eq)]
 pub(crate) enum Accepted {
     /// The next connection may be accepted at once.

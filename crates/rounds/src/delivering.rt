@@ -31,7 +31,7 @@ pub fn deliver(
     requires sized { length table.now ≡ claims.now.words }
     requires room { length batch.now ≤ ticket_room hand.old }
     ensures delivered { OnOk result (Delivered table.now batch.now seat.old seat.new hand.old hand.new) }
-    ensures listener { IfOk result (λ told. IsTrue told ↔ Contains batch.now 0) }
+    ensures listener { IfOk result (λ reported. IsTrue reported ↔ Contains batch.now 0) }
     ensures begun { OnErr result ((n : ℕ) × Delivered table.now (take n batch.now) seat.old seat.new hand.old hand.new) }
     ensures worn { IfErr result (λ fault. OnlyWorn fault seat.new) }
     ensures idle { HoldsNothing seat.new }

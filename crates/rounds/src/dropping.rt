@@ -7,30 +7,30 @@ use crate::drops::Drops;
 use relay_log::{Cause, Logs, log_drop, log_drops};
 use std::marker::Model;
 
-/// The log is owed a line of a cause: of one drop, or of this many more. It cannot be dropped, and only [`Owed::log`]
-/// takes it.
+/// A line that must be logged, about one drop or several. This value cannot be dropped, and only [`Owed::log`] takes
+/// it.
 pub(crate) struct Owed {
     cause: Cause,
-    /// How many more drops the line tells. 0 for a line of one drop.
+    /// How many drops the line counts. 0 for the line about one drop.
     more: u64,
 }
 
 impl Owed {
-    /// The line of one drop.
+    /// The line about one drop.
     pub(crate) fn first(cause: Cause) -> Owed
         ensures { result ≡ record { cause = cause; more = 0 } }
     {
         Owed { cause, more: 0 }
     }
 
-    /// The line of this many more.
+    /// The line that counts this many more.
     pub(crate) fn further(cause: Cause, more: u64) -> Owed
         ensures { result ≡ record { cause = cause; more = more } }
     {
         Owed { cause, more }
     }
 
-    /// The log gets the line.
+    /// Logs the line.
     pub(crate) fn log<L: Logs>(self, rt: &L)
         ensures { L.logged rt.now level.Warn (Some (line_of self)) }
     {
@@ -43,9 +43,9 @@ impl Owed {
     }
 }
 
-/// An accepted connection is closed unopened, and the log says why, or it is counted among those of which the log is
-/// still to be told. Nothing but [`Dropped::tell`] makes one, and only
-/// [`Poller::count_dropped`](crate::Poller::count_dropped) takes it. It cannot be dropped, so each is counted.
+/// An accepted connection is closed unopened. That was logged with its cause, or is counted for a later line. Nothing
+/// but [`Dropped::log`] makes this value, and only [`Poller::count_dropped`](crate::Poller::count_dropped) takes it.
+/// It cannot be dropped, so each closed connection is counted.
 ///
 /// In a clause it is the cause.
 pub(crate) struct Dropped {
@@ -62,7 +62,7 @@ impl Model for Dropped {
 
 impl Dropped {
     /// Logs why a connection is closed unopened at this second, or counts it among these drops.
-    pub(crate) fn tell(rt: &impl Logs, drops: &mut Drops, cause: Cause, second: u64) -> Dropped
+    pub(crate) fn log(rt: &impl Logs, drops: &mut Drops, cause: Cause, second: u64) -> Dropped
         ensures cause { result ≡ cause }
         ensures drops { drops.new ≡ dropped_for cause second drops.old }
     {
@@ -72,7 +72,7 @@ impl Dropped {
         Dropped { cause }
     }
 
-    /// It is counted.
+    /// The statistics have it.
     pub(crate) fn spend(self) {
         let Dropped { cause: _ } = self;
     }

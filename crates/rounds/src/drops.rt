@@ -1,8 +1,8 @@
-//! Which lines the log gets of accepted connections that are closed unopened: the first of a cause has one of its
+//! Which lines are logged about accepted connections that are closed unopened: the first of a cause has a line of its
 //! own, and those that follow it are counted.
 ghost use Rattle.std.specs.Prelude.{◌≡◌, IfSome, Some};
 ghost use Rattle.log.specs.declared.level.Level.TheVariants as level;
-ghost use Rattle.rounds.specs.Drops.{all_told_at, dropped_at, dropped_for, due_at, follows, is_counted, line_of, no_drops, no_tally, owed, owed_for, tally_of, told_at, with_tally, AreTold};
+ghost use Rattle.rounds.specs.Drops.{all_logged_at, dropped_at, dropped_for, due_at, follows, is_counted, line_of, no_drops, no_tally, owed, owed_for, tally_of, logged_at, with_tally, AreLogged};
 
 use crate::dropping::Owed;
 use relay_log::{Cause, Logs};
@@ -14,7 +14,7 @@ pub struct Tally {
     last: Option<u64>,
     /// The second of the last line.
     line: u64,
-    /// How many no line has told.
+    /// How many are counted, and in no line yet.
     more: u64,
 }
 
@@ -36,7 +36,7 @@ impl Tally {
         self.more > 0 || follows(second, self.last)
     }
 
-    /// A drop at this second. The line that the log is owed for it, if it is not counted.
+    /// Adds a drop at this second. Returns the line that must be logged, if the drop is not counted.
     fn add(&mut self, cause: Cause, second: u64) -> Option<Owed>
         ensures tally { self.new ≡ dropped_at second self.old }
         ensures owed { result ≡ owed_for cause second self.old }
@@ -51,11 +51,11 @@ impl Tally {
         Some(Owed::first(cause))
     }
 
-    /// The line that tells what is counted, if there is anything and this second has had no line.
-    fn tell(&mut self, cause: Cause, second: u64) -> Option<Owed>
-        ensures tally { self.new ≡ told_at second self.old }
+    /// Returns the line for what is counted, if anything is and this second has had no line.
+    fn counted_line(&mut self, cause: Cause, second: u64) -> Option<Owed>
+        ensures tally { self.new ≡ logged_at second self.old }
         ensures owed { result ≡ owed cause (due_at second self.old) }
-        ensures told { due_at second self.new ≡ 0 }
+        ensures logged { due_at second self.new ≡ 0 }
     {
         if self.line == second || self.more == 0 {
             return None;
@@ -66,7 +66,7 @@ impl Tally {
         Some(Owed::further(cause, more))
     }
 
-    /// The next drop has a line of its own. The line that tells what is counted until now, if there is anything.
+    /// The next drop has a line of its own again. Returns the line for what is counted until now, if anything is.
     fn end(&mut self, cause: Cause) -> Option<Owed>
         ensures tally { self.new ≡ no_tally }
         ensures owed { result ≡ owed cause self.old.more }
@@ -100,7 +100,7 @@ pub struct Drops {
 }
 
 impl Drops {
-    /// Nothing was told, and nothing is counted.
+    /// Nothing was logged, and nothing is counted.
     pub(crate) fn none() -> Drops
         ensures { result ≡ no_drops }
     {
@@ -112,7 +112,7 @@ impl Drops {
         }
     }
 
-    /// A drop for this cause at this second. The line that the log is owed for it, if it is not counted.
+    /// Adds a drop for this cause at this second. Returns the line that must be logged, if the drop is not counted.
     pub(crate) fn add(&mut self, cause: Cause, second: u64) -> Option<Owed>
         ensures drops { self.new ≡ dropped_for cause second self.old }
         ensures owed { result ≡ owed_for cause second (tally_of cause self.old) }
@@ -125,10 +125,10 @@ impl Drops {
         }
     }
 
-    /// Tells the log at this second what is counted, of each cause of which the second has had no line.
-    pub(crate) fn tell(&mut self, rt: &impl Logs, second: u64)
-        ensures told { self.new ≡ all_told_at second self.old }
-        ensures all { AreTold second self.new }
+    /// Logs at this second what is counted of each cause, unless the second has had a line of that cause.
+    pub(crate) fn log_counted(&mut self, rt: &impl Logs, second: u64)
+        ensures logged { self.new ≡ all_logged_at second self.old }
+        ensures all { AreLogged second self.new }
     {
         log_owed(rt, self.tell_of(Cause::Memory, second));
         log_owed(rt, self.tell_of(Cause::Connect, second));
@@ -136,21 +136,21 @@ impl Drops {
         log_owed(rt, self.tell_of(Cause::Address, second));
     }
 
-    /// The line that tells what is counted of a cause, if there is anything and this second has had no line of it.
+    /// Returns the line for what is counted of a cause, if anything is and this second has had no line of it.
     fn tell_of(&mut self, cause: Cause, second: u64) -> Option<Owed>
-        ensures drops { self.new ≡ with_tally cause (told_at second (tally_of cause self.old)) self.old }
+        ensures drops { self.new ≡ with_tally cause (logged_at second (tally_of cause self.old)) self.old }
         ensures owed { result ≡ owed cause (due_at second (tally_of cause self.old)) }
-        ensures told { due_at second (tally_of cause self.new) ≡ 0 }
+        ensures logged { due_at second (tally_of cause self.new) ≡ 0 }
     {
         match cause {
-            Cause::Memory => self.memory.tell(cause, second),
-            Cause::Connect => self.connect.tell(cause, second),
-            Cause::Register => self.register.tell(cause, second),
-            Cause::Address => self.address.tell(cause, second),
+            Cause::Memory => self.memory.counted_line(cause, second),
+            Cause::Connect => self.connect.counted_line(cause, second),
+            Cause::Register => self.register.counted_line(cause, second),
+            Cause::Address => self.address.counted_line(cause, second),
         }
     }
 
-    /// Tells the log all that is counted. The next drop of each cause has a line of its own.
+    /// Logs all that is counted. The next drop of each cause has a line of its own again.
     pub(crate) fn end(&mut self, rt: &impl Logs)
         ensures { self.new ≡ no_drops }
     {
@@ -160,8 +160,8 @@ impl Drops {
         log_owed(rt, self.end_of(Cause::Address));
     }
 
-    /// The line that tells what is counted of a cause until now, if there is anything. The next drop for it has a
-    /// line of its own.
+    /// Returns the line for what is counted of a cause until now, if anything is. The next drop for it has a line of
+    /// its own.
     fn end_of(&mut self, cause: Cause) -> Option<Owed>
         ensures drops { self.new ≡ with_tally cause no_tally self.old }
         ensures owed { result ≡ owed cause (tally_of cause self.old).more }
@@ -175,7 +175,7 @@ impl Drops {
     }
 }
 
-/// The log gets what it is owed.
+/// Logs the line, if there is one.
 fn log_owed<L: Logs>(rt: &L, owed: Option<Owed>)
     ensures { IfSome owed (λ line. L.logged rt.now level.Warn (Some (line_of line))) }
 {

@@ -11,11 +11,10 @@ use relay_log::Cause;
 use std::alloc::Global;
 use std::net::SocketAddrV4;
 
-/// What the target of a connection by this route is sent before the client's own bytes: the line with both addresses
-/// if it is to be sent one, or nothing. Nothing takes no memory.
+/// What the target of a connection by this route is sent before the client's own bytes: with `proxy` the line with both
+/// addresses, else nothing, which takes no memory.
 ///
-/// Refuses with `Address` if the line is to be sent and an address is missing, and with `Memory` if there is none for
-/// the line.
+/// Refuses with `Address` if an address of the line is missing, and with `Memory` if there is none for the line.
 pub(crate) fn lead(alloc: Global, proxy: bool, route: &Route) -> Result<Vec<u8>, Cause>
     ensures lead { IfOk result (λ lead. lead_of proxy route.now ≡ Some lead.items) }
     ensures short { IfOk result (λ lead. length lead.items ≤ 107) }

@@ -1,13 +1,14 @@
 //! A poller's rounds ([`poller_round`]): its thread waits for reports, delivers them, and accepts and opens
 //! connections.
 //!
-//! A report about a socket becomes a note at its slot ([`deliver`]). The first note at a slot that nobody holds makes
-//! a ticket. A connection is opened with one note and one ticket of its own; its target may first be sent a line with
-//! the addresses of the client's connection, and a connection of which one of them cannot be told is then closed, as
-//! one whose opening failed. A connection whose sockets report nothing is looked at again by a round's sweep. What a
-//! round is lent is in `dispatch`; what becomes of the tickets is in `turns`.
+//! A report about a socket becomes a note at its slot ([`deliver`]). The first note at a slot that nobody holds makes a
+//! ticket. A connection is opened with one note and one ticket of its own. Its target may first be sent a line with the
+//! addresses of the client's connection; if one of the two is not known then, the opening has failed, and the
+//! connection is closed. For connections whose sockets report nothing a round posts notes, too, once the idle limit has
+//! passed: its sweep. What a round is lent is in `dispatch`; what becomes of the tickets is in `turns`.
 //!
-//! - [`Poller`] is what a poller keeps between its rounds, and [`Opening`] what its connections are opened with ([`open`]).
+//! - [`Poller`] is what a poller keeps between its rounds, and [`Opening`] what its connections are opened with
+//!   ([`open`]).
 //! - [`Episodes`] is what a poller logs once for as long as it lasts, and [`Drops`] what it logs of clients that are
 //!   closed unopened.
 //!
@@ -20,24 +21,23 @@
 //!   delivered (`deliver_batch`).
 //! - Each error of accept(2) has its class, and only the answer that no connection waits lowers the accept flag
 //!   (`accepted_of`, `not_accepted`: `flag`). A lack lasts until that answer or a connection (`starved_after`).
-//! - A drop is counted, or owed a line of its own (`dropped_at`, `owed_for`). A count is cleared only
-//!   for a line that has it, by its own cause (`told_at`, `tell_of`; `Owed` cannot be dropped, and only the log takes
-//!   it), and at an opening all is logged (`end_episodes`). A lack counts as logged until a connection is opened
-//!   (`episodes_after`). A poller becomes full if the listener was reported, it may open more and no slot was free
-//!   before it accepted anybody (`tell_if_full`: `full`, `found`), and is so until accept(2) answers that nobody
-//!   waits.
-//! - Both tokens of a connection have the next generation of its slot (`next_names`). Its pair is a fresh one with
-//!   the poller's size of ring, made at the second of the round (`connect`: `pair`), and its lead the PROXY line of
-//!   the addresses that the front gave, or nothing (`lead`, by `LeadTold` of `specs/Leads.antt`). Without a pair the
-//!   cause that is logged is the front's, or `address` if the line is to be sent and the front gave a route without
-//!   one of the two, or `memory` if there was nothing of the kind (`cause`, by `DropsFor`).
+//! - A drop is counted, or owed a line of its own (`dropped_at`, `owed_for`). A count is cleared only for a line that
+//!   has it, by its own cause (`logged_at`, `tell_of`; `Owed` cannot be dropped, and only the log takes it), and at an
+//!   opening all is logged (`end_episodes`). A lack counts as logged until a connection is opened (`episodes_after`). A
+//!   poller becomes full if the listener was reported, it may open more, and no slot was free before it accepted
+//!   anybody (`log_if_full`: `full`, `found`). It stays so until accept(2) answers that nobody waits.
+//! - Both tokens of a connection have the next generation of its slot (`next_names`). Its pair is a fresh one with the
+//!   poller's size of ring, made at the second of the round (`connect`: `pair`), and its lead the PROXY line of the
+//!   addresses that the front gave, or nothing (`lead`, by `LeadGiven` of `specs/Leads.antt`). Without a pair the cause
+//!   that is logged is the front's, or `address` if targets are sent the line and the front gave a route without one of
+//!   the two, or else `memory` (`cause`, by `DropsFor`).
 //! - An accepted connection counts as opened, as dropped, or by its slot as lost (`open`: `counted`, by `Fate`), and
-//!   once: what comes with it out of `Poller::accept` cannot be dropped, and only these counts take it (`Uncounted`). An
-//!   opening passes its line to the log, and both are counted at their slot (`OpeningLogged`, `DropCounted`). A connection
-//!   counts as dropped only if the log gets a line or a count of it (`Dropped`), and a slot is lost only if one
-//!   exchange found that it is not free (`Held`), or if no connection can be opened there (`Spent`). After an opening that
-//!   failed the slot is in hand, and nowhere else (`prepare`: `failed`; `round`: `slots`). Slots start at generation
-//!   0 (`Poller::new`), and a table has its poller's own alone (`IsOwnTable`).
+//!   once: what comes with it out of `Poller::accept` cannot be dropped, and only these counts take it (`Uncounted`).
+//!   An opening passes its line to the log, and both are counted at their slot (`OpeningLogged`, `DropCounted`). A
+//!   connection counts as dropped only if the log gets a line or a count of it (`Dropped`), and a slot is lost only if
+//!   one exchange found that it is not free (`Held`), or if no connection can be opened there (`Spent`). After an
+//!   opening that failed the slot is in hand, and nowhere else (`prepare`: `failed`; `round`: `slots`). Slots start at
+//!   generation 0 (`Poller::new`), and a table has its poller's own alone (`IsOwnTable`).
 #![tactic(auto)]
 
 mod accepting;

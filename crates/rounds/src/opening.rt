@@ -10,7 +10,7 @@ ghost use Rattle.dispatch.specs.Acts as act;
 ghost use Rattle.dispatch.specs.Posts.{HoldsOnly, OnlyWorn};
 ghost use Rattle.dispatch.specs.Hands.{ticket_room};
 ghost use Rattle.token.specs.Names.{last_generation};
-ghost use Rattle.rounds.specs.Leads.{LeadTold};
+ghost use Rattle.rounds.specs.Leads.{LeadGiven};
 ghost use Rattle.rounds.specs.Openings.{next_in, Between, DropCounted, DropsFor, Fate, IsNext, LetGo, OneAccepted, OnlyOpened, OpeningLogged, Placed, Registered, SameQueues, Started};
 ghost use Rattle.rounds.specs.Pollers.{AreGenerations};
 
@@ -55,8 +55,8 @@ pub(crate) struct Names {
 /// is no longer used, and the connection is closed.
 ///
 /// Its acts come in this order: both sockets are registered, the slot is adopted, the table has the new generation, the
-/// notes of the last connection are thrown away, the connection is put into its place, the note is posted, and the slot is
-/// released.
+/// notes of the last connection are thrown away, the connection is put into its place, the note is posted, and the slot
+/// is released.
 ///
 /// The only refusal is `Worn`: the seat has posted 2^56 times.
 pub fn open<F: Front + Counting, A: Moves<F>, R: Wait + Logs>(
@@ -133,7 +133,7 @@ fn prepare<F: Front, A: Moves<F>, N: Log>(
     ensures cause { IfErr result (λ dropped. DropsFor (F.may_refuse client) (F.may_tell client) poller.old.opening.proxy dropped) }
     ensures failed { OnErr result (hand.new ≡ record hand.old { slots = hand.old.slots ++ names.client.slot ∷ [] }) }
     ensures same { OnOk result (poller.new ≡ poller.old) }
-    ensures told { IfErr result (λ dropped. poller.new
+    ensures logged { IfErr result (λ dropped. poller.new
         ≡ record poller.old {
           episodes =
               record poller.old.episodes { drops = dropped_for dropped poller.old.second poller.old.episodes.drops };
@@ -144,7 +144,7 @@ fn prepare<F: Front, A: Moves<F>, N: Log>(
         Ok(berth) => Ok(berth),
         Err(cause) => {
             hand.keep_slot(slot);
-            Err(poller.tell_dropped(rt, cause))
+            Err(poller.log_dropped(rt, cause))
         }
     }
 }
@@ -187,7 +187,7 @@ pub(crate) fn connect<F: Front, A: Moves<F>, N: Log>(
     ensures pair { IfOk result (λ berth. berth.value.pair ≡ fresh names.client.slot names.client.generation poller.old.opening.ring
         poller.old.second berth.value.pair.up.lead) }
     ensures second { IfOk result (λ berth. berth.value.second ≡ poller.old.second) }
-    ensures lead { IfOk result (λ berth. LeadTold (F.may_tell client) poller.old.opening.proxy (Some berth.value.pair.up.lead)) }
+    ensures lead { IfOk result (λ berth. LeadGiven (F.may_tell client) poller.old.opening.proxy (Some berth.value.pair.up.lead)) }
     ensures cause { IfErr result (λ cause. DropsFor (F.may_refuse client) (F.may_tell client) poller.old.opening.proxy cause) }
     ensures same { poller.new ≡ poller.old }
 {
@@ -230,10 +230,10 @@ fn boxed<F: Front, N: Log>(
     }
 }
 
-/// Starts the connection to the target, and makes the pair, at the second of the round. If targets are sent a line
-/// with the addresses of their clients' connections, the pair begins with it on the way up. A refusal closes the
-/// target's connection if it had been started. It is what the front answered, or `Address` if the line is to be sent
-/// and an address is missing, or `Memory`.
+/// Starts the connection to the target, and makes the pair, at the second of the round. If targets are sent a line with
+/// the addresses of their clients' connections, the pair begins with it on the way up. A refusal closes the target's
+/// connection if it had been started. The cause is the front's, or `Address` if an address of the line is missing, or
+/// `Memory`.
 #[tactic(auto, using(crate::proofs::Connections::refused_drops, crate::proofs::Connections::lacking_drops, crate::proofs::Connections::memory_drops))]
 fn reach<F: Front, A: Moves<F>, N: Log>(
     rt: &N,
@@ -246,7 +246,7 @@ fn reach<F: Front, A: Moves<F>, N: Log>(
     ensures acts { Registered A.made names.client.slot result acts.old acts.new }
     ensures pair { IfOk result (λ made. made.0 ≡ fresh names.client.slot names.client.generation poller.old.opening.ring
         poller.old.second made.0.up.lead) }
-    ensures lead { IfOk result (λ made. LeadTold (F.may_tell client.old) poller.old.opening.proxy (Some made.0.up.lead)) }
+    ensures lead { IfOk result (λ made. LeadGiven (F.may_tell client.old) poller.old.opening.proxy (Some made.0.up.lead)) }
     ensures cause { IfErr result (λ cause. DropsFor (F.may_refuse client.old) (F.may_tell client.old) poller.old.opening.proxy cause) }
     ensures same { poller.new ≡ poller.old }
 {

@@ -3,7 +3,7 @@ ghost use Rattle.std.specs.Prelude.{◌≡◌, ◌-◌, ◌<◌, ◌≤◌, ◌�
 ghost use Rattle.dispatch.specs.Acts as act;
 ghost use Rattle.token.specs.Names.{last_generation};
 ghost use Rattle.dispatch.specs.Splits.{IsIn};
-ghost use Rattle.rounds.specs.Drops.{all_told_at, dropped_for, AreTold};
+ghost use Rattle.rounds.specs.Drops.{all_logged_at, dropped_for, AreLogged};
 ghost use Rattle.rounds.specs.Episodes.{no_episodes, opened_after};
 ghost use Rattle.rounds.specs.Limits.{max_accepts};
 ghost use Rattle.rounds.specs.Pollers.{AreGenerations, IsOwnTable, HasOpenedAll, counted_up};
@@ -54,7 +54,7 @@ pub struct Poller<F: Front> {
     pub(crate) swept: u64,
     // Whether all slots were found to be back, once no more connections may be opened.
     pub(crate) over: bool,
-    // What the log is told once for as long as it lasts.
+    // What is logged once, when it begins.
     pub(crate) episodes: Episodes,
 }
 
@@ -98,8 +98,8 @@ impl<F: Front> Model for Poller<F> {
 }
 
 impl<F: Front> Poller<F> {
-    /// A poller that has opened no connection yet. Its table is for `table` slots, and it opens connections in a part
-    /// of them, at most `most` in all, with what `opening` says.
+    /// A poller that has opened no connection yet. Its table is for `table` slots. It opens connections in a part of
+    /// them, `most` in all at most, as `opening` says.
     ///
     /// Fails only if there is no memory for what it keeps of each slot and for the batch. A round allocates memory
     /// only for connections and log lines.
@@ -160,8 +160,8 @@ impl<F: Front> Poller<F> {
         })
     }
 
-    /// From now on this slot counts as having had this many connections: the next one there has the next generation,
-    /// and there is none after the last, 2^47 - 1. A server starts at 0. `drill` starts near the last.
+    /// From now on this slot counts as having had this many connections: the next one there has the next generation, up
+    /// to the last, 2^47 - 1. A server starts at 0; `drill` starts near the last.
     #[tactic(auto, using(crate::proofs::Pollers::own_set))]
     pub fn start_at(&mut self, slot: usize, generation: u64)
         requires inside { slot < length self.old.table }
@@ -172,16 +172,16 @@ impl<F: Front> Poller<F> {
         self.table[slot] = generation;
     }
 
-    /// It begins at this second: its first sweep comes once the idle limit has passed since then. It counts from
-    /// second 0 if this is not called.
+    /// The poller begins at this second: its first sweep comes once the idle limit has passed since then. Without this
+    /// call it counts from second 0.
     pub fn begin_at(&mut self, second: u64)
         ensures { self.new ≡ record self.old { swept = second } }
     {
         self.swept = second;
     }
 
-    /// Whether all connections that it may open have been opened, and all of them are closed. A round finds that out
-    /// by the slots that were given back.
+    /// Whether the poller has opened all connections that it may, and all of them are closed. A round finds that out by
+    /// the slots that were given back.
     pub fn is_over(&self) -> bool
         ensures { result ≡ self.now.over }
     {
@@ -302,28 +302,28 @@ impl<F: Front> Poller<F> {
         uncounted.spend();
     }
 
-    /// A round closes a connection unopened. The log says why, or the connection is counted for a later line.
-    pub(crate) fn tell_dropped<N: Logs>(&mut self, rt: &N, cause: Cause) -> Dropped
+    /// A round closes a connection unopened. That is logged with its cause, or counted for a later line.
+    pub(crate) fn log_dropped<N: Logs>(&mut self, rt: &N, cause: Cause) -> Dropped
         ensures cause { result ≡ cause }
         ensures drops { self.new ≡ record self.old {
           episodes = record self.old.episodes
               { drops = dropped_for cause self.old.second self.old.episodes.drops };
         } }
     {
-        Dropped::tell(rt, &mut self.episodes.drops, cause, self.second)
+        Dropped::log(rt, &mut self.episodes.drops, cause, self.second)
     }
 
     /// A round logs at its second how many are counted, of each cause of which that second has had no line.
-    pub(crate) fn tell_counted<N: Logs>(&mut self, rt: &N)
-        ensures told { self.new ≡ record self.old
-            { episodes = record self.old.episodes { drops = all_told_at self.old.second self.old.episodes.drops } } }
-        ensures all { AreTold self.new.second self.new.episodes.drops }
+    pub(crate) fn log_counted<N: Logs>(&mut self, rt: &N)
+        ensures logged { self.new ≡ record self.old
+            { episodes = record self.old.episodes { drops = all_logged_at self.old.second self.old.episodes.drops } } }
+        ensures all { AreLogged self.new.second self.new.episodes.drops }
     {
-        self.episodes.drops.tell(rt, self.second);
+        self.episodes.drops.log_counted(rt, self.second);
     }
 
-    /// A connection was opened, or the thread ends: all that is counted is logged. From now on a lack is logged again,
-    /// and the next drop of each cause by a line of its own.
+    /// A connection was opened, or the thread ends: logs all that is counted. From now on a lack is logged again, and
+    /// the next drop of each cause has a line of its own.
     pub fn end_episodes<N: Logs>(&mut self, rt: &N)
         ensures { self.new ≡ record self.old { episodes = opened_after self.old.episodes } }
     {
@@ -332,7 +332,7 @@ impl<F: Front> Poller<F> {
     }
 
     /// A round closed an accepted connection unopened, which was logged, or is counted for a later line. Its slot is in
-    /// hand, and the statistics have it there, too.
+    /// hand. The statistics count it there, too.
     pub(crate) fn count_dropped(
         &mut self,
         shared: &Shared<F>,

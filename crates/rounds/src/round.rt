@@ -6,7 +6,7 @@ ghost use Rattle.claims.specs.Seats.{HoldsNothing};
 ghost use Rattle.ready.specs.Steps.{HeldOnce};
 ghost use Rattle.rounds.specs.Accepts.{accepted_of, episodes_after, flag_after, starved_after};
 ghost use Rattle.rounds.specs.Deliveries.{Delivered, all_reported};
-ghost use Rattle.rounds.specs.Drops.{AreTold};
+ghost use Rattle.rounds.specs.Drops.{AreLogged};
 ghost use Rattle.dispatch.specs.Hands.{ticket_room};
 ghost use Rattle.rounds.specs.Limits.{max_accepts, spare_room};
 ghost use Rattle.rounds.specs.Openings.{AreIn, Between, OnlyTook, AcceptDone, OneAccepted, OnlyAccepted};
@@ -31,23 +31,23 @@ use std::sync::Wait;
 ///
 /// If the hand has no room for a ticket of each slot and 512 more, the round ends at once, and nothing happens. Else
 /// the tickets in hand stay there, in front of those of the round. The round asks once for reports and delivers them
-/// ([`deliver`]); it waits for them only if no sweep is due, no ticket is in hand and no connection can be accepted
-/// now, or for a millisecond at most if the round before left one to other pollers. A sweep is due if at the second of
-/// the round before at least the idle limit had passed since the last sweep, or since the poller began: it posts a note
-/// at each slot in which it has opened a connection, in rising order. Without a limit none is made. Then the round
-/// reads its second. While connections may be waiting and a slot is free, it accepts and opens them, with at most 4
-/// calls of accept(2), until its front leaves one to other pollers.
+/// ([`deliver`]). It waits for them only if no sweep is due, no ticket is in hand and no connection can be accepted
+/// now, or for a millisecond at most if the round before left a client to other pollers. A sweep is due if at the
+/// second of the round before at least the idle limit had passed since the last sweep, or since the poller began: the
+/// round then posts a note at each slot in which the poller has opened a connection, in rising order. Without a limit
+/// there are no sweeps. Then the round reads its second. While connections may be waiting and a slot is free, it
+/// accepts and opens them, with at most 4 calls of accept(2), until its front leaves one to other pollers.
 ///
 /// Once all connections that the poller may open were opened, its front no longer listens: neither at the round's
 /// end, nor while it asks for reports, if they were opened before.
 ///
 /// An opened connection has the slot's next generation, one note and one ticket, and is logged. A connection whose
 /// opening fails is closed and logged or counted, and its slot is as it was, and in hand. At its end the round logs
-/// what is counted, once a second. If the listener was reported and no slot is free, the last poller to find so logs
-/// that. What connections are opened with stays the same.
+/// what is counted, once a second. If the listener was reported and no slot is free, that is logged by the last poller
+/// that finds it. What connections are opened with stays the same.
 ///
-/// Refusals: `Poll` if waiting for reports failed, and `Worn` if the seat has posted 2^56 times. Then, too, the seat
-/// holds nothing.
+/// Refusals: `Poll` if waiting for reports failed, and `Worn` if the seat has posted 2^56 times. Afterwards the seat
+/// holds no slot, even after a refusal.
 pub fn poller_round<F: Front, C: Clock, R: Wait + Log>(
     rt: &R,
     alloc: Global,
@@ -79,7 +79,7 @@ pub fn poller_round<F: Front, C: Clock, R: Wait + Log>(
     Ok(())
 }
 
-/// The start of a round. Answers false if the hand has no room for a ticket of each of this many slots and 512 more.
+/// The start of a round. Returns false if the hand has no room for a ticket of each of this many slots and 512 more.
 fn begin<F: Front>(hand: &Hand, poller: &mut Poller<F>, slots: usize) -> bool
     ensures poller { poller.new ≡ record poller.old { batch = [] } }
     ensures room { IsTrue result ↔ (spare_room + slots ≤ ticket_room hand.now) }
@@ -89,7 +89,7 @@ fn begin<F: Front>(hand: &Hand, poller: &mut Poller<F>, slots: usize) -> bool
     room >= SPARE_ROOM && room - SPARE_ROOM >= slots
 }
 
-/// Takes the reports, with a front that listens no longer where no connection is to be opened. It waits for them,
+/// Asks for reports. If the poller may open no more connections, its front stops listening before. It waits for reports
 /// unless a sweep is due, a ticket is in hand, or a connection can be accepted now and was not left to other pollers.
 fn look<F: Front, R: Wait + Log>(
     rt: &R,
@@ -147,9 +147,7 @@ fn may_wait<F: Front, R: Wait>(rt: &R, own: &mut Own, poller: &Poller<F>, limit:
     }
 }
 
-/// Asks for reports, with a front that does not listen where all was opened. After a signal the batch is empty. While
-/// it waits no sweep is due, no ticket is in hand, and no connection is to be accepted, unless the system lacked what
-/// accept(2) needs, or the connection was left to other pollers and the wait is brief.
+/// Asks for reports, for as long as the poller may wait now. After a signal the batch is empty.
 fn poll<F: Front, R: Log>(
     rt: &R,
     _own: &Own,
@@ -175,7 +173,7 @@ fn poll<F: Front, R: Log>(
     polled(rt, answer)
 }
 
-/// What an answer to the wait for reports means. A signal ends a wait, and is no fault.
+/// Whether the wait for reports failed. A signal ends a wait, and is no fault.
 fn polled<R: Log>(rt: &R, answer: io::Result<()>) -> Result<(), ServerFault>
     ensures waited { IsOk result ↔ MatchResult answer (λ _. Unit {0}) (λ error. error_kind error ≡ Interrupted) }
     ensures fault { IfErr result (λ fault. fault ≡ ServerFault.Poll) }
@@ -190,8 +188,8 @@ fn polled<R: Log>(rt: &R, answer: io::Result<()>) -> Result<(), ServerFault>
     }
 }
 
-/// Delivers the reports of the batch, and raises the accept flag if the listener was reported. None is for a slot of
-/// another poller, since the table has no connection there.
+/// Delivers the reports of the batch, and raises the accept flag if the listener was reported. None is delivered to a
+/// slot of another poller, since the table has no connection there.
 fn deliver_batch<F: Front>(
     shared: &Shared<F>,
     own: &mut Own,
@@ -221,8 +219,8 @@ fn deliver_batch<F: Front>(
     Ok(())
 }
 
-/// Accepts and opens connections while one may be waiting and a slot is free. The log is told where a client waits
-/// for a slot, and of what was closed unopened.
+/// Accepts and opens connections while one may be waiting and a slot is free. Logs that a client waits for a slot, if
+/// none is free, and what was closed unopened.
 fn accept<F: Front, R: Wait + Log>(
     rt: &R,
     alloc: Global,
@@ -238,17 +236,17 @@ fn accept<F: Front, R: Wait + Log>(
     ensures ended { OnOk result (AcceptEnded poller.new own.new) }
     ensures ready { own.new.ready ≡ own.old.ready }
     ensures poller { OnlyAccepted poller.old poller.new }
-    ensures told { OnOk result (AreTold poller.new.second poller.new.episodes.drops) }
+    ensures logged { OnOk result (AreLogged poller.new.second poller.new.episodes.drops) }
 {
-    tell_if_full(rt, shared, own, poller);
+    log_if_full(rt, shared, own, poller);
     accept_all(rt, alloc, shared, own, poller)?;
-    poller.tell_counted(rt);
+    poller.log_counted(rt);
     Ok(())
 }
 
-/// Before any is accepted: if a client waits for a slot, the poller is full until accept(2) answers that nobody
-/// waits. The log is told by the last poller that becomes so.
-fn tell_if_full<F: Front, R: Wait + Log>(
+/// Before any is accepted: if a client waits for a slot, the poller is full until accept(2) answers that nobody waits.
+/// The last poller that becomes full logs it.
+fn log_if_full<F: Front, R: Wait + Log>(
     rt: &R,
     shared: &Shared<F>,
     own: &mut Own,
@@ -312,7 +310,7 @@ fn accept_all<F: Front, R: Wait + Log>(
     Ok(())
 }
 
-/// Whether accept(2) is to be tried: a connection may be waiting, it would be opened, and a free slot is in hand.
+/// Whether to try accept(2): a connection may be waiting, it would be opened, and a free slot is in hand.
 fn may_accept<F: Front, R: Wait>(rt: &R, own: &mut Own, poller: &Poller<F>) -> bool
     requires room { 1 ≤ ticket_room own.old.hand }
     ensures took { OnlyTook own.old own.new }
@@ -323,8 +321,8 @@ fn may_accept<F: Front, R: Wait>(rt: &R, own: &mut Own, poller: &Poller<F>) -> b
     poller.accepting && !poller.has_opened_all() && has_slot(rt, own)
 }
 
-/// Tries accept(2), and opens the connection that it gives, unless the client is better left to another poller. Answers
-/// whether the next try is worth making: not then, nor if the system lacked what accept(2) needs.
+/// Tries accept(2), and opens the connection that it gives, unless the client is better left to another poller. Returns
+/// whether another try is worth making: not after a client was left, nor if the system lacked what accept(2) needs.
 fn accept_next<F: Front, R: Wait + Log>(
     rt: &R,
     alloc: Global,
@@ -419,7 +417,7 @@ fn not_accepted<F: Front, R: Log>(
     class
 }
 
-/// Nobody waits, for a slot or otherwise.
+/// No client waits any more, so the poller is not full.
 fn end_full<F: Front>(shared: &Shared<F>, poller: &mut Poller<F>)
     ensures { poller.new ≡ record poller.old { episodes = record poller.old.episodes { full = false } } }
 {
@@ -434,8 +432,8 @@ fn log_failure<R: Log>(rt: &R, call: &str, error: &io::Error) {
     error!(rt; target: "relayd", "{call}: {error}");
 }
 
-/// Once all connections that it may open have been opened, it listens no longer, takes the free slots in hand and
-/// checks whether they are all there. A slot that is no longer used counts as free.
+/// Once the poller has opened all connections that it may, its front listens no longer, and it takes the free slots in
+/// hand to see whether all are there. A slot that is no longer used counts as free.
 fn take_back<F: Front, R: Wait>(rt: &R, own: &mut Own, poller: &mut Poller<F>)
     ensures took { OnlyTook own.old own.new }
     ensures poller { poller.new ≡ record poller.old { listening = poller.new.listening; over = poller.new.over } }
@@ -454,7 +452,7 @@ fn take_back<F: Front, R: Wait>(rt: &R, own: &mut Own, poller: &mut Poller<F>)
     poller.over = free.saturating_add(poller.lost) >= slots as u64;
 }
 
-/// Takes free slots in hand, at most this many, until there is none or the hand is full.
+/// Takes at most this many free slots in hand, until there is none or the hand is full.
 fn take_all<R: Wait>(rt: &R, own: &mut Own, most: usize)
     ensures took { OnlyTook own.old own.new }
     ensures all { TookAll most own.new }

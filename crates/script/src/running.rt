@@ -41,7 +41,7 @@ pub enum ScriptFault {
 /// read, for one that is too long, or whose header or first line after it is malformed.
 ///
 /// If the script that was read has a fault, `explain` is called once, before anything is written. Otherwise it is not
-/// called; nor is it if memory runs out before the script was read, or for what is to be written.
+/// called; nor is it if memory runs out before the script was read, or for its output.
 pub fn run<R: Read, W: Write, X: Explain>(
     alloc: Global,
     reader: &mut R,

@@ -1,4 +1,4 @@
-//! What is wrong in a line that is not TOML, where that can be told from the line.
+//! What is wrong in a line that is not TOML, if the line alone shows it.
 
 use crate::causes::line_of;
 use crate::one_line::OneLine;

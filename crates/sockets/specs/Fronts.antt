@@ -39,12 +39,12 @@ end_in (Some Listener) = None
 end_in (Some Waker) = None
 end_in None = None
 
--- the word of an end, where there are this many slots
+-- the word of an end, if there are this many slots
 abbrev pub word_at : ℕ → Option EndName → Option WordName
 word_at slots (Some end) = word_of slots end.slot end.side
 word_at slots None = None
 
--- the word at which an event is told: that of the end that its number names, if it names reading
+-- the word that an event sets: that of the end that its number names, if it names reading
 abbrev pub heard_of : ℕ → Event → Option WordName
 heard_of slots event = if names_reading event then word_at slots (end_in (name_of (event_token event).0)) else None
 
@@ -54,7 +54,7 @@ Fails (Ok done) = ⊥
 Fails (Err error) = error_kind error ≢ Interrupted
 
 -- how a front's connections are forwarded, the most milliseconds that it waits for reports, the numbers that its last
--- poll was told, whether that failed, how many milliseconds it could take, whether the front has a share of the listening
+-- poll gave, whether that failed, how many milliseconds it could take, whether the front has a share of the listening
 -- socket, and how many times in a row it has left a client to other pollers
 pub record Watched : Type 0 where
   pub forwarding : Forwarding
@@ -83,8 +83,8 @@ pub record WaitEnded (wait : Waiting) (answer : Result (Unit {0}) Error) (old ne
   pub quiet : OnOk answer (wait ≡ waiting.Brief → new.reported ≡ [] → new.left ≡ most_left)
   pub kept : wait ≢ waiting.Brief → new.left ≡ old.left
 
--- a socket that listens: the address that the system was asked for, and the one that it told, which has its port where
--- any port was asked for
+-- a socket that listens: the address that the system was asked for, and the one that it gave, which has its port if any
+-- port was asked for
 pub record Listens (L : Type 0) : Type 0 where
   pub listener : L
   pub asked : SocketAddr
@@ -94,7 +94,7 @@ pub record Listens (L : Type 0) : Type 0 where
 abbrev pub IsAt : SocketAddress → SocketAddr → Type 0
 IsAt (octets, port) address = IsV4And (socket_ip address) (λ ip. ipv4_octets ip ≡ octets) × IsPlainSocket address port
 
--- an address, if it is told and of IPv4
+-- an address, if it is known and of IPv4
 abbrev pub v4_of : Option SocketAddr → Option SocketAddrV4
 v4_of (Some (V4 address)) = Some address
 v4_of (Some (V6 address)) = None
@@ -104,12 +104,12 @@ v4_of None = None
 abbrev pub IsLocal : {S : Type 0} → (Made → S → S → Type 0) → S → Option SocketAddrV4 → Type 0
 IsLocal did socket address = (named : Result SocketAddr Error) × did (NamedHere named) socket socket × (address ≡ v4_of (result_ok named))
 
--- What a front tells of a client's connection: no address unless targets are sent a line, and else the client's own, as
--- it was told at accept(2). The one on which it was accepted only the system knows
+-- The addresses that a front gives of a client's connection: none unless targets are sent them, and else the client's
+-- own, as accept(2) gave it. The one on which it was accepted only the system knows
 abbrev pub IsRoute : Bool → Option SocketAddr → Route → Type 0
 IsRoute false peer route = route ≡ record { client = None; accepted = None }
 IsRoute true peer route = route.client ≡ v4_of peer
 
--- what it may tell of a client with this address
+-- what it may give of a client with this address
 abbrev pub MayTell : Option SocketAddr → Route → Type 0
 MayTell peer route = (proxy : Bool) × IsRoute proxy peer route

@@ -19,8 +19,8 @@ use Rattle.sockets.specs.declared.patience.Patience.{Patience}
 use Rattle.sockets.specs.Delays.{Sending, waiting, prompt, IsOffered}
 
 -- the count of its answers, when it sends, whether it reads the socket or answers "would block" to reads by itself, the
--- address at its other end, where it was told, the name under which it is reported, if it is, and for how long the
--- socket was given to wait for its peer
+-- address at its other end, if it is known, the name under which it is reported, if it is, and for how long the socket
+-- was given to wait for its peer
 pub record Socket : Type 0 where
   pub tally : Tallied
   pub sending : Sending
@@ -119,10 +119,9 @@ pub record IsCalled (asked : Asked) (given : Given) (old new : Socket) : Type 0 
 
 -- One system call on a socket, with its answer: read(2), write(2) or shutdown(2); SO_ERROR of socket(7);
 -- getpeername(2), getsockname(2); TCP_NODELAY of tcp(7), on or off; TCP_USER_TIMEOUT, in milliseconds, where 0 is no
--- limit of the socket's own; and epoll_ctl(2), which registered the socket under this number, to be told at this word,
--- if at any.
--- And SO_KEEPALIVE of socket(7), with the first probe after this many seconds, which takes a call for each of its
--- numbers. And a look, which is no system call: whether a report that names reading was told since the last one
+-- limit of the socket's own; and epoll_ctl(2), which registered the socket under this number, with this word, if with
+-- any. And SO_KEEPALIVE of socket(7), with the first probe after this many seconds, which takes a call for each of its
+-- numbers. And a look, which is no system call: whether a report that names reading came since the last look
 pub data Made : Type 0 where
   Called : Asked → Given → Made
   Pending : Result (Option Error) Error → Made
@@ -136,14 +135,14 @@ pub data Made : Type 0 where
 
 -- What a system call does to a socket of the type S, only the system knows. So what follows holds for any such relation
 module _ {S : Type 0} where
-  -- the socket option is set where it is to change, and is left alone elsewhere
+  -- the socket option is set if it changes, and else left alone
   pub record Switches (did : Made → S → S → Type 0) (was is : Bool) (before after : S) : Type 0 where
     pub on : was ≡ false → is ≡ true → did (SentAtOnce true) before after
     pub off : was ≡ true → is ≡ false → did (SentAtOnce false) before after
     pub kept : is ≡ was → after ≡ before
 
-  -- a socket is given this many seconds to wait for its connection, or for a silent peer, and is left alone where none
-  -- are given
+  -- a socket is given this many seconds to wait for its connection, or for a silent peer, and is left alone if none are
+  -- given
   abbrev pub Limits : (Made → S → S → Type 0) → Option ℕ → S → S → Type 0
   Limits did (Some seconds) before after = did (GivesUpAfter (seconds * 1000)) before after
   Limits did None before after = after ≡ before
@@ -156,8 +155,7 @@ module _ {S : Type 0} where
   Waits did patience before after = (limited : S) × Limits did patience.connect before limited
       × Probing did patience.keepalive limited after
 
-  -- a limit that the socket was given is lifted where the wire comes to know that it is connected, and else it is left
-  -- alone
+  -- a limit that the socket was given is lifted if the wire comes to know that it is connected, and else left alone
   pub record Lifts (did : Made → S → S → Type 0) (limit : Option ℕ) (was is : Bool) (before after : S) : Type 0 where
     pub lifted : limit ≢ None → was ≡ false → is ≡ true → did (GivesUpAfter 0) before after
     pub unlimited : limit ≡ None → after ≡ before
@@ -169,9 +167,9 @@ module _ {S : Type 0} where
   JoinGives did (Ok (Some error)) given socket = given ≡ Refused (pending_kind (error_kind error))
   JoinGives did (Ok None) given socket = (named : Result SocketAddr Error) × did (Named named) socket socket × (given ≡ call_gave named)
 
-  -- A read where the wire reads is one system call, for all that was asked, and gives what it gave. Where the wire does
-  -- not read, it looks first: if it was told of something to read, it reads from then on; else it answers "would block"
-  -- by itself, without a system call
+  -- If the wire reads, a read is one system call, for all that was asked, and gives what it gave. If the wire does not
+  -- read, it looks first: if there was a report of something to read, it reads from then on; else it answers "would
+  -- block" by itself, without a system call
   pub record Reads (did : Made → S → S → Type 0) (most : ℕ) (given : Given) (joined was is : Bool) (before after : S) : Type 0 where
     pub reads : Bool
     pub looked : S

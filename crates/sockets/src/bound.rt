@@ -68,7 +68,7 @@ fn listen<R: Net, L: Listening + Drop>(rt: &R, asked: SocketAddr) -> io::Result<
     })
 }
 
-/// A socket that the system has listen at an address.
+/// A socket that the system was asked to have listen at an address.
 ///
 /// Only the system knows at which addresses a socket listens, so the trait leaves that open. What is proved of any
 /// such socket says for which address the system was asked.

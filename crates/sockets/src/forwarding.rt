@@ -5,7 +5,7 @@ use crate::patience::Patience;
 use settings::Settings;
 use std::net::SocketAddr;
 
-/// Where the connections of clients go, whether their addresses are told, and for how long a peer is waited for.
+/// Where the connections of clients go, whether targets are sent their addresses, and how long to wait for a peer.
 #[derive(Clone, Copy)]
 pub struct Forwarding {
     /// The address to which each client is connected.
@@ -13,7 +13,7 @@ pub struct Forwarding {
     /// Whether the targets are sent a line with the addresses of their clients' connections, for which the system is
     /// asked.
     pub proxy: bool,
-    /// For how long a target or a client that does not answer is waited for.
+    /// How long to wait for a target or a client that does not answer.
     pub patience: Patience,
 }
 

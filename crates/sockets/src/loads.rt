@@ -1,4 +1,4 @@
-//! How many clients each poller has, by which they are dealt.
+//! How many clients each poller has. By these counts a poller leaves clients to others.
 ghost use Rattle.std.specs.Prelude.{◌≤◌};
 
 use crate::limits::{LEAST_MARGIN, MARGIN_PART};

@@ -1,5 +1,5 @@
-//! The options of a TCP socket that say for how long its peer is waited for. Neither the standard library nor `mio`
-//! sets them.
+//! The options of a TCP socket that say how long to wait for its peer. Neither the standard library nor `mio` sets
+//! them.
 ghost use Rattle.libc.specs.Net.{SockOption};
 
 use crate::limits::PROBES;

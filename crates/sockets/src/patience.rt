@@ -1,8 +1,7 @@
 ghost use Rattle.std.specs.Prelude.{◌≡◌};
 ghost use Rattle.sockets.specs.Wires.{unlimited};
 
-/// For how many seconds a peer that does not answer is waited for. Where it is `None`, it is waited for as long as
-/// the system does by itself.
+/// How many seconds to wait for a peer that does not answer. `None` leaves it to the system.
 #[derive(Clone, Copy)]
 pub struct Patience {
     /// How long the connection to the target may take, 1 to 3600.

@@ -36,15 +36,15 @@ use std::sync::Arc;
 use std::time::Duration;
 use token::{Name, Token, unpack};
 
-/// The front of one poller over the system's sockets: the listening socket, which all pollers have, one target, and
-/// an epoll(7) instance of its own. It tells the addresses of clients only if targets are sent them.
+/// The front of one poller over the system's sockets: the listening socket, which all pollers share, one target, and an
+/// epoll(7) instance of its own. It gives the addresses of clients only if targets are sent them.
 #[derive(Drop)]
 pub struct Sockets<'r, R> {
     rt: &'r R,
     // Its share of the listening socket, until it no longer listens.
     listener: Option<Arc<TcpListener>>,
     forwarding: Forwarding,
-    // What wires are told of their sockets' reports.
+    // The words by which wires hear of their sockets' reports.
     told: Arc<Reports>,
     poll: Poll,
     events: Events,
@@ -90,8 +90,8 @@ pub struct Wakers {
     each: Vec<Waker>,
 }
 
-/// A front for each part of the slots, all on one bound socket, which connect each client as this says, and the
-/// wakers for other threads. The listening socket is reported to each of them.
+/// A front for each part of the slots, all on one bound socket, which is reported to each of them, and the wakers for
+/// other threads. The fronts connect clients as `forwarding` says.
 ///
 /// Refuses with `NoMemory` if there is not enough, and with `Poll` if the system cannot report on sockets
 /// (epoll_create1(2), eventfd(2), epoll_ctl(2)). The cause was then logged, at level error. In both cases the
@@ -124,7 +124,7 @@ pub fn open_all<'r, R: Net + Log>(
     Ok((fronts, Wakers { split, each }))
 }
 
-/// What reports on the listening socket and the waker, of each of this many pollers.
+/// For each of this many pollers its poll, which reports on the listening socket, and its waker.
 fn watched_by_all<R: Net + Log>(
     rt: &R,
     alloc: Global,
@@ -212,7 +212,7 @@ fn wait_of(pollers: usize) -> u64
     pollers.min(MAX_POLLERS).max(2) as u64 * WAIT_MILLIS
 }
 
-/// What reports on the listening socket, and the waker. Why there is none was logged.
+/// The poll and its waker. If one could not be made, the cause has been logged.
 fn watched<R: Net + Log>(rt: &R, listener: &mut TcpListener) -> Result<(Poll, Waker), ServerFault>
     ensures { IfErr result (λ fault. fault ≡ ServerFault.Poll) }
 {
@@ -226,8 +226,8 @@ fn watched<R: Net + Log>(rt: &R, listener: &mut TcpListener) -> Result<(Poll, Wa
 }
 
 impl<R: Dial> Sockets<'_, R> {
-    /// Starts the connection to the target, with the limit that it is to have. The system looks at that when it sends
-    /// again, so it may come after the start. If the start fails, the client's wire keeps the cause.
+    /// Starts the connection to the target, and gives it its limit. The system looks at that when it sends again, so it
+    /// may come after the start. If the start fails, the client's wire keeps the cause.
     fn begin<N: Log>(&self, rt: &N, client: &mut SocketWire) -> Result<SocketWire, Unopened>
         ensures client { client.new ≡ client.old }
         ensures begun { IfOk result (λ target. target.socket ≡ patient self.now.forwarding.patience (fresh_wire false None)) }
@@ -253,7 +253,7 @@ impl<R: Dial> Sockets<'_, R> {
         ensures unwatched { OnErr result (wire.new.socket ≡ wire.old.socket) }
         ensures refused { IfErr result (λ why. why ≡ Unopened.Register) }
     {
-        // A wire that could not be told of its reports always reads.
+        // A wire without a word for its reports always reads.
         let told = Told::new(&self.told, token.slot(), token.side());
         match wire.watch(self.poll.registry(), token, told.unwrap_or(None)) {
             Ok(()) => Ok(()),
@@ -266,7 +266,7 @@ impl<R: Dial> Sockets<'_, R> {
     }
 }
 
-/// The addresses of a client's connection, if they are to be told. The client's own came with accept(2), and the
+/// The addresses of a client's connection, if targets are sent them. The client's own came with accept(2), and the
 /// socket is asked for the other one.
 fn route_of<S: Stream>(is_told: bool, client: &SocketWire<S>) -> Route
     ensures client { IsRoute is_told client.now.socket.peer result }
@@ -281,7 +281,7 @@ fn route_of<S: Stream>(is_told: bool, client: &SocketWire<S>) -> Route
     }
 }
 
-/// An address, if it is told and of IPv4.
+/// An address, if it is known and of IPv4.
 fn v4(address: Option<SocketAddr>) -> Option<SocketAddrV4>
     ensures { result ≡ v4_of address }
 {
@@ -291,7 +291,7 @@ fn v4(address: Option<SocketAddr>) -> Option<SocketAddrV4>
     }
 }
 
-/// What reports on the listening socket, and the waker that ends a wait for reports.
+/// The poll, which reports on the listening socket, and the waker that ends its waits.
 fn reports_on<R: Net>(rt: &R, listener: &mut TcpListener) -> io::Result<(Poll, Waker)> {
     let poll = Poll::new(rt)?;
     poll.registry().register(listener, mio::Token(LISTENER as usize), Interest::READABLE)?;
@@ -299,7 +299,7 @@ fn reports_on<R: Net>(rt: &R, listener: &mut TcpListener) -> io::Result<(Poll, W
     Ok((poll, waker))
 }
 
-/// Tells of the events that name reading, and appends the numbers of their tokens to the batch.
+/// Sets the words of the events that name reading, and appends the numbers of all tokens to the batch.
 fn put_numbers(batch: &mut Vec<u64>, events: &Events, told: &Reports)
     requires { vec_len batch.old + length (items events.now) ≤ vec_capacity batch.old }
     ensures numbers { batch.new.items ≡ batch.old.items ++ numbers (items events.now) }
@@ -310,15 +310,15 @@ fn put_numbers(batch: &mut Vec<u64>, events: &Events, told: &Reports)
     }
 }
 
-/// A report that is about to be handed over: its number, and the word at which it was told, if it was.
+/// A report for the batch: its number, and the word that was set for it, if one was.
 #[derive(Drop)]
 struct Reported {
     number: u64,
     heard: Option<Heard>,
 }
 
-/// Tells of an event if it names reading, at the word of the end that its number names. The number is given only
-/// then, so that a wire is told before the report becomes a note.
+/// Sets the word of the end that an event's number names, if the event names reading. Only then is the number given, so
+/// that the wire knows of the report before that becomes a note.
 fn tell(told: &Reports, event: &Event) -> Reported
     ensures number { result.number ≡ (event_token event.now).0 }
     ensures heard { result.heard ≡ heard_of told.now event.now }

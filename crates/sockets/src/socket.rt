@@ -8,7 +8,7 @@ use std::io;
 use std::net::{Shutdown, SocketAddr};
 use std::sync::Arc;
 
-/// A TCP socket of the system, and what is told of its reports.
+/// A TCP socket of the system, and the word for its reports.
 #[derive(Drop)]
 pub struct Socket {
     stream: TcpStream,

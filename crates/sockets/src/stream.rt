@@ -9,7 +9,7 @@ use readiness::Told;
 use std::io;
 use std::net::SocketAddr;
 
-/// A stream socket of the system, and what is told of its reports, as a wire uses them. Each method but `is_told` and
+/// A stream socket of the system, and the word for its reports, as a wire uses them. Each method but `is_told` and
 /// `probe` is one system call, which never waits.
 ///
 /// Only the system knows what a call does, so the trait leaves that open. What is proved of a wire over any such
@@ -56,17 +56,17 @@ pub trait Stream {
     fn give_up_after(&mut self, millis: u64) -> io::Result<()>
         ensures { did (GivesUpAfter millis) self.old self.new };
 
-    /// Has a peer that is silent for this many seconds probed (SO_KEEPALIVE of socket(7)), by up to four system calls. The socket
-    /// does not probe if the system refuses one of them.
+    /// Has a peer that is silent for this many seconds probed (SO_KEEPALIVE of socket(7)), by up to four system calls.
+    /// The socket does not probe if the system refuses one of them.
     fn probe(&mut self, seconds: u32) -> io::Result<()>
         ensures { did (Probes seconds) self.old self.new };
 
     /// Has the socket reported for reading and writing, edge-triggered, under a token (epoll_ctl(2)). Those of its
-    /// reports that name reading are told by `told`. Without it, each look finds that one was told.
+    /// reports that name reading set the word `told`. Without it, each look finds a report.
     fn register(&mut self, registry: &Registry, token: Token, told: Option<Told>) -> io::Result<()>
         ensures { OnOk result (did (Registered token.0 told) self.old self.new) };
 
-    /// Whether a report that names reading was told since the last look, which this is. It is no system call.
+    /// Whether a report that names reading came since the last such look. It is no system call.
     fn is_told(&mut self) -> bool
         ensures { did (Looked result) self.old self.new };
 }

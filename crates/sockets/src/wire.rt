@@ -25,8 +25,8 @@ use std::net::SocketAddr;
 use token::Token;
 
 /// The wire over one system socket. A write is one system call, which never waits, and so is a read, unless the wire
-/// knows its answer: after a read that would block, it answers "would block" by itself until it is told of a report
-/// that names reading, or a call fails.
+/// knows its answer: after a read that would block, it answers "would block" by itself until a report that names
+/// reading has come, or a call fails.
 ///
 /// It counts its answers by [`class_by`](engine::class_by). It specifies the system calls that it makes, and gives
 /// their answers unchanged. It does not specify its bytes, since only the system knows which bytes come.
@@ -110,7 +110,7 @@ impl<S: Stream> SocketWire<S> {
     }
 
     /// Has the socket reported for reading and writing, edge-triggered, under a token's number. Its reports that name
-    /// reading are told by `told`, at that token's word; without it the wire always reads.
+    /// reading set the word `told`, which is the token's; without it the wire always reads.
     pub(crate) fn watch(
         &mut self,
         registry: &Registry,
@@ -128,7 +128,7 @@ impl<S: Stream> SocketWire<S> {
         Ok(())
     }
 
-    /// Gives the socket so long to wait for its peer. If the system refuses, that is logged at level debug, and the
+    /// Sets how long the socket waits for its peer. If the system refuses, that is logged at level debug, and the
     /// socket waits as the system does by itself.
     pub(crate) fn wait_for_peer<N: Log>(&mut self, rt: &N, patience: Patience)
         ensures waits { Waits S.did patience self.old.stream self.new.stream }
@@ -139,7 +139,7 @@ impl<S: Stream> SocketWire<S> {
         self.patience = patience;
     }
 
-    /// Gives the connection this many seconds to be made, if it is to have a limit.
+    /// Gives the connection this many seconds to be made, if any are given.
     fn limit<N: Log>(&mut self, rt: &N, seconds: Option<u32>)
         ensures limited { Limits S.did seconds self.old.stream self.new.stream }
         ensures same { self.new.socket ≡ self.old.socket }
@@ -152,7 +152,7 @@ impl<S: Stream> SocketWire<S> {
         }
     }
 
-    /// Has the peer probed after it was silent for this many seconds, if it is to be.
+    /// Has the peer probed after it was silent for this many seconds, if any are given.
     fn probe<N: Log>(&mut self, rt: &N, seconds: Option<u32>)
         ensures probed { Probing S.did seconds self.old.stream self.new.stream }
         ensures same { self.new.socket ≡ self.old.socket }
@@ -178,15 +178,15 @@ impl<S: Stream> SocketWire<S> {
         }
     }
 
-    /// The log may tell this error of the connection from now on.
+    /// Keeps this error of the connection for the log.
     pub(crate) fn keep(&mut self, error: &io::Error)
         ensures { self.new ≡ self.old }
     {
         self.error = error.raw_os_error();
     }
 
-    /// Whether the wire reads its socket. If it does not, it looks, and reads from now on if it was told of something
-    /// to read.
+    /// Whether the wire reads its socket. If it does not, it looks, and reads from now on if there was a report of
+    /// something to read.
     fn looks(&mut self) -> bool
         ensures kept { self.old.socket.reads ≡ true → (result ≡ true) × (self.new.stream ≡ self.old.stream) }
         ensures look { self.old.socket.reads ≡ false → S.did (Looked result) self.old.stream self.new.stream }

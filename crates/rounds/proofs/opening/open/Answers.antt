@@ -54,22 +54,22 @@ returns-in-Err g c =
       between = record {
         same = c.requires.between.same;
         idle = c.requires.between.idle;
-        sized = ap (λ (s : PollerState). length s.table) c.count_dropped.ensures.poller ∙ ap (λ (s : PollerState). length s.table) c.in-Err.ensures.told ∙ c.requires.between.sized;
+        sized = ap (λ (s : PollerState). length s.table) c.count_dropped.ensures.poller ∙ ap (λ (s : PollerState). length s.table) c.in-Err.ensures.logged ∙ c.requires.between.sized;
       };
       worn = tt;
       counted = dropped_counts c.args.poller.now c.prepare.new.poller c.count_dropped.new.self _ _
           (λ (s : ℕ) (acts : List Act). AreMade g.A.Acts.made s acts c.args.acts.now c.prepare.new.acts) c.args.own.now.seat c.args.own.now.seat c.args.own.now.hand.slots c.in-Some.slot
-          c.in-Err.dropped c.count_dropped.ensures.counted first c.in-Err.ensures.told c.count_dropped.ensures.poller
+          c.in-Err.dropped c.count_dropped.ensures.counted first c.in-Err.ensures.logged c.count_dropped.ensures.poller
           (registered_once g.A.Acts.made c.args.acts.now c.prepare.new.acts named c.in-Err.ensures.acts);
       in_order = tt;
       done = record {
         done = opened_not c.args.poller.now c.count_dropped.new.self c.args.own.now c.take_slot.new.self c.take_slot.ensures.left c.in-Some.slot first c.prepare.new.hand here
-            (ap fields_of c.count_dropped.ensures.poller ∙ ap fields_of c.in-Err.ensures.told);
+            (ap fields_of c.count_dropped.ensures.poller ∙ ap fields_of c.in-Err.ensures.logged);
         room = subst (λ (h : HandState). ticket_room h ≤ ticket_room c.prepare.new.hand + 1) c.take_slot.ensures.left
             (room_still c.take_slot.new.self c.prepare.new.hand _ c.in-Err.ensures.failed);
       };
       ready = refl;
-      poller = opens_dropped c.args.poller.now c.prepare.new.poller c.count_dropped.new.self _ _ c.in-Err.ensures.told c.count_dropped.ensures.poller;
+      poller = opens_dropped c.args.poller.now c.prepare.new.poller c.count_dropped.new.self _ _ c.in-Err.ensures.logged c.count_dropped.ensures.poller;
     }
 
 pub returns-in-Ok : goal.returns-in-Ok

@@ -11,7 +11,7 @@ use Rattle.dispatch.specs.Hands.{HandState}
 use Rattle.dispatch.specs.Splits.{IsIn}
 use Rattle.rounds.specs.Pollers.{PollerState}
 use Rattle.rounds.specs.Openings.{Connected, OpeningLogged}
-use Rattle.rounds.proofs.Connections.{if_fails, is_opened, not_ok, not_placed, passed_up, placed, places_lost, places_opened, places_told, room_less, still_sized}
+use Rattle.rounds.proofs.Connections.{if_fails, is_opened, not_ok, not_placed, passed_up, placed, places_lost, places_opened, places_logged, room_less, still_sized}
 use Rattle.rounds.proofs.opening.place.Goals as goal
 
 pub returns-in_ok-start-in-Adopted : goal.returns-in_ok-start-in-Adopted
@@ -47,7 +47,7 @@ returns-in_ok-start-in-Adopted g c =
         slots = ap (λ (h : HandState). h.slots) c.in_ok-start-in-Adopted.ensures.started.hand;
         room = room_less c.args.own.now.hand c.start.new.own.hand ticket c.in_ok-start-in-Adopted.ensures.started.hand;
       };
-      poller = places_told c.args.poller.now c.count_opened.new.self c.end_episodes.new.self _ (places_opened c.args.poller.now c.count_opened.new.self _ _ c.count_opened.ensures.poller)
+      poller = places_logged c.args.poller.now c.count_opened.new.self c.end_episodes.new.self _ (places_opened c.args.poller.now c.count_opened.new.self _ _ c.count_opened.ensures.poller)
           c.end_episodes.ensures;
       ready = c.start.ensures.queues.ready;
       in_order = tt;

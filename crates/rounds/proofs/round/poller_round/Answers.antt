@@ -2,7 +2,7 @@ use Rattle.std.proofs.Common.{ℕ, ◌<◌, ◌+◌, ◌∙◌, ap, refl, inl, i
 use Rattle.claims.specs.Seats.{SeatState, HoldsNothing}
 use Rattle.ready.specs.declared.ticket.Ticket.{Ticket}
 use Rattle.ready.specs.Steps.{EndState}
-use Rattle.rounds.specs.Drops.{AreTold}
+use Rattle.rounds.specs.Drops.{AreLogged}
 use Rattle.dispatch.specs.Hands.{ticket_room}
 use Rattle.rounds.specs.Pollers.{PollerState}
 use Rattle.rounds.proofs.Connections.{Fields, accept_both, accept_took, between_took, fields_of, room_same, took_none, passed_up, not_ok}
@@ -174,7 +174,8 @@ returns g c =
           c.keep_time.ensures.queues.free
           c.keep_time.ensures.own
           (ap fields_of c.keep_time.ensures.poller)
-          (accept_both c.in_ok-accept.ensures.done (accept_took c.accept.new.poller c.take_back.new.poller c.accept.new.own c.take_back.new.own (ap fields_of c.take_back.ensures.poller) c.take_back.ensures.took))
+          (accept_both c.in_ok-accept.ensures.done (accept_took c.accept.new.poller c.take_back.new.poller c.accept.new.own c.take_back.new.own
+          (ap fields_of c.take_back.ensures.poller) c.take_back.ensures.took))
           (ap (λ (s : PollerState). s.swept) c.take_back.ensures.poller ∙ ap (λ (s : PollerState). s.swept) c.accept.ensures.poller);
       ended = inr (record {
         read = still_read c.look.new.poller c.deliver_batch.new.poller c.keep_time.new.poller c.accept.new.poller c.take_back.new.poller c.look.ensures.batch
@@ -185,7 +186,7 @@ returns g c =
             c.in_ok-accept.ensures.ended c.take_back.ensures.poller c.take_back.ensures.unlimited;
         closed = c.take_back.ensures.closed;
         back = c.take_back.ensures.all;
-        drops = subst (λ (s : PollerState). AreTold s.second s.episodes.drops) (sym c.take_back.ensures.poller) c.in_ok-accept.ensures.told;
+        drops = subst (λ (s : PollerState). AreLogged s.second s.episodes.drops) (sym c.take_back.ensures.poller) c.in_ok-accept.ensures.logged;
       });
       keeps = record {
         opening = ap (λ (s : PollerState). s.opening) c.take_back.ensures.poller ∙ same.opening;
