@@ -29,8 +29,9 @@ in which nothing has happened: lists are empty, workers idle, directions have no
 `largest` has rows of both kinds, at the largest of everything. Of each world with a report each step is then shown, too.
 
 `recordings` has the acts of recordings. They get the counts from 0 up, but for one with counts before it, which has those;
-reports get those of their poll. After `rests:`, in place of `begins:`, all has come to rest when the relay is stopped; after
-`scripts:` the script of 0.1 is wanted, which WANTED `too long` says that it is for `sim`.
+reports get those of their poll. A last one that ends with `\` has no line feed. After `rests:`, in place of `begins:`, all has
+come to rest when the relay is stopped; after `scripts:` the script of 0.1 is wanted, which WANTED `too long` says that it is
+for `sim`.
 WANTED is `N connections; LINES`, lines of the output, or `WHOSE: ACT: WHY` of the act that can stand nowhere, or `malformed: CAUSE`,
 where CAUSE has the act in place of its line.
 
@@ -255,7 +256,7 @@ def numbered(acts):
         lines.append(act if own else f"{count} {count + 1} {act}")
         poll = re.match(r"\d+ \d+", lines[-1])[0]
         count = max(count + 2 if not own else count, *(int(number) + 1 for number in poll.split(" ")))
-    return "".join(f"{line}\n" for line in lines)
+    return "".join(f"{line}\n" for line in lines).removesuffix("\\\n")
 
 
 def is_malformed(wanted, text, status, output, errors):

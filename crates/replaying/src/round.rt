@@ -4,6 +4,7 @@ use crate::reading::{broken, wanted};
 use crate::recording::{Last, Recording};
 use records::{Accepted, Act, Made, Opening, Polling, Record, ReplayFault};
 use std::alloc::{AllocError, Global};
+use std::mem;
 use token::{Name, Token};
 
 /// The most calls of accept(2) in a round.
@@ -73,10 +74,7 @@ impl Round<'_> {
         }
         Ok(match did {
             Polling::Accept(answer) => self.accept(answer),
-            Polling::Open(slot, generation, opening) => {
-                self.open(slot, generation, opening);
-                None
-            }
+            Polling::Open(slot, generation, opening) => self.open(slot, generation, opening),
             _ => self.begin(record),
         })
     }
@@ -149,12 +147,15 @@ impl Round<'_> {
     }
 
     /// The connection in hand is opened, or was tried to be.
-    fn open(&mut self, slot: usize, generation: u64, opening: Opening) {
-        self.accepted = false;
+    fn open(&mut self, slot: usize, generation: u64, opening: Opening) -> Option<&'static str> {
+        if !mem::take(&mut self.accepted) {
+            return Some("no accepted connection is in hand");
+        }
         if matches!(opening, Opening::Opened) {
             if let Some(opened) = self.opened.get_mut(slot) {
                 *opened = generation;
             }
         }
+        None
     }
 }
