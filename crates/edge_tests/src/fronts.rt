@@ -162,13 +162,33 @@ fn wires_answer_as_their_sockets(rt: HostRuntime) -> Result<(), Fail> {
     }
 }
 
-/// Has a front accept a client.
-fn accepted(
+/// Clients, and what fronts have of them.
+type Clients = Vec<(TcpStream, SocketWire)>;
+
+/// Has a front accept so many clients more. Answers whether it leaves the next one to another then.
+fn leaves_after(
     rt: &HostRuntime,
     address: SocketAddr,
     front: &mut Sockets<'_, HostRuntime>,
-) -> io::Result<(TcpStream, SocketWire)> {
-    Ok((TcpStream::connect(rt, address)?, front.accept()?))
+    clients: &mut Clients,
+    more: usize,
+) -> io::Result<bool> {
+    for _client in 0..more {
+        let peer = TcpStream::connect(rt, address)?;
+        clients.push((peer, front.accept()?))?;
+    }
+    Ok(front.leaves())
+}
+
+/// Opens the connection of the first client.
+fn open_first(
+    front: &mut Sockets<'_, HostRuntime>,
+    clients: &mut Clients,
+) -> Result<SocketWire, Unopened> {
+    match clients.first_mut() {
+        Some((_peer, client)) => opened(&Discard, front, client),
+        None => Err(Unopened::Connect),
+    }
 }
 
 /// Whether a front of one slot leaves clients to another: of two, of four; if that one is full, is not, takes no more.
@@ -176,15 +196,19 @@ fn leaves(
     rt: &HostRuntime,
     address: SocketAddr,
     front: &mut Sockets<'_, HostRuntime>,
-    other: &mut Sockets<'_, HostRuntime>,
+    others: &mut [Sockets<'_, HostRuntime>],
 ) -> io::Result<[bool; 5]> {
-    let (mut client, _second) = (accepted(rt, address, front)?, accepted(rt, address, front)?);
-    let _target = opened(&Discard, front, &mut client.1).ok();
+    let mut clients = Vec::new(rt.alloc());
+    let Some(other) = others.first_mut() else {
+        return Ok([true; 5]);
+    };
+    leaves_after(rt, address, front, &mut clients, 2)?;
+    let _target = open_first(front, &mut clients);
     let with_two = front.leaves();
-    let _more = (accepted(rt, address, front)?, accepted(rt, address, front)?);
-    let (with_four, full) = (front.leaves(), accepted(rt, address, other)?);
+    let with_four = leaves_after(rt, address, front, &mut clients, 2)?;
+    leaves_after(rt, address, other, &mut clients, 1)?;
     let beside_one = front.leaves();
-    drop(full);
+    clients.truncate(4);
     let beside_none = front.leaves();
     other.stop_listening();
     Ok([with_two, with_four, beside_one, beside_none, front.leaves()])
@@ -196,9 +220,10 @@ fn leaves(
 fn fronts_leave_clients_to_others(rt: HostRuntime) -> Result<(), Fail> {
     let target = SocketAddr::from(([127, 0, 0, 1], 1));
     let mut opened = fronts_to(&rt, target, Split::new(2, 2))?;
-    let (Some(mut other), Some(mut front)) = (opened.fronts.pop(), opened.fronts.pop()) else {
-        return all_well(false);
+    let address = opened.address;
+    let left = match opened.fronts.as_mut_slice().split_first_mut() {
+        Some((front, others)) => leaves(&rt, address, front, others)?,
+        None => [true; 5],
     };
-    let left = leaves(&rt, opened.address, &mut front, &mut other)?;
     all_well(left == [false, true, false, true, false])
 }
