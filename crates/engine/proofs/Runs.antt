@@ -61,17 +61,17 @@ pub brought_more : (now : ℕ) (d : Direction) (reply : AnswerValue) (m : PairSt
     → all_brought now p d (replies ++ reply ∷ []) ≡ all_brought now p d replies ++ all_brought now m d (reply ∷ [])
 brought_more now d reply m [] p h = let same : p ≡ m = cc in ap (λ (x : PairState). all_brought now x d (reply ∷ [])) same
 brought_more now d reply m (first ∷ replies) p h =
-    join_next (λ (a b : List ℕ). a ++ b) append_assoc or_nothing (λ x. refl) now replies m (λ (x : PairState). all_brought now x d (replies ++ reply ∷ [])) (λ (x : PairState). all_brought now x d replies)
-    (or_nothing (option_map (λ (call : Call). brought d call first) (next_call p))) (all_brought now m d (reply ∷ [])) (λ x e. brought_more now d reply m replies x e)
-    (answered now p first) h
+    join_next (λ (a b : List ℕ). a ++ b) append_assoc or_nothing (λ x. refl) now replies m (λ (x : PairState). all_brought now x d (replies ++ reply ∷ []))
+    (λ (x : PairState). all_brought now x d replies) (or_nothing (option_map (λ (call : Call). brought d call first) (next_call p)))
+    (all_brought now m d (reply ∷ [])) (λ x e. brought_more now d reply m replies x e) (answered now p first) h
 
 pub carried_more : (now : ℕ) (d : Direction) (reply : AnswerValue) (m : PairState) (replies : List AnswerValue) (p : PairState) → over now p replies ≡ Some m
     → all_carried now p d (replies ++ reply ∷ []) ≡ all_carried now p d replies ++ all_carried now m d (reply ∷ [])
 carried_more now d reply m [] p h = let same : p ≡ m = cc in ap (λ (x : PairState). all_carried now x d (reply ∷ [])) same
 carried_more now d reply m (first ∷ replies) p h =
-    join_next (λ (a b : List ℕ). a ++ b) append_assoc or_nothing (λ x. refl) now replies m (λ (x : PairState). all_carried now x d (replies ++ reply ∷ [])) (λ (x : PairState). all_carried now x d replies)
-    (or_nothing (option_map (λ (call : Call). carried p d call first) (next_call p))) (all_carried now m d (reply ∷ [])) (λ x e. carried_more now d reply m replies x e)
-    (answered now p first) h
+    join_next (λ (a b : List ℕ). a ++ b) append_assoc or_nothing (λ x. refl) now replies m (λ (x : PairState). all_carried now x d (replies ++ reply ∷ []))
+    (λ (x : PairState). all_carried now x d replies) (or_nothing (option_map (λ (call : Call). carried p d call first) (next_call p)))
+    (all_carried now m d (reply ∷ [])) (λ x e. carried_more now d reply m replies x e) (answered now p first) h
 
 pub count_more : (now : ℕ) (test : AnswerValue → Bool) (side : Side) (reply : AnswerValue) (m : PairState) (replies : List AnswerValue) (p : PairState)
     → over now p replies ≡ Some m → count_on test side now p (replies ++ reply ∷ []) ≡ count_on test side now p replies + count_on test side now m (reply ∷ [])

@@ -190,46 +190,34 @@ failed_fits p (Join side) kind = refl
 failed_fits p (call.Shut side) kind = refl
 
 -- an error, classed by what the wire counted
+erred_by : {S : Type 0} (now : ℕ) (told : S → WireView) (does : Asked → Given → S → S → Type 0) (call : Call) (p q : PairState) (error : ErrorKind) (reply : AnswerValue)
+    (faults blocks : ℕ) (old new : S) → fits p call reply ≡ true → brought (way_from (side_of call)) call reply ≡ []
+    → carried p (way_to (side_of call)) call reply ≡ [] → q ≡ after now p call reply →
+    Keeps (told old).remaining (told new).remaining → Keeps (told old).written (told new).written → faults ≡ (told old).faults → blocks ≡ (told old).blocks →
+    IsError (kind_of_error error) reply faults (told new).faults blocks (told new).blocks → does (asked p call) (Refused error) old new → IsStep told does call now p q old new
+erred_by now told does call p q error reply faults blocks old new fit none_in none_out run left kept f b e did = record {
+  reply = reply;
+  fit = fit;
+  run = run;
+  served = record {
+    read = rw none_in (kept_is_read (told old).remaining (told new).remaining left);
+    written = rw none_out (kept_is_written (told old).written (told new).written kept);
+    faults = rw f at e.failed;
+    blocks = rw b at e.waited;
+    made = refused does (asked p call) error reply old new e.sort did;
+  };
+}
+
 pub erred : {S : Type 0} (now : ℕ) (told : S → WireView) (does : Asked → Given → S → S → Type 0) (call : Call) (p q : PairState) (error : ErrorKind) (reply : AnswerValue)
     (faults blocks : ℕ) (old new : S) → fits p call Blocked ≡ true → q ≡ after now p call reply →
     Keeps (told old).remaining (told new).remaining → Keeps (told old).written (told new).written → faults ≡ (told old).faults → blocks ≡ (told old).blocks →
     IsError (kind_of_error error) reply faults (told new).faults blocks (told new).blocks → does (asked p call) (Refused error) old new → IsStep told does call now p q old new
-erred now told does call p q error Blocked faults blocks old new may run left kept f b e did = record {
-  reply = Blocked;
-  fit = may;
-  run = run;
-  served = record {
-    read = kept_is_read (told old).remaining (told new).remaining left;
-    written = kept_is_written (told old).written (told new).written kept;
-    faults = rw f at e.failed;
-    blocks = rw b at e.waited;
-    made = refused does (asked p call) error Blocked old new tt did;
-  };
-}
-erred now told does call p q error Interrupted faults blocks old new may run left kept f b e did = record {
-  reply = Interrupted;
-  fit = interrupted_fits p call;
-  run = run;
-  served = record {
-    read = kept_is_read (told old).remaining (told new).remaining left;
-    written = kept_is_written (told old).written (told new).written kept;
-    faults = rw f at e.failed;
-    blocks = rw b at e.waited;
-    made = refused does (asked p call) error Interrupted old new tt did;
-  };
-}
-erred now told does call p q error (Failed kind) faults blocks old new may run left kept f b e did = record {
-  reply = Failed kind;
-  fit = failed_fits p call kind;
-  run = run;
-  served = record {
-    read = kept_is_read (told old).remaining (told new).remaining left;
-    written = kept_is_written (told old).written (told new).written kept;
-    faults = rw f at e.failed;
-    blocks = rw b at e.waited;
-    made = refused does (asked p call) error (Failed kind) old new e.sort did;
-  };
-}
+erred now told does call p q error Blocked faults blocks old new may run left kept f b e did =
+    erred_by now told does call p q error Blocked faults blocks old new may refl refl run left kept f b e did
+erred now told does call p q error Interrupted faults blocks old new may run left kept f b e did =
+    erred_by now told does call p q error Interrupted faults blocks old new (interrupted_fits p call) refl refl run left kept f b e did
+erred now told does call p q error (Failed kind) faults blocks old new may run left kept f b e did =
+    erred_by now told does call p q error (Failed kind) faults blocks old new (failed_fits p call kind) refl refl run left kept f b e did
 erred now told does call p q error (Bytes bytes) faults blocks old new may run left kept f b e did = absurd e.sort
 erred now told does call p q error End faults blocks old new may run left kept f b e did = absurd e.sort
 erred now told does call p q error (Wrote n) faults blocks old new may run left kept f b e did = absurd e.sort

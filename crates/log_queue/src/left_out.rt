@@ -1,4 +1,4 @@
-// How many lines were left out and not told yet.
+// How many lines were left out, and are counted in no line yet.
 ghost use Rattle.std.specs.Prelude.{◌≡◌};
 ghost use Rattle.log_queue.specs.Lines.{CountStep, Added, Taken};
 

@@ -23,8 +23,9 @@ struct Look {
 #[derive(Drop)]
 struct FoundEmpty(Look);
 
-/// There is something for the writer: an item in a queue, or a count of those that were left out. A writer that is woken
-/// before could look, find nothing, and go to sleep beside it. It cannot be dropped, so a writer that sleeps is woken.
+/// There is something for the writer: an item in a queue, or a count of those that were left out. A writer that is
+/// woken before could look, find nothing, and go to sleep beside it. It cannot be dropped, so a writer that sleeps is
+/// woken.
 struct There(());
 
 /// The queues were closed, and then found empty. Only [`ParkedQueue::drain`] makes one, and it cannot be copied.

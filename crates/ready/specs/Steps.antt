@@ -1,4 +1,4 @@
--- What a call tells the end that made it. Part of the promises. The state is some state that meets the rule, since no
+-- What a call shows the end that made it. Part of the promises. The state is some state that meets the rule, since no
 -- clause can name what other threads do, but the end's own history stands in it.
 use Rattle.std.specs.Prelude.{◌≡◌, ℕ, zero, suc, ◌+◌, ◌^◌, ◌==◌, Bool, not, bit_and, true, false, List, [], ◌∷◌, ◌++◌, length, slice_set}
 use mathlib.Core.Option.{some}

@@ -78,7 +78,8 @@ pub(crate) struct Announced {
 /// found no end idle, or the end that has it looks again.
 pub(crate) struct Wake(());
 
-/// An end whose bit was cleared to wake it. Only [`IdleBits::wake`] makes one, and it can be neither copied nor dropped.
+/// An end whose bit was cleared to wake it. Only [`IdleBits::wake`] makes one, and it can be neither copied nor
+/// dropped.
 pub(crate) struct Woken {
     end: usize,
 }
@@ -160,7 +161,8 @@ impl<W: Bits> IdleBits<W> {
     /// Clears the bit of an end that must be woken. None if it was not this call that cleared it.
     pub(crate) fn wake(&self, end: usize) -> Option<Woken>
         requires { end < 32 }
-        ensures cleared { (before : ℕ) × W.did (ClearedBits (bit_of end) before) self.now.0 × (IsSome result ↔ IsTrue (has_bit end before)) }
+        ensures cleared { (before : ℕ) × W.did (ClearedBits (bit_of end) before) self.now.0
+            × (IsSome result ↔ IsTrue (has_bit end before)) }
         ensures end { IfSome result (λ woken. woken.end ≡ end) }
     {
         // Pairs with itself in other threads, and with `withdraw`. If two puts woke the same end, one ticket would be
@@ -175,7 +177,8 @@ impl<W: Bits> IdleBits<W> {
 
     /// The bits, by one look, if any is set. The wake is for one of these ends, and else for nobody.
     pub(crate) fn look_for(&self, wake: Wake) -> Option<(u64, Wake)>
-        ensures looked { (bits : ℕ) × W.did (ReadBits bits) self.now.0 × (IsNone result ↔ bits ≡ 0) × IfSome result (λ found. found.0 ≡ bits) }
+        ensures looked { (bits : ℕ) × W.did (ReadBits bits) self.now.0 × (IsNone result ↔ bits ≡ 0)
+            × IfSome result (λ found. found.0 ≡ bits) }
     {
         // Pairs with `announce`. An end whose bit is set after this load looks at the queue after it, and so finds
         // what was pushed before.

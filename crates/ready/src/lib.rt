@@ -14,7 +14,7 @@
 //!
 //! So each ticket has been taken once or is still there, first in, first out. Full is answered only if the queue was
 //! full at one moment during the call, and none only if it was empty at one. `specs/Rule.antt` has the rule, and
-//! `specs/Steps.antt` what each call tells the end that made it.
+//! `specs/Steps.antt` what each call shows the end that made it.
 //!
 //! That a call returns, and that a sleeping end wakes, is not proved. Tests show it.
 //!

@@ -13,6 +13,7 @@ use Rattle.dispatch.specs.declared.shared.Own.{Own}
 use Rattle.turns.specs.declared.worker.Worked.{Worked}
 use Rattle.turns.specs.declared.worker.Worked.TheVariants as worked
 use Rattle.rounds.specs.Acts.{Act, ActsMade, IsPost, IsTry, due_of}
+use Rattle.dispatch.specs.Limits.{last_generation}
 use Rattle.dispatch.specs.Outgoing.{TookNothing, tickets_out, slots_out}
 use Rattle.dispatch.specs.Splits.{IsIn}
 use Rattle.rounds.specs.Pollers.{PollerState, HasOpenedAll}
@@ -252,7 +253,7 @@ StepsMade said (suc steps) p q a b = (r : PollerState) × (c : Own) × StepsMade
 abbrev pub LoopMade : (Bool → Type 0) → Why → PollerState → PollerState → Own → Own → Type 0
 LoopMade said why p q a b = (steps : ℕ) × (r : PollerState) × (c : Own) × StepsMade said steps p r a c × StepCut said why r q c b
 
--- all of a thread's steps, from the second that its clock told as it began, from which its sweeps are counted
+-- all of a thread's steps, from the second that its clock showed as it began: its sweeps are counted from then
 abbrev pub RunMade : (Bool → Type 0) → (ℕ → Type 0) → PollerState → Own → Own → Type 0
 RunMade said tells p a b = (why : Why) × (second : ℕ) × (q : PollerState) × tells second
     × LoopMade said why (record p { swept = second }) q a b

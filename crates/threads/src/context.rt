@@ -25,7 +25,7 @@ pub struct Context<'a, G, C, R, S = AtomicBool> {
 }
 
 impl<G, C, R: Wait, S> Context<'_, G, C, R, S> {
-    /// The loop of the thread with this number has ended. A fault is recorded, and ends all others: workers that
+    /// The loop of the thread with this number has ended. A fault is recorded, which ends all others: workers that
     /// sleep are woken, and so are the pollers.
     pub fn end<F: Front>(
         &self,

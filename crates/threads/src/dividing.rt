@@ -1,4 +1,4 @@
-//! What a server is made of, divided among its threads.
+//! Divides what a server is made of among its threads.
 ghost use Rattle.std.specs.Prelude.{◌≡◌, ◌-◌, ◌∷◌, All, length, map, IfOk, IfSome};
 ghost use Rattle.std.specs.Arc.{arc_value};
 ghost use Rattle.std.specs.List.{range_with_len};
@@ -22,7 +22,7 @@ pub struct ServerThreads<F: Front> {
     pub workers: Vec<Worker<F>>,
 }
 
-/// What no thread has yet.
+/// What no thread has been given yet.
 #[derive(Drop)]
 pub struct Rest {
     pub parts: Parts,
@@ -34,7 +34,7 @@ pub struct Rest {
 /// end of every poller's queue, the first poller's first. A thread has the number of its poller, and the workers have
 /// those after.
 ///
-/// Refuses with `NoMemory` if there is none for what they own, or if the parts are used up.
+/// Refuses with `NoMemory` if there is none for what they own, or if there are too few parts.
 pub fn divide<F: Front + Drop>(
     alloc: Global,
     shared: &Arc<Shared<F>>,
@@ -200,7 +200,7 @@ where
 impl Rest {
     /// What the next thread owns, with an end of this poller's queue of free slots.
     ///
-    /// Refuses with `NoMemory` if there is none for it, or if the parts are used up.
+    /// Refuses with `NoMemory` if there is none for it, or if there are too few parts.
     pub fn next_own<F: Front>(
         &mut self,
         alloc: Global,
@@ -225,7 +225,7 @@ impl Rest {
 
     /// An end of each queue of free slots but the first poller's, in order.
     ///
-    /// Refuses with `NoMemory` if there is none for them, or if the parts are used up.
+    /// Refuses with `NoMemory` if there is none for them, or if there are too few parts.
     fn other_ends(&mut self, alloc: Global) -> Result<Vec<FreeQueue>, ServerFault>
         ensures parts { self.new.parts ≡ self.old.parts }
         ensures ends { IfOk result (λ ends. AreEndsFrom (map (λ all. all.items) self.old.free.items) 1 ends.items) }

@@ -52,7 +52,7 @@ pub(crate) struct NoFault {
 }
 
 /// A ticket, and a look that found no fault once it was taken. Nothing but [`Ending::look_after_take`] makes one: a
-/// look from before the sleep for the ticket does not do.
+/// look before the sleep for the ticket is too old.
 #[derive(Drop)]
 pub(crate) struct Cleared {
     pub(crate) ticket: Ticket,
@@ -70,7 +70,7 @@ impl Ended {
         }
     }
 
-    /// What a round or a turn answered, or the end of the loop if it was a fault.
+    /// What a round or a turn returned, or the end of the loop if that was a fault.
     pub(crate) fn on_fault<T: Drop>(answer: Result<T, ServerFault>) -> Result<T, Ended>
         ensures good { IfOk result (λ value. answer ≡ Ok value) }
         ensures met { IfErr result (λ ended. (fault : ServerFault) × (answer ≡ Err fault) × (ended.why ≡ Why.Met fault)) }
@@ -98,9 +98,9 @@ pub(crate) fn end_if_over<F: Front>(poller: &Poller<F>) -> Result<(), Ended>
     }
 }
 
-/// Takes a ticket, and may sleep until there is one. So it uses up a look for a fault, and a turn asks for another,
-/// after that, and what was in hand has been put, as far as the queue had room. It refuses once the queue of tickets is
-/// closed and empty.
+/// Takes a ticket, and may sleep until there is one. Because of that it uses up the look for a fault, so that the turn
+/// needs another one after it, and what was in hand must have been put, as far as the queue had room. It refuses once
+/// the queue of tickets is closed and empty.
 pub(crate) fn take(rt: &impl Wait, own: &mut Own, _seen: NoFault) -> Result<Ticket, Ended>
     requires put { PutAll own.old.ready own.old.hand.tickets }
     ensures taken { IfOk result (λ ticket. Took ticket own.old own.new) }
@@ -116,7 +116,7 @@ pub(crate) fn take(rt: &impl Wait, own: &mut Own, _seen: NoFault) -> Result<Tick
 }
 
 impl Ending {
-    /// Of a server with this many pollers, before its threads run.
+    /// The ending of a server with this many pollers, whose threads do not run yet.
     pub fn new(pollers: usize) -> Ending {
         Ending {
             recorded: AtomicBool::new(false),
@@ -161,7 +161,7 @@ impl Ending {
         }
     }
 
-    /// The same for the turn of a ticket that was taken, for which the thread may have slept.
+    /// The same before the turn of a ticket for which the thread may have slept.
     pub(crate) fn look_after_take(&self, ticket: Ticket) -> Result<Cleared, Ended>
         ensures ticket { IfOk result (λ cleared. cleared.ticket ≡ ticket) }
         ensures found { IfErr result (λ ended. ended.why ≡ Why.FaultFound) }
@@ -170,12 +170,12 @@ impl Ending {
         Ok(Cleared { ticket, seen })
     }
 
-    /// A poller has ended. Answers whether none is left.
+    /// A poller has ended. Returns whether none is left.
     pub(crate) fn leave(&self) -> bool {
         self.polling.fetch_sub(1, SeqCst) <= 1
     }
 
-    /// How the server ended, whose threads have all ended: by the recorded fault that was kept, if any.
+    /// How the server ended, once all its threads have: by the recorded fault that was kept, if any.
     pub(crate) fn outcome(self, _served: Served) -> Outcome {
         self.first.into_inner().outcome()
     }

@@ -1,5 +1,5 @@
-//! What becomes of a fault: it is kept, if no thread before the one that met it has met one, and a flag is set that
-//! every thread looks at.
+//! What becomes of a fault: it is kept, unless a thread with a lower number has met one, and a flag is set that every
+//! thread looks at.
 ghost use Rattle.std.specs.Prelude.{◌≡◌, ◌↔◌, IfErr, IsOk, None, Some, option_map};
 ghost use Rattle.threads.specs.Endings.{earliest};
 
@@ -38,8 +38,7 @@ impl Model for Recorded {
 }
 
 /// How a server ended: well, or by the fault of the first thread that met one, or by what refused it before it served.
-/// Only [`Earliest::outcome`] makes one of a server whose threads ran, and it cannot be dropped: who serves passes it
-/// on.
+/// Once threads have run, only [`Earliest::outcome`] makes one. It cannot be dropped, so whoever serves returns it.
 pub struct Outcome {
     fault: Option<ServerFault>,
 }
@@ -52,7 +51,7 @@ impl Earliest {
         Earliest { kept: None }
     }
 
-    /// Of the fault that is kept and that of the thread with this number, keeps the one of the first thread.
+    /// Compares the fault of the thread with this number with the one that is kept, and keeps that of the first thread.
     pub(crate) fn keep(&mut self, number: usize, fault: ServerFault) -> Kept
         ensures kept { self.new.kept ≡ Some (earliest self.old.kept (number, fault)) }
         ensures same { result ≡ record { number = number; fault = fault } }
@@ -65,7 +64,7 @@ impl Earliest {
         Kept { number, fault }
     }
 
-    /// How the server ended, whose threads have all ended: by the fault that was kept, if any.
+    /// How the server ended, once all its threads have: by the fault that was kept, if any.
     pub(crate) fn outcome(self) -> Outcome
         ensures { result.fault ≡ option_map (λ first. first.1) self.kept }
     {
@@ -76,7 +75,7 @@ impl Earliest {
 }
 
 impl Kept {
-    /// The fault is recorded: each thread that looks at the flag finds that from now on.
+    /// Sets the flag, so that each thread that looks at it from now on finds that there is a fault.
     pub(crate) fn announce(self, flag: &AtomicBool) -> Recorded
         ensures { result ≡ (self.number, self.fault) }
     {
@@ -87,7 +86,7 @@ impl Kept {
 }
 
 impl Outcome {
-    /// Of a server that was refused before it served.
+    /// The outcome of a server that was refused before it served.
     pub fn refused(fault: ServerFault) -> Outcome
         ensures { result.fault ≡ Some fault }
     {

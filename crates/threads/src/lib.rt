@@ -1,9 +1,9 @@
 //! The threads of a server: what each of them is made of, its loop, and how the fault of one ends all
 //! ([`run_threads`]).
 //!
-//! What a thread does in a round and in a turn are the crates `rounds` and `turns`, over the parts of `dispatch`,
-//! which are lent to it. Here the parts are divided among the threads ([`divide`]), and each makes its rounds or
-//! takes its tickets until all is over.
+//! What a thread does in a round and in a turn is in `rounds` and `turns`, and what it is lent for that in `dispatch`.
+//! Here these parts are divided among the threads ([`divide`]), and each thread makes its rounds, or takes its tickets,
+//! until all is over.
 //!
 //! # Inside
 //!

@@ -1,5 +1,5 @@
 //! The fixed numbers of the threads.
 
-/// How many tickets and how many slots a worker's hand has room for. A queue has room for each ticket and each slot,
-/// so nothing stays there.
+/// For how many tickets, and for how many slots, a worker's hand has room. Nothing stays there for long, since a queue
+/// has room for each ticket and each slot.
 pub const WORKER_HAND: usize = 2;

@@ -23,7 +23,7 @@ use turns::{Worked, own_turn, share_tickets};
 #[derive(Drop)]
 pub struct PollerThread<F: Front> {
     pub shared: Arc<Shared<F>>,
-    /// The thread's number, by which its fault goes before those of later threads.
+    /// The thread's number. Of several faults that of the lowest number is kept.
     pub number: usize,
     pub own: Own,
     pub poller: Poller<F>,
@@ -62,8 +62,8 @@ where
         self.poller.begin_at(context.timing.moment().second);
     }
 
-    /// The thread has ended. A fault of its own is recorded, and ends all other threads. After the last poller the
-    /// workers end. All clients that were closed unopened are logged.
+    /// The thread has ended. A fault of its own is recorded, which ends all other threads. After the last poller the
+    /// workers end. What is still counted of clients that were closed unopened is logged.
     pub fn finish<G: Gate, C: Clock, R: Wait + Log, S: StopFlag>(
         &mut self,
         context: &Context<'_, G, C, R, S>,
@@ -119,8 +119,8 @@ where
         self.round(context, seen)
     }
 
-    /// If no more connections may be opened, this poller opens none, and all others are woken, so that they find that
-    /// out.
+    /// If the flag that stops openings is set, this poller opens no more connections, and wakes all others, so that
+    /// they see the flag, too.
     fn stop_if_asked<G: Gate, C: Clock, R: Wait + Log, S: StopFlag>(
         &mut self,
         context: &Context<'_, G, C, R, S>,
@@ -203,8 +203,8 @@ where
         Ok(())
     }
 
-    /// Runs the turn of the oldest ticket in hand. None if there is no ticket, or no room in hand for a slot. If it ends
-    /// its connection, and no more may be opened, the poller of its slot is woken.
+    /// Runs the turn of the oldest ticket in hand. None if there is no ticket, or no room in hand for a slot. If the
+    /// turn ends its connection while no more may be opened, the poller of its slot is woken.
     fn turn<G: Gate, C: Clock, R: Wait + Log, S: StopFlag>(
         &mut self,
         context: &Context<'_, G, C, R, S>,
@@ -216,7 +216,8 @@ where
             × WornEnd ended.why self.new.own) }
         ensures poller { self.new.poller ≡ record self.old.poller { heavy = self.new.poller.heavy } }
         ensures woken { result ≡ Ok (Some Worked.Ended) → HasOpenedAll self.old.poller
-            → IfSome (slice_get self.old.own.hand.tickets 0) (λ ticket. F.woke (arc_value self.old.shared).waker ticket.slot) }
+            → IfSome (slice_get self.old.own.hand.tickets 0)
+            (λ ticket. F.woke (arc_value self.old.shared).waker ticket.slot) }
     {
         let poller = &mut self.poller;
         let is_closing = poller.has_opened_all();

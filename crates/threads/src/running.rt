@@ -31,8 +31,8 @@ pub struct Server<F: Front> {
     pub ghost seats: { AreFresh shared.claims parts.seats.items },
 }
 
-/// Runs a server: starts all threads but one that polls, which is the calling thread, and returns when the last of
-/// them has ended. Once `is_stopped` is set, no more connections are opened, and it ends once all are closed.
+/// Runs a server: the calling thread is one of its pollers', the others are started here, and the call returns when the
+/// last has ended. Once `is_stopped` is set, no more connections are opened, and it ends once all are closed.
 ///
 /// Refuses with `NoMemory` if there is none for what the threads own, before any has started; else with the fault
 /// that a thread met, or `Threads` for one that could not be started. Of several it is that of the first poller, or
@@ -58,8 +58,8 @@ where
     }
 }
 
-/// The same. The fault of a thread is recorded, and `NoMemory` is refused if there is not enough for what the threads
-/// own, before any has started.
+/// The same, without its outcome: faults of threads are recorded. Refuses with `NoMemory`, before any thread has
+/// started, if there is not enough for what the threads own.
 fn run_server<'a, F, G: Gate + Sync, C: Clock + Sync, R: Wait + Threads + Log + Sync>(
     rt: &'a R,
     alloc: Global,
@@ -173,7 +173,7 @@ where
     }
 }
 
-/// A thread that was not started is a fault, which goes before those of all threads but the first.
+/// A thread could not be started. That is a fault, which counts before those of all threads but the first.
 fn not_started<G, C, R: Wait + Log>(context: &Context<G, C, R>) -> Recorded
     ensures { result ≡ (0, ServerFault.Threads) }
 {

@@ -21,7 +21,7 @@ use turns::{Worked, worker_turn};
 #[derive(Drop)]
 pub struct Worker<F: Front> {
     pub shared: Arc<Shared<F>>,
-    /// The thread's number, by which its fault goes before those of later threads.
+    /// The thread's number. Of several faults that of the lowest number is kept.
     pub number: usize,
     /// Between two turns its end of a queue of free slots is the first poller's.
     pub own: Own,
@@ -72,10 +72,10 @@ where
         unreachable!()
     }
 
-    /// One step of the thread: it puts the tickets in hand, which a queue had refused. It takes a ticket, which may mean to
-    /// wait for one, and runs its turn. It is refused if the thread ends: the queue of tickets is closed and empty, a fault
-    /// is recorded before the ticket is taken or after that, or this step met one. After a fault the ticket that was taken
-    /// stays in hand.
+    /// One step of the thread: it puts the tickets in hand, which a queue had refused, takes a ticket, for which it may
+    /// wait, and runs its turn. It is refused if the thread ends: the queue of tickets is closed and empty, a fault was
+    /// recorded before or after the ticket was taken, or this step met one. After a fault a ticket that was taken stays
+    /// in hand.
     pub fn step<G: Gate, C: Clock, R: Wait + Log, S>(
         &mut self,
         context: &Context<'_, G, C, R, S>,
@@ -163,8 +163,8 @@ where
         Ended::on_fault(worked)
     }
 
-    /// Exchanges its end of the queue of the first poller and that of this one, if it has one. Done again, each is in
-    /// its place.
+    /// Swaps its end of the first poller's queue with that of this poller, if it has one. A second call swaps them
+    /// back.
     fn change_queue(&mut self, poller: usize)
         ensures seat { self.new.own.seat ≡ self.old.own.seat }
         ensures hand { self.new.own.hand ≡ self.old.own.hand }

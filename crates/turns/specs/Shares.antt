@@ -26,16 +26,16 @@ pub record Stays (stayed : ℕ) (heavy : List ℕ) (ticket : Ticket) : Type 0 wh
   pub light : IsLight heavy ticket
   pub few : stayed < own_turns
 
--- What becomes of one ticket in hand, where this many have stayed: a light one stays while fewer than 16 have, and
--- later ones may. Any other is put, or is in hand where the queue was full at one moment. Then this many have stayed,
--- this is in hand after the others, and the queue's end has come to this
+-- What becomes of one ticket in hand, after this many that stayed: a light one stays while fewer than 16 have, and
+-- later ones may. Any other is put, or is in hand if the queue was full at one moment. Then this many have stayed, this
+-- is in hand after the others, and the queue's end has come to this
 abbrev pub OneShared : ℕ → List ℕ → Ticket → EndState Ticket → ℕ → List Ticket → EndState Ticket → Type 0
 OneShared stayed heavy ticket queue then behind next =
     (IsLight heavy ticket × (then ≡ suc stayed) × (behind ≡ ticket ∷ []) × (next ≡ queue))
     ⊎ ((Stays stayed heavy ticket → ⊥) × (then ≡ stayed)
     × ((Puts ticket queue next × (behind ≡ [])) ⊎ (Refuses queue next × (behind ≡ ticket ∷ []))))
 
--- What becomes of these tickets in hand, in order, where this many have stayed. Each that was looked at takes one of
+-- What becomes of these tickets in hand, in order, after this many that stayed. Each that was looked at takes one of
 -- its slot's marks away. Then these are in hand, in order, these marks are left, and the queue's end has come to this
 abbrev pub AreShared : ℕ → List ℕ → List Ticket → EndState Ticket → List Ticket → List ℕ → EndState Ticket → Type 0
 AreShared stayed heavy [] queue kept left end = (kept ≡ []) × (left ≡ heavy) × (end ≡ queue)
@@ -44,7 +44,7 @@ AreShared stayed heavy (t ∷ ts) queue kept left end =
     × OneShared stayed heavy t queue then behind next × (kept ≡ behind ++ rest)
     × AreShared then (looked_at t.slot heavy) ts next rest left end
 
--- A ticket that was in nobody's hand was put, or is the last in hand where the queue was full at one moment
+-- A ticket that was in nobody's hand was put, or is the last in hand if the queue was full at one moment
 abbrev pub Passed : Ticket → Own → Own → Type 0
 Passed ticket old new =
     (Puts ticket old.ready new.ready × (new.hand ≡ old.hand))

@@ -31,8 +31,8 @@ WasHeld (Ok worked.Again) = Unit {0}
 WasHeld (Ok worked.Quiet) = Unit {0}
 WasHeld (Err fault) = Unit {0}
 
--- The exchanges of a turn at its ticket's slot, by its answer, where its claim found this many notes, its take this
--- many, and its release answered Wake or not. A post that finds the seat worn makes none
+-- The exchanges of a turn at its ticket's slot, by its answer, if its claim found this many notes, its take this many,
+-- and its release answered Wake or not. A post that finds the seat worn makes none
 abbrev pub program : Result Worked ServerFault → ℕ → ℕ → Bool → List Exchange
 program (Ok worked.Busy) found noted woke = Busy ∷ []
 program (Ok worked.Gone) found noted woke = Held found ∷ Take noted ∷ Release woke ∷ []
@@ -41,7 +41,7 @@ program (Ok worked.Again) found noted woke = Held found ∷ Take noted ∷ Post 
 program (Ok worked.Ended) found noted woke = Held found ∷ Take noted ∷ Retire ∷ []
 program (Err fault) found noted woke = Held found ∷ Take noted ∷ Release woke ∷ []
 
--- The acts of a turn but its calls, in order, by its answer, for a ticket of this generation: where another connection was
+-- The acts of a turn but its calls, in order, by its answer, for a ticket of this generation: if another connection was
 -- in the place or not, and its release answered Wake or not
 abbrev pub acts_of : Result Worked ServerFault → ℕ → Bool → Bool → List Act
 acts_of (Ok worked.Busy) generation other woke = busy_turn
@@ -88,7 +88,7 @@ SlotsKept ticket (Ok worked.Quiet) old new = slots_out new ≡ slots_out old
 SlotsKept ticket (Err fault) old new = slots_out new ≡ slots_out old
 
 -- What the exchanges of a turn do, with all that its thread owns: they are all that the seat made, for each that
--- answered Wake the ticket was put, and the slot is given where the connection ended
+-- answered Wake the ticket was put, and the slot is given if the connection ended
 pub record TurnDone (ticket : Ticket) (exchanges : List Exchange) (result : Result Worked ServerFault) (old new : Own) : Type 0 where
   pub seat : Adds ticket.slot exchanges old.seat new.seat
   pub tickets : TicketsKept ticket (minted_by exchanges) old new
@@ -108,7 +108,7 @@ pub record TurnEnd (ticket : Ticket) (result : Result Worked ServerFault) (old n
   pub held : WasHeld result
   pub done : TurnDone ticket (drop 2 (program result 0 0 woke)) result old new
 
--- a release alone, which answers Quiet only where the seat knew of no note
+-- a release alone, which answers Quiet only if the seat knew of no note
 pub record LeftSlot (ticket : Ticket) (old new : Own) : Type 0 where
   pub woke : Bool
   pub quiet : woke ≡ false → (account_at old.seat ticket.slot).known ≡ 0
@@ -130,16 +130,16 @@ pub record TurnMade (words : ℕ) (ticket : Ticket) (result : Result Worked Serv
   pub done : TurnDone ticket exchanges result old new
   pub outside : words ≤ ticket.slot → new.seat ≡ old.seat
 
--- All the acts of a turn, but its calls: what they make of the slot's word and of what the thread owns, and their order.
--- Where the claim words lack the slot, none is made
+-- All the acts of a turn, but its calls: what they make of the slot's word and of what the thread owns, and their
+-- order. If the claim words lack the slot, none is made
 abbrev pub TurnInOrder : {S : Type 0} → (Act → ℕ → S → S → Type 0) → ℕ → Ticket → Result Worked ServerFault → Own → Own → S → S → Type 0
 TurnInOrder made words ticket result old new from to =
     (turn : TurnMade words ticket result old new)
     × (ticket.slot < words → (other : Bool) × ActsLeft made ticket result 0 other turn.are.woke from to)
     × (words ≤ ticket.slot → to ≡ from)
 
--- A poller's own turn with the oldest ticket in hand, by its answer: where it answers None nothing changes, and else it
--- is a turn with that ticket, which is no longer in hand
+-- A poller's own turn with the oldest ticket in hand, by its answer: after None nothing changed, else it was a turn
+-- with that ticket, which is no longer in hand
 abbrev pub OwnTurn : ℕ → Ticket → Result (Option Worked) ServerFault → Own → Own → Type 0
 OwnTurn words ticket (Ok None) old new = new ≡ old
 OwnTurn words ticket (Ok (Some worked)) old new = TurnMade words ticket (Ok worked) (without_first old) new

@@ -58,8 +58,8 @@ pub(crate) fn give_back<A: Acts, R: Wait>(
     closed.spend();
 }
 
-/// Gives back a slot that was retired. If the queue is full, it stays in hand. If a
-/// slot were given back before it is free, the poller could find it not free, and it would no longer be used.
+/// Gives back a slot that was retired. If the queue is full, it stays in hand. If it were given back before it is free,
+/// the poller could find it held, and would use it no longer.
 fn give_slot<A: Acts, R: Wait>(rt: &R, acts: &mut A, own: &mut Own, slot: usize)
     requires retired { HoldsNot own.old.seat slot }
     requires room { length own.old.hand.slots < own.old.hand.capacity }

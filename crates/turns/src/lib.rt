@@ -1,10 +1,10 @@
 //! Tickets become turns. The thread that takes a ticket claims its slot, and runs the connection there on its two
-//! wires. A worker does so with a ticket of the queue ([`worker_turn`]); a poller's thread runs the light tickets of
-//! its rounds itself ([`own_turn`]), and puts the others for the workers ([`share_tickets`]).
+//! wires. A worker does so with a ticket of the queue ([`worker_turn`]). A poller's thread runs the light tickets of
+//! its rounds itself ([`own_turn`]), and puts the others into the queue ([`share_tickets`]).
 //!
-//! A slot is held by one thread at a time, by the rule of the claim words (`claims`), so a connection's two sockets
-//! and its pair are never touched by two threads, and no note is lost between them. What a thread is lent for its
-//! turns is in `dispatch`; what makes the tickets is in `rounds`.
+//! A slot is held by one thread at a time, by the rule of the claim words (`claims`), so a connection's two sockets and
+//! its pair are never touched by two threads, and no note is lost between them. What a thread is lent for its turns is
+//! in `dispatch`; `rounds` makes the tickets.
 //!
 //! # Inside
 //!
@@ -21,8 +21,8 @@
 //!   `give_back`), a slot only once its connection is closed (`Closed`), and then the poller is woken
 //!   (`wake_poller`). All is put oldest first, until nothing is left in hand or the queue was full (`put_tickets`,
 //!   `give_slots` of `dispatch`: `all`).
-//! - What takes the notes and makes the calls (`play`) is passed neither an allocator nor `Wait`, without which no
-//!   lock can be waited for; the place is locked twice around it.
+//! - The function that takes the notes and makes the calls (`play`) is passed neither an allocator nor `Wait`, without
+//!   which it can wait for no lock. The connection's place is locked before it, and again after it.
 //! - A light ticket after the first 16 is kept only by a look for it alone, which found no end of the ready queue
 //!   asleep (`keep`: `early`; `AllBusy` of `ready`), and the terms of an own turn have at most 8 calls
 //!   (`Terms::own`).

@@ -26,10 +26,10 @@ enum Stay {
     Busy(AllBusy),
 }
 
-/// Puts the tickets in hand that the poller's thread does not run by itself, so that the workers begin with them:
-/// those of connections that spent all of its budget a short while ago, and, after the first 16 that stay, every
-/// ticket from the point where an end of the ready queue is found asleep. The others stay in hand, in order, and so do
-/// those that the queue refuses: where no worker sleeps, all of them may be at work on much larger turns.
+/// Puts the tickets in hand that the poller's thread does not run itself, so that the workers begin with them: those of
+/// connections that spent all of its budget a short while ago, and, after the first 16 that stay, every ticket from the
+/// point where a worker's end of the ready queue is found asleep. The others stay in hand, in order, since workers that
+/// are all awake may all be at work on much larger turns. So do those that the queue refuses.
 pub fn share_tickets<R: Wait>(rt: &R, own: &mut Own, heavy: &mut HeavyMarks)
     requires idle { HoldsNothing own.old.seat }
     ensures shared { TicketsShared heavy.old heavy.new own.old own.new }
@@ -49,9 +49,9 @@ pub fn share_tickets<R: Wait>(rt: &R, own: &mut Own, heavy: &mut HeavyMarks)
     }
 }
 
-/// Why a ticket stays in hand, where this many have stayed, and an end of the queue may have been found asleep
-/// before. None: it does not. An end that is woken for one ticket runs the next ones, too: one wake for each would
-/// cost more than their turns.
+/// Why a ticket stays in hand, or None if it does not. `kept` have stayed before it, and `asleep` says whether an end
+/// of the queue was found asleep; a look may set it. An end that is woken for one ticket runs the next ones, too: one
+/// wake for each would cost more than their turns.
 fn stays(
     ready: &ReadyQueue,
     heavy: &mut HeavyMarks,
@@ -80,7 +80,7 @@ fn stays(
     busy.map(Stay::Busy)
 }
 
-/// Keeps a ticket in hand, where this many have stayed: after the first 16 only by a look for it alone.
+/// Keeps a ticket in hand, after this many that stayed: after the first 16 only by a look for this ticket alone.
 fn keep(hand: &mut Hand, ticket: Ticket, _kept: usize, _stay: Stay)
     requires room { length hand.old.tickets < hand.old.capacity }
     requires early { _stay ≡ Stay.Early → _kept < own_turns }
@@ -89,13 +89,13 @@ fn keep(hand: &mut Hand, ticket: Ticket, _kept: usize, _stay: Stay)
     hand.keep_ticket(ticket);
 }
 
-/// Runs the turn of the oldest ticket in hand, with at most 8 calls. A connection that spends them is the workers'
-/// for a while. None if there is no ticket, or no room in hand for a slot: then nothing changes. The only refusal is
-/// `Worn`, as of a worker's turn.
+/// Runs the turn of the oldest ticket in hand, with at most 8 calls. The next tickets of a connection that spends them
+/// are for the workers. None if there is no ticket, or no room in hand for a slot: then nothing changes. The only
+/// refusal is `Worn`, as for a worker's turn.
 ///
-/// Nothing else that is in hand is put. Where a connection ends, the round that follows looks for its slot before it
-/// waits, if a client may be waiting. If the poller `is_closing`, since it may open no more connections, that round
-/// does not wait, so that the poller's end is found at once.
+/// Nothing else that is in hand is put. If a connection ends, nobody has to be woken: the next round looks for a free
+/// slot before it waits, if a client may be waiting. With `is_closing`, which says that the poller may open no more
+/// connections, that round does not wait, so that the poller's end is found at once.
 pub fn own_turn<F: Front, G: Gate, C: Clock, R: Wait + Log>(
     rt: &R,
     shared: &Shared<F>,
@@ -156,8 +156,8 @@ pub fn own_turn_with<F: Front, A: Moves<F>, G: Gate, C: Clock, R: Wait + Log>(
     Ok(Some(worked))
 }
 
-/// What the answer of an own turn means to its poller: a connection that spent the budget is heavy from then on, and
-/// once no more may be opened, the next wait ends at once if one has ended.
+/// What the answer of an own turn means to its poller: a connection that spent the budget is heavy from now on, and if
+/// one ended while no more may be opened, the poller's next wait ends at once.
 fn follow_up<F: Front>(
     shared: &Shared<F>,
     heavy: &mut HeavyMarks,

@@ -16,24 +16,24 @@ use std::net::SocketAddr;
 use std::sync::Wait;
 use token::Side;
 
-/// A connection that its thread has taken out of the place of a slot which it holds. Nothing else makes one, and it
-/// ends only by [`put_in`] or [`Visit::close`], since it cannot be dropped: what is put back is what was taken out.
+/// A connection that its thread has taken out of the place of a slot which it holds. Only [`take_out`] makes a visit,
+/// and only [`put_in`] and [`Visit::close`] end it, since it cannot be dropped: what is put back is what was taken out.
 pub(crate) struct Visit<F: Front> {
     ticket: Ticket,
     berth: Box<Berth<F::Client, F::Target>>,
 }
 
-/// No connection of this slot is out of its place. Only then may the slot be released: the next holder would find the
-/// place empty, and the connection would never be run again. It cannot be dropped, so each visit is followed by one
-/// release.
+/// No connection of this slot is out of its place. Only then may the slot be released: otherwise the next holder would
+/// find the place empty, and the connection would never be run again. This value cannot be dropped, so after each visit
+/// there is one release.
 ///
 /// In a clause it is the slot.
 pub(crate) struct Back {
     slot: usize,
 }
 
-/// The connection of this slot is closed. It cannot be dropped, so each closing is followed by one look whether the
-/// slot is to be given back.
+/// The connection of this slot is closed. This value cannot be dropped, so after each closing the slot is given back,
+/// unless it had its last generation.
 ///
 /// In a clause it is the slot.
 pub(crate) struct Closed {
@@ -79,7 +79,7 @@ pub(crate) fn take_out<F: Front, A: Moves<F>, R: Wait>(
     }
 }
 
-/// Tells a pair that something was reported, if notes waited.
+/// Notes at a pair that something was reported, if notes waited.
 fn tell_notes(pair: &mut Pair, notes: u64)
     ensures { pair.new ≡ noted_by notes pair.old }
 {

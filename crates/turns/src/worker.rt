@@ -108,7 +108,7 @@ pub fn worker_turn_with<F: Front, A: Moves<F>, G: Gate, C: Clock, R: Wait + Log>
     Ok(worked)
 }
 
-/// A turn without what comes before it and after it: nothing in hand is put first, and nobody is woken.
+/// A turn alone: nothing in hand is put before it, and nobody is woken after it.
 pub(crate) fn turn_of<F: Front, A: Moves<F>, G: Gate, R: Wait + Log>(
     rt: &R,
     acts: &mut A,
