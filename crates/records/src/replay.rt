@@ -18,7 +18,7 @@ pub enum Wanted {
 /// Whether a recording is of runs of the machine.
 #[derive(Clone, Copy, PartialEq, Eq)]
 pub enum Outcome {
-    /// Each slot and each listener is one. What was wanted is written.
+    /// Each slot and each listener that was played is one. What was wanted is written. For a script that is its slot alone.
     Run,
     /// One of them is not. The first record that can stand at no place is written, and the script that leads there.
     NoRun,

@@ -28,7 +28,7 @@ use std::sync::Wait;
 /// The outcome of a worker's turn.
 #[derive(Clone, Copy, PartialEq, Eq)]
 pub enum Worked {
-    /// The slot was held or free. The ticket is dropped, and nothing else has changed.
+    /// The slot was held or free, so its connection was left alone. The ticket is dropped.
     Busy,
     /// There was no such connection in the slot.
     Gone,
