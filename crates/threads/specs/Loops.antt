@@ -13,7 +13,6 @@ use Rattle.dispatch.specs.declared.shared.Own.{Own}
 use Rattle.turns.specs.declared.worker.Worked.{Worked}
 use Rattle.turns.specs.declared.worker.Worked.TheVariants as worked
 use Rattle.rounds.specs.Acts.{Act, ActsMade, IsPost, IsTry, due_of}
-use Rattle.dispatch.specs.Limits.{last_generation}
 use Rattle.dispatch.specs.Outgoing.{TookNothing, tickets_out, slots_out}
 use Rattle.dispatch.specs.Splits.{IsIn}
 use Rattle.rounds.specs.Pollers.{PollerState, HasOpenedAll}
