@@ -4,9 +4,8 @@ import os
 import pathlib
 import tempfile
 import threading
-import time
 
-from loopback import Relay, echo, in_thread, read_all, replay, send_and_shut, target
+from loopback import Relay, echo, in_thread, read_all, replay, send_and_shut, target, until
 from shared import LONGEST, asked, having, left_out, line_of, reset, told
 
 
@@ -44,6 +43,14 @@ def records_what_it_did():
     assert f"\nread client=4000 target=6000 written client=6000 target={sent}" in replay(relay.record)
 
 
+def has_written_what_it_did_when_it_rests():
+    if not Relay.records:
+        return left_out("recording")
+    relay = Relay(target(echo))
+    with relay.connect() as client:
+        assert asked(client) and until(lambda: "client write 1 1\n" in pathlib.Path(relay.record).read_text())
+
+
 # refuses record_empties_a_file: a file that is there is emptied to record into it
 def keeps_what_was_there():
     # A recording that is there gets the first free name after its own, an empty file is used, and any other is left as it is.
@@ -67,7 +74,7 @@ def keeps_what_was_there():
 
 # refuses full_is_not_told: a recording that lacks records ends as a whole one
 def stops_recording_when_nobody_reads_it():
-    # Nobody reads the pipe until a queue of records is full. The relay serves on, and warns once.
+    # Nobody reads the pipe until a queue of records is full. The relay warns once, ends its recording, and serves on.
     is_over = threading.Event()
 
     def ask():
@@ -83,10 +90,9 @@ def stops_recording_when_nobody_reads_it():
         asking = [in_thread(ask) for _ in range(8)]
         full = "record: records came faster than they were written, so the recording ends here"
         assert relay.process.stderr.readline() == f"[WARN  relayd] {full}\n"
-        time.sleep(0.2)
-        is_over.set()
-        assert not any(each.result(LONGEST) for each in asking)
         os.set_blocking(reader, True)
         with open(reader) as file:
             text = file.read()
+        is_over.set()
+        assert not any(each.result(LONGEST) for each in asking)
     assert relay.ended() == [] and text.endswith(" full\n") and text.count("\n") > 131_072
