@@ -1,10 +1,13 @@
-// Texts of messages that are made for no log, and the line in which one is printed.
+// Texts of messages that are made for no log, the line in which one is printed, and one that is off.
 use crate::passing::all_well;
+use log::sink::Discard;
+use log::{Level, Logged};
 use log_queue::LogLine;
 use relay_core::Fault;
-use relay_log::{Cause, done_text, drop_text, fail_text, open_text};
+use relay_log::{Cause, ClientsAt, done_text, drop_text, fail_text, log_peer, open_text};
 use std::alloc::{AllocError, Global};
-use std::fmt::Write;
+use std::cell::Cell;
+use std::fmt::{self, Write};
 use std::test::Fail;
 
 fn is(text: Result<String, AllocError>, wanted: &str) -> Result<bool, AllocError> {
@@ -42,4 +45,28 @@ fn is_cut(alloc: Global) -> Result<bool, AllocError> {
 #[test]
 fn a_line_is_cut_where_it_is_full(rt: HostRuntime) -> Result<(), Fail> {
     all_well(is_cut(rt.alloc()))
+}
+
+/// An address that notes that it is printed.
+#[derive(Drop)]
+struct Noting(Cell<bool>);
+
+impl fmt::Display for Noting {
+    fn fmt<W: fmt::Write>(&self, f: &mut fmt::Formatter<W>) -> fmt::Result {
+        self.0.set(true);
+        f.write_str("192.0.2.7:50000")
+    }
+}
+
+#[test]
+fn no_text_is_made_for_a_level_that_is_off(rt: HostRuntime) -> Result<(), Fail> {
+    let from = Noting(Cell::new(false));
+    log_peer(
+        &Logged::new(&rt, Level::Info, Discard),
+        ClientsAt::Debug,
+        0,
+        1,
+        &from,
+    );
+    all_well(Ok(!from.0.get()))
 }

@@ -1,4 +1,4 @@
-use Rattle.std.proofs.Common.{◌≡◌, ◌∙◌, ap, List, [], ◌∷◌}
+use Rattle.std.proofs.Common.{◌∙◌, ap, [], ◌∷◌}
 use Rattle.claims.specs.declared.view.Account.{Account}
 use Rattle.claims.specs.declared.view.Exchange.TheVariants.{Take}
 use Rattle.claims.proofs.Seats.{account_after}
