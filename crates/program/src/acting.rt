@@ -50,10 +50,10 @@ pub fn report_arguments_fault<E: Write>(errors: &mut E, fault: ArgumentsFault) -
 /// |---|---|
 /// | `sim`, or none | runs the script that `reader` has, and writes its report or its fault's line to `writer` |
 /// | `sim --each` | the same, but writes each step to `writer`, and below it what it changes in the report |
-/// | `check --config FILE` | reads a settings file and writes each setting to `writer`; warns of what `run` would warn of |
+/// | `check --config FILE` | reads a settings file, writes each setting to `writer`, and warns as `run` would |
 /// | `forward LISTEN TARGET` | does the same as `run` with the settings of the command line |
-/// | `replay FILE` | plays a recording on the machine, and writes to `writer` that each connection is a run of it, or which is not |
-/// | `run --config FILE` | reads a settings file, listens, and serves; `listening A.B.C.D:PORT` and log lines go to the process's own streams |
+/// | `replay FILE` | plays a recording on the machine; writes to `writer` which connection is no run of it, if any |
+/// | `run --config FILE` | reads a settings file, and serves; what it prints and logs goes to the process's own streams |
 ///
 /// Returns the exit status: 0 if the command was carried out, or help or the version printed; 1 for a fault, which is
 /// written to `errors` after `relayd: ` unless it is a fault of the script itself; 2 for a usage error, which is

@@ -4,15 +4,16 @@
 //! [`act`] does all of that: from its arguments, a reader, two writers and a closure that serves, to a status.
 //! [`arguments`] are those of the process, and [`report_arguments_fault`] reports that they cannot be read.
 //!
-//! - `command_line` finds the command in them; `forwarding` has the settings that they may give, and `extras` the other options.
+//! - `command_line` finds the command in them; `forwarding` has the settings that they may give, and `extras` the other
+//!   options.
 //! - `usage` prints help, and why words are refused; `tips` what to type instead.
-//! - [`config`] reads the settings, and `starting` looks at what they need before a relay serves by them, and prints where it
-//!   listens ([`print_listening`]).
+//! - [`config`] reads the settings, and `starting` looks at what they need before a relay serves by them, and prints
+//!   where it listens ([`print_listening`]).
 //! - `recording_file` makes the file of a recording, and `replaying_file` replays one.
 //! - [`hold_closed`] keeps the numbers of closed standard streams from whatever is opened.
 //! - [`until_eof`] waits for the end of standard input.
-//! - [`logging`] is the log of a relay that serves, and [`level_filter`] its level, [`starting_filter`] that before it serves;
-//!   [`telling`] its statistics; `streams` logs what is wrong with an input, an output, a file or a script.
+//! - [`logging`] is the log of a relay that serves, and [`level_filter`] its level, [`starting_filter`] that before it
+//!   serves; [`telling`] its statistics; `streams` logs what is wrong with an input, an output, a file or a script.
 //!
 //! # Inside
 //!

@@ -46,8 +46,8 @@ pub fn prepare<R: AllocGlobal + Files + Net + Copy + Drop>(
     Ok(settings)
 }
 
-/// Warns of what [`prepare`] would warn of at the start of a relay with these settings, and refuses what it would refuse. There
-/// is no such relay yet, and no recording.
+/// Warns of what [`prepare`] would warn of at the start of a relay with these settings, and refuses what it would
+/// refuse. There is no such relay yet, and no recording.
 pub fn foresee<R: AllocGlobal + Files + Net + Copy + Drop>(
     rt: &R,
     log: &impl Log,

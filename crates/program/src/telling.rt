@@ -13,8 +13,8 @@ use std::sync::{Arc, Wait};
 use std::thread::{self, Builder, Threads};
 use std::time::{Clock, Duration};
 
-/// What the threads of a relay with these settings count, if they are to, and a thread that logs the sums each time
-/// that so many seconds have passed. It runs until the program ends.
+/// The statistics in which the threads of a relay with these settings count, if the options ask for any, and a thread
+/// that logs the sums at the interval that they give. That thread runs until the program ends.
 ///
 /// Where nothing is logged, nothing is counted, and nothing is taken. Refuses with `NoMemory` if there is none, and
 /// `Threads` if the thread cannot be started; its cause is logged.

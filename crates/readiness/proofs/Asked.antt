@@ -1,9 +1,9 @@
 -- What a call does: one that fails lets all that is late come; any other finds nothing late, or does not concern it.
-use Rattle.readiness.proofs.Prelude.{◌≡◌, ℕ, Bool, true, false, not, ◌&&◌, List, [], ◌∷◌, ◌++◌, map, length, take, Option, Some, None, option_and_then, refl, sym, ◌∙◌, append-nil, Kind, guard, EndState, is_readable, is_writable, is_count, Reply, Change, Call, Read, Write, Join, Shut, after_call, Way, Calls, may_call, reads_after, called, step, Seen, Came, Called, at_call, late_call}
+use Rattle.readiness.proofs.Prelude.{◌≡◌, ℕ, Bool, true, false, not, ◌&&◌, List, [], ◌∷◌, ◌++◌, map, length, take, Option, Some, None, option_and_then, refl, ◌∙◌, append-nil, Kind, guard, EndState, is_readable, is_writable, is_count, Reply, Change, Call, Read, Write, Join, Shut, after_call, Way, Calls, may_call, reads_after, called, step, Seen, Came, Called, at_call, late_call}
 use Rattle.kernel_model.specs.declared.reply.Reply.TheVariants as reply
 use Rattle.readiness.proofs.Flags.{is_down, false_left, false_right}
 use Rattle.readiness.proofs.Late.{settled, settle_sent, settle_shut, settle_arm, with_sent, with_shut, with_arm, IsBeside, is_beside, Caught, caught, replies_behind, changes_behind, events-append}
-use Rattle.readiness.proofs.Kept.{Rests, Waits, Prompt, Behind, Held, Goes, one_event, same_socket, on_its_way_still}
+use Rattle.readiness.proofs.Kept.{late_stays, Rests, Waits, Prompt, Behind, Held, Goes, one_event, same_socket, on_its_way_still}
 
 -- the call was allowed
 record Asked (w v : Way) (call : Call) (r : Reply) : Type 0 where
@@ -59,13 +59,7 @@ fails w v late s call kind held a =
 one_call : (w : Way) (late : List Change) (s : Seen) (call : Call) (r : Reply) (e f : EndState) (reads : Bool) → Held w late s →
     after_call s.socket call r ≡ Some e → settled e late ≡ Some f → Waits (record w { socket = f; reads = reads }) late → (reads ≡ false → w.told ≡ false → Rests e) →
     Goes (record w { socket = f; reads = reads }) s late late (Called call r ∷ []) (Calls call r)
-one_call w late s call r e f reads held allowed due waits rests = record {
-  next = record s { socket = e };
-  allowed = one_event s (record s { socket = e }) (Called call r) (rw allowed refl);
-  answers = refl;
-  changes = sym (append-nil late);
-  kept = record { due = due; waits = waits; rests = rests; queued = held.queued; owed = held.owed };
-}
+one_call w late s call r e f reads held allowed due waits rests = late_stays (record s { socket = e }) (one_event s (record s { socket = e }) (Called call r) (rw allowed refl)) refl refl refl (record { due = due; waits = waits; rests = rests; queued = held.queued; owed = held.owed })
 
 -- a read: the wire reads, so nothing is late
 

@@ -1,5 +1,5 @@
 -- What every step keeps, of a wire's socket and of the same socket where no wire answers by itself.
-use Rattle.readiness.proofs.Prelude.{◌≡◌, ◌≢◌, ◌⊎◌, ◌<◌, Bool, true, false, ◌||◌, List, [], ◌∷◌, ◌++◌, length, Contains, Option, Some, None, refl, inl, inr, arith, Told, EndState, is_readable, Change, Way, Step, answer_of, change_in, changed, Seen, Event, event, events, replies_in, came_in, IsOnItsWay, WillBeTold}
+use Rattle.readiness.proofs.Prelude.{append-nil, sym, ◌≡◌, ◌≢◌, ◌⊎◌, ◌<◌, Bool, true, false, ◌||◌, List, [], ◌∷◌, ◌++◌, length, Contains, Option, Some, None, refl, inl, inr, arith, Told, EndState, is_readable, Change, Way, Step, answer_of, change_in, changed, Seen, Event, event, events, replies_in, came_in, IsOnItsWay, WillBeTold}
 use Rattle.readiness.proofs.Flags.{or_left, or_right, true_or}
 use Rattle.readiness.proofs.Late.{settled, Caught}
 
@@ -35,6 +35,17 @@ pub record Goes (v : Way) (s : Seen) (late later : List Change) (happens : List 
   pub answers : replies_in happens ≡ answer_of made
   pub changes : came_in happens ++ later ≡ late ++ change_in made
   pub kept : Held v later next
+
+-- a step after which as much is late as before
+pub late_stays : {v : Way} {s : Seen} {late : List Change} {happens : List Event} {made : Step} (next : Seen) → events s happens ≡ Some next
+    → replies_in happens ≡ answer_of made → came_in happens ≡ [] → change_in made ≡ [] → Held v late next → Goes v s late late happens made
+late_stays {late = late} next allowed answers none unchanged kept = record {
+  next = next;
+  allowed = allowed;
+  answers = answers;
+  changes = rw (none, unchanged) (sym (append-nil late));
+  kept = kept;
+}
 
 pub one_event : (s t : Seen) (e : Event) → event s e ≡ Some t → events s (e ∷ []) ≡ Some t
 one_event s t e h = rw h refl

@@ -1,8 +1,8 @@
 -- What the network does: a change that concerns reading, which may be late, and room for writes.
-use Rattle.readiness.proofs.Prelude.{◌≡◌, ℕ, Bool, true, false, not, ◌&&◌, ◌||◌, List, [], ◌∷◌, ◌++◌, Some, refl, sym, append-nil, inl, length, ltb-true, lt-ltb, length-append, arith, ◌<◌, ◌+◌, first_so, second_so, if◌then◌else◌, guard, Told, EndState, is_nonempty, is_readable, new_room, Change, Bytes, Fin, Error, change_of, Way, Comes, HasRoom, step, Seen, Came, GotRoom, is_late, late_after, meanwhile, WillBeTold}
+use Rattle.readiness.proofs.Prelude.{◌≡◌, ℕ, Bool, true, false, not, ◌&&◌, ◌||◌, List, [], ◌∷◌, ◌++◌, Some, refl, inl, length, ltb-true, lt-ltb, length-append, arith, ◌<◌, ◌+◌, first_so, second_so, if◌then◌else◌, guard, Told, EndState, is_nonempty, is_readable, new_room, Change, Bytes, Fin, Error, change_of, Way, Comes, HasRoom, step, Seen, Came, GotRoom, is_late, late_after, meanwhile, WillBeTold}
 use Rattle.readiness.proofs.Flags.{is_down, both_down, or_left, or_right}
 use Rattle.readiness.proofs.Late.{settle_more, settle_room, with_room, IsBeside, is_beside}
-use Rattle.readiness.proofs.Kept.{Rests, Asleep, Waits, Prompt, Behind, Held, Goes, one_event, same_socket, reported, still_coming, queued_too, Changed, changed_of}
+use Rattle.readiness.proofs.Kept.{late_stays, Rests, Asleep, Waits, Prompt, Behind, Held, Goes, one_event, same_socket, reported, still_coming, queued_too, Changed, changed_of}
 
 -- a change that was made
 record Passed (b : Bool) (x t : Told EndState Bool) : Type 0 where
@@ -140,19 +140,13 @@ room_goes w late s held full sound =
     let room : s.socket.room ≡ false = rw b.room full in
     let err : s.socket.err ≡ false = b.err sound in
     let next : Seen = record { socket = with_room s.socket; queued = s.queued || s.socket.write_armed } in
-    record {
-      next = next;
-      allowed = one_event s next GotRoom (rw (room, err) refl);
-      answers = refl;
-      changes = sym (append-nil late);
-      kept = record {
-        due = settle_room late s.socket w.socket held.due;
-        waits = waits_with_room w late w.socket.write_armed held.waits;
-        rests = λ reads told. rests_with_room s.socket (held.rests reads told);
-        queued = λ q. queued_too w (with_room w.socket) s.queued s.socket.write_armed w.socket.write_armed held.queued (λ h. rw (b.write_armed sound) at h) q;
-        owed = λ o. or_left s.queued s.socket.write_armed (held.owed o);
-      };
-    }
+    late_stays next (one_event s next GotRoom (rw (room, err) refl)) refl refl refl (record {
+      due = settle_room late s.socket w.socket held.due;
+      waits = waits_with_room w late w.socket.write_armed held.waits;
+      rests = λ reads told. rests_with_room s.socket (held.rests reads told);
+      queued = λ q. queued_too w (with_room w.socket) s.queued s.socket.write_armed w.socket.write_armed held.queued (λ h. rw (b.write_armed sound) at h) q;
+      owed = λ o. or_left s.queued s.socket.write_armed (held.owed o);
+    })
 
 pub has_room : (w v : Way) (late : List Change) (s : Seen) → Held w late s → step w HasRoom ≡ Some v → Goes v s late late (GotRoom ∷ []) HasRoom
 has_room w v late s held h =

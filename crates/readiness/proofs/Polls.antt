@@ -3,7 +3,7 @@ use Rattle.readiness.proofs.Prelude.{◌≡◌, ◌⊎◌, ℕ, zero, suc, Bool,
 use Rattle.kernel_model.specs.declared.reply.Reply.TheVariants as reply
 use Rattle.readiness.proofs.Flags.{both_down, or_right, false_left, false_right}
 use Rattle.readiness.proofs.Late.{Caught, caught, replies_behind, changes_behind, events-append}
-use Rattle.readiness.proofs.Kept.{Rests, Waits, Prompt, Behind, Held, Goes, one_event, same_socket, on_its_way_still}
+use Rattle.readiness.proofs.Kept.{late_stays, Rests, Waits, Prompt, Behind, Held, Goes, one_event, same_socket, on_its_way_still}
 
 -- A report without cause
 
@@ -14,19 +14,13 @@ waits_queued w late (Behind asleep) = Behind (record { reads = asleep.reads; tol
 pub spurious : (w v : Way) (late : List Change) (s : Seen) → Held w late s → step w Spurious ≡ Some v → Goes v s late late (Stray ∷ []) Spurious
 spurious w v late s held h =
     let is : v ≡ record w { queued = true } = cc in
-    rw is (record {
-      next = record s { queued = true };
-      allowed = refl;
-      answers = refl;
-      changes = sym (append-nil late);
-      kept = record {
-        due = held.due;
-        waits = waits_queued w late held.waits;
-        rests = held.rests;
-        queued = λ q. inl refl;
-        owed = λ o. refl;
-      };
-    })
+    rw is (late_stays (record s { queued = true }) refl refl refl refl (record {
+      due = held.due;
+      waits = waits_queued w late held.waits;
+      rests = held.rests;
+      queued = λ q. inl refl;
+      owed = λ o. refl;
+    }))
 
 -- a step that was made
 passed : (b : Bool) (w v : Way) → guard b w ≡ Some v → (b ≡ true) × (v ≡ w)
@@ -49,29 +43,17 @@ then_gone false t h = absurd (cc)
 
 vanishing : (w : Way) (late : List Change) (s : Seen) → Held w late s → is_quiet w.socket ≡ true → late ≡ [] → (b : Bool) → w.owed ≡ b →
     Goes (record w { queued = false }) s late late (if b then [] else Stray ∷ Gone ∷ []) Vanished
-vanishing w late s held quiet none true owed = record {
-  next = s;
-  allowed = refl;
-  answers = refl;
-  changes = sym (append-nil late);
-  kept = record { due = held.due; waits = Prompt none; rests = held.rests; queued = λ q. inr (inr owed); owed = held.owed };
-}
+vanishing w late s held quiet none true owed = late_stays s refl refl refl refl (record { due = held.due; waits = Prompt none; rests = held.rests; queued = λ q. inr (inr owed); owed = held.owed })
 vanishing w late s held quiet none false owed =
     let same : s.socket ≡ w.socket = same_socket s w late held.due none in
     let there : is_quiet s.socket ≡ true = rw same quiet in
-    record {
-      next = record s { queued = false };
-      allowed = then_gone (is_quiet s.socket) (record s { queued = false }) there;
-      answers = refl;
-      changes = sym (append-nil late);
-      kept = record {
-        due = held.due;
-        waits = Prompt none;
-        rests = held.rests;
-        queued = λ q. absurd (let no : false ≡ true = q in cc);
-        owed = λ o. absurd (let no : w.owed ≡ true = o in cc);
-      };
-    }
+    late_stays (record s { queued = false }) (then_gone (is_quiet s.socket) (record s { queued = false }) there) refl refl refl (record {
+      due = held.due;
+      waits = Prompt none;
+      rests = held.rests;
+      queued = λ q. absurd (let no : false ≡ true = q in cc);
+      owed = λ o. absurd (let no : w.owed ≡ true = o in cc);
+    })
 
 pub vanishes : (w v : Way) (late : List Change) (s : Seen) → Held w late s → step w Vanished ≡ Some v → Goes v s late late (if w.owed then [] else Stray ∷ Gone ∷ []) Vanished
 vanishes w v late s held h =
@@ -112,19 +94,13 @@ waits_polled w late names naming (Behind asleep) = Behind (record {
 pub polls : (w v : Way) (late : List Change) (s : Seen) (names : Bool) → Held w late s → step w (Polled names) ≡ Some v → Goes v s late late [] (Polled names)
 polls w v late s names held h =
     let p : IsPolled w v names = polled_of w v names h in
-    rw p.after (record {
-      next = s;
-      allowed = refl;
-      answers = refl;
-      changes = sym (append-nil late);
-      kept = record {
-        due = held.due;
-        waits = waits_polled w late names p.naming held.waits;
-        rests = held.rests;
-        queued = λ q. inr (inl (some_behind w.taken names));
-        owed = held.owed;
-      };
-    })
+    rw p.after (late_stays s refl refl refl refl (record {
+      due = held.due;
+      waits = waits_polled w late names p.naming held.waits;
+      rests = held.rests;
+      queued = λ q. inr (inl (some_behind w.taken names));
+      owed = held.owed;
+    }))
 
 -- The poller passes on a report. All that is late comes if it names reading
 
@@ -166,19 +142,13 @@ waits_other w late rest is (Behind asleep) = Behind (record {
 
 told_other : (w : Way) (late : List Change) (s : Seen) (rest : List Bool) → Held w late s → w.taken ≡ false ∷ rest →
     Goes (record w { taken = rest; owed = true; told = w.told || false }) s late late (Stray ∷ []) Tells
-told_other w late s rest held is = record {
-  next = record s { queued = true };
-  allowed = refl;
-  answers = refl;
-  changes = sym (append-nil late);
-  kept = record {
-    due = held.due;
-    waits = waits_other w late rest is held.waits;
-    rests = λ reads told. held.rests reads (false_left w.told false told);
-    queued = λ q. inr (inr refl);
-    owed = λ o. refl;
-  };
-}
+told_other w late s rest held is = late_stays (record s { queued = true }) refl refl refl refl (record {
+  due = held.due;
+  waits = waits_other w late rest is held.waits;
+  rests = λ reads told. held.rests reads (false_left w.told false told);
+  queued = λ q. inr (inr refl);
+  owed = λ o. refl;
+})
 
 telling : (w v : Way) (late : List Change) (s : Seen) → Held w late s → (taken : List Bool) → w.taken ≡ taken → tells w taken ≡ Some v
     → Goes v s late (late_telling taken late) (at_telling taken late) Tells
@@ -225,32 +195,20 @@ not_owed w none (inr (inl taken)) = inr (inl taken)
 not_owed w none (inr (inr owed)) = absurd (cc)
 
 handing : (w : Way) (late : List Change) (s : Seen) → Held w late s → (b : Bool) → w.owed ≡ b → Goes (record w { owed = false }) s late late (if b then Taken ∷ [] else []) Handed
-handing w late s held true owed = record {
-  next = record s { queued = false };
-  allowed = one_event s (record s { queued = false }) Taken (rw (held.owed owed) refl);
-  answers = refl;
-  changes = sym (append-nil late);
-  kept = record {
-    due = held.due;
-    waits = waits_handed w late held.waits;
-    rests = held.rests;
-    queued = λ q. absurd (let no : false ≡ true = q in cc);
-    owed = λ o. absurd (let no : false ≡ true = o in cc);
-  };
-}
-handing w late s held false owed = record {
-  next = s;
-  allowed = refl;
-  answers = refl;
-  changes = sym (append-nil late);
-  kept = record {
-    due = held.due;
-    waits = waits_handed w late held.waits;
-    rests = held.rests;
-    queued = λ q. not_owed w owed (held.queued q);
-    owed = λ o. absurd (let no : false ≡ true = o in cc);
-  };
-}
+handing w late s held true owed = late_stays (record s { queued = false }) (one_event s (record s { queued = false }) Taken (rw (held.owed owed) refl)) refl refl refl (record {
+  due = held.due;
+  waits = waits_handed w late held.waits;
+  rests = held.rests;
+  queued = λ q. absurd (let no : false ≡ true = q in cc);
+  owed = λ o. absurd (let no : false ≡ true = o in cc);
+})
+handing w late s held false owed = late_stays s refl refl refl refl (record {
+  due = held.due;
+  waits = waits_handed w late held.waits;
+  rests = held.rests;
+  queued = λ q. not_owed w owed (held.queued q);
+  owed = λ o. absurd (let no : false ≡ true = o in cc);
+})
 
 pub handed : (w v : Way) (late : List Change) (s : Seen) → Held w late s → step w Handed ≡ Some v → Goes v s late late (if w.owed then Taken ∷ [] else []) Handed
 handed w v late s held h =
@@ -271,19 +229,13 @@ waits_looked w late (Behind asleep) = Behind (record {
 pub looks : (w v : Way) (late : List Change) (s : Seen) → Held w late s → step w Looks ≡ Some v → Goes v s late late [] Looks
 looks w v late s held h =
     let is : v ≡ record w { reads = w.reads || w.told; told = false } = cc in
-    rw is (record {
-      next = s;
-      allowed = refl;
-      answers = refl;
-      changes = sym (append-nil late);
-      kept = record {
-        due = held.due;
-        waits = waits_looked w late held.waits;
-        rests = λ reads told. held.rests (false_left w.reads w.told reads) (false_right w.reads w.told reads);
-        queued = held.queued;
-        owed = held.owed;
-      };
-    })
+    rw is (late_stays s refl refl refl refl (record {
+      due = held.due;
+      waits = waits_looked w late held.waits;
+      rests = λ reads told. held.rests (false_left w.reads w.told reads) (false_right w.reads w.told reads);
+      queued = held.queued;
+      owed = held.owed;
+    }))
 
 armed_again : (e : EndState) → e.read_armed ≡ true → record e { read_armed = true } ≡ e
 armed_again e armed = ap (λ (b : Bool). record e { read_armed = b }) (sym armed)
@@ -299,10 +251,4 @@ pub unasked : (w v : Way) (late : List Change) (s : Seen) (most : ℕ) → Held 
 unasked w v late s most held h =
     let p : ((not w.reads && not w.told) ≡ true) × (v ≡ w) = passed (not w.reads && not w.told) w v h in
     let none : (w.reads ≡ false) × (w.told ≡ false) = both_down w.reads w.told p.0 in
-    rw p.1 (record {
-      next = s;
-      allowed = one_event s s (Called (Read most) reply.Blocked) (blocks_again s most (held.rests none.0 none.1));
-      answers = refl;
-      changes = sym (append-nil late);
-      kept = held;
-    })
+    rw p.1 (late_stays s (one_event s s (Called (Read most) reply.Blocked) (blocks_again s most (held.rests none.0 none.1))) refl refl refl held)

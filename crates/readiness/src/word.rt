@@ -64,7 +64,7 @@ impl Word {
 
     /// Whether a report was passed on since the last look, which this is.
     pub(crate) fn take(&self) -> bool {
-        // Pairs with `tell`. What is passed on after the exchange stands until the next look. Most looks find
+        // Pairs with `tell`. A report that is passed on after the exchange stands until the next look. Most looks find
         // nothing, and a load is cheaper than an exchange.
         self.told.load(SeqCst) && self.told.swap(false, SeqCst)
     }

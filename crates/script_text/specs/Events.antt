@@ -85,7 +85,7 @@ accepting_of word =
     else if bytes_eq word (codes "starved") then Some accepting.Starved
     else None
 
--- what a worker does, where its number says all else
+-- what a worker does, if its number says all else
 abbrev pub act_of : List ℕ → Option Act
 act_of word =
     if bytes_eq word (codes "pop") then Some act.Pop

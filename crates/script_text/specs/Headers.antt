@@ -53,7 +53,7 @@ optional read otherwise [] = record { value = otherwise; words = [] }
 optional read otherwise (word ∷ words) = found_or otherwise word words (read word)
 
 -- What may stand after the sizes, each at most once and in this order: ` gen=G`, the generation that the slots have
--- had, 0 where it is not given; ` idle=L`, the idle limit, 0 for none; ` lead=HEX`, the lead, empty for none.
+-- had, 0 if it is not given; ` idle=L`, the idle limit, 0 for none; ` lead=HEX`, the lead, empty for none.
 abbrev pub with_extras : Limits → List (List ℕ) → Option Limits
 with_extras sizes words =
     let generation = optional generation_of 0 words in

@@ -43,8 +43,8 @@ abbrev pub Takes : {X E : Type 0} → Option (Found X) → Result X E → List (
 Takes defined (Ok x) left = defined ≡ Some (record { value = x; words = left })
 Takes defined (Err wrong) left = defined ≡ None
 
--- The same as `Reads` where memory is needed, which runs out only for what can be read. A value is compared as `view`
--- sees it.
+-- The same as `Reads` if memory is needed, which runs out only for what can be read. A value is compared as `view` sees
+-- it.
 abbrev pub ReadsBy : {X Y : Type 0} → (Y → X) → Option X → Result Y NotRead → Type 0
 ReadsBy view defined (Ok x) = defined ≡ Some (view x)
 ReadsBy view defined (Err (not_read.Malformed wrong)) = defined ≡ None

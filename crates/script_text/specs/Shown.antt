@@ -1,4 +1,4 @@
--- How what is on its way is shown. Part of the promises.
+-- How the bytes on their way are written. Part of the promises.
 use Rattle.std.specs.Prelude.{ℕ, Bool, if◌then◌else◌, List, ◌++◌, codes}
 use Rattle.script_text.specs.Pages.{newline, shown_bytes}
 

@@ -23,7 +23,7 @@ abbrev pub says_nothing : List ℕ → Bool
 says_nothing [] = true
 says_nothing (byte ∷ bytes) = byte == 35
 
--- the lines that say something, where the first of all has this number: the others count too
+-- the lines that say something, if the first of all has this number: skipped lines count, too
 abbrev pub telling_lines : ℕ → List (List ℕ) → List NumberedLine
 telling_lines n [] = []
 telling_lines n (text ∷ texts) =

@@ -9,8 +9,8 @@ use std::alloc::{AllocError, Global};
 use token::{Direction, Name};
 use world::{Doing, Event, Polling, Reported, Slot, World};
 
-/// What a report has, before an event, of all that this event may change: no other slot and worker, and no byte that is
-/// carried. So the time for an event does not depend on these.
+/// The part of a report, before an event, that this event may change: no other slot or worker, and no bytes. So the
+/// time for an event does not depend on these.
 #[derive(Drop)]
 pub struct Outline {
     worker: usize,
@@ -30,7 +30,7 @@ const NONE: usize = usize::MAX;
 type Way = [usize; 7];
 
 impl Outline {
-    /// Of what this event may change, before it.
+    /// The part that this event may change, before it.
     pub fn new(alloc: Global, world: &World, event: &Event) -> Result<Outline, AllocError> {
         let worker = match event {
             Event::Work(worker, _) => *worker,

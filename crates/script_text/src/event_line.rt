@@ -1,5 +1,5 @@
 //! The header of a world's script, and the line of an event, as the readers of this crate read them. No clause says
-//! what they are: what is written of a drill or of a recording, `sim` reads back.
+//! what they are: tests have `sim` read what is written of a drill or of a recording.
 
 use crate::names::put_names;
 use crate::page::{Page, Piece};
@@ -108,7 +108,7 @@ fn reply_word(reply: Reply) -> &'static str {
     }
 }
 
-/// By what an event is counted: the first word of its line, and what tells it from others that begin so.
+/// The kind by which an event is counted: the first word of its line, and the rest if others begin so, too.
 pub(crate) fn kind_of(event: &Event) -> (&'static str, &'static str) {
     let more = match event {
         Event::Spurious(Reported::Listener) => "listener",

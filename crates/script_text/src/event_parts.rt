@@ -1,4 +1,4 @@
-// The parts of a line for an event that several words say, or one of many words.
+// The parts of an event's line that take several words, or of which there are many.
 ghost use Rattle.std.specs.Prelude.{◌≡◌, ◌≤◌, nat_lt, ◌∷◌, [], None, Err, if◌then◌else◌, option_map};
 ghost use Rattle.script_text.specs.Texts.{number_of};
 ghost use Rattle.script_text.specs.Reading.{word_then, if_last, full_of, Reads, ReadsBy};
@@ -95,7 +95,7 @@ pub(crate) fn names<'a>(alloc: Global, mut words: Pieces<'a>) -> Result<Vec<Name
     Ok(names)
 }
 
-/// The name that a word says, if so few stand before it that the poll may have it.
+/// The name that a word says, if few enough stand before it for a poll.
 fn name_behind(count: usize, word: &[u8]) -> Option<Name>
     ensures { result ≡ (if nat_lt count 256 then name_of word.now else None) }
 {
@@ -112,7 +112,8 @@ fn not_a_name<'a>(count: usize, word: &'a [u8]) -> Wrong<'a> {
     }
 }
 
-/// Why a poll is not read whose names there was no memory for: a word after the first `count` is malformed, even so.
+/// Why a poll is not read if there was no memory for its names: still the first malformed word after the first `count`,
+/// if there is one.
 fn lacking<'a>(error: AllocError, count: usize, words: Pieces<'a>) -> NotRead<'a>
     requires { count ≤ 256 }
     ensures { ReadsBy (λ all. all) (are_names count words.entry) (Err result) }

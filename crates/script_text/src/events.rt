@@ -16,12 +16,12 @@ use kernel_model::Accepting;
 use std::alloc::Global;
 use world::{Act, Change, Event, Listening, Polling};
 
-/// What is wanted where a line has another first word.
+/// The first words of a world's lines: what is expected in place of another one.
 const EVENTS: &str =
     "not a step of a world; one of accept, arrive, call, claim, close, connect, deliver, drop, fin, free, idle, open, poll, pop, post, put, release, reset, retire, room, spurious, sweep, take, tick and vanish is wanted";
 
 /// The event that a line of a world's script stands for, or what is wrong with it: the first such word from the left.
-/// If memory ran out for the list that an event has, that is answered instead.
+/// If memory ran out for the list that an event has, that is returned instead.
 pub fn read_event<'a>(alloc: Global, line: &'a [u8]) -> Result<Event, NotRead<'a>>
     ensures { ReadsBy said_of (event_of line.now) result }
 {
@@ -84,7 +84,7 @@ fn tick(mut words: Pieces<'_>) -> Result<Event, Wrong<'_>>
     last(Event::Tick(seconds as u64), words)
 }
 
-/// What accept(2) is answered.
+/// What accept(2) gives.
 fn accept(mut words: Pieces<'_>) -> Result<Event, Wrong<'_>>
     ensures { Reads (word_then accepting_of (λ answer. if_last (Event.Listen (Listening.Accept answer))) words.entry) result }
 {

@@ -109,7 +109,7 @@ fn with_extras(sizes: Limits, mut words: Pieces<'_>) -> Result<Limits, Wrong<'_>
     })
 }
 
-/// What may stand after these, if anything.
+/// What may stand after these parts, for a person.
 fn behind(generation: Option<u64>, idle: Option<u64>, has_lead: bool) -> &'static str {
     if has_lead {
         "the line should end before this word"

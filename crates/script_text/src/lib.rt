@@ -1,12 +1,12 @@
 //! The texts of scripts: what their lines say, and what is written of a world.
 //!
-//! [`Lines`] gives the lines of a text that are not skipped, whose words are the pieces of `input`. [`read_header`]
-//! reads the first line, and [`read_step`] and [`read_event`] read the others, by what the header covers. A line that
-//! says none of these has a first word from the left that is [`Wrong`], with what is expected there.
+//! [`Lines`] gives the lines of a text that are not skipped, whose words are the pieces of `input`. [`read_header`] reads
+//! the first line, and [`read_step`] and [`read_event`] read the others, by what the header covers. If a line cannot be
+//! read, [`Wrong`] is the first word from the left that is at fault, with what is expected there.
 //!
 //! [`print`] gives the report of a world, [`Outline`] the lines of it that an event changes, and [`event_reason`] says
-//! why an event is not allowed in it. [`put_header`] and [`put_event`] add the lines of a script to a [`Page`], which
-//! is what all these texts are written on, and [`Counts`] counts events by kinds.
+//! why an event is not allowed in it. [`put_header`] and [`put_event`] add the lines of a script to a [`Page`], on
+//! which all these texts are written, and [`Counts`] counts events by kinds.
 //!
 //! `docs/FORMATS.md` describes lines and reports; `specs/` has the same as definitions: `Texts` and `Reading` for
 //! lines and words, `Headers`, `Steps` and `Events` for what they say, and `Words` for the word by which a fault

@@ -22,7 +22,7 @@ pub enum Piece<'a> {
 pub struct Page {
     alloc: Global,
     text: String,
-    /// What the allocator answered, once memory ran out.
+    /// The allocator's error, once memory ran out.
     lost: Option<AllocError>,
 }
 
@@ -51,7 +51,7 @@ impl Page {
         self.alloc
     }
 
-    /// Memory for what is to be added ran out.
+    /// Memory for a piece ran out.
     pub(crate) fn lose(&mut self, error: AllocError)
         ensures { self.new ≡ None }
     {

@@ -53,10 +53,10 @@ pub(crate) fn said<'a, T>(
     }
 }
 
-/// What is wanted where a line goes on that should end.
+/// What is expected where a line should end.
 const END: &str = "the line should end before this word";
 
-/// The end of the line, where something else may stand too.
+/// Reads the end of the line, in whose place `wanted` may stand.
 pub(crate) fn end_or<'a>(mut words: Pieces<'a>, wanted: &'static str) -> Result<(), Wrong<'a>>
     ensures { Reads (line_end words.entry) result }
 {

@@ -1,5 +1,5 @@
-//! Why an event is not allowed at that point, by the world before it. Where more than one reason holds, the first is
-//! told.
+//! Why an event is not allowed at that point, by the world before it. If more than one reason holds, the first is
+//! given.
 
 use crate::ends::{
     BROKEN, NOT_HERE, end_reason, ended_reason, read_reason, room_reason, wrote_reason,
@@ -222,7 +222,7 @@ fn release_reason(slot: &Slot, connection: &Connection, left: usize) -> &'static
     }
 }
 
-/// Why the next call of a connection is not answered so.
+/// Why the next call of a connection does not get this reply.
 fn call_reason(kernel: &Kernel, connection: &Connection, reply: Reply) -> &'static str {
     let pair = &connection.pair;
     let Some(call) = pair.next() else {
@@ -237,7 +237,7 @@ fn call_reason(kernel: &Kernel, connection: &Connection, reply: Reply) -> &'stat
     }
 }
 
-/// Why a call on this socket is not answered so.
+/// Why a call on this socket does not get this reply.
 fn answer_reason(pair: &Pair, socket: &End, call: Call, reply: Reply) -> &'static str {
     match (call, reply) {
         (Call::Read(_, most), Reply::Bytes(count)) => read_reason(socket, most, count),

@@ -1,4 +1,4 @@
-// How what is on its way is shown.
+// How the bytes on their way are written.
 ghost use Rattle.std.specs.Prelude.{◌≡◌, if◌then◌else◌};
 ghost use Rattle.script_text.specs.Pages.{Adds};
 ghost use Rattle.script_text.specs.Shown.{stream_text, yes_or_no};

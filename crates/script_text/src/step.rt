@@ -51,9 +51,9 @@ pub enum Step {
     Fin,
     /// The destination gets room for writes.
     Room,
-    /// The read from the source is answered with this many bytes.
+    /// The read from the source gives this many bytes.
     Read(usize),
-    /// The read from the source is answered with the end of input.
+    /// The read from the source gives the end of input.
     End,
     /// The write to the destination took this many bytes; with `true`, no room is left.
     Wrote(usize, bool),

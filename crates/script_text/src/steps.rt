@@ -11,12 +11,12 @@ use crate::{Step, Word};
 use input::Pieces;
 use std::alloc::Global;
 
-/// What is wanted where a line has another first word.
+/// The first words of a flow's lines: what is expected in place of another one.
 const STEPS: &str =
     "not a step of a flow; one of arrive, end, fin, read, room, shut and wrote is wanted";
 
-/// The step that a line of a script of one direction stands for, or what is wrong with it: the first such word from
-/// the left. If memory ran out for the bytes that a step brings, that is answered instead.
+/// The step that a line of a script of one direction stands for, or what is wrong with it: the first such word from the
+/// left. If memory ran out for the bytes that a step brings, that is returned instead.
 pub fn read_step<'a>(alloc: Global, line: &'a [u8]) -> Result<Step, NotRead<'a>>
     ensures { ReadsBy (λ step. step) (step_of line.now) result }
 {

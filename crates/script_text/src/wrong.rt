@@ -6,7 +6,7 @@ use std::alloc::AllocError;
 /// The word of a line that is wrong, and what is expected there: the first such word from the left.
 #[derive(Drop)]
 pub struct Wrong<'a> {
-    /// The malformed word, or none where one is missing.
+    /// The malformed word, or none if one is missing.
     pub word: Option<&'a [u8]>,
     /// Whether it is the line's first word, with which no line of this kind begins.
     pub is_first: bool,
@@ -14,7 +14,7 @@ pub struct Wrong<'a> {
     pub wanted: &'static str,
 }
 
-/// Why a line is not read, where that takes memory.
+/// Why a line is not read, if reading it takes memory.
 #[derive(Drop)]
 pub enum NotRead<'a> {
     /// This word is wrong.
@@ -42,7 +42,7 @@ impl<'a> Wrong<'a> {
         }
     }
 
-    /// The line ends where this is expected.
+    /// The line ends, but this is expected.
     pub(crate) fn missing(wanted: &'static str) -> Wrong<'a> {
         Wrong {
             word: None,

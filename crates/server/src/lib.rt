@@ -1,9 +1,9 @@
-//! The relay: on a listening socket ([`Bound`]) it serves with threads that poll, accept, open and run most turns,
-//! and with workers that run the others ([`serve`]). It may record what its threads do ([`serve_recorded`]).
+//! The relay: it serves on a listening socket ([`Bound`]) with pollers' threads, which accept and open connections and
+//! run most turns, and with workers, which run the others ([`serve`]). It may record what its threads do
+//! ([`serve_recorded`]).
 //!
-//! What a thread does in a round and in a turn are the crates `rounds` and `turns`, the threads are the crate
-//! `threads`, and the sockets the crate `sockets`. Here is what all of them are made from, as the settings say
-//! ([`build`]).
+//! What a thread does in a round and in a turn is in `rounds` and `turns`, the threads are in `threads`, and the
+//! sockets in `sockets`. Here they are made as the settings say ([`build`]).
 #![tactic(auto)]
 
 mod making;

@@ -130,7 +130,7 @@ fn free_of(
     FreeQueue::new(rt, alloc, part.first, part.slots, workers + 1)
 }
 
-/// The poller with this number, which opens connections in its part of the slots, and its share of the connections.
+/// The poller with this number. It opens connections in its part of the slots, and no more than its share of all.
 fn poller_of<F: Front + Drop>(
     alloc: Global,
     settings: &Settings,
@@ -154,8 +154,8 @@ fn poller_of<F: Front + Drop>(
     Poller::new(alloc, front, settings.slots, part, opening, most)
 }
 
-/// How many connections the poller with this number may open, of all that the server may: of 0, which is no limit, as
-/// many as can be counted. The shares differ by one at most, and the first ones are the greater.
+/// How many connections the poller with this number may open, of the `stop_after` that the server may; with 0, which is
+/// no limit, as many as can be counted. The shares differ by one at most, and the first ones are the greater.
 fn share_of(stop_after: u32, pollers: usize, number: usize) -> u64
     requires { 1 ≤ pollers }
     ensures { result ≡ share_of stop_after pollers number }

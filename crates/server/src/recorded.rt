@@ -20,12 +20,12 @@ use std::sync::{Mutex, Wait};
 use std::thread::{self, Threads};
 use threads::Outcome;
 
-/// Serves as [`serve`](crate::serve) does, and records into the file what each thread does, until the server ends:
-/// then the last line says that all is recorded. One thread more writes the file, and the call returns once it has
-/// written all. Where records come faster than they are written, or the file cannot be written, the recording ends, a
-/// warning is logged, and the server serves on.
+/// Serves as [`serve`](crate::serve) does, and records into the file what each thread does, until the server ends: then
+/// the last line says that all is recorded. A thread of its own writes the file, and the call returns once that has
+/// written all. If records come faster than it can write, or the file cannot be written, the recording ends, a warning
+/// is logged, and the server serves on.
 ///
-/// It ends as `serve` does, and also by `NoMemory` and `Threads` if the recording cannot begin.
+/// It ends as `serve` does, or by `NoMemory` or `Threads` if the recording cannot begin.
 pub fn serve_recorded<
     G: Gate + Sync,
     C: Clock + Sync,
@@ -57,7 +57,7 @@ pub fn serve_recorded<
     )
 }
 
-/// What a recording needs beside its server.
+/// What a recording needs in addition to its server.
 #[derive(Drop)]
 struct Recording<'a, W, R> {
     rt: &'a R,
@@ -102,7 +102,8 @@ where
     )
 }
 
-/// Runs a server with these fronts, one for each poller, and records what they and what is lent do.
+/// Runs a server with these fronts, one for each poller. Records what they do, and what the gate and the clock do that
+/// it is lent.
 pub(crate) fn run_recorded<F, G: Gate + Sync, C: Clock + Sync, R: Wait + Threads + Log + Sync>(
     rt: &R,
     alloc: Global,

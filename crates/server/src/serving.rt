@@ -22,23 +22,22 @@ use threads::{Outcome, Server, run_threads};
 pub struct Lent<'a, G, C> {
     /// Called once all threads have been started, and before and after each turn.
     pub gate: &'a G,
-    /// By which the idle limit is counted.
+    /// The clock by which the idle limit is counted.
     pub clock: &'a C,
     /// Another thread sets this once no more connections may be opened.
     pub is_stopped: &'a AtomicBool,
-    /// Where what becomes of the connections is counted, if it is, with a place for each of the settings' slots.
+    /// Where connections are counted, with a place for each of the settings' slots; None if they are not.
     pub statistics: Option<&'a Arc<Statistics>>,
-    /// For how long targets and clients that do not answer are waited for.
+    /// How long to wait for targets and clients that do not answer.
     pub patience: Patience,
-    /// Whether the log has each client at level info, as it comes and as it goes.
+    /// Whether each client is logged at level info, when it comes and when it goes.
     pub log_clients: bool,
 }
 
-/// Serves on the bound socket: accepts connections and forwards each one to the settings' target, with the settings'
-/// number of workers in addition to the threads that poll. There are as many of these as workers, but at most one for
-/// each 64 slots, and at least one; one of them is the calling thread. The settings' idle limit is counted by the
-/// clock that is lent. If the settings' `proxy` is set, each target is first sent a line with the addresses of its
-/// client's connection.
+/// Serves on the bound socket: accepts connections and forwards each one to the settings' target. Beside the settings'
+/// number of workers there are as many pollers' threads, but at most one for each 64 slots, and at least one; one of
+/// them is the calling thread. The settings' idle limit is counted by the clock that is lent. If the settings' `proxy`
+/// is set, each target is first sent a line with the addresses of its client's connection.
 ///
 /// It returns once `stop_after` connections were opened, or `is_stopped` was set, and all connections that were
 /// opened are closed; or on a fault. Once no more may be opened, the listening socket is closed. When it returns,
@@ -134,7 +133,7 @@ fn timing_of<'a, C>(settings: &Settings, clock: &'a C) -> Timing<'a, C>
     }
 }
 
-/// Has what becomes of the connections counted there, if it is to be counted.
+/// Has connections counted in these statistics, if there are any.
 fn count_in<F: Front>(
     shared: &mut Shared<F>,
     statistics: Option<&Arc<Statistics>>,
@@ -147,7 +146,7 @@ fn count_in<F: Front>(
     Ok(())
 }
 
-/// Sets at which level the log has clients: at info, if this says so.
+/// Sets at which level clients are logged: at info if `log_clients`.
 fn log_in<F: Front>(shared: &mut Shared<F>, log_clients: bool)
     ensures { shared.new.claims ≡ shared.old.claims }
 {

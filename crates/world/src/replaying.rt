@@ -20,11 +20,11 @@ use std::alloc::Global;
 ///
 /// About the world after every list of events:
 ///
-/// - In each direction of a connection in a slot, the preamble and then the bytes that arrived are those that were sent,
-/// then the rest of the preamble, then those in the ring, then those that are unread; and if its end was passed on,
-/// that was after every byte (`bytes`). The preamble is the lead of the limits on the way to the target, and empty on
-/// the way back. What a closed connection sent is a prefix of the preamble and what arrived for it, and all of it if
-/// the connection was done (`closed`).
+/// - In each direction of a connection in a slot, the preamble and then the bytes that arrived are those that were
+///   sent, then the rest of the preamble, then those in the ring, then those that are unread; and if its end was passed
+///   on, that was after every byte (`bytes`). The preamble is the lead of the limits on the way to the target, and
+///   empty on the way back. What a closed connection sent is a prefix of the preamble and what arrived for it, and all
+///   of it if the connection was done (`closed`).
 /// - No connection was tried on a note or a ticket of another generation (`own`).
 /// - A connection failed only after a failed call, or after moving nothing for the idle limit (`failures`).
 /// - A connection that could move is due to be tried (`due`). While the accept flag is down, nobody waits at the
