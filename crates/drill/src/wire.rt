@@ -1,4 +1,4 @@
-// A wire whose calls the modelled kernel of its slot's machine answers.
+// A wire over an end of the modelled kernel of its slot's machine.
 ghost use Rattle.std.specs.Prelude.{◌≡◌, true};
 ghost use Rattle.relay_core.specs.Calls.{side_of};
 ghost use Rattle.engine.specs.Classes.{class_of};
