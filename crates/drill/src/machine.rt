@@ -10,7 +10,8 @@ use std::alloc::{AllocError, Global};
 use token::Side;
 use world::{Act, Event, Lead, Limits, Polling, Reported, World};
 
-/// A machine of one slot, which makes each event at once. Its kernel answers the calls of the server at this slot.
+/// A machine of one slot, which makes each event at once. Its kernel gives the replies to the server's calls at this
+/// slot.
 #[derive(Drop)]
 pub struct Machine {
     pub alloc: Global,

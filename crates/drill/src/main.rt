@@ -9,7 +9,7 @@
 //! for the header), `making.rt` makes the server, and `driver.rt` makes its threads' steps.
 //!
 //! `outside.rt` has what the server's calls reach in place of a system: a `machine.rt` for each slot, whose modelled
-//! kernel answers the calls there; for each poller a machine of its listener, and its expected state
+//! kernel gives the replies to the calls there; for each poller a machine of its listener, and its expected state
 //! (`poller_model.rt`); and what later calls get (`plan.rt`). `front.rt` is a poller's front, `wire.rt` one end of a
 //! connection, `gate.rt` the gate of turns, `clock.rt` the clock, and `logger.rt` the log. `round.rt` says to which
 //! events a poller's round amounts, `calls.rt` the calls of a turn, `turn.rt` what must hold of turns, and `checks.rt`

@@ -1,4 +1,4 @@
-// A wire whose calls the modelled kernel of its slot's machine answers.
+// A wire over an end of the modelled kernel of its slot's machine.
 ghost use Rattle.std.specs.Prelude.{◌≡◌};
 ghost use Rattle.engine.specs.Classes.{class_by};
 ghost use Rattle.engine.specs.Tallies.{counted};

@@ -59,7 +59,9 @@ fails w v late s call kind held a =
 one_call : (w : Way) (late : List Change) (s : Seen) (call : Call) (r : Reply) (e f : EndState) (reads : Bool) → Held w late s →
     after_call s.socket call r ≡ Some e → settled e late ≡ Some f → Waits (record w { socket = f; reads = reads }) late → (reads ≡ false → w.told ≡ false → Rests e) →
     Goes (record w { socket = f; reads = reads }) s late late (Called call r ∷ []) (Calls call r)
-one_call w late s call r e f reads held allowed due waits rests = late_stays (record s { socket = e }) (one_event s (record s { socket = e }) (Called call r) (rw allowed refl)) refl refl refl (record { due = due; waits = waits; rests = rests; queued = held.queued; owed = held.owed })
+one_call w late s call r e f reads held allowed due waits rests =
+    late_stays (record s { socket = e }) (one_event s (record s { socket = e }) (Called call r) (rw allowed refl)) refl refl refl
+    (record { due = due; waits = waits; rests = rests; queued = held.queued; owed = held.owed })
 
 -- a read: the wire reads, so nothing is late
 
