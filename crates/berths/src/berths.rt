@@ -82,7 +82,12 @@ impl<C, T> Berths<C, T> {
     }
 
     /// Takes the berth out of the place of a slot that the caller's seat holds. None means Gone: the place was empty.
-    pub fn take_out(&self, rt: &impl Wait, seat: &ClaimSeat, slot: usize) -> Option<Box<Berth<C, T>>>
+    pub fn take_out(
+        &self,
+        rt: &impl Wait,
+        seat: &ClaimSeat,
+        slot: usize,
+    ) -> Option<Box<Berth<C, T>>>
         requires inside { slot < self.now }
         requires holder { Holds seat.now slot }
     {

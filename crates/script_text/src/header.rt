@@ -10,8 +10,8 @@ use crate::limits::{MAX_BUDGET, MAX_IDLE, MAX_SLOTS, MAX_WORKERS};
 use crate::readers::{end_or, last, said, word};
 use crate::values::{is_hex_text, value_after};
 use crate::wrong::Wrong;
-use input::{Pieces, is};
 use flow::Flow;
+use input::{Pieces, is};
 use token::MAX_GENERATION;
 use world::{Lead, Limits};
 
