@@ -1,4 +1,4 @@
-//! Puts records in order, and finds out where a recording is no longer complete.
+//! Looks at the order of the records, and finds out where a recording is no longer complete.
 ghost use Rattle.std.specs.Prelude.{◌≡◌, ◌≢◌, ◌-◌, ◌<◌, ◌≤◌, ◌↔◌, ℕ, IfNone, IfSome, IsTrue, length, slice_index};
 ghost use Rattle.replaying.specs.Counts.{IsBegun, IsMissing};
 

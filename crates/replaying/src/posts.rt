@@ -75,6 +75,12 @@ impl Queue<'_> {
         None
     }
 
+    /// Passes over the sweeps that came before the last turn took its notes, however many. They stand in their order.
+    fn pass_over(&mut self, state: &State) {
+        let before = self.0.partition_point(|sweep| sweep.to <= state.taken_from);
+        self.0 = self.0.get(before..).unwrap_or(&[]);
+    }
+
     /// Takes the first post.
     fn take(&mut self) -> Option<Post> {
         let (first, next) = self.0.split_first()?;
@@ -103,6 +109,7 @@ impl Posts<'_> {
             _ if has_notes => return None,
             _ => {}
         }
+        self.sweeps.pass_over(state);
         match (report, self.sweeps.first(state, before)) {
             (None, None) => None,
             (Some(report), Some(sweep)) if sweep < report => self.sweeps.take(),
@@ -154,6 +161,7 @@ impl SlotReplay<'_> {
 
     /// Whatever was reported after the last turn took its notes was posted by the end, and so was each sweep.
     pub(crate) fn note_the_rest(&mut self) -> Result<(), Flaw> {
+        self.posts.sweeps.pass_over(&self.state);
         let report = self.posts.reports.first_after(&self.state);
         match report.or(self.posts.sweeps.first_after(&self.state)) {
             Some(post) => self.note(post),
