@@ -1,5 +1,5 @@
-//! What the program lends the server: the gate by which it says that clients can connect, and the clock by which it counts the
-//! idle limit.
+//! What the program lends the server: the gate by which it says that clients can connect, and the clock by which it
+//! counts the idle limit.
 use server::{Clock, Gate};
 use settings::LogLevel;
 use std::net::SocketAddr;
@@ -7,9 +7,8 @@ use std::sync::atomic::AtomicBool;
 use std::sync::atomic::Ordering::SeqCst;
 use std::time;
 
-/// Prints where the relay listens once all of its threads have been started. If that cannot be printed, no connection is
-/// opened from then on. At level `off` nothing more is logged
-/// but the cause of a fault that ends it.
+/// Prints where the relay listens once all of its threads have been started. If that cannot be printed, no connection
+/// is opened from then on. At level `off` nothing more is logged but the cause of a fault that ends it.
 #[derive(Drop)]
 pub struct Announcing<'a> {
     pub rt: HostRuntime,

@@ -37,7 +37,7 @@ fn main(rt: HostRuntime) -> ExitCode {
     > {
         let queue = logging::start(rt)?;
         let level = program::level_filter(settings.log);
-        // At level off, nothing is logged from then on that all threads have been started but the cause of a fault.
+        // At level off, once all threads have been started, only the cause of a fault is logged.
         let is_off = AtomicBool::new(false);
         let lines = Until {
             inner: Queued { rt, queue: &queue },
