@@ -175,7 +175,10 @@ fn is_wait(act: &Act) -> bool {
 /// Takes the last of these readings, by their counts, that is left in a window. Answers whether there is one.
 fn take_reading(left: &mut [(u64, bool)], window: &Window) -> bool {
     let below = left.partition_point(|reading| reading.0 < window.to);
-    for reading in left.iter_mut().take(below).rev() {
+    let Some(inside) = left.get_mut(..below) else {
+        return false;
+    };
+    for reading in inside.iter_mut().rev() {
         if reading.0 < window.from {
             return false;
         }
