@@ -26,7 +26,8 @@ use relay_core::Pair;
 use relay_log::{
     Cause, ClientsAt, Gone, Known, Logs, ServerFault, Why, log_gone, log_open, log_peer, logs_gone,
 };
-use std::alloc::Global;
+use std::alloc::{AllocError, Global};
+use std::net::SocketAddr;
 use std::sync::Wait;
 use token::{Side, Token, next_gen};
 
@@ -203,7 +204,7 @@ pub(crate) fn connect<F: Front, A: Moves<F>, N: Log>(
             boxed::<F, N>(rt, alloc, clients, berth)
         }
         Err(cause) => {
-            log_unopened::<F, N>(rt, clients, &client, cause);
+            log_unopened(rt, clients, F::peer(&client), client.error(), cause);
             Err(cause)
         }
     }
@@ -220,14 +221,22 @@ fn boxed<F: Front, N: Log>(
     ensures same { IfOk result (λ boxed. boxed.value ≡ berth) }
     ensures memory { IfErr result (λ cause. cause ≡ Cause.Memory) }
 {
-    match Box::new(alloc, berth) {
+    let (from, error) = (F::peer(&berth.client), berth.client.error());
+    match moved_to_heap(alloc, berth) {
         Ok(boxed) => Ok(boxed),
-        Err(failed) => {
-            let cause = Cause::Memory;
-            log_unopened::<F, N>(rt, clients, &failed.value.client, cause);
+        Err(refused) => {
+            let cause = Cause::from(refused);
+            log_unopened(rt, clients, from, error, cause);
             Err(cause)
         }
     }
+}
+
+/// A value in memory of its own. If there is none for it, it is dropped.
+fn moved_to_heap<T: Drop>(alloc: Global, value: T) -> Result<Box<T>, AllocError>
+    ensures { IfOk result (λ boxed. boxed.value ≡ value) }
+{
+    Ok(Box::new(alloc, value)?)
 }
 
 /// Starts the connection to the target, and makes the pair, at the second of the round. If targets are sent a line with
@@ -271,17 +280,23 @@ fn reach<F: Front, A: Moves<F>, N: Log>(
 }
 
 /// Logs whose connection could not be opened, and why, if the log takes that.
-fn log_unopened<F: Front, N: Log>(rt: &N, clients: ClientsAt, client: &F::Client, cause: Cause) {
+fn log_unopened<N: Log>(
+    rt: &N,
+    clients: ClientsAt,
+    from: Option<SocketAddr>,
+    error: Option<i32>,
+    cause: Cause,
+) {
     if logs_gone(rt, clients) {
         let gone = Gone {
             opened: None,
-            from: &Known(F::peer(client)),
+            from: &Known(from),
             connected: Some(false),
             up: 0,
             down: 0,
             seconds: 0,
             cause: &Why {
-                error: client.error(),
+                error,
                 word: cause.name(),
             },
         };
