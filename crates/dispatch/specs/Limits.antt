@@ -1,9 +1,13 @@
 -- Numbers of the server that clauses name. Part of the promises.
 use Rattle.std.specs.Prelude.{ℕ}
 
--- the most tickets that stay for turns of the poller's own thread while it has not found all workers busy
+-- the most turns of a poller's own thread after a round
 abbrev pub own_turns : ℕ
-own_turns = 16
+own_turns = 64
+
+-- how many light tickets stay with a poller before it looks for a worker that sleeps
+abbrev pub first_light : ℕ
+first_light = 16
 
 -- the most calls of such a turn
 abbrev pub own_budget : ℕ

@@ -43,7 +43,7 @@ pub use fullness::Fullness;
 pub use gate::{Gate, OpenGate};
 pub use hand::Hand;
 pub use heavy::HeavyMarks;
-pub use limits::{LISTENER, MAX_BATCH, MAX_OWN_TURNS, OWN_BUDGET, WAKER};
+pub use limits::{FIRST_LIGHT, LISTENER, MAX_BATCH, MAX_OWN_TURNS, OWN_BUDGET, WAKER};
 pub use part::Part;
 pub use parts::Parts;
 pub use putting::{give_slots, put_tickets};

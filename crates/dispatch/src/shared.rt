@@ -27,6 +27,8 @@ pub struct Shared<F: Front> {
     pub statistics: Option<Arc<Statistics>>,
     /// How many pollers found all their slots taken.
     pub full: Fullness,
+    /// Whether workers that sleep run light tickets, too: not where several threads poll, as many as work.
+    pub shares_light: bool,
     /// Which lines the log gets about clients, and at which level.
     pub clients: ClientsAt,
     pub ghost sized: { places ≡ claims.words },

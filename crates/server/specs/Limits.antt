@@ -1,5 +1,5 @@
 -- The limits of a server. Part of the promises.
-use Rattle.std.specs.Prelude.{ℕ, zero, suc, ◌+◌, ◌/◌, ◌%◌, nat_lt, if◌then◌else◌, List, map}
+use Rattle.std.specs.Prelude.{◌⊎◌, ℕ, ◌<◌, zero, suc, ◌+◌, ◌/◌, ◌%◌, nat_lt, if◌then◌else◌, List, map}
 use Rattle.std.specs.List.{range_with_len}
 
 -- How many connections the poller with this number may open, of all that the setting `stop_after` allows: with 0 as
@@ -11,3 +11,7 @@ share_of (suc n) pollers number = if nat_lt number (suc n % pollers) then suc n 
 -- the shares of this many pollers, in order
 abbrev pub shares_of : ℕ → ℕ → List ℕ
 shares_of stop_after pollers = map (λ (number : ℕ). share_of stop_after pollers number) (range_with_len 0 pollers)
+
+-- Workers run light tickets, too: a thread polls alone, or fewer poll than work
+abbrev pub SharesLight : ℕ → ℕ → Type 0
+SharesLight pollers workers = (pollers < 2) ⊎ (pollers < workers)

@@ -1,8 +1,8 @@
 //! What a server is made of, before its threads run.
-ghost use Rattle.std.specs.Prelude.{◌≡◌, ◌+◌, ◌-◌, ◌<◌, ◌≤◌, ◌∷◌, length, replicate, map, IfOk, IfErr};
+ghost use Rattle.std.specs.Prelude.{◌≡◌, ◌↔◌, ◌+◌, ◌-◌, ◌<◌, ◌≤◌, ◌∷◌, length, replicate, map, IfOk, IfErr, IsTrue};
 ghost use Rattle.claims.specs.Seats.{fresh_seat};
 ghost use Rattle.ready.specs.Steps.{unused, opened as filled};
-ghost use Rattle.server.specs.Limits.{share_of};
+ghost use Rattle.server.specs.Limits.{SharesLight, share_of};
 ghost use Rattle.dispatch.specs.Splits.{each_part, part_of, parts_of};
 ghost use Rattle.server.specs.Begins.{HasBegun, PollersBegin, ThreadsBegin};
 ghost use Rattle.settings.specs.Pollers.{pollers_for};
@@ -55,8 +55,7 @@ where
     let threads = split.pollers() + settings.workers;
     let pollers = pollers_of(alloc, settings, split, fronts)?;
     let free = frees_of(rt, alloc, split, settings.workers)?;
-    let full = Fullness::new(split.pollers());
-    let (shared, parts) = shared_of(alloc, settings, threads, waker, full)?;
+    let (shared, parts) = shared_of(alloc, settings, threads, waker, split.pollers())?;
     Ok(Server {
         shared,
         parts,
@@ -171,13 +170,13 @@ fn share_of(stop_after: u32, pollers: usize, number: usize) -> u64
     }
 }
 
-/// What this many threads share, and for each of them a seat and an end of the queue of tickets.
+/// What this many threads share, of which this many poll, and for each of them a seat and an end of the queue of tickets.
 fn shared_of<F: Front>(
     alloc: Global,
     settings: &Settings,
     threads: usize,
     waker: F::Waker,
-    full: Fullness,
+    pollers: usize,
 ) -> Result<(Shared<F>, Parts), ServerFault>
 where
     F::Waker: Drop,
@@ -187,6 +186,7 @@ where
     ensures waker { IfOk result (λ made. made.0.waker ≡ waker) }
     ensures seats { IfOk result (λ made. made.1.seats.items ≡ replicate threads (fresh_seat made.0.claims)) }
     ensures ready { IfOk result (λ made. made.1.ready.items ≡ replicate threads (unused settings.now.slots)) }
+    ensures light { IfOk result (λ made. IsTrue made.0.shares_light ↔ SharesLight pollers settings.now.workers) }
     ensures refused { IfErr result (λ fault. fault ≡ ServerFault.NoMemory) }
 {
     let places = Places::new(alloc, settings.slots)?;
@@ -197,10 +197,19 @@ where
         waker,
         budget: settings.budget as usize,
         statistics: None,
-        full,
+        full: Fullness::new(pollers),
+        shares_light: shares_light(pollers, settings.workers),
         clients: ClientsAt::Debug,
     };
     Ok((shared, parts))
+}
+
+/// Whether workers run light tickets, too. Where several threads poll, as many as work, a worker that sleeps says nothing of
+/// an idle processor: it would wait for one, and the tickets that it took with it.
+fn shares_light(pollers: usize, workers: usize) -> bool
+    ensures { IsTrue result ↔ SharesLight pollers workers }
+{
+    pollers < 2 || pollers < workers
 }
 
 /// The claim words, and for each thread a seat and an end of the queue of tickets.

@@ -26,6 +26,7 @@ use Rattle.dispatch.specs.Hands.{HandState}
 use Rattle.dispatch.specs.Outgoing.{outgoing, Inserted, tickets_out, slots_out, without_first, TookNothing}
 use Rattle.threads.proofs.Divided.{End, set_at}
 use Rattle.dispatch.specs.Heavy.{looked_at}
+use Rattle.dispatch.specs.Limits.{own_turns}
 use Rattle.rounds.specs.Pollers.{PollerState}
 use Rattle.rounds.specs.Rounds.{RoundDone, RoundRefused, EndedEarly, ListenerKept, ListensToOpen}
 use Rattle.turns.specs.Shares.{AreShared, OneShared, TicketsShared}
@@ -551,7 +552,7 @@ own_worn why answer a b (fault, is, was) worn ran =
 
 -- in the next turn the seat was worn
 pub cut_worn : (count : ℕ) (why : Why) (p r q : PollerState) (a b c : Own) → WornEnd why c → SharedAndRan count [] p r a b → OwnTurnsRan 1 (faults_by why) b c
-    → q ≡ record p { heavy = q.heavy } → count < 16 → TurnsCut why p q a c
+    → q ≡ record p { heavy = q.heavy } → count < own_turns → TurnsCut why p q a c
 cut_worn count why p r q a b c worn made turn poller few = record {
   count = count;
   made = record {

@@ -13,6 +13,7 @@ use Rattle.dispatch.specs.declared.shared.Own.{Own}
 use Rattle.turns.specs.declared.worker.Worked.{Worked}
 use Rattle.turns.specs.declared.worker.Worked.TheVariants as worked
 use Rattle.rounds.specs.Acts.{Act, ActsMade, IsPost, IsTry, due_of}
+use Rattle.dispatch.specs.Limits.{own_turns}
 use Rattle.dispatch.specs.Outgoing.{TookNothing, tickets_out, slots_out}
 use Rattle.dispatch.specs.Splits.{IsIn}
 use Rattle.rounds.specs.Pollers.{PollerState, HasOpenedAll}
@@ -167,20 +168,20 @@ pub record SharedAndRan (count : ℕ) (faults : List ServerFault) (p q : PollerS
   pub turns : OwnTurnsRan count faults shared b
   pub poller : q ≡ record p { heavy = q.heavy }
 
--- After a round the tickets in hand were shared, and 16 of those that stayed were run, or fewer: then none is left, or
+-- After a round the tickets in hand were shared, and 64 of those that stayed were run, or fewer: then none is left, or
 -- no slot more fits in hand
 pub record TurnsAfter (p q : PollerState) (a b : Own) : Type 0 where
   pub count : ℕ
   pub made : SharedAndRan count [] p q a b
-  pub most : count ≤ 16
-  pub ended : (count ≡ 16) ⊎ NoOwnTurn b
+  pub most : count ≤ own_turns
+  pub ended : (count ≡ own_turns) ⊎ NoOwnTurn b
 
--- After a round the tickets in hand were shared, and fewer than 16 of those that stayed were run, and then the one, if
+-- After a round the tickets in hand were shared, and fewer than 64 of those that stayed were run, and then the one, if
 -- it was a turn, that met the fault by which the thread ended
 pub record TurnsCut (why : Why) (p q : PollerState) (a b : Own) : Type 0 where
   pub count : ℕ
   pub made : SharedAndRan (count + length (faults_by why)) (faults_by why) p q a b
-  pub few : count < 16
+  pub few : count < own_turns
   pub reason : (why ≡ FaultFound) ⊎ WornEnd why b
 
 -- no ticket was taken out of the queue

@@ -95,7 +95,7 @@ where
         unreachable!()
     }
 
-    /// One step of the thread: a round, and the turns of the tickets that it leaves to the poller's own thread, 16 at
+    /// One step of the thread: a round, and the turns of the tickets that it leaves to the poller's own thread, 64 at
     /// most. It is refused if the thread ends: the poller is over, a fault is recorded before the round or before one
     /// of the turns, or this step met one.
     pub fn step<G: Gate, C: Clock, R: Wait + Log, S: StopFlag>(
@@ -187,8 +187,9 @@ where
         ensures turns { OnOk result (TurnsAfter self.old.poller self.new.poller self.old.own self.new.own) }
         ensures cut { IfErr result (λ ended. TurnsCut ended.why self.old.poller self.new.poller self.old.own self.new.own) }
     {
+        let shares_light = self.shared.shares_light;
         let poller = &mut self.poller;
-        share_tickets(context.rt, &mut self.own, &mut poller.heavy);
+        share_tickets(context.rt, shares_light, &mut self.own, &mut poller.heavy);
         for _turn in 0..MAX_OWN_TURNS {
             let seen = match context.ending.look() {
                 Ok(seen) => seen,

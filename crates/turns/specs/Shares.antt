@@ -4,7 +4,7 @@ use Rattle.std.specs.Prelude.{◌≡◌, ◌⊎◌, ℕ, suc, ◌<◌, List, [],
 use Rattle.ready.specs.declared.ticket.Ticket.{Ticket}
 use Rattle.ready.specs.Steps.{EndState, PutOne, HeldOnce}
 use Rattle.dispatch.specs.Heavy.{looked_at}
-use Rattle.dispatch.specs.Limits.{own_turns}
+use Rattle.dispatch.specs.Limits.{first_light}
 use Rattle.dispatch.specs.declared.shared.Own.{Own}
 
 -- the ticket was put
@@ -24,7 +24,7 @@ IsLight heavy ticket = slice_index heavy ticket.slot ≡ 0
 -- the ticket is light, and fewer than 16 have stayed
 pub record Stays (stayed : ℕ) (heavy : List ℕ) (ticket : Ticket) : Type 0 where
   pub light : IsLight heavy ticket
-  pub few : stayed < own_turns
+  pub few : stayed < first_light
 
 -- What becomes of one ticket in hand, after this many that stayed: a light one stays while fewer than 16 have, and
 -- later ones may. Any other is put, or is in hand if the queue was full at one moment. Then this many have stayed, this

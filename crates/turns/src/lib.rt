@@ -23,9 +23,9 @@
 //!   `give_slots` of `dispatch`: `all`).
 //! - The function that takes the notes and makes the calls (`play`) is passed neither an allocator nor `Wait`, without
 //!   which it can wait for no lock. The connection's place is locked before it, and again after it.
-//! - A light ticket after the first 16 is kept only by a look for it alone, which found no end of the ready queue
-//!   asleep (`keep`: `early`; `AllBusy` of `ready`), and the terms of an own turn have at most 8 calls
-//!   (`Terms::own`).
+//! - A light ticket after the first 16, if workers run such tickets, is kept only by a look for it alone, which found
+//!   no end of the ready queue asleep (`keep`: `early`, `alone`; `AllBusy` of `ready`), and the terms of an own turn
+//!   have at most 8 calls (`Terms::own`).
 #![tactic(auto)]
 
 mod giving;

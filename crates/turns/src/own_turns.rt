@@ -1,9 +1,9 @@
 //! The turns that the poller's thread runs by itself, so that no worker has to be woken for them.
-ghost use Rattle.std.specs.Prelude.{◌≡◌, ◌↔◌, ◌<◌, ◌≤◌, ◌∷◌, ◌++◌, [], length, slice_get, Ok, Some, None, IfErr, IfSome, IsSome, true};
+ghost use Rattle.std.specs.Prelude.{◌≡◌, ◌↔◌, ◌<◌, ◌≤◌, ◌∷◌, ◌++◌, [], length, slice_get, Ok, Some, None, IfErr, IfSome, IsSome, false, true};
 ghost use Rattle.claims.specs.Seats.{HoldsNothing, OnlyAt};
 ghost use Rattle.dispatch.specs.Outgoing.{TookNothing};
 ghost use Rattle.dispatch.specs.Heavy.{looked_at};
-ghost use Rattle.dispatch.specs.Limits.{own_turns};
+ghost use Rattle.dispatch.specs.Limits.{first_light};
 ghost use Rattle.turns.specs.Shares.{IsLight, Stays, TicketsShared};
 ghost use Rattle.dispatch.specs.Posts.{AtRest, OnlyWorn};
 ghost use Rattle.turns.specs.Turns.{marks_after, NoOwnTurn, OwnTurn, OwnTurnInOrder};
@@ -11,7 +11,7 @@ ghost use Rattle.turns.specs.Turns.{marks_after, NoOwnTurn, OwnTurn, OwnTurnInOr
 use crate::giving::put_ticket;
 use crate::terms::Terms;
 use crate::worker::{Worked, turn_of};
-use dispatch::{Clock, Front, Gate, Hand, HeavyMarks, MAX_OWN_TURNS, Moves, Own, Shared, Timing};
+use dispatch::{Clock, FIRST_LIGHT, Front, Gate, Hand, HeavyMarks, Moves, Own, Shared, Timing};
 use log::Log;
 use ready::{AllBusy, ReadyQueue, Ticket};
 use relay_log::ServerFault;
@@ -22,15 +22,18 @@ use std::sync::Wait;
 enum Stay {
     /// Fewer than 16 have stayed.
     Early,
+    /// Workers run no light tickets.
+    Alone,
     /// Nobody sleeps who could run it at once.
     Busy(AllBusy),
 }
 
 /// Puts the tickets in hand that the poller's thread does not run itself, so that the workers begin with them: those of
-/// connections that spent all of its budget a short while ago, and, after the first 16 that stay, every ticket from the
-/// point where a worker's end of the ready queue is found asleep. The others stay in hand, in order, since workers that
-/// are all awake may all be at work on much larger turns. So do those that the queue refuses.
-pub fn share_tickets<R: Wait>(rt: &R, own: &mut Own, heavy: &mut HeavyMarks)
+/// connections that spent all of its budget a short while ago, and, if workers run light tickets, too, every ticket after
+/// the first 16 that stay, from the point where a worker's end of the ready queue is found asleep. The others stay in
+/// hand, in order, since workers that are all awake may all be at work on much larger turns. So do those that the queue
+/// refuses.
+pub fn share_tickets<R: Wait>(rt: &R, shares_light: bool, own: &mut Own, heavy: &mut HeavyMarks)
     requires idle { HoldsNothing own.old.seat }
     ensures shared { TicketsShared heavy.old heavy.new own.old own.new }
 {
@@ -40,8 +43,8 @@ pub fn share_tickets<R: Wait>(rt: &R, own: &mut Own, heavy: &mut HeavyMarks)
         let Some(ticket) = own.hand.take_ticket() else {
             return;
         };
-        if let Some(stay) = stays(&own.ready, heavy, ticket, kept, &mut asleep) {
-            keep(&mut own.hand, ticket, kept, stay);
+        if let Some(stay) = stays(&own.ready, shares_light, heavy, ticket, kept, &mut asleep) {
+            keep(&mut own.hand, ticket, kept, shares_light, stay);
             kept += 1;
         } else {
             put_ticket(rt, &mut (), own, ticket);
@@ -54,6 +57,7 @@ pub fn share_tickets<R: Wait>(rt: &R, own: &mut Own, heavy: &mut HeavyMarks)
 /// wake for each would cost more than their turns.
 fn stays(
     ready: &ReadyQueue,
+    shares_light: bool,
     heavy: &mut HeavyMarks,
     ticket: Ticket,
     kept: usize,
@@ -61,16 +65,20 @@ fn stays(
 ) -> Option<Stay>
     ensures light { IsSome result → IsLight heavy.old ticket }
     ensures stays { Stays kept heavy.old ticket → IsSome result }
-    ensures early { result ≡ Some Stay.Early → kept < own_turns }
-    ensures later { asleep.old ≡ true → own_turns ≤ kept → result ≡ None }
+    ensures early { result ≡ Some Stay.Early → kept < first_light }
+    ensures alone { result ≡ Some Stay.Alone → shares_light ≡ false }
+    ensures later { asleep.old ≡ true → shares_light ≡ true → first_light ≤ kept → result ≡ None }
     ensures asleep { (asleep.old ≡ true → asleep.new ≡ true) × (result ≡ None → IsLight heavy.old ticket → asleep.new ≡ true) }
     ensures marks { heavy.new ≡ looked_at ticket.slot heavy.old }
 {
     if !heavy.is_light(ticket.slot) {
         return None;
     }
-    if kept < MAX_OWN_TURNS {
+    if kept < FIRST_LIGHT {
         return Some(Stay::Early);
+    }
+    if !shares_light {
+        return Some(Stay::Alone);
     }
     if *asleep {
         return None;
@@ -80,10 +88,12 @@ fn stays(
     busy.map(Stay::Busy)
 }
 
-/// Keeps a ticket in hand, after this many that stayed: after the first 16 only by a look for this ticket alone.
-fn keep(hand: &mut Hand, ticket: Ticket, _kept: usize, _stay: Stay)
+/// Keeps a ticket in hand, after this many that stayed: after the first 16, if workers run light tickets, too, only by
+/// a look for this ticket alone.
+fn keep(hand: &mut Hand, ticket: Ticket, _kept: usize, _shares_light: bool, _stay: Stay)
     requires room { length hand.old.tickets < hand.old.capacity }
-    requires early { _stay ≡ Stay.Early → _kept < own_turns }
+    requires early { _stay ≡ Stay.Early → _kept < first_light }
+    requires alone { _stay ≡ Stay.Alone → _shares_light ≡ false }
     ensures kept { hand.new ≡ record hand.old { tickets = hand.old.tickets ++ ticket ∷ [] } }
 {
     hand.keep_ticket(ticket);
