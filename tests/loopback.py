@@ -176,6 +176,10 @@ class Relay:
         text = pathlib.Path(f"/proc/{self.process.pid}/task/{task or self.process.pid}/status").read_text()
         return int(re.search(rf"^{name}:\s+(\d+)", text, re.M)[1])
 
+    def system_call(self, task):
+        """The number of the system call in which one of its threads is, as a word (proc(5))."""
+        return pathlib.Path(f"/proc/{self.process.pid}/task/{task}/syscall").read_text().split()[0]
+
     def run_time(self, tasks):
         """How many seconds these threads have run."""
         texts = [pathlib.Path(f"/proc/{self.process.pid}/task/{task}/schedstat").read_text() for task in tasks]

@@ -13,6 +13,7 @@ import time
 from loopback import WAIT, Relay, echo, in_thread, port_of, target, unheard, until
 from shared import answer_and_read, asked, having, is_silent, left_out, move_much, numbers_in, served
 
+FUTEX = "202"  # the number of the system call in which a worker sleeps
 PTRACE_SEIZE, PTRACE_INTERRUPT, PTRACE_DETACH, WALL = 0x4206, 0x4207, 17, 0x40000000  # ptrace(2), waitpid(2)
 
 
@@ -212,23 +213,26 @@ def small_messages_wait_for_no_bulk():
     assert many < 5 * few + 0.008
 
 
-# refuses light_ticket_kept_beside_a_sleeper: a poller keeps all its light tickets, though a worker sleeps
+# refuses light_ticket_kept_beside_a_sleeper: a poller that polls alone keeps all its light tickets, though a worker sleeps
+# refuses light_tickets_put_where_as_many_poll: they go to workers that sleep, though as many threads poll as work
 def wakes_workers_for_what_is_over_16():
-    relay = Relay(target(echo), recorded=False, slots=64, workers=1, log="off")
-    clients = served(relay, 48)
-    others = [task for task in relay.tasks() if task != str(relay.process.pid)]
-
-    def worked(many):
-        """How long other threads than the poller's run, by a burst of this many."""
+    for workers, is_shared in (1, True), (2, False):
+        relay = Relay(target(echo), recorded=False, slots=64 * workers, workers=workers, log="off")
+        clients = served(relay, 48 * workers)
         time.sleep(0.1)
-        before = relay.run_time(others)
-        burst(relay, clients[:many])
-        time.sleep(0.1)
-        return relay.run_time(others) - before
+        others = [task for task in relay.tasks() if relay.system_call(task) == FUTEX]
 
-    # That the relay is stopped wakes each thread as often by either.
-    few, many = [worked(16) for _ in range(5)], [worked(48) for _ in range(5)]
-    assert sum(many) > 2 * sum(few)
+        def worked(many):
+            """How long other threads than the pollers run, by a burst of this many."""
+            time.sleep(0.1)
+            before = relay.run_time(others)
+            burst(relay, clients[:many])
+            time.sleep(0.1)
+            return relay.run_time(others) - before
+
+        # That the relay is stopped wakes each thread as often by either.
+        few, many = [worked(16) for _ in range(5)], [worked(len(clients)) for _ in range(5)]
+        assert len(others) >= workers and (sum(many) > 2 * sum(few)) == is_shared
 
 
 def runs_as_many_threads_as_are_set():

@@ -3,7 +3,7 @@ use Rattle.std.specs.Prelude.{ℕ}
 
 -- the most turns of a poller's own thread after a round
 abbrev pub own_turns : ℕ
-own_turns = 64
+own_turns = 32
 
 -- how many light tickets stay with a poller before it looks for a worker that sleeps
 abbrev pub first_light : ℕ

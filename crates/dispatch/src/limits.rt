@@ -4,7 +4,7 @@
 pub const MAX_BATCH: usize = 256;
 
 /// The most turns that the poller's thread runs after one round.
-pub const MAX_OWN_TURNS: usize = 64;
+pub const MAX_OWN_TURNS: usize = 32;
 
 /// This many light tickets stay with the poller before it looks for a worker that sleeps.
 pub const FIRST_LIGHT: usize = 16;

@@ -168,7 +168,7 @@ pub record SharedAndRan (count : ℕ) (faults : List ServerFault) (p q : PollerS
   pub turns : OwnTurnsRan count faults shared b
   pub poller : q ≡ record p { heavy = q.heavy }
 
--- After a round the tickets in hand were shared, and 64 of those that stayed were run, or fewer: then none is left, or
+-- After a round the tickets in hand were shared, and 32 of those that stayed were run, or fewer: then none is left, or
 -- no slot more fits in hand
 pub record TurnsAfter (p q : PollerState) (a b : Own) : Type 0 where
   pub count : ℕ
@@ -176,7 +176,7 @@ pub record TurnsAfter (p q : PollerState) (a b : Own) : Type 0 where
   pub most : count ≤ own_turns
   pub ended : (count ≡ own_turns) ⊎ NoOwnTurn b
 
--- After a round the tickets in hand were shared, and fewer than 64 of those that stayed were run, and then the one, if
+-- After a round the tickets in hand were shared, and fewer than 32 of those that stayed were run, and then the one, if
 -- it was a turn, that met the fault by which the thread ended
 pub record TurnsCut (why : Why) (p q : PollerState) (a b : Own) : Type 0 where
   pub count : ℕ

@@ -95,7 +95,7 @@ where
         unreachable!()
     }
 
-    /// One step of the thread: a round, and the turns of the tickets that it leaves to the poller's own thread, 64 at
+    /// One step of the thread: a round, and the turns of the tickets that it leaves to the poller's own thread, 32 at
     /// most. It is refused if the thread ends: the poller is over, a fault is recorded before the round or before one
     /// of the turns, or this step met one.
     pub fn step<G: Gate, C: Clock, R: Wait + Log, S: StopFlag>(
