@@ -1,7 +1,6 @@
 // A wire over an end of the modelled kernel of its slot's machine.
 ghost use Rattle.std.specs.Prelude.{◌≡◌};
-ghost use Rattle.engine.specs.Classes.{class_by};
-ghost use Rattle.engine.specs.Tallies.{counted};
+ghost use Rattle.engine.specs.Classes.{class_by, counted};
 
 use crate::calls::Asked;
 use crate::outside::OutsideCell;

@@ -1,5 +1,6 @@
--- What the errors of read(2), write(2), connect(2) and shutdown(2) mean to the relay. Part of the promises.
-use Rattle.std.specs.Prelude.{Bool, true, false, not, ◌&&◌, if◌then◌else◌}
+-- What the errors of read(2), write(2), connect(2) and shutdown(2) mean to the relay, and what a wire keeps about its
+-- answers. Part of the promises.
+use Rattle.std.specs.Prelude.{Bool, true, false, not, ◌&&◌, if◌then◌else◌, ℕ, ◌+◌, ◌%◌, ◌^◌}
 use Rattle.std.specs.declared.io.ErrorKind.{ErrorKind}
 use Rattle.std.specs.declared.io.ErrorKind.TheVariants.{ConnectionReset, BrokenPipe, ConnectionAborted, ConnectionRefused, NotConnected, TimedOut, WouldBlock, Interrupted, Other}
 use Rattle.relay_core.specs.declared.Kind.{Kind}
@@ -58,3 +59,28 @@ pending_kind Interrupted = Other
 pending_kind WouldBlock = Other
 pending_kind NotConnected = Other
 pending_kind error = error
+
+-- whether its socket is known to be connected, how many answers were faults, and how many "would block"
+pub record Tallied : Type 0 where
+  pub joined : Bool
+  pub faults : ℕ
+  pub blocks : ℕ
+
+abbrev pub tally : Bool → ℕ → ℕ → Tallied
+tally joined faults blocks = record { joined = joined; faults = faults; blocks = blocks }
+
+abbrev pub connected : Tallied → Tallied
+connected t = record t { joined = true }
+
+-- both counts wrap around at 2^64
+abbrev pub fault_more : Tallied → Tallied
+fault_more t = record t { faults = (t.faults + 1) % 2 ^ 64 }
+
+abbrev pub block_more : Tallied → Tallied
+block_more t = record t { blocks = (t.blocks + 1) % 2 ^ 64 }
+
+-- an error of this class was counted: an interruption in neither count
+abbrev pub counted : Class → Tallied → Tallied
+counted class.Interrupted t = t
+counted class.Blocked t = block_more t
+counted (class.Failed kind) t = fault_more t

@@ -1,8 +1,5 @@
 -- The crate's definitions. The first line of each file says whether the promises need it.
 pub mod Classes
-pub mod Tallies
-pub mod Asked
 pub mod Wires
 pub mod Turns
 pub mod Steps
-pub mod Scripts

@@ -9,10 +9,8 @@ use Rattle.relay_core.specs.declared.call.Call.{Call}
 use Rattle.relay_core.specs.Calls.{side_of}
 use Rattle.relay_core.specs.Pairs.{PairState}
 use Rattle.relay_core.specs.Replies.{AnswerValue, Blocked, Interrupted, Failed, fits, after}
-use Rattle.relay_core.specs.Runs.{answered}
-use Rattle.relay_core.specs.Moved.{brought, carried}
-use Rattle.engine.specs.Asked.{Asked, Given}
-use Rattle.engine.specs.Wires.{WireView, Rises}
+use Rattle.relay_core.specs.Runs.{answered, brought, carried}
+use Rattle.engine.specs.Wires.{Asked, Given, WireView, Rises}
 use Rattle.engine.specs.Turns.{asked, made, is_failed, is_blocked, way_from, way_to, IsCalled}
 
 -- the answers that an error of this kind may be

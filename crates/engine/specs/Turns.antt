@@ -19,14 +19,12 @@ use Rattle.relay_core.specs.Calls.{side_of, direction_of}
 use Rattle.relay_core.specs.Pairs.{PairState, verdict}
 use Rattle.relay_core.specs.Order.{next_call, offer}
 use Rattle.relay_core.specs.Replies.{AnswerValue, Bytes, End, Wrote, Joined, Shut, Blocked, Interrupted, Failed}
-use Rattle.relay_core.specs.Runs.{answered, over}
+use Rattle.relay_core.specs.Runs.{answered, over, all_brought, all_carried}
 use Rattle.relay_core.specs.Idle.{expired}
 use Rattle.relay_core.specs.Laws.{IsOverdue}
-use Rattle.relay_core.specs.Moved.{all_brought, all_carried}
 use Rattle.engine.specs.Classes.{kind_of_error}
-use Rattle.engine.specs.Asked as ask
-use Rattle.engine.specs.Asked.{Asked, Given, Brought, Took, Done, Refused}
-use Rattle.engine.specs.Wires.{WireView, Rises}
+use Rattle.engine.specs.Wires as ask
+use Rattle.engine.specs.Wires.{Asked, Given, Brought, Took, Done, Refused, WireView, Rises}
 use Rattle.engine.specs.declared.outcome.Turn.{Turn}
 use Rattle.engine.specs.declared.outcome.Turn.TheVariants as turn
 

@@ -1,13 +1,28 @@
--- What a wire's calls do to it. Part of the promises. They change the bytes that it specifies, and its counts of faults
--- and of answers "would block".
-use Rattle.std.specs.Prelude.{◌≡◌, ◌⊎◌, ℕ, ◌+◌, ◌%◌, ◌^◌, ◌≤◌, List, [], length, take, MatchResult}
-use Rattle.std.specs.Prelude.{Option}
-use Rattle.std.specs.Prelude.{None}
-use Rattle.std.specs.Prelude.{Result, Ok, Err}
+-- What is asked of a wire, call by call, what it gives, and what that does to it. Part of the promises. A wire's calls
+-- change the bytes that it specifies, and its counts of faults and of answers "would block".
+use Rattle.std.specs.Prelude.{ℕ, List, ◌≡◌, ◌⊎◌, ◌+◌, ◌%◌, ◌^◌, ◌≤◌, [], length, take, MatchResult, Option, None, Result, Ok, Err, ◌∷◌, ◌++◌}
+use Rattle.std.specs.declared.io.ErrorKind.{ErrorKind}
 use Rattle.std.specs.declared.io.Error.{Error}
 use Rattle.std.specs.IoError.{error_kind}
 use Rattle.std.specs.Io.KnownBytes.{Consumes, Keeps}
-use Rattle.engine.specs.Asked.{Given, Brought, Took, Done, Refused}
+use Rattle.engine.specs.declared.scripted.Play.{Play}
+use Rattle.engine.specs.declared.scripted.Play.TheVariants.{Bytes}
+
+-- one call: a read of at most this many bytes, a write that offers these, the question whether connect(2)
+-- has ended, or a shutdown
+pub data Asked : Type 0 where
+  Read : ℕ → Asked
+  Write : List ℕ → Asked
+  Join : Asked
+  Shut : Asked
+
+-- what a call gives: a read these bytes, and none at the end of input; a write took this many; a join or a
+-- shutdown succeeded; or an error of this kind
+pub data Given : Type 0 where
+  Brought : List ℕ → Given
+  Took : ℕ → Given
+  Done : Given
+  Refused : ErrorKind → Given
 
 -- what a wire shows: the bytes left to read and those written, where it shows them, and how many of its
 -- answers were faults, and how many "would block"
@@ -74,3 +89,13 @@ write_gave (Err error) = Refused (error_kind error)
 abbrev pub call_gave : {T : Type 0} → Result T Error → Given
 call_gave (Ok answer) = Done
 call_gave (Err error) = Refused (error_kind error)
+
+-- the bytes that an in-memory wire has left to read by a play
+abbrev pub bytes_in : Play → List ℕ
+bytes_in (Bytes bytes) = bytes.items
+bytes_in play = []
+
+-- the bytes of all plays
+abbrev pub bytes_of : List Play → List ℕ
+bytes_of [] = []
+bytes_of (play ∷ plays) = bytes_in play ++ bytes_of plays

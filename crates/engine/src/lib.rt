@@ -5,12 +5,11 @@
 //! "would block", and [`turn`] reads those counts to tell the two kinds of error apart. [`class_by`] is the rule by
 //! which wires count, and [`Tally`] counts by it. [`ScriptWire`] is an in-memory wire that plays a list of answers.
 //!
-//! The definitions are in `specs/`: what is asked of a wire and what it gives in `Asked.antt`, what its calls do in
-//! `Wires.antt`, the classes of errors in `Classes.antt`, and what a turn does in `Turns.antt`.
+//! The definitions are in `specs/`: what is asked of a wire, what it gives and what its calls do in `Wires.antt`, the
+//! classes of errors and their counts in `Classes.antt`, and what a turn does in `Turns.antt`.
 #![tactic(auto)]
 
 mod class;
-mod moment;
 mod outcome;
 mod scripted;
 mod step;
@@ -19,9 +18,8 @@ mod turning;
 mod wire;
 
 pub use class::{Class, class_by, class_of, error_of, kind_of, pending};
-pub use moment::Moment;
 pub use outcome::Turn;
 pub use scripted::{Play, PlayList, ScriptWire};
 pub use tally::Tally;
-pub use turning::{turn, turn_with};
+pub use turning::{Moment, turn, turn_with};
 pub use wire::Wire;

@@ -1,9 +1,8 @@
 //! An in-memory wire that plays lists of answers, for tests.
 ghost use Rattle.std.specs.Prelude.{◌≡◌, ◌≤◌, Some, [], ◌++◌, take, drop, length, vec_len, IfOk, IfErr};
 ghost use Rattle.std.specs.IoError.{error_kind};
-ghost use Rattle.engine.specs.Classes.{class_by};
-ghost use Rattle.engine.specs.Scripts.{bytes_of};
-ghost use Rattle.engine.specs.Tallies.{counted};
+ghost use Rattle.engine.specs.Classes.{class_by, counted};
+ghost use Rattle.engine.specs.Wires.{bytes_of};
 
 use crate::class::error_of;
 use crate::tally::Tally;
@@ -68,8 +67,7 @@ pub struct ScriptWire {
 
 impl Model for ScriptWire {
     ghost use Rattle.std.specs.Prelude.{Some};
-    ghost use Rattle.engine.specs.Scripts.{bytes_of};
-    ghost use Rattle.engine.specs.Wires.{WireView};
+    ghost use Rattle.engine.specs.Wires.{bytes_of, WireView};
 
     ghost Value = { WireView };
 

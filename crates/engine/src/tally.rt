@@ -1,6 +1,5 @@
 ghost use Rattle.std.specs.Prelude.{◌≡◌};
-ghost use Rattle.engine.specs.Classes.{class_by};
-ghost use Rattle.engine.specs.Tallies.{tally, connected, counted, fault_more};
+ghost use Rattle.engine.specs.Classes.{class_by, tally, connected, counted, fault_more};
 
 use crate::class::{Class, class_by};
 use relay_core::CallKind;
@@ -17,7 +16,7 @@ pub struct Tally {
 }
 
 impl Model for Tally {
-    ghost use Rattle.engine.specs.Tallies.{Tallied, tally};
+    ghost use Rattle.engine.specs.Classes.{Tallied, tally};
 
     ghost Value = { Tallied };
 

@@ -5,11 +5,19 @@ ghost use Rattle.relay_core.specs.Laws.{IsPossible, AnswersAreToNextCalls, Calls
 ghost use Rattle.engine.specs.Steps.{IsMove};
 ghost use Rattle.engine.specs.Turns.{outcome_of, IsServed, IsTurn};
 
-use crate::moment::Moment;
 use crate::outcome::Turn;
 use crate::step::step;
 use crate::wire::Wire;
 use relay_core::{Call, MAX_READ, Pair, Side, Verdict, laws};
+
+/// When a turn is made, by a clock that counts whole seconds, and the idle limit that it is made under.
+#[derive(Clone, Copy)]
+pub struct Moment {
+    /// The second.
+    pub second: u64,
+    /// How many seconds a connection may move nothing, while no call is worth trying, before it fails; 0 for ever.
+    pub limit: u64,
+}
 
 /// Makes the calls that a pair asks for, at most `budget` of them (1 to 1,024), each on the wire of its side, and
 /// gives the pair the answers. A pair that is done or failed asks for none. It allocates no memory.

@@ -1,71 +1,34 @@
--- What is late, and the socket as it is once that has come.
-use Rattle.readiness.proofs.Prelude.{◌≡◌, ℕ, Bool, true, false, not, ◌&&◌, ◌||◌, List, [], ◌∷◌, ◌++◌, map, Option, Some, None, option_map, option_and_then, refl, ap, second_so, guard, Told, EndState, is_nonempty, Change, Bytes, Fin, Error, change_of, Seen, Event, Came, event, events, replies_in, came_in}
-use Rattle.readiness.proofs.Flags.{is_down, or_left}
+-- What is late, the socket as it is once that has come, and what every step keeps.
+use Rattle.std.proofs.Common.{◌≡◌, ◌⊎◌, Bool, true, false, ◌||◌, List, [], ◌∷◌, ◌++◌, ℕ, map, Option, Some, None, option_and_then, refl, ap, ◌∙◌, inl, inr}
+use Rattle.std.proofs.lemmas.Bool.{or_left}
+use Rattle.kernel_model.specs.Ends.{EndState, is_readable}
+use Rattle.kernel_model.specs.Outcome.{Told, guard}
+use Rattle.readiness.specs.Delays.{Came, Event, IsOnItsWay, Seen, WillBeTold, came_in, event, events, replies_in}
+use Rattle.readiness.specs.Machine.{Bytes, Change, Error, Fin, Step, Way, answer_of, change_in, change_of}
 
-abbrev pub value_of : Option (Told EndState Bool) → Option EndState
-value_of o = option_map (λ (t : Told EndState Bool). t.value) o
+-- what a test let through
+pub guarded : {X : Type 0} (b : Bool) (x y : X) → guard b x ≡ Some y → (b ≡ true) × (y ≡ x)
+guarded true x y h = (refl, cc)
+guarded false x y h = absurd (cc)
 
--- the socket once these have come
-abbrev pub settled : EndState → List Change → Option EndState
-settled e [] = Some e
-settled e (c ∷ late) = option_and_then (λ (x : EndState). settled x late) (value_of (change_of e c))
+pub allowed : {X : Type 0} (b : Bool) (x : X) → b ≡ true → guard b x ≡ Some x
+allowed b x h = rw h refl
 
-one_more : (f g : EndState) (late : List Change) (c : Change) (o : Option EndState) →
-    ((x : EndState) → settled x late ≡ Some f → settled x (late ++ c ∷ []) ≡ Some g) →
-    option_and_then (λ (x : EndState). settled x late) o ≡ Some f → option_and_then (λ (x : EndState). settled x (late ++ c ∷ [])) o ≡ Some g
-one_more f g late c None rest due = absurd (cc)
-one_more f g late c (Some x) rest due = rest x due
+-- ---- the socket once these have come
+
+pub data Settles : EndState → List Change → EndState → Type 0 where
+  Settled : {e : EndState} → Settles e [] e
+  After : {e f : EndState} {c : Change} {late : List Change} (t : Told EndState Bool) → change_of e c ≡ Some t → Settles t.value late f → Settles e (c ∷ late) f
 
 -- one change more is late
-pub settle_more : (late : List Change) (e f g : EndState) (c : Change) → settled e late ≡ Some f → value_of (change_of f c) ≡ Some g → settled e (late ++ c ∷ []) ≡ Some g
-settle_more [] e f g c due comes = let same : e ≡ f = cc in rw (same, comes) refl
-settle_more (d ∷ late) e f g c due comes = one_more f g late c (value_of (change_of e d)) (λ x h. settle_more late x f g c h comes) due
+pub settle_more : {e f : EndState} {late : List Change} (c : Change) (t : Told EndState Bool) → Settles e late f → change_of f c ≡ Some t → Settles e (late ++ c ∷ []) t.value
+settle_more c t Settled is = After t is Settled
+settle_more c t (After u first rest) is = After u first (settle_more c t rest is)
 
--- What a property of the last socket says of the first, where each change takes it back
-abbrev pub GoesBack : (EndState → Type 0) → Type 0
-GoesBack P = (c : Change) (e f : EndState) → value_of (change_of e c) ≡ Some f → P f → P e
-
-back_more : (P : EndState → Type 0) → GoesBack P → (late : List Change) (e f : EndState) (c : Change) (o : Option EndState) → value_of (change_of e c) ≡ o →
-    ((x : EndState) → settled x late ≡ Some f → P x) → option_and_then (λ (x : EndState). settled x late) o ≡ Some f → P e
-back_more P back late e f c None is rest due = absurd (cc)
-back_more P back late e f c (Some x) is rest due = back c e x is (rest x due)
-
-pub settle_back : (P : EndState → Type 0) → GoesBack P → (late : List Change) (e f : EndState) → settled e late ≡ Some f → P f → P e
-settle_back P back [] e f due last = let same : e ≡ f = cc in rw same last
-settle_back P back (c ∷ late) e f due last = back_more P back late e f c (value_of (change_of e c)) refl (λ x h. settle_back P back late x f h last) due
-
--- The same is late, and comes, after something that happens to other fields
-abbrev pub GoesBeside : (EndState → EndState) → (EndState → Type 0) → Type 0
-GoesBeside g P = (c : Change) (e f : EndState) → value_of (change_of e c) ≡ Some f → P f → value_of (change_of (g e) c) ≡ Some (g f)
-
-beside_more : (g : EndState → EndState) (P : EndState → Type 0) → GoesBack P → GoesBeside g P → (late : List Change) (e f : EndState) (c : Change) → P f → (o : Option EndState)
-    → value_of (change_of e c) ≡ o →
-    ((x : EndState) → settled x late ≡ Some f → settled (g x) late ≡ Some (g f)) → option_and_then (λ (x : EndState). settled x late) o ≡ Some f →
-    option_and_then (λ (x : EndState). settled x late) (value_of (change_of (g e) c)) ≡ Some (g f)
-beside_more g P back beside late e f c last None is rest due = absurd (cc)
-beside_more g P back beside late e f c last (Some x) is rest due =
-    let here : value_of (change_of (g e) c) ≡ Some (g x) = beside c e x is (settle_back P back late x f due last) in
-    rw here (rest x due)
-
-pub settle_beside : (g : EndState → EndState) (P : EndState → Type 0) → GoesBack P → GoesBeside g P → (late : List Change) (e f : EndState) → P f → settled e late ≡ Some f
-    → settled (g e) late ≡ Some (g f)
-settle_beside g P back beside [] e f last due = let same : e ≡ f = cc in rw same refl
-settle_beside g P back beside (c ∷ late) e f last due =
-    beside_more g P back beside late e f c last (value_of (change_of e c)) refl (λ x h. settle_beside g P back beside late x f last h) due
-
--- a change that was made was possible
-pub record Made (b : Bool) (x f : EndState) : Type 0 where
-  pub may : b ≡ true
-  pub is : f ≡ x
-
-pub made_of : (b : Bool) (t : Told EndState Bool) (f : EndState) → value_of (guard b t) ≡ Some f → Made b t.value f
-made_of true t f h = record { may = refl; is = cc }
-made_of false t f h = absurd (cc)
-
-pub made_too : (g : EndState → EndState) (b : Bool) (t u : Told EndState Bool) (f : EndState) → value_of (guard b t) ≡ Some f → (f ≡ t.value → u.value ≡ g t.value)
-    → value_of (guard b u) ≡ Some (g f)
-made_too g true t u f h same = let is : f ≡ t.value = cc in let then : u.value ≡ g t.value = same is in rw (is, then) refl
-made_too g false t u f h same = absurd (cc)
+-- while nothing is late, the two sockets are one
+pub same_socket : {e f : EndState} {late : List Change} → Settles e late f → late ≡ [] → e ≡ f
+same_socket Settled none = refl
+same_socket (After t is rest) none = absurd (cc)
 
 -- What is late concerns reading: the fields of the other direction are the same before and after, if no error is late
 pub record IsBeside (f e : EndState) : Type 0 where
@@ -73,111 +36,50 @@ pub record IsBeside (f e : EndState) : Type 0 where
   pub err : f.err ≡ false → e.err ≡ false
   pub write_armed : f.err ≡ false → e.write_armed ≡ f.write_armed
 
-beside_back : (last : EndState) → GoesBack (IsBeside last)
-beside_back last (Bytes bytes) e f h beside =
-    let m : Made (is_nonempty bytes && (not e.fin && not e.err)) (record e { arrived = e.arrived ++ bytes; unread = e.unread ++ bytes; read_armed = false }) f = made_of _ _ f h in
-    let b : IsBeside last (record e { arrived = e.arrived ++ bytes; unread = e.unread ++ bytes; read_armed = false }) = rw m.is at beside in
-    record { room = b.room; err = b.err; write_armed = b.write_armed }
-beside_back last Fin e f h beside =
-    let m : Made (not e.fin && not e.err) (record e { fin = true; read_armed = false }) f = made_of _ _ f h in
-    let b : IsBeside last (record e { fin = true; read_armed = false }) = rw m.is at beside in
-    record { room = b.room; err = b.err; write_armed = b.write_armed }
-beside_back last Error e f h beside =
-    let m : Made (not e.err) (record e { err = true; read_armed = false; write_armed = false }) f = made_of _ _ f h in
-    let b : IsBeside last (record e { err = true; read_armed = false; write_armed = false }) = rw m.is at beside in
-    record { room = b.room; err = λ sound. absurd (let no : true ≡ false = b.err sound in cc); write_armed = λ sound. absurd (let no : true ≡ false = b.err sound in cc) }
+beside_one : (c : Change) (e : EndState) (t : Told EndState Bool) → change_of e c ≡ Some t → IsBeside t.value e
+beside_one (Bytes bytes) e t is = rw (guarded _ _ t is).1 (record { room = refl; err = λ h. h; write_armed = λ h. refl })
+beside_one Fin e t is = rw (guarded _ _ t is).1 (record { room = refl; err = λ h. h; write_armed = λ h. refl })
+beside_one Error e t is = rw (guarded _ _ t is).1 (record { room = refl; err = λ h. absurd (cc); write_armed = λ h. absurd (cc) })
 
-pub is_beside : (late : List Change) (e f : EndState) → settled e late ≡ Some f → IsBeside f e
-is_beside late e f due = settle_back (IsBeside f) (beside_back f) late e f due (record { room = refl; err = λ h. h; write_armed = λ h. refl })
+pub is_beside : {e f : EndState} {late : List Change} → Settles e late f → IsBeside f e
+is_beside Settled = record { room = refl; err = λ h. h; write_armed = λ h. refl }
+is_beside (After {e = e} {c = c} t is rest) =
+    let a : IsBeside t.value e = beside_one c e t is in
+    let b = is_beside rest in
+    record { room = a.room ∙ b.room; err = λ h. a.err (b.err h); write_armed = λ h. a.write_armed (b.err h) ∙ b.write_armed h }
 
--- room comes, a write takes bytes, or sending is shut down
+-- What happens to the other direction: room comes, a write takes bytes or would block, or sending is shut down
+pub record Aside : Type 0 where
+  pub room : Bool → Bool
+  pub armed : Bool → Bool
+  pub taken : List ℕ → List ℕ
+  pub shut : Bool → Bool
 
-abbrev Any : EndState → Type 0
-Any e = Unit {0}
+abbrev pub aside : Aside → EndState → EndState
+aside a e = record e { room = a.room e.room; write_armed = a.armed e.write_armed; taken = a.taken e.taken; shut = a.shut e.shut }
 
-any_back : GoesBack Any
-any_back c e f h last = tt
+-- an error leaves nobody waiting for room
+abbrev pub MayBe : Aside → EndState → Type 0
+MayBe a f = (a.armed false ≡ false) ⊎ (f.err ≡ false)
 
-abbrev pub with_room : EndState → EndState
-with_room e = record e { room = true; write_armed = false }
+one_aside : (a : Aside) (c : Change) (e : EndState) (t : Told EndState Bool) → MayBe a t.value → change_of e c ≡ Some t
+    → (told : Bool) × (change_of (aside a e) c ≡ Some (record { value = aside a t.value; told = told }))
+one_aside a (Bytes bytes) e t may is = let g = guarded _ _ t is in (e.read_armed, rw (g.0, g.1) refl)
+one_aside a Fin e t may is = let g = guarded _ _ t is in (e.read_armed, rw (g.0, g.1) refl)
+one_aside a Error e t (inl none) is = let g = guarded _ _ t is in (e.read_armed || a.armed e.write_armed, rw (g.0, g.1, none) refl)
+one_aside a Error e t (inr sound) is = let g = guarded _ _ t is in absurd (let no : true ≡ false = rw g.1 at sound in cc)
 
-room_beside : GoesBeside with_room Any
-room_beside (Bytes bytes) e f h last = made_too with_room _ _ _ f h (λ is. refl)
-room_beside Fin e f h last = made_too with_room _ _ _ f h (λ is. refl)
-room_beside Error e f h last = made_too with_room _ _ _ f h (λ is. refl)
+may_before : {e f : EndState} {late : List Change} (a : Aside) → Settles e late f → MayBe a f → MayBe a e
+may_before a d (inl none) = inl none
+may_before a d (inr sound) = inr ((is_beside d).err sound)
 
-pub settle_room : (late : List Change) (e f : EndState) → settled e late ≡ Some f → settled (with_room e) late ≡ Some (with_room f)
-settle_room late e f due = settle_beside with_room Any any_back room_beside late e f tt due
+pub settle_aside : {e f : EndState} {late : List Change} (a : Aside) → MayBe a f → Settles e late f → Settles (aside a e) late (aside a f)
+settle_aside a may Settled = Settled
+settle_aside a may (After {e = e} {c = c} t is rest) =
+    let one = one_aside a c e t (may_before a rest may) is in
+    After (record { value = aside a t.value; told = one.0 }) one.1 (settle_aside a may rest)
 
-abbrev pub with_sent : List ℕ → Bool → EndState → EndState
-with_sent bytes room e = record e { taken = e.taken ++ bytes; room = room }
-
-sent_beside : (bytes : List ℕ) (room : Bool) → GoesBeside (with_sent bytes room) Any
-sent_beside bytes room (Bytes more) e f h last = made_too (with_sent bytes room) _ _ _ f h (λ is. refl)
-sent_beside bytes room Fin e f h last = made_too (with_sent bytes room) _ _ _ f h (λ is. refl)
-sent_beside bytes room Error e f h last = made_too (with_sent bytes room) _ _ _ f h (λ is. refl)
-
-pub settle_sent : (bytes : List ℕ) (room : Bool) (late : List Change) (e f : EndState) → settled e late ≡ Some f → settled (with_sent bytes room e) late
-    ≡ Some (with_sent bytes room f)
-settle_sent bytes room late e f due = settle_beside (with_sent bytes room) Any any_back (sent_beside bytes room) late e f tt due
-
-abbrev pub with_shut : EndState → EndState
-with_shut e = record e { shut = true }
-
-shut_beside : GoesBeside with_shut Any
-shut_beside (Bytes bytes) e f h last = made_too with_shut _ _ _ f h (λ is. refl)
-shut_beside Fin e f h last = made_too with_shut _ _ _ f h (λ is. refl)
-shut_beside Error e f h last = made_too with_shut _ _ _ f h (λ is. refl)
-
-pub settle_shut : (late : List Change) (e f : EndState) → settled e late ≡ Some f → settled (with_shut e) late ≡ Some (with_shut f)
-settle_shut late e f due = settle_beside with_shut Any any_back shut_beside late e f tt due
-
--- a write would block, so no error came
-
-abbrev IsSound : EndState → Type 0
-IsSound e = e.err ≡ false
-
-sound_back : GoesBack IsSound
-sound_back (Bytes bytes) e f h last = is_down e.err (second_so (not e.fin) _ (second_so (is_nonempty bytes) _ (made_of _ _ f h).may))
-sound_back Fin e f h last = is_down e.err (second_so (not e.fin) _ (made_of _ _ f h).may)
-sound_back Error e f h last = is_down e.err (made_of _ _ f h).may
-
-abbrev pub with_arm : EndState → EndState
-with_arm e = record e { write_armed = true }
-
-arm_beside : GoesBeside with_arm IsSound
-arm_beside (Bytes bytes) e f h last = made_too with_arm _ _ _ f h (λ is. refl)
-arm_beside Fin e f h last = made_too with_arm _ _ _ f h (λ is. refl)
-arm_beside Error e f h last = made_too with_arm _ _ _ f h (λ is. absurd (let no : true ≡ false = rw is at last in cc))
-
-pub settle_arm : (late : List Change) (e f : EndState) → f.err ≡ false → settled e late ≡ Some f → settled (with_arm e) late ≡ Some (with_arm f)
-settle_arm late e f last due = settle_beside with_arm IsSound sound_back arm_beside late e f last due
-
--- All that is late comes, in order
-
-pub record Caught (s : Seen) (late : List Change) (f : EndState) : Type 0 where
-  pub seen : Seen
-  pub allowed : events s (map Came late) ≡ Some seen
-  pub socket : seen.socket ≡ f
-  pub keeps : s.queued ≡ true → seen.queued ≡ true
-  pub same : late ≡ [] → seen ≡ s
-
-caught_more : (s : Seen) (c : Change) (late : List Change) (f : EndState) → ((m : Seen) → settled m.socket late ≡ Some f → Caught m late f) →
-    (o : Option (Told EndState Bool)) → change_of s.socket c ≡ o → option_and_then (λ (x : EndState). settled x late) (value_of o) ≡ Some f → Caught s (c ∷ late) f
-caught_more s c late f rest None is due = absurd (cc)
-caught_more s c late f rest (Some t) is due =
-    let r : Caught (record { socket = t.value; queued = s.queued || t.told }) late f = rest (record { socket = t.value; queued = s.queued || t.told }) due in
-    record {
-      seen = r.seen;
-      allowed = rw is r.allowed;
-      socket = r.socket;
-      keeps = λ h. r.keeps (or_left s.queued t.told h);
-      same = λ none. absurd (cc);
-    }
-
-pub caught : (late : List Change) (s : Seen) (f : EndState) → settled s.socket late ≡ Some f → Caught s late f
-caught [] s f due = record { seen = s; allowed = refl; socket = cc; keeps = λ h. h; same = λ h. refl }
-caught (c ∷ late) s f due = caught_more s c late f (λ m h. caught late m f h) (change_of s.socket c) refl due
+-- ---- what happens where no wire answers by itself
 
 -- some of it gives answers: only what stands after it does
 pub replies_behind : (late : List Change) (es : List Event) → replies_in (map Came late ++ es) ≡ replies_in es
@@ -189,7 +91,6 @@ changes_behind [] es = refl
 changes_behind (c ∷ late) es = ap (λ (xs : List Change). c ∷ xs) (changes_behind late es)
 
 -- one list of events and then another
-
 after_first : (es more : List Event) (o : Option Seen) → ((t : Seen) → events t (es ++ more) ≡ option_and_then (λ (u : Seen). events u more) (events t es)) →
     option_and_then (λ (t : Seen). events t (es ++ more)) o ≡ option_and_then (λ (u : Seen). events u more) (option_and_then (λ (t : Seen). events t es) o)
 after_first es more None rest = refl
@@ -198,3 +99,60 @@ after_first es more (Some t) rest = rest t
 pub events-append : (s : Seen) (es more : List Event) → events s (es ++ more) ≡ option_and_then (λ (u : Seen). events u more) (events s es)
 events-append s [] more = refl
 events-append s (e ∷ es) more = after_first es more (event s e) (λ t. events-append t es more)
+
+-- all that is late comes, in order
+pub record Caught (s : Seen) (late : List Change) (f : EndState) : Type 0 where
+  pub seen : Seen
+  pub allowed : events s (map Came late) ≡ Some seen
+  pub socket : seen.socket ≡ f
+  pub keeps : s.queued ≡ true → seen.queued ≡ true
+  pub same : late ≡ [] → seen ≡ s
+
+pub caught : {e f : EndState} {late : List Change} (queued : Bool) → Settles e late f → Caught (record { socket = e; queued = queued }) late f
+caught queued (Settled {e = e}) = record { seen = record { socket = e; queued = queued }; allowed = refl; socket = refl; keeps = λ h. h; same = λ h. refl }
+caught queued (After t is rest) =
+    let r = caught (queued || t.told) rest in
+    record { seen = r.seen; allowed = rw is r.allowed; socket = r.socket; keeps = λ h. r.keeps (or_left queued t.told h); same = λ none. absurd (cc) }
+
+-- ---- what every step keeps, of a wire's socket and of the same socket where no wire answers by itself
+
+-- there is nothing to read, and the system reports what comes next
+pub record Rests (e : EndState) : Type 0 where
+  pub empty : is_readable e ≡ false
+  pub armed : e.read_armed ≡ true
+
+-- the wire does not read, and there is something to read, whose report will be passed on to it
+pub record Asleep (w : Way) : Type 0 where
+  pub reads : w.reads ≡ false
+  pub told : w.told ≡ false
+  pub readable : is_readable w.socket ≡ true
+  pub coming : WillBeTold w
+
+-- nothing is late but while the wire is asleep
+pub data Waits (w : Way) (late : List Change) : Type 0 where
+  Prompt : late ≡ [] → Waits w late
+  Behind : Asleep w → Waits w late
+
+pub still_waits : {w v : Way} {late : List Change} → (Asleep w → Asleep v) → Waits w late → Waits v late
+still_waits still (Prompt none) = Prompt none
+still_waits still (Behind asleep) = Behind (still asleep)
+
+pub prompt : {w : Way} {late : List Change} → (Asleep w → ⊥) → Waits w late → late ≡ []
+prompt awake (Prompt none) = none
+prompt awake (Behind asleep) = absurd (awake asleep)
+
+pub record Held (w : Way) (late : List Change) (s : Seen) : Type 0 where
+  pub due : Settles s.socket late w.socket
+  pub waits : Waits w late
+  pub rests : w.reads ≡ false → w.told ≡ false → Rests s.socket
+  pub queued : s.queued ≡ true → IsOnItsWay w
+  pub owed : w.owed ≡ true → s.queued ≡ true
+
+-- A step, after which the wire's socket is as in v: what happens where no wire answers by itself may happen there, and
+-- the same is kept
+pub record Goes (v : Way) (s : Seen) (late later : List Change) (happens : List Event) (made : Step) : Type 0 where
+  pub next : Seen
+  pub allowed : events s happens ≡ Some next
+  pub answers : replies_in happens ≡ answer_of made
+  pub changes : came_in happens ++ later ≡ late ++ change_in made
+  pub kept : Held v later next

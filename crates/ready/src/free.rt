@@ -39,6 +39,7 @@ impl FreeQueue {
     /// The first end has put the slots, the first one at place 0.
     ///
     /// Fails only if there is not enough memory; then no queue is made.
+    #[tactic(auto, using(crate::proofs::Moves::begins, crate::proofs::Moves::one_end_more))]
     pub fn new(
         rt: &impl Wait,
         alloc: Global,

@@ -42,6 +42,7 @@ impl ReadyQueue {
     /// Makes a queue for at most `capacity` tickets, and its ends. This allocates all the memory that it ever uses.
     ///
     /// Fails only if there is not enough memory; then no queue is made.
+    #[tactic(auto, using(crate::proofs::Moves::begins))]
     pub fn new(alloc: Global, capacity: usize, ends: usize) -> Result<Vec<ReadyQueue>, AllocError>
         requires capacity { (1 ≤ capacity) × (capacity ≤ 32768) }
         requires ends { (1 ≤ ends) × (ends ≤ 32) }

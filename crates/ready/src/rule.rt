@@ -92,6 +92,7 @@ pub(crate) fn pop<T, R: Wait>(rt: &R, line: &Line<T>, pass: &mut LinePass<T>) ->
 }
 
 /// The pass of a further end, which has done nothing.
+#[tactic(auto, using(crate::proofs::Moves::forks))]
 pub(crate) fn another<T>(line: &Line<T>, pass: &mut LinePass<T>) -> LinePass<T>
     requires { IsPassOf line.now pass.old }
     ensures same { IsSamePass pass.old pass.new × (view pass.new ≡ among_others (view pass.old)) }

@@ -8,10 +8,9 @@ use Rattle.token.specs.Names.{EndName}
 use Rattle.token.specs.Numbers.{name_of}
 use Rattle.token.specs.declared.name.Name.{Name}
 use Rattle.relay_core.specs.declared.Kind.TheVariants as kind
-use Rattle.engine.specs.Asked.{Asked, Given, Brought, Took, Done, Refused}
-use Rattle.engine.specs.Asked as ask
+use Rattle.engine.specs.Wires.{Asked, Given, Brought, Took, Done, Refused, WireView}
+use Rattle.engine.specs.Wires as ask
 use Rattle.engine.specs.Classes.{kind_of_error}
-use Rattle.engine.specs.Wires.{WireView}
 use Rattle.dispatch.specs.declared.front.Unopened.{Unopened}
 use Rattle.dispatch.specs.declared.front.Unopened.TheVariants as unopened
 use Rattle.records.specs.declared.act.Accepted.{Accepted}

@@ -13,10 +13,8 @@ use Rattle.relay_core.specs.Calls.{side_of, kind_of, direction_of}
 use Rattle.relay_core.specs.Pairs.{PairState, ready, fresh, stream_of, flags_of, is_joined, noted, verdict}
 use Rattle.relay_core.specs.Order.{next_call, offer}
 use Rattle.relay_core.specs.Replies.{AnswerValue, End, Failed, fits, after}
-use Rattle.relay_core.specs.Runs.{answered, over}
+use Rattle.relay_core.specs.Runs.{answered, over, brought, carried, all_brought, all_carried, Event, Answered, through, ever_brought, ever_carried}
 use Rattle.relay_core.specs.Idle.{is_overdue, expired}
-use Rattle.relay_core.specs.Moved.{brought, carried, all_brought, all_carried}
-use Rattle.relay_core.specs.Events.{Event, Answered, through, ever_brought, ever_carried}
 
 -- the end of input came, every byte before it has left, and it is still to be passed on
 pub record IsDrained (stream : Stream) : Type 0 where

@@ -3,11 +3,8 @@ pub mod Calls
 pub mod Pairs
 pub mod Order
 pub mod Replies
-pub mod Answers
-pub mod Runs
 pub mod Idle
-pub mod Moved
-pub mod Events
+pub mod Runs
 pub mod Laws
 pub mod Lending
 pub mod Proxy

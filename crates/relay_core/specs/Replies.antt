@@ -10,6 +10,8 @@ use Rattle.relay_core.specs.declared.verdict.Fault.TheVariants.{Broken}
 use Rattle.relay_core.specs.Calls.{side_of, kind_of, direction_of}
 use Rattle.relay_core.specs.Pairs.{Flags, PairState, stream_of, with_stream, flags_of, with_flags, mark_joined, sent, with_sent}
 use Rattle.relay_core.specs.Order.{offer}
+use Rattle.relay_core.specs.declared.answer.Answer.{Answer}
+use Rattle.relay_core.specs.declared.answer.Answer.TheVariants as answer
 
 -- read(2) gave bytes, or the end of input; write(2) took the first n bytes of the offer; the socket is
 -- connected; shutdown(2) passed the end on; the call would have to wait; a signal interrupted it; or it
@@ -78,3 +80,14 @@ after now p call reply = record (effect p call reply) {
   turn = opposite (direction_of call);
   moved = if moves reply then now else p.moved;
 }
+
+-- how a clause reads an answer of the program: with the bytes that it refers to
+abbrev pub reply_of : Answer → AnswerValue
+reply_of (answer.Bytes bytes) = Bytes bytes.now
+reply_of answer.End = End
+reply_of (answer.Wrote n) = Wrote n
+reply_of answer.Joined = Joined
+reply_of answer.Shut = Shut
+reply_of answer.Blocked = Blocked
+reply_of answer.Interrupted = Interrupted
+reply_of (answer.Failed kind) = Failed kind

@@ -1,10 +1,16 @@
--- What a list of answers of one second does to the pair, each to the call that comes next at that point. Part of the
--- promises.
-use Rattle.std.specs.Prelude.{ℕ, List, [], ◌∷◌, Option, Some, None, option_and_then, if◌then◌else◌}
+-- What happens to a pair, one after another, and the bytes that it moves. Part of the promises. Answers of one second are
+-- each to the call that comes next at that point; among them reports may come, and the idle limit may pass. Reads bring
+-- bytes into a direction, and writes take them out.
+use Rattle.std.specs.Prelude.{ℕ, List, [], ◌∷◌, Option, Some, None, option_and_then, if◌then◌else◌, Bool, true, false, ◌++◌, take, option_map, unwrap_or}
 use Rattle.relay_core.specs.declared.call.Call.{Call}
-use Rattle.relay_core.specs.Pairs.{PairState}
+use Rattle.relay_core.specs.Pairs.{PairState, stream_of, noted}
 use Rattle.relay_core.specs.Order.{next_call}
-use Rattle.relay_core.specs.Replies.{AnswerValue, fits, after}
+use Rattle.relay_core.specs.Replies.{AnswerValue, fits, after, Bytes, Wrote}
+use Rattle.token.specs.declared.direction.Direction.{Direction}
+use Rattle.token.specs.declared.direction.Direction.TheVariants.{Up, Down}
+use Rattle.flow.specs.Stream.{waiting}
+use Rattle.relay_core.specs.Calls.{direction_of}
+use Rattle.relay_core.specs.Idle.{is_overdue, timed_out}
 
 -- one call answered at the second `now`, if there is a next call and the answer fits it
 abbrev pub answered : ℕ → PairState → AnswerValue → Option PairState
@@ -14,3 +20,79 @@ answered now p reply = option_and_then (λ (call : Call). if fits p call reply t
 abbrev pub over : ℕ → PairState → List AnswerValue → Option PairState
 over now p [] = Some p
 over now p (reply ∷ replies) = option_and_then (λ (q : PairState). over now q replies) (answered now p reply)
+
+abbrev pub same_way : Direction → Direction → Bool
+same_way Up Up = true
+same_way Up Down = false
+same_way Down Up = false
+same_way Down Down = true
+
+-- the bytes that an answer brings in
+abbrev pub brought : Direction → Call → AnswerValue → List ℕ
+brought d call (Bytes bytes) = if same_way (direction_of call) d then bytes else []
+brought d call reply = []
+
+-- the bytes that an answer takes out, which are the first of an offer
+abbrev pub carried : PairState → Direction → Call → AnswerValue → List ℕ
+carried p d call (Wrote n) = if same_way (direction_of call) d then take n (waiting (stream_of p d)) else []
+carried p d call reply = []
+
+-- nothing, where there is no call
+abbrev pub or_nothing : Option (List ℕ) → List ℕ
+or_nothing bytes = unwrap_or bytes []
+
+-- all bytes that a list of answers of one second brings in, each to the call that comes next at that point
+abbrev pub all_brought : ℕ → PairState → Direction → List AnswerValue → List ℕ
+all_brought now p d [] = []
+all_brought now p d (reply ∷ replies) =
+    or_nothing (option_map (λ (call : Call). brought d call reply) (next_call p))
+    ++ or_nothing (option_map (λ (q : PairState). all_brought now q d replies) (answered now p reply))
+
+-- and all bytes that it takes out
+abbrev pub all_carried : ℕ → PairState → Direction → List AnswerValue → List ℕ
+all_carried now p d [] = []
+all_carried now p d (reply ∷ replies) =
+    or_nothing (option_map (λ (call : Call). carried p d call reply) (next_call p))
+    ++ or_nothing (option_map (λ (q : PairState). all_carried now q d replies) (answered now p reply))
+
+-- what happens to a pair: its next call is answered, a report comes, or the idle limit passes
+
+-- an answer comes at a second; the limit passes at a second, too
+pub data Event : Type 0 where
+  Answered : ℕ → AnswerValue → Event
+  Reported : Event
+  Expired : ℕ → ℕ → Event
+
+-- the pair afterwards: an answer needs a next call that it fits, a report may come at any time, and only a pair that
+-- is overdue expires
+abbrev pub happened : PairState → Event → Option PairState
+happened p (Answered now reply) = answered now p reply
+happened p Reported = Some (noted p)
+happened p (Expired now limit) = if is_overdue now limit p then Some (timed_out p) else None
+
+-- one after another; undefined from the first on that cannot happen
+abbrev pub through : PairState → List Event → Option PairState
+through p [] = Some p
+through p (event ∷ events) = option_and_then (λ (q : PairState). through q events) (happened p event)
+
+-- the bytes that an event brings into a direction
+abbrev pub brought_by : PairState → Direction → Event → List ℕ
+brought_by p d (Answered now reply) = or_nothing (option_map (λ (call : Call). brought d call reply) (next_call p))
+brought_by p d event = []
+
+-- and those that it takes out
+abbrev pub carried_by : PairState → Direction → Event → List ℕ
+carried_by p d (Answered now reply) = or_nothing (option_map (λ (call : Call). carried p d call reply) (next_call p))
+carried_by p d event = []
+
+-- all bytes that a list of events brings in
+abbrev pub ever_brought : PairState → Direction → List Event → List ℕ
+ever_brought p d [] = []
+ever_brought p d (event ∷ events) =
+    brought_by p d event ++ or_nothing (option_map (λ (q : PairState). ever_brought q d events) (happened p event))
+
+-- and all that it takes out
+abbrev pub ever_carried : PairState → Direction → List Event → List ℕ
+ever_carried p d [] = []
+ever_carried p d (event ∷ events) =
+    carried_by p d event ++ or_nothing (option_map (λ (q : PairState). ever_carried q d events) (happened p event))

@@ -1,6 +1,5 @@
 ghost use Rattle.std.specs.Prelude.{◌≡◌};
-ghost use Rattle.relay_core.specs.Answers.{reply_of};
-ghost use Rattle.relay_core.specs.Replies.{moves};
+ghost use Rattle.relay_core.specs.Replies.{reply_of, moves};
 
 use token::Kind;
 

@@ -8,49 +8,49 @@ ghost use Rattle.relay_core.specs.Laws.{AnswersAreEvents, AnswersAreToNextCalls,
 
 /// In each direction, the bytes that were there and those that an answer brings in are, in order, those that it takes
 /// out and those that are there afterwards.
-#[tactic(auto, using(crate::proofs::Events::answers_keep_order))]
+#[tactic(auto, using(crate::proofs::Pairs::answers_keep_order))]
 pub fn answers_keep_order()
     ensures { AnswersKeepOrder }
 {}
 
 /// An answer passes an end of input on only after every byte, and this is final.
-#[tactic(auto, using(crate::proofs::Events::answers_pass_end_last))]
+#[tactic(auto, using(crate::proofs::Pairs::answers_pass_end_last))]
 pub fn answers_pass_end_last()
     ensures { AnswersPassEndLast }
 {}
 
 /// The end of a direction is seen when a call of that direction is answered with an end, and this is final.
-#[tactic(auto, using(crate::proofs::Events::only_ends_are_seen))]
+#[tactic(auto, using(crate::proofs::Pairs::only_ends_are_seen))]
 pub fn only_ends_are_seen()
     ensures { OnlyEndsAreSeen }
 {}
 
 /// No answer changes the slot, the generation or the capacity of a ring.
-#[tactic(auto, using(crate::proofs::Events::answers_keep_place))]
+#[tactic(auto, using(crate::proofs::Pairs::answers_keep_place))]
 pub fn answers_keep_place()
     ensures { AnswersKeepPlace }
 {}
 
 /// An answer fails a pair only by a failed call, and the fault describes that call.
-#[tactic(auto, using(crate::proofs::Events::failures_are_told))]
+#[tactic(auto, using(crate::proofs::Pairs::failures_are_told))]
 pub fn failures_are_told()
     ensures { FailuresAreTold }
 {}
 
 /// Each answer of a list does what an answer to the call that comes next does.
-#[tactic(auto, using(crate::proofs::Events::answers_are_to_next_calls))]
+#[tactic(auto, using(crate::proofs::Pairs::answers_are_to_next_calls))]
 pub fn answers_are_to_next_calls()
     ensures { AnswersAreToNextCalls }
 {}
 
 /// There is a next call only while the pair is live.
-#[tactic(auto, using(crate::proofs::Events::calls_come_while_live))]
+#[tactic(auto, using(crate::proofs::Pairs::calls_come_while_live))]
 pub fn calls_come_while_live()
     ensures { CallsComeWhileLive }
 {}
 
 /// If a live pair has no next call, nothing in either direction is worth trying before a report.
-#[tactic(auto, using(crate::proofs::Rest::live_pairs_rest))]
+#[tactic(auto, using(crate::proofs::Pairs::live_pairs_rest))]
 pub fn live_pairs_rest()
     ensures { LivePairsRest }
 {}
@@ -68,33 +68,33 @@ pub fn only_overdue_pairs_expire()
 {}
 
 /// The idle limit changes nothing but the verdict.
-#[tactic(auto, using(crate::proofs::Expiries::expiries_change_verdict_alone))]
+#[tactic(auto, using(crate::proofs::Pairs::expiries_change_verdict_alone))]
 pub fn expiries_change_verdict_alone()
     ensures { ExpiriesChangeVerdictAlone }
 {}
 
 /// Over any list of answers, reports and expiries, the bytes that writes take are, in each direction and in order,
 /// those that waited and those that reads bring; none is lost or duplicated.
-#[tactic(auto, using(crate::proofs::Events::runs_keep_order))]
+#[tactic(auto, using(crate::proofs::Pairs::runs_keep_order))]
 pub fn runs_keep_order()
     ensures { RunsKeepOrder }
 {}
 
 /// If every end that was passed on came last, this is still so after any list of answers, reports and expiries, and
 /// an end that is passed on then comes after every byte that waited or was ever read.
-#[tactic(auto, using(crate::proofs::Events::runs_pass_end_last))]
+#[tactic(auto, using(crate::proofs::Pairs::runs_pass_end_last))]
 pub fn runs_pass_end_last()
     ensures { RunsPassEndLast }
 {}
 
 /// A new pair has passed no end on.
-#[tactic(auto, using(crate::proofs::Events::fresh_pairs_keep_end_last))]
+#[tactic(auto, using(crate::proofs::Pairs::fresh_pairs_keep_end_last))]
 pub fn fresh_pairs_keep_end_last()
     ensures { FreshPairsKeepEndLast }
 {}
 
 /// No list of answers, reports and expiries changes the slot, the generation or the capacity of a ring.
-#[tactic(auto, using(crate::proofs::Events::runs_keep_place))]
+#[tactic(auto, using(crate::proofs::Pairs::runs_keep_place))]
 pub fn runs_keep_place()
     ensures { RunsKeepPlace }
 {}

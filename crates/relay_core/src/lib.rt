@@ -21,10 +21,9 @@
 //! answer came. A pair that moved nothing for a limit, and has nothing left to try, can be failed ([`Pair::expire`]).
 //!
 //! The definitions are in `specs/`: the pair and its verdict in `Pairs.antt`, the order of work in `Order.antt`, what
-//! each answer does in `Replies.antt`, lists of answers in `Runs.antt`, the bytes that they move in `Moved.antt`, the
-//! idle limit in `Idle.antt`, answers, reports and expiries in `Events.antt`, what an offer lends in `Lending.antt`,
-//! the line in `Proxy.antt`, and what follows from all this in `Laws.antt`. [`laws`] states each law about all pairs
-//! as the contract of a function.
+//! each answer does in `Replies.antt`, the idle limit in `Idle.antt`, lists of answers, reports and expiries and the
+//! bytes that they move in `Runs.antt`, what an offer lends in `Lending.antt`, the line in `Proxy.antt`, and what
+//! follows from all this in `Laws.antt`. [`laws`] states each law about all pairs as the contract of a function.
 #![tactic(auto)]
 
 mod answer;

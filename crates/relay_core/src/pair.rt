@@ -3,8 +3,7 @@ ghost use Rattle.token.specs.Sides.{destination, inward};
 ghost use Rattle.relay_core.specs.Calls.{side_of};
 ghost use Rattle.relay_core.specs.Pairs.{fresh, stream_of, with_stream, flags_of, with_flags, is_joined, mark_joined, noted, verdict, is_live};
 ghost use Rattle.relay_core.specs.Order.{is_waiting, call_for, next_call, offer};
-ghost use Rattle.relay_core.specs.Replies.{Interrupted, fits, after, count_more, without_flag};
-ghost use Rattle.relay_core.specs.Answers.{reply_of};
+ghost use Rattle.relay_core.specs.Replies.{Interrupted, fits, after, count_more, without_flag, reply_of};
 ghost use Rattle.relay_core.specs.Idle.{is_overdue, expired};
 ghost use Rattle.relay_core.specs.Laws.{IsPossible, IsOverdue, KeepsOrder, PassesEndLast, TellsOf};
 ghost use Rattle.token.specs.declared.direction.Direction.{Direction};
@@ -170,7 +169,7 @@ impl Pair {
 
     /// Holds a live pair that has no next call against the idle limit: if it has moved nothing for `limit` seconds at
     /// the second `now`, it fails, and the answer is true. Otherwise nothing changes. A limit of 0 is none.
-    #[tactic(auto, using(crate::proofs::Expiries::overdue_as))]
+    #[tactic(auto, using(crate::proofs::Pairs::overdue_as))]
     pub fn expire(&mut self, now: u64, limit: u64) -> bool
         ensures value { self.new ≡ expired now limit self.old }
         ensures told { result ≡ is_overdue now limit self.old }
@@ -302,7 +301,7 @@ impl Pair {
 
     /// What `answer` does. That the calls below have room, and an end to pass on, follows from the
     /// order of work.
-    #[tactic(auto, using(crate::proofs::Possible::bytes_fit, crate::proofs::Possible::shut_fits))]
+    #[tactic(auto, using(crate::proofs::Pairs::bytes_fit, crate::proofs::Pairs::shut_fits))]
     fn take_answer(&mut self, call: Call, answer: Answer<'_>, now: u64)
         requires next { next_call self.old ≡ Some call }
         requires fits { fits self.old call (reply_of answer) ≡ true }

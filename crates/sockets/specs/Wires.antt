@@ -1,6 +1,6 @@
--- What a wire over a socket knows of it, what each call on it changes, and the system calls that it makes. Part of the
--- promises.
-use Rattle.std.specs.Prelude.{◌≡◌, ◌≢◌, ℕ, ◌*◌, ◌==◌, Bool, true, false, if◌then◌else◌, length, Option, Some, None, Result, Ok, Err}
+-- What a wire over a socket knows of it, when it sends at once, what each call on it changes, and the system calls that
+-- it makes. Part of the promises.
+use Rattle.std.specs.Prelude.{◌≡◌, ◌≢◌, ℕ, ◌*◌, ◌==◌, Bool, true, false, if◌then◌else◌, length, Option, Some, None, Result, Ok, Err, ◌↔◌, ◌+◌, ◌<◌, ◌≤◌, min, IsTrue}
 use Rattle.std.specs.declared.io.Error.{Error}
 use Rattle.std.specs.declared.io.ErrorKind.TheVariants.{WouldBlock}
 use Rattle.std.specs.declared.net.SocketAddr.{SocketAddr}
@@ -9,14 +9,31 @@ use Rattle.token.specs.Names.{EndName}
 use Rattle.readiness.specs.Words.{WordName}
 use Rattle.relay_core.specs.declared.call.CallKind.{CallKind}
 use Rattle.relay_core.specs.declared.call.CallKind.TheVariants as call
-use Rattle.engine.specs.Asked.{Asked, Read, Write, Join, Shut, Given, Brought, Took, Done, Refused}
+use Rattle.engine.specs.Wires.{Asked, Read, Write, Join, Shut, Given, Brought, Took, Done, Refused, call_gave}
 use Rattle.engine.specs.declared.class.Class.{Class}
 use Rattle.engine.specs.declared.class.Class.TheVariants as class
-use Rattle.engine.specs.Classes.{class_by, pending_kind}
-use Rattle.engine.specs.Tallies.{Tallied, tally, connected, counted, fault_more}
-use Rattle.engine.specs.Wires.{call_gave}
-use Rattle.sockets.specs.declared.patience.Patience.{Patience}
-use Rattle.sockets.specs.Delays.{Sending, waiting, prompt, IsOffered}
+use Rattle.engine.specs.Classes.{class_by, pending_kind, Tallied, tally, connected, counted, fault_more}
+use Rattle.sockets.specs.declared.forwarding.Patience.{Patience}
+
+-- A socket sends at once (TCP_NODELAY of tcp(7)), or it may wait for more to send along: whether it sends at once, and
+-- how many full offers came in a row, up to four
+pub record Sending : Type 0 where
+  pub at_once : Bool
+  pub full_offers : ℕ
+
+-- as the system makes a socket
+abbrev pub waiting : Sending
+waiting = record { at_once = false; full_offers = 0 }
+
+-- while a connection is quiet
+abbrev pub prompt : Sending
+prompt = record { at_once = true; full_offers = 0 }
+
+-- bytes were offered to it: after four full offers in a row it may wait
+pub record IsOffered (bytes : ℕ) (old new : Sending) : Type 0 where
+  pub full : 16384 ≤ bytes → new.full_offers ≡ min (old.full_offers + 1) 4
+  pub short : bytes < 16384 → new.full_offers ≡ 0
+  pub at_once : IsTrue new.at_once ↔ (IsTrue old.at_once × (new.full_offers < 4))
 
 -- the count of its answers, when it sends, whether it reads the socket or answers "would block" to reads by itself, the
 -- address at its other end, if it is known, the name under which it is reported, if it is, and for how long the socket

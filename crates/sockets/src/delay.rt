@@ -1,5 +1,5 @@
 ghost use Rattle.std.specs.Prelude.{◌≡◌, ◌↔◌, true, false, IsTrue};
-ghost use Rattle.sockets.specs.Delays.{waiting, prompt, IsOffered};
+ghost use Rattle.sockets.specs.Wires.{waiting, prompt, IsOffered};
 
 use crate::limits::BULK;
 use relay_core::MAX_READ;
@@ -18,7 +18,7 @@ pub(crate) struct Delay {
 
 impl Model for Delay {
     ghost use Rattle.std.specs.Prelude.{◌≤◌};
-    ghost use Rattle.sockets.specs.Delays.{Sending};
+    ghost use Rattle.sockets.specs.Wires.{Sending};
 
     ghost Value = { Sending };
 

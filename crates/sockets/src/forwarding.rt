@@ -1,9 +1,11 @@
 ghost use Rattle.std.specs.Prelude.{◌≡◌};
 ghost use Rattle.sockets.specs.Fronts.{IsAt};
+ghost use Rattle.sockets.specs.Wires.{unlimited};
 
-use crate::patience::Patience;
+use mio::net::TcpStream;
 use settings::Settings;
-use std::net::SocketAddr;
+use std::io;
+use std::net::{Net, SocketAddr};
 
 /// Where the connections of clients go, whether targets are sent their addresses, and how long to wait for a peer.
 #[derive(Clone, Copy)]
@@ -29,5 +31,45 @@ impl Forwarding {
             proxy: settings.proxy,
             patience,
         }
+    }
+}
+
+/// How many seconds to wait for a peer that does not answer. `None` leaves it to the system.
+#[derive(Clone, Copy)]
+pub struct Patience {
+    /// How long the connection to the target may take, 1 to 3600.
+    pub connect: Option<u32>,
+    /// After how long a silence of its peer a socket probes whether the peer is there, 1 to 32767.
+    pub keepalive: Option<u32>,
+}
+
+impl Patience {
+    /// As the system does by itself.
+    pub const NONE: Patience = Patience {
+        connect: None,
+        keepalive: None,
+    };
+
+    /// That of a client's socket, which is connected.
+    pub(crate) fn of_client(self) -> Patience
+        ensures { result ≡ unlimited self }
+    {
+        Patience {
+            connect: None,
+            keepalive: self.keepalive,
+        }
+    }
+}
+
+/// A handle that starts connections. A thread may be started with a front that needs this alone; `Net` names types of
+/// its own, and what needs it stays on the thread that was passed it.
+pub trait Dial {
+    /// Starts a connection to an address (socket(2), connect(2)), and does not wait for it.
+    fn dial(&self, address: SocketAddr) -> io::Result<TcpStream>;
+}
+
+impl<R: Net> Dial for R {
+    fn dial(&self, address: SocketAddr) -> io::Result<TcpStream> {
+        TcpStream::connect(self, address)
     }
 }

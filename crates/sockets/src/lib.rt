@@ -18,22 +18,18 @@
 
 mod bound;
 mod delay;
-mod dial;
 mod failure;
 mod forwarding;
 mod limits;
 mod loads;
 mod options;
-mod patience;
 mod poll;
 mod socket;
 mod stream;
 mod wire;
 
 pub use bound::{Bound, bind};
-pub use dial::Dial;
-pub use forwarding::Forwarding;
-pub use patience::Patience;
+pub use forwarding::{Dial, Forwarding, Patience};
 pub use poll::{Sockets, Wakers, open_all};
 pub use socket::Socket;
 pub use stream::Stream;

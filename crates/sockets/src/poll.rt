@@ -10,9 +10,8 @@ ghost use Rattle.dispatch.specs.declared.front.Unopened.TheVariants.{Connect, Re
 ghost use Rattle.sockets.specs.Wires.{SameButWatched, fresh_wire, patient, under, unlimited};
 
 use crate::bound::Bound;
-use crate::dial::Dial;
 use crate::failure::{log_failure, log_failure_at};
-use crate::forwarding::Forwarding;
+use crate::forwarding::{Dial, Forwarding};
 use crate::limits::{MAX_POLLERS, MOST_LEFT, WAIT_MILLIS};
 use crate::loads::Loads;
 use crate::socket::Socket;

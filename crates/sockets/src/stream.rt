@@ -1,6 +1,6 @@
 ghost use Rattle.std.specs.Prelude.{◌≡◌, length, OnOk};
 ghost use Rattle.std.specs.Io.{WritesAtMost};
-ghost use Rattle.engine.specs.Asked as ask;
+ghost use Rattle.engine.specs.Wires as ask;
 ghost use Rattle.engine.specs.Wires.{read_gave, write_gave, call_gave};
 ghost use Rattle.sockets.specs.Wires.{Made, Called, Pending, Named, NamedHere, SentAtOnce, GivesUpAfter, Probes, Registered, Looked};
 

@@ -1,16 +1,14 @@
 ghost use Rattle.std.specs.Prelude.{◌≡◌, true, false, Some, None, IfSome, OnOk, OnErr};
 ghost use Rattle.std.specs.IoError.{error_kind};
 ghost use Rattle.token.specs.Names.{end_number};
-ghost use Rattle.engine.specs.Asked as ask;
-ghost use Rattle.engine.specs.Classes.{class_by, pending_kind};
-ghost use Rattle.engine.specs.Tallies.{connected, counted};
+ghost use Rattle.engine.specs.Wires as ask;
+ghost use Rattle.engine.specs.Classes.{class_by, pending_kind, connected, counted};
 ghost use Rattle.engine.specs.Wires.{call_gave};
-ghost use Rattle.sockets.specs.Delays.{IsOffered};
-ghost use Rattle.sockets.specs.Wires.{Registered, Switches, Joins, Lifts, Limits, Probing, Waits, fresh_wire, patient, promptly, took, under, goes_on, goes_on_after, Looked};
+ghost use Rattle.sockets.specs.Wires.{IsOffered, Registered, Switches, Joins, Lifts, Limits, Probing, Waits, fresh_wire, patient, promptly, took, under, goes_on, goes_on_after, Looked};
 
 use crate::delay::Delay;
 use crate::failure::log_failure;
-use crate::patience::Patience;
+use crate::forwarding::Patience;
 use crate::socket::Socket;
 use crate::stream::Stream;
 use dispatch::Settle;
@@ -67,28 +65,25 @@ impl<S: Stream> SocketWire<S> {
     pub fn accepted(stream: S, peer: SocketAddr) -> SocketWire<S>
         ensures { result ≡ record { stream = stream; socket = fresh_wire true (Some peer) } }
     {
-        SocketWire {
-            stream,
-            tally: Tally::new(true),
-            delay: Delay::new(),
-            attention: Attention::new(),
-            peer: Some(peer),
-            watched: None,
-            patience: Patience::NONE,
-            error: None,
-        }
+        SocketWire::new(stream, true, Some(peer))
     }
 
     /// A target's socket, which is connecting.
     pub fn connecting(stream: S) -> SocketWire<S>
         ensures { result ≡ record { stream = stream; socket = fresh_wire false None } }
     {
+        SocketWire::new(stream, false, None)
+    }
+
+    fn new(stream: S, joined: bool, peer: Option<SocketAddr>) -> SocketWire<S>
+        ensures { result ≡ record { stream = stream; socket = fresh_wire joined peer } }
+    {
         SocketWire {
             stream,
-            tally: Tally::new(false),
+            tally: Tally::new(joined),
             delay: Delay::new(),
             attention: Attention::new(),
-            peer: None,
+            peer,
             watched: None,
             patience: Patience::NONE,
             error: None,

@@ -1,6 +1,6 @@
 ghost use Rattle.std.specs.Prelude.{◌≡◌, Some, IsNone, IsSome, ◌↔◌, option_map};
 ghost use Rattle.relay_core.specs.Order.{next_call};
-ghost use Rattle.relay_core.specs.Answers.{reply_of};
+ghost use Rattle.relay_core.specs.Replies.{reply_of};
 ghost use Rattle.world.specs.Calls.{told_of, plain};
 
 use crate::working::is_live;
@@ -21,7 +21,7 @@ impl Connection {
     ghost use Rattle.relay_core.specs.Pairs.{noted};
     ghost use Rattle.kernel_model.specs.Outcome.{Meets, MeetsAlways};
     ghost use Rattle.kernel_model.specs.Replies.{needs_memory};
-    ghost use Rattle.relay_core.specs.Answers.{reply_of};
+    ghost use Rattle.relay_core.specs.Replies.{reply_of};
     ghost use Rattle.world.specs.Calls.{descriptor, OpenConnection, made, replied, called};
     ghost use Rattle.world.specs.Steps.{may_release, expired};
 

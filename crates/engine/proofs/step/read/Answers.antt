@@ -1,34 +1,27 @@
 use Rattle.std.proofs.Common.{ℕ, refl, arith}
 use Rattle.std.proofs.lemmas.List.{length-take, length-take-le}
 use Rattle.relay_core.specs.Replies.{End}
-use Rattle.relay_core.specs.declared.call.Call.TheVariants as call
-use Rattle.engine.proofs.Steps.{erred, read_of, still, bytes_in, none_read, end_met}
+use Rattle.engine.specs.Wires.{Brought}
+use Rattle.engine.proofs.Runs.{bytes_in, erred, none_read, stays_at, unmoved}
 use Rattle.engine.proofs.step.read.Goals as goal
 
 pub returns-in-Ok-eq0 : goal.returns-in-Ok-eq0
 returns-in-Ok-eq0 g c =
-    still _ _ _ _ _ _ End _ _ refl c.answer.ensures.value refl refl refl refl
-    (record {
-      remaining = none_read _ _ _ _ c.in-Ok-eq0.field-0-test c.in-Ok-eq0.ensures.bytes;
-      written = c.in-Ok-eq0.ensures.kept;
-      faults = c.in-Ok-eq0.ensures.counts.0;
-      blocks = c.in-Ok-eq0.ensures.counts.1;
-    })
-    (end_met _ c.args.pair.now c.args.side _ _ _ _ _ _ c.in-Ok-eq0.field-0-test (length-take-le c.args.most c.args.buffer.now (omega (arith, c.requires.possible.limited)))
-    c.in-Ok-eq0.ensures.did)
+    let e = c.in-Ok-eq0.ensures in
+    let none = c.in-Ok-eq0.field-0-test in
+    let whole = length-take-le c.args.most c.args.buffer.now (omega (arith, c.requires.possible.limited)) in
+    unmoved End refl c.answer.ensures.value refl refl (none_read _ _ _ _ none e.bytes) e.kept (stays_at e.counts.0) (stays_at e.counts.1)
+    (record { given = Brought _; told = rw none refl; did = rw whole at e.did })
 
 pub returns-in-Ok : goal.returns-in-Ok
 returns-in-Ok g c =
-    bytes_in _ _ _ c.args.side c.args.most _ _ c.in-Ok.count _ c.read.new.buffer _ _ _ (omega arith) (omega (arith, c.in-Ok.ensures.most))
-    (omega (arith, c.in-Ok.ensures.most, c.read.auto.buffer, length-take {A = ℕ}))
-    c.answer-in-Ok.ensures.value c.in-Ok.ensures.bytes
-    (record { remaining = tt; written = c.in-Ok.ensures.kept; faults = c.in-Ok.ensures.counts.0; blocks = c.in-Ok.ensures.counts.1 })
-    (length-take-le c.args.most c.args.buffer.now (omega (arith, c.requires.possible.limited))) c.in-Ok.ensures.did
+    let e = c.in-Ok.ensures in
+    let whole = length-take-le c.args.most c.args.buffer.now (omega (arith, c.requires.possible.limited)) in
+    bytes_in c.in-Ok.count c.read.new.buffer _ (omega arith) (omega (arith, e.most)) (omega (arith, e.most, c.read.auto.buffer, length-take {A = ℕ}))
+    c.answer-in-Ok.ensures.value e.bytes e.kept e.counts.0 e.counts.1 (rw whole at e.did)
 
 pub returns-in-Err : goal.returns-in-Err
 returns-in-Err g c =
-    erred _ _ _ (call.Read c.args.side c.args.most) _ _ _ _ _ _ _ _ refl c.answer-in-Err.ensures.value c.in-Err.ensures.bytes c.in-Err.ensures.kept c.faults-faults.ensures
-    c.blocks-blocks.ensures
-    c.error_answer.ensures
-    (read_of g.W.Wire.does c.args.most _ _ c.args.wire.now c.read.new.self (length-take-le c.args.most c.args.buffer.now (omega (arith, c.requires.possible.limited)))
-    c.in-Err.ensures.did)
+    let e = c.in-Err.ensures in
+    let whole = length-take-le c.args.most c.args.buffer.now (omega (arith, c.requires.possible.limited)) in
+    erred _ _ refl c.answer-in-Err.ensures.value e.bytes e.kept c.faults-faults.ensures c.blocks-blocks.ensures c.error_answer.ensures (rw whole at e.did)

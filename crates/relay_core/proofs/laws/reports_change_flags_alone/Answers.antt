@@ -1,5 +1,5 @@
 use Rattle.std.proofs.Common.{refl}
-use Rattle.relay_core.proofs.Events.{stream_noted}
+use Rattle.relay_core.proofs.Pairs.{stream_noted}
 use Rattle.relay_core.proofs.laws.reports_change_flags_alone.Goals as goal
 
 pub returns-clause-flags : goal.returns-clause-flags

@@ -1,6 +1,5 @@
-use Rattle.relay_core.specs.Answers.{reply_of}
-use Rattle.relay_core.proofs.Streams.{order_kept, end_passed_last}
-use Rattle.relay_core.proofs.Faults.{fails_by_call, interrupted_changes_turn}
+use Rattle.relay_core.specs.Replies.{reply_of}
+use Rattle.relay_core.proofs.Pairs.{end_passed_last, fails_by_call, interrupted_changes_turn, order_kept}
 use Rattle.relay_core.proofs.pair.Pair.answer.Goals as goal
 
 -- The laws are about the definition, and the pair is the definition's.
