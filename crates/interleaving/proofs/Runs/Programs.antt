@@ -12,12 +12,10 @@ pub use Rattle.world.specs.declared.actors.Holder.{Holder}
 pub use Rattle.world.specs.Calls.{OpenConnection, called, told_of, made}
 pub use Rattle.world.specs.Steps.{is_worn, may_release, token_of}
 pub use Rattle.world.specs.Support.{worker_tickets}
-pub use Rattle.world.proofs.TurnsFacts.{Facts, worker_holds, worker_closes, one_same, is_shaped}
+pub use Rattle.world.proofs.TurnsFacts.{Facts, is_shaped}
 pub use Rattle.world.proofs.TurnsRun.{names_it}
 pub use Rattle.world.proofs.TurnsTotals.{total_at}
-pub use Rattle.interleaving.specs.Threads.{Post, PutIn, Retire, Give, TakeNotes}
-pub use Rattle.interleaving.specs.Threads.{after_call, calls, claimed, closed, exchanged, begins, given, heard, notes_taken, planned, put_in, registered, registering, taken_out}
-pub use Rattle.interleaving.specs.Likeness.{HeldClosed}
+pub use Rattle.interleaving.specs.Threads.{Post, PutIn, Retire, Give, TakeNotes, after_call, calls, claimed, closed, begins, given, heard, notes_taken, planned, put_in, registered, registering, taken_out}
 
 -- what is true of each list that a plan may be is true of a plan
 pub by_plan : (f : List Act → Bool) (b : Bool) (left : ℕ) (p : PairState) → f quiet ≡ b → f again ≡ b → f (Call ∷ []) ≡ b → f ended ≡ b → f (plan left p) ≡ b
