@@ -1,7 +1,129 @@
--- The rule holds at the start, and a seat that makes another keeps it.
-use Rattle.claims.proofs.Prelude.{◌≡◌, ℕ, zero, suc, ◌+◌, ◌-◌, ◌*◌, ◌^◌, ◌<◌, ◌≤◌, Bool, false, if◌then◌else◌, List, [], ◌∷◌, ◌++◌, length, map, set, get_or, replicate, refl, sym, subst, ap, ◌∙◌, arith, sum_by, ext_get_or, map-set, map-append, length-replicate, get_or-replicate, replicate_more, length-append, length-set, All-set, All-push, All-replicate, sum_by-replicate, sum_by_push, eq-eqb, Splits, at_map, set_again, Account, Exchange, View, word_of, WordState, blank, unused_view, account_of, accounts_of, trace_in, traces_at, History, Leads, by_seat, unused, Keeps, SlotRule, ClaimRule, TableId, SeatState, view_of, fresh_seat, SeatOk, OpensLawful}
-use Rattle.claims.proofs.Fields.{posted_of, holds_of, spare_of}
-use Rattle.claims.proofs.Totals.{each_at, sum_by-put}
+-- The rule of all slots: at the start, after a step and after a split, and the laws of every state that meets it.
+pub mod Histories
+pub use Histories.*
+
+abbrev pub spare_of : View → ℕ
+spare_of v = v.spare
+
+abbrev pub holds_of : Account → Bool
+holds_of a = a.holds
+
+-- the account of this slot
+abbrev pub account_in : ℕ → View → Account
+account_in slot v = account_of (trace_in slot v)
+
+-- One step keeps it: at another slot nothing changes
+
+-- the view after a step that leaves this trace of the slot
+abbrev with_trace : View → ℕ → List Exchange → View
+with_trace v slot t = record v { traces = set v.traces slot t }
+
+module _ (slots : ℕ) (words : List ℕ) (views : List View) (rule : ClaimRule slots words views) where
+  -- the notes that all seats ever posted at one slot
+  pub few_posts : (slot : ℕ) → slot < slots → sum_by posted_of (column slot views) ≤ 2 ^ 61
+  few_posts slot lt =
+      let most : All (λ v. posted_of (account_in slot v) ≤ 2 ^ 56) views =
+      λ k d in_views. (
+      let v = get_or views k d in
+      let wide : slot < length (accounts_of v) = subst (λ n. slot < n) (sym (length-map v.traces account_of ∙ rule.one_trace_each k d in_views)) lt in
+      let term = get_or-le-sum_by posted_of (accounts_of v) slot blank wide in
+      let this : posted_of (get_or (accounts_of v) slot blank) ≡ posted_of (account_in slot v) = ap posted_of (get_or-map account_of v.traces slot []) in
+      let total = rule.unworn k d in_views in omega arith) in
+      let bound = sum_by-le (λ v. posted_of (account_in slot v)) (2 ^ 56) views most in
+      let seats = rule.few_seats in
+      let same = sum_by-map posted_of account_of (traces_at slot views) in
+      let again = sum_by-map (λ t. posted_of (account_of t)) (trace_in slot) views in
+      omega arith
+
+  pub few_pending : (slot : ℕ) (lt : slot < slots) → (rule.slot_rules slot lt).state.pending ≤ 2 ^ 61
+  few_pending slot lt = let posts = few_posts slot lt in let notes = (counts_of _ _ (rule.slot_rules slot lt)).notes in omega arith
+
+  module _ (k : ℕ) (v : View) (at : get_elem? views k ≡ some v) (slot : ℕ) (lt : slot < slots) where
+    pub wide : slot < length v.traces
+    wide = subst (λ n. slot < n) (sym (each_at (λ u. length u.traces ≡ slots) _ _ at rule.one_trace_each)) lt
+
+    -- the seat k has the trace t of this slot, and the word became n
+    pub kept : (n : ℕ) (t : List Exchange) → SlotRule n (set (traces_at slot views) k t) → sum_by posted_of (map account_of (set v.traces slot t)) ≤ 2 ^ 56
+        → ClaimRule slots (set words slot n) (set views k (with_trace v slot t))
+    kept n t here few =
+        let w : View = with_trace v slot t in
+        let sized = each_at (λ u. length u.traces ≡ slots) _ _ at rule.one_trace_each in
+        let spares = sum_by-put spare_of views k v w at in
+        let seats = rule.few_seats in
+        let many = length-set views k w in
+        record {
+          one_word_each = length-set words slot n ∙ rule.one_word_each;
+          one_trace_each = All-set (λ u. length u.traces ≡ slots) views k w (length-set v.traces slot t ∙ sized) rule.one_trace_each;
+          slot_rules = λ j j_lt. dite (ℕ_discrete j slot) (λ same. subst (λ (i : ℕ). SlotRule (get_or (set words slot n) i 0) (traces_at i (set views k w))) (sym same)
+              (at_slot n t here)) (λ other. elsewhere n t j j_lt other);
+          unworn = All-set (λ u. sum_by posted_of (accounts_of u) ≤ 2 ^ 56) views k w few rule.unworn;
+          few_seats = omega arith;
+        }
+      where
+        at_slot : (n : ℕ) (t : List Exchange) → SlotRule n (set (traces_at slot views) k t)
+            → SlotRule (get_or (set words slot n) slot 0) (traces_at slot (set views k (with_trace v slot t)))
+        at_slot n t here =
+            let w : View = with_trace v slot t in
+            let word : get_or (set words slot n) slot 0 ≡ n = get_or-set_same words slot n 0 (subst (λ (m : ℕ). slot < m) (sym rule.one_word_each) lt) in
+            let mine : trace_in slot w ≡ t = get_or-set_same v.traces slot t [] wide in
+            let traces : traces_at slot (set views k w) ≡ set (traces_at slot views) k t = map-set (trace_in slot) views k w
+            ∙ ap (λ (u : List Exchange). set (traces_at slot views) k u) mine in
+            subst (λ (m : ℕ). SlotRule m (traces_at slot (set views k w))) (sym word) (subst (λ (ts : List (List Exchange)). SlotRule n ts) (sym traces) here)
+
+        elsewhere : (n : ℕ) (t : List Exchange) (j : ℕ) → j < slots → j ≢ slot → SlotRule (get_or (set words slot n) j 0) (traces_at j (set views k (with_trace v slot t)))
+        elsewhere n t j j_lt other =
+            let w : View = with_trace v slot t in
+            let word : get_or (set words slot n) j 0 ≡ get_or words j 0 = get_or-set_other words slot j n 0 other in
+            let mine : trace_in j w ≡ trace_in j v = get_or-set_other v.traces slot j t [] other in
+            let traces : traces_at j (set views k w) ≡ traces_at j views =
+            map-set (trace_in j) views k w ∙ ap (λ (u : List Exchange). set (traces_at j views) k u) mine
+            ∙ set_again (traces_at j views) k (trace_in j v) (at_map (trace_in j) views k v at) in
+            subst (λ (m : ℕ). SlotRule m (traces_at j (set views k w))) (sym word)
+            (subst (λ (ts : List (List Exchange)). SlotRule (get_or words j 0) ts) (sym traces) (rule.slot_rules j j_lt))
+
+-- The laws of every state that meets it
+
+-- an entry of the list holds only where there is one
+holds_inside : (l : List Account) (k : ℕ) → (get_or l k blank).holds ≡ true → k < length l
+holds_inside [] k holds = cc
+holds_inside (x ∷ l) zero holds = omega arith
+holds_inside (x ∷ l) (suc k) holds = let rest = holds_inside l k holds in omega arith
+
+pub one_holder_each : OneHolderEach
+one_holder_each slots words views rule slot within seat other seat_holds other_holds =
+    let here = rule.slot_rules slot within in
+    let accounts = column slot views in
+    dite (ℕ_discrete other seat) sym (λ ne. absurd (
+    let no : true ≡ false = sym other_holds ∙ alone accounts seat (get_or accounts seat blank) (at_inside accounts seat blank (holds_inside accounts seat seat_holds))
+    here.state seat_holds (counts_of _ _ here).holders other blank ne (holds_inside accounts other other_holds) in cc))
+
+-- a word says one thing
+same_word : (w v : WordState) → word_of w ≡ word_of v → w ≡ v
+same_word w v is =
+    let a = one_le w.free in let b = one_le w.held in let c = one_le v.free in let d = one_le v.held in
+    let pending : w.pending ≡ v.pending = omega arith in
+    let free = same_bit w.free v.free (omega arith) in
+    let held = same_bit w.held v.held (omega arith) in
+    λ i. record { pending = pending i; free = free i; held = held i }
+  where
+    same_bit : (a b : Bool) → one a ≡ one b → a ≡ b
+    same_bit true true e = refl
+    same_bit true false e = absurd (omega arith)
+    same_bit false true e = absurd (omega arith)
+    same_bit false false e = refl
+
+pub histories_count : HistoriesCount
+histories_count slots words views rule slot within state is =
+    let here = rule.slot_rules slot within in
+    subst (λ (w : WordState). Counts w (column slot views)) (same_word here.state state (sym here.reads ∙ is)) (counts_of _ _ here)
+
+pub notes_are_kept : NotesAreKept
+notes_are_kept slots words views rule slot within state is = (histories_count slots words views rule slot within state is).notes
+
+pub tickets_are_needed : TicketsAreNeeded
+tickets_are_needed slots words views rule slot within state is = sym (histories_count slots words views rule slot within state is).tickets
+
+-- It holds at the start, and a seat that makes another keeps it
 
 -- the first seat, which may still make the others; and a seat that makes another, which has done nothing and makes none
 abbrev first_view : ℕ → ℕ → View
@@ -13,15 +135,7 @@ one_spare_less v = record v { spare = v.spare - 1 }
 abbrev newcomer : View → View
 newcomer v = unused_view (length v.traces) 0
 
-abbrev nothing_done : List Exchange
-nothing_done = []
-
 -- no exchange at any place
-none_at : (n slot : ℕ) → nothing_done ≡ get_or (replicate n nothing_done) slot []
-none_at zero slot = refl
-none_at (suc n) zero = refl
-none_at (suc n) (suc slot) = none_at n slot
-
 none_more : (traces : List (List Exchange)) (slot : ℕ) → get_or traces slot [] ≡ get_or (traces ++ [] ∷ []) slot []
 none_more [] zero = refl
 none_more [] (suc slot) = refl
@@ -30,7 +144,7 @@ none_more (t ∷ ts) (suc slot) = none_more ts slot
 
 -- seats that have done nothing, and the word 3
 unused_slot : (n : ℕ) → SlotRule 3 (replicate n [])
-unused_slot n = record { history = []; state = unused; reads = refl; folds = refl; mine = none_at n; fair = All-replicate (Keeps blank) n [] tt }
+unused_slot n = record { history = []; state = unused; reads = refl; folds = refl; mine = λ seat. sym (same_at n seat []); fair = All-replicate (Keeps blank) n [] tt }
 
 map-replicate : {A B : Type 0} (f : A → B) (n : ℕ) (a : A) → map f (replicate n a) ≡ replicate n (f a)
 map-replicate f zero a = refl
@@ -52,7 +166,7 @@ module _ (slots : ℕ) (spare : ℕ) where
         one_trace_each = All-replicate (λ u. length u.traces ≡ slots) seats v (length-replicate slots []);
         slot_rules = λ slot lt. (
             let traces : traces_at slot (replicate seats v) ≡ replicate seats [] = map-replicate (trace_in slot) seats v
-            ∙ ap (λ (t : List Exchange). replicate seats t) (sym (none_at slots slot)) in
+            ∙ ap (λ (t : List Exchange). replicate seats t) (same_at slots slot []) in
             let word : get_or (replicate slots 3) slot 0 ≡ 3 = get_or-replicate slots slot 3 0 lt in
             subst (λ (n : ℕ). SlotRule n (traces_at slot (replicate seats v))) (sym word) (subst (λ (l : List (List Exchange)). SlotRule 3 l) (sym traces) (unused_slot seats)));
         unworn = All-replicate (λ u. sum_by posted_of (accounts_of u) ≤ 2 ^ 56) seats v (omega arith);
@@ -75,8 +189,8 @@ may_split slots id v some_spare table rule at =
     let views = table.views in
     let left = one_spare_less v in
     let right = newcomer v in
-    let sized = each_at (λ (u : View). length u.traces ≡ slots) views id v at rule.one_trace_each in
-    let posts = each_at (λ (u : View). sum_by posted_of (accounts_of u) ≤ 2 ^ 56) views id v at rule.unworn in
+    let sized = each_at (λ (u : View). length u.traces ≡ slots) _ _ at rule.one_trace_each in
+    let posts = each_at (λ (u : View). sum_by posted_of (accounts_of u) ≤ 2 ^ 56) _ _ at rule.unworn in
     let none : sum_by posted_of (accounts_of right) ≡ 0 = nothing_posted (length v.traces) in
     let spares = sum_by-put spare_of views id v left at in
     let spares' = sum_by_push spare_of (set views id left) right in
@@ -92,7 +206,7 @@ may_split slots id v some_spare table rule at =
           map-append (trace_in slot) (set views id left) (right ∷ [])
           ∙ ap (λ (l : List (List Exchange)). l ++ trace_in slot right ∷ []) (map-set (trace_in slot) views id left
           ∙ set_again (traces_at slot views) id (trace_in slot v) (at_map (trace_in slot) views id v at))
-          ∙ ap (λ (t : List Exchange). traces_at slot views ++ t ∷ []) (sym (none_at (length v.traces) slot)) in
+          ∙ ap (λ (t : List Exchange). traces_at slot views ++ t ∷ []) (same_at (length v.traces) slot []) in
           subst (λ (l : List (List Exchange)). SlotRule (get_or table.words slot 0) l) (sym here)
           (one_more (get_or table.words slot 0) (traces_at slot views) (rule.slot_rules slot lt)));
       unworn = All-push (λ u. sum_by posted_of (accounts_of u) ≤ 2 ^ 56) (set views id left) right
@@ -123,7 +237,7 @@ no_history (s ∷ rest) w none leads =
 
 -- the word that unused seats leave
 word_is_3 : (n word : ℕ) → SlotRule word (replicate n []) → word ≡ 3
-word_is_3 n word rule = rule.reads ∙ ap word_of (no_history rule.history rule.state (λ seat. rule.mine seat ∙ sym (none_at n seat)) rule.folds)
+word_is_3 n word rule = rule.reads ∙ ap word_of (no_history rule.history rule.state (λ seat. rule.mine seat ∙ same_at n seat []) rule.folds)
 
 -- the words that unused seats leave
 words_are_3 : (slots seats : ℕ) (words : List ℕ) → ClaimRule slots words (replicate seats (unused_view slots 0)) → words ≡ replicate slots 3
@@ -131,7 +245,7 @@ words_are_3 slots seats words rule =
     ext_get_or 0 words (replicate slots 3) (rule.one_word_each ∙ sym (length-replicate slots 3)) (λ slot lt. (
     let inside : slot < slots = subst (λ n. slot < n) rule.one_word_each lt in
     let traces : traces_at slot (replicate seats (unused_view slots 0)) ≡ replicate seats [] =
-    map-replicate (trace_in slot) seats (unused_view slots 0) ∙ ap (λ (t : List Exchange). replicate seats t) (sym (none_at slots slot)) in
+    map-replicate (trace_in slot) seats (unused_view slots 0) ∙ ap (λ (t : List Exchange). replicate seats t) (same_at slots slot []) in
     word_is_3 seats (get_or words slot 0) (subst (λ (l : List (List Exchange)). SlotRule (get_or words slot 0) l) traces (rule.slot_rules slot inside))
     ∙ sym (get_or-replicate slots slot 3 0 inside)))
 
