@@ -12,6 +12,9 @@ holds_of a = a.holds
 abbrev pub account_in : ℕ → View → Account
 account_in slot v = account_of (trace_in slot v)
 
+slot_rule : {m n : ℕ} {ts us : List (List Exchange)} → m ≡ n → ts ≡ us → SlotRule n us → SlotRule m ts
+slot_rule {m} {n} {ts} {us} word traces rule = subst (λ a. SlotRule a ts) (sym word) (subst (λ l. SlotRule n l) (sym traces) rule)
+
 -- One step keeps it: at another slot nothing changes
 
 -- the view after a step that leaves this trace of the slot
@@ -63,23 +66,16 @@ module _ (slots : ℕ) (words : List ℕ) (views : List View) (rule : ClaimRule 
         at_slot : (n : ℕ) (t : List Exchange) → SlotRule n (set (traces_at slot views) k t)
             → SlotRule (get_or (set words slot n) slot 0) (traces_at slot (set views k (with_trace v slot t)))
         at_slot n t here =
-            let w : View = with_trace v slot t in
-            let word : get_or (set words slot n) slot 0 ≡ n = get_or-set_same words slot n 0 (subst (λ (m : ℕ). slot < m) (sym rule.one_word_each) lt) in
-            let mine : trace_in slot w ≡ t = get_or-set_same v.traces slot t [] wide in
-            let traces : traces_at slot (set views k w) ≡ set (traces_at slot views) k t = map-set (trace_in slot) views k w
-            ∙ ap (λ (u : List Exchange). set (traces_at slot views) k u) mine in
-            subst (λ (m : ℕ). SlotRule m (traces_at slot (set views k w))) (sym word) (subst (λ (ts : List (List Exchange)). SlotRule n ts) (sym traces) here)
+            let mine : trace_in slot (with_trace v slot t) ≡ t = get_or-set_same v.traces slot t [] wide in
+            slot_rule (get_or-set_same words slot n 0 (subst (λ (m : ℕ). slot < m) (sym rule.one_word_each) lt))
+            (map-set (trace_in slot) views k (with_trace v slot t) ∙ ap (λ (u : List Exchange). set (traces_at slot views) k u) mine) here
 
         elsewhere : (n : ℕ) (t : List Exchange) (j : ℕ) → j < slots → j ≢ slot → SlotRule (get_or (set words slot n) j 0) (traces_at j (set views k (with_trace v slot t)))
         elsewhere n t j j_lt other =
-            let w : View = with_trace v slot t in
-            let word : get_or (set words slot n) j 0 ≡ get_or words j 0 = get_or-set_other words slot j n 0 other in
-            let mine : trace_in j w ≡ trace_in j v = get_or-set_other v.traces slot j t [] other in
-            let traces : traces_at j (set views k w) ≡ traces_at j views =
-            map-set (trace_in j) views k w ∙ ap (λ (u : List Exchange). set (traces_at j views) k u) mine
-            ∙ set_again (traces_at j views) k (trace_in j v) (at_map (trace_in j) views k v at) in
-            subst (λ (m : ℕ). SlotRule m (traces_at j (set views k w))) (sym word)
-            (subst (λ (ts : List (List Exchange)). SlotRule (get_or words j 0) ts) (sym traces) (rule.slot_rules j j_lt))
+            let mine : trace_in j (with_trace v slot t) ≡ trace_in j v = get_or-set_other v.traces slot j t [] other in
+            slot_rule (get_or-set_other words slot j n 0 other)
+            (map-set (trace_in j) views k (with_trace v slot t) ∙ ap (λ (u : List Exchange). set (traces_at j views) k u) mine
+            ∙ set_again (traces_at j views) k (trace_in j v) (at_map (trace_in j) views k v at)) (rule.slot_rules j j_lt)
 
 -- The laws of every state that meets it
 
@@ -153,6 +149,10 @@ map-replicate f (suc n) a = ap (λ l. f a ∷ l) (map-replicate f n a)
 nothing_posted : (n : ℕ) → sum_by posted_of (map account_of (replicate n [])) ≡ 0
 nothing_posted n = ap (λ (l : List Account). sum_by posted_of l) (map-replicate account_of n []) ∙ sum_by-replicate posted_of n blank ∙ omega arith
 
+unused_traces : (slots spare seats slot : ℕ) → traces_at slot (replicate seats (unused_view slots spare)) ≡ replicate seats []
+unused_traces slots spare seats slot =
+    map-replicate (trace_in slot) seats (unused_view slots spare) ∙ ap (λ (t : List Exchange). replicate seats t) (same_at slots slot [])
+
 module _ (slots : ℕ) (spare : ℕ) where
   -- this many seats that have done nothing and have this spare each
   pub unused_rule : (seats : ℕ) → seats + seats * spare ≤ 32 → ClaimRule slots (replicate slots 3) (replicate seats (unused_view slots spare))
@@ -164,11 +164,7 @@ module _ (slots : ℕ) (spare : ℕ) where
       record {
         one_word_each = length-replicate slots 3;
         one_trace_each = All-replicate (λ u. length u.traces ≡ slots) seats v (length-replicate slots []);
-        slot_rules = λ slot lt. (
-            let traces : traces_at slot (replicate seats v) ≡ replicate seats [] = map-replicate (trace_in slot) seats v
-            ∙ ap (λ (t : List Exchange). replicate seats t) (same_at slots slot []) in
-            let word : get_or (replicate slots 3) slot 0 ≡ 3 = get_or-replicate slots slot 3 0 lt in
-            subst (λ (n : ℕ). SlotRule n (traces_at slot (replicate seats v))) (sym word) (subst (λ (l : List (List Exchange)). SlotRule 3 l) (sym traces) (unused_slot seats)));
+        slot_rules = λ slot lt. slot_rule (get_or-replicate slots slot 3 0 lt) (unused_traces slots spare seats slot) (unused_slot seats);
         unworn = All-replicate (λ u. sum_by posted_of (accounts_of u) ≤ 2 ^ 56) seats v (omega arith);
         few_seats = omega arith;
       }
@@ -207,8 +203,7 @@ may_split slots id v some_spare table rule at =
           ∙ ap (λ (l : List (List Exchange)). l ++ trace_in slot right ∷ []) (map-set (trace_in slot) views id left
           ∙ set_again (traces_at slot views) id (trace_in slot v) (at_map (trace_in slot) views id v at))
           ∙ ap (λ (t : List Exchange). traces_at slot views ++ t ∷ []) (same_at (length v.traces) slot []) in
-          subst (λ (l : List (List Exchange)). SlotRule (get_or table.words slot 0) l) (sym here)
-          (one_more (get_or table.words slot 0) (traces_at slot views) (rule.slot_rules slot lt)));
+          slot_rule refl here (one_more (get_or table.words slot 0) (traces_at slot views) (rule.slot_rules slot lt)));
       unworn = All-push (λ u. sum_by posted_of (accounts_of u) ≤ 2 ^ 56) (set views id left) right
           (All-set (λ u. sum_by posted_of (accounts_of u) ≤ 2 ^ 56) views id left posts rule.unworn) (omega arith);
       few_seats = omega arith;
@@ -244,9 +239,7 @@ words_are_3 : (slots seats : ℕ) (words : List ℕ) → ClaimRule slots words (
 words_are_3 slots seats words rule =
     ext_get_or 0 words (replicate slots 3) (rule.one_word_each ∙ sym (length-replicate slots 3)) (λ slot lt. (
     let inside : slot < slots = subst (λ n. slot < n) rule.one_word_each lt in
-    let traces : traces_at slot (replicate seats (unused_view slots 0)) ≡ replicate seats [] =
-    map-replicate (trace_in slot) seats (unused_view slots 0) ∙ ap (λ (t : List Exchange). replicate seats t) (same_at slots slot []) in
-    word_is_3 seats (get_or words slot 0) (subst (λ (l : List (List Exchange)). SlotRule (get_or words slot 0) l) traces (rule.slot_rules slot inside))
+    word_is_3 seats (get_or words slot 0) (slot_rule refl (sym (unused_traces slots 0 seats slot)) (rule.slot_rules slot inside))
     ∙ sym (get_or-replicate slots slot 3 0 inside)))
 
 -- the rule holds of words that are all 3 and of unused seats, and of no other words
