@@ -1,13 +1,2 @@
-pub mod Prelude
-pub mod Fields
-pub mod Totals
-pub mod OneSlot
-pub mod Histories
-pub mod Bits
-pub mod AllSlots
-pub mod Moves
-pub mod Tells
-pub mod Cases
-pub mod Opens
+pub mod Steps
 pub mod Seats
-pub mod States

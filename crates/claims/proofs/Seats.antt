@@ -1,17 +1,12 @@
 -- For callers: where a seat has changed, and that it holds nothing.
-use Rattle.claims.proofs.Prelude.{◌≡◌, ℕ, zero, suc, ◌+◌, List, [], ◌∷◌, ◌++◌, replicate, get_or, refl, sym, subst, ap, ◌∙◌, arith, append_assoc, append-nil, dite, ℕ_discrete, Account, Exchange, Posted, Wake, Quiet, Worn, one, blank, after, after_all, account_of, minted_by, TableId, SeatState, account_at, HoldsNot, HoldsNothing, OnlyAt, Adds, fresh_seat, trace_at, PostChange}
+use Rattle.claims.proofs.Steps.Rule.Histories.{same_at, ◌≡◌, ℕ, ◌+◌, List, [], ◌∷◌, ◌++◌, refl, sym, subst, ap, ◌∙◌, arith, append_assoc, append-nil, dite, ℕ_discrete, Account, Exchange, Posted, Wake, Quiet, Worn, one, blank, after, after_all, account_of, minted_by, TableId, SeatState, account_at, HoldsNot, HoldsNothing, OnlyAt, Adds, fresh_seat, trace_at, PostChange}
 use Rattle.claims.specs.declared.view.Exchange.TheVariants as exchange
-use Rattle.claims.proofs.Histories.{after_both}
-
-nothing_at : (n slot : ℕ) → account_of (get_or (replicate n []) slot []) ≡ blank
-nothing_at zero slot = refl
-nothing_at (suc n) zero = refl
-nothing_at (suc n) (suc slot) = nothing_at n slot
+pub use Rattle.claims.proofs.Steps.Rule.Histories.{posted_of}
 
 -- a seat that has done nothing
 pub fresh_holds_nothing : (table : TableId) (s : SeatState) → s ≡ fresh_seat table → HoldsNothing s
 fresh_holds_nothing table s is =
-    subst HoldsNothing (sym is) (record { nowhere = λ slot. ap (λ (a : Account). a.holds) (nothing_at table.words slot) })
+    subst HoldsNothing (sym is) (record { nowhere = λ slot. ap (λ (t : List Exchange). (account_of t).holds) (same_at table.words slot []) })
 
 module _ {slot : ℕ} where
   pub only_at_none : {old new : SeatState} → new ≡ old → OnlyAt slot old new
@@ -40,6 +35,11 @@ adds_both slot es fs a b c one two = record {
 }
 
 -- the account after such exchanges
+
+pub after_both : (t u : List Exchange) (a : Account) → after_all (t ++ u) a ≡ after_all u (after_all t a)
+after_both [] u a = refl
+after_both (e ∷ t) u a = after_both t u (after e a)
+
 pub account_after : (slot : ℕ) (es : List Exchange) (old new : SeatState) → Adds slot es old new → account_at new slot ≡ after_all es (account_at old slot)
 account_after slot es old new adds = ap account_of adds.here ∙ after_both (trace_at old slot) es blank
 
@@ -52,14 +52,8 @@ module _ (slot : ℕ) (old new : SeatState) where
 
 -- the tickets of exchanges after others
 minted_on : (e : Exchange) (a : Account) → (after e a).minted ≡ a.minted + (after e blank).minted
-minted_on (exchange.Post woke) a = omega arith
 minted_on exchange.Busy a = omega arith
-minted_on (exchange.Held pending) a = omega arith
-minted_on (exchange.Take count) a = omega arith
-minted_on (exchange.Release woke) a = omega arith
-minted_on exchange.Retire a = omega arith
-minted_on (exchange.Adopted pending) a = omega arith
-minted_on exchange.NotFree a = omega arith
+minted_on e a = omega arith
 
 minted_all : (es : List Exchange) (a b : Account) → (after_all es a).minted + b.minted ≡ a.minted + (after_all es b).minted
 minted_all [] a b = omega arith

@@ -1,10 +1,22 @@
--- What follows from the claim rule for all seats together, in plain terms. Part of the promises.
-use Rattle.std.specs.Prelude.{◌≡◌, ℕ, ◌+◌, ◌<◌, ◌≤◌, true, false, List, All, sum_by, if◌then◌else◌, slice_index, slice_index_or}
+-- What `open` refuses, and what it leaves; and what follows from the claim rule for all seats together, in plain terms. Part
+-- of the promises.
+use Rattle.std.specs.Prelude.{◌≡◌, ◌↔◌, ℕ, ◌+◌, ◌<◌, ◌≤◌, ◌⊎◌, true, false, List, map, replicate, All, sum_by, if◌then◌else◌, slice_index, slice_index_or}
 use Rattle.claims.specs.declared.view.Account.{Account}
 use Rattle.claims.specs.declared.view.View.{View}
 use Rattle.claims.specs.Words.{one, some_wait, word_of, WordState}
 use Rattle.claims.specs.Views.{blank, column}
 use Rattle.claims.specs.Rule.{ClaimRule}
+use Rattle.claims.specs.Seats.{SeatState, view_of}
+
+abbrev pub IsWithin : ℕ → ℕ → ℕ → Type 0
+IsWithin low high n = (low ≤ n) × (n ≤ high)
+
+abbrev pub IsOutside : ℕ → ℕ → ℕ → Type 0
+IsOutside low high n = (n < low) ⊎ (high < n)
+
+-- Where these are all seats, the rule holds of words that are all 3, free and held with no note, and of no others
+abbrev pub OpensLawful : ℕ → List SeatState → Type 0
+OpensLawful slots seats = (words : List ℕ) → ClaimRule slots words (map view_of seats) ↔ (words ≡ replicate slots 3)
 
 -- how many tickets a slot needs: one while notes wait and nobody holds it
 abbrev pub due : WordState → ℕ

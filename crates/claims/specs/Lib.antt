@@ -4,5 +4,4 @@ pub mod Views
 pub mod Rule
 pub mod Seats
 pub mod Calls
-pub mod Opening
 pub mod Laws

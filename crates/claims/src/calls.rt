@@ -7,8 +7,7 @@ ghost use Rattle.claims.specs.Calls.{PostChange, ClaimChange, ReleaseChange, Ado
 
 use crate::answers::{Adopted, Claimed, Posted, Released};
 use crate::limits::{FREE, HELD, MAX_POSTS, NOTE};
-use crate::plays::{Adopt, Claim, Post, Release, Retire, Take};
-use crate::rule::OneHolder;
+use crate::rule::{Adopt, Claim, OneHolder, Post, Release, Retire, Take};
 use crate::seat::ClaimSeat;
 use crate::view::View;
 use crate::word::{is_free, is_held, notes, posted, released};

@@ -9,7 +9,7 @@ pub fn histories_count()
 {}
 
 /// Two seats that hold the same slot are the same seat.
-#[tactic(auto, using(crate::proofs::States::one_holder_each))]
+#[tactic(auto, using(crate::proofs::Steps::Rule::one_holder_each))]
 pub fn one_holder_each()
     ensures { OneHolderEach }
 {}

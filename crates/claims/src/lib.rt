@@ -62,7 +62,6 @@ mod calls;
 pub mod laws;
 mod limits;
 mod opening;
-mod plays;
 mod rule;
 mod seat;
 mod view;

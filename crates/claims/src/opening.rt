@@ -2,7 +2,7 @@
 ghost use Rattle.std.specs.Prelude.{◌≡◌, ◌+◌, ◌-◌, ◌<◌, ◌≤◌, ◌↔◌, IfOk, OnOk, IsErrOf, false, replicate};
 ghost use Rattle.claims.specs.Views.{unused_view};
 ghost use Rattle.claims.specs.Seats.{fresh_seat};
-ghost use Rattle.claims.specs.Opening.{IsWithin, IsOutside, OpensLawful};
+ghost use Rattle.claims.specs.Laws.{IsWithin, IsOutside, OpensLawful};
 
 use crate::calls::{Claims, Words};
 use crate::limits::{MAX_SEATS, MAX_SLOTS, UNUSED};
@@ -73,7 +73,7 @@ fn words_and_seats(
 }
 
 // The words, and the seat that may make all others.
-#[tactic(auto, using(crate::proofs::Opens::opening_rule))]
+#[tactic(auto, using(crate::proofs::Steps::Rule::opening_rule))]
 fn words_and_first_seat(
     alloc: Global,
     slots: usize,

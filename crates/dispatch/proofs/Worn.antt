@@ -6,7 +6,7 @@ use native.Mathlib.Decide.{ℕ_discrete}
 use Rattle.std.proofs.lemmas.List.Sums.{sum_by-cons}
 use Rattle.claims.specs.declared.view.Exchange.{Exchange}
 use Rattle.claims.specs.Views.{account_of}
-use Rattle.claims.proofs.Fields.{posted_of}
+use Rattle.claims.proofs.Seats.{posted_of}
 use Rattle.claims.specs.Seats.{SeatState, account_at, OnlyAt}
 use Rattle.dispatch.specs.Posts.{IsWorn}
 

@@ -1,175 +1,287 @@
--- What holds after any list of steps.
-use Rattle.interleaving.proofs.Prelude.{nat_le, ◌&&◌, ◌≤◌, ◌≡◌, ◌≢◌, ◌⊎◌, inl, inr, ℕ, zero, suc, ◌==◌, Bool, true, false, nat_lt, List, [], ◌∷◌, ◌++◌, replicate, slice_get, Option, Some, None, refl, sym, ap, ◌∙◌, option_and_then, arith, lt-ltb, append-nil, subst, option_map, cases_eq, is_none, Reply, verdict, is_live, next_call, Connection, Event, SlotState, WorkerState, State, Kept, kept_some, kept_none, kept_bind, kept_when, kept_guard, kept_at, Turns, plan, System, Thread, Step, Tick, Network, Connect, Spurious, Vanish, Accept, Drop, Poll, Deliver, Sweep, Open, Begin, Acts, Calls, is_over, rests, poller_rests, acts, begun, step, Exchange, exchange, first_kind, kind_in, exchanges_of, exchanges_in, left_of, outside_in, outside_among, ahead, Held, ThreadLike, Rests, Opens, Tries, Holds, HasOut, Goes, Stays, Leaves, HasClosed, HasRetired, machine_of, Settled, Stage, Registered, Adopted, Entered, Emptied, Placed, Posted, opened_slot, HalfOpen, Like, IsSettled, IsHalfOpen, call_in, calls_in}
-use Rattle.interleaving.proofs.Prelude.machine_states
-use Rattle.interleaving.proofs.Prelude.machine
-use Rattle.interleaving.proofs.Prelude.machine_runs
-use Rattle.std.proofs.Common.{append_assoc, unwrap_or}
+-- What holds after any list of steps, and what no thread ever finds.
+pub mod Programs
+use Programs.*
 use Rattle.world.specs.declared.limits.Limits.{Limits}
 use Rattle.world.specs.Headline.{EveryRunHolds}
 use Rattle.world.specs.CoreLaws.{CoreLaws}
 use Rattle.world.proofs.TurnsTotals.{get-replicate, get_beside}
 use Rattle.world.proofs.TurnsRun.{turns_after}
-use Rattle.interleaving.specs.Threads.{calls, start, run}
-use Rattle.interleaving.specs.Histories.{exchanges}
-use Rattle.interleaving.specs.Likeness.{all_outside, calls_of, EveryInterleavingIsARun}
-use Rattle.interleaving.proofs.Frames.{Follows, settled_frame, half_frame}
-use Rattle.interleaving.proofs.Outside.{ticks, network, connects, spurious, vanishes, accepts, drops, polls}
-use Rattle.interleaving.proofs.Posts.{reports, sweeps}
-use Rattle.interleaving.proofs.Turns.{begins_turn, begins_opening, claims, takes_out}
-use Rattle.interleaving.proofs.Calls.{takes_notes, calls as makes_calls, run_append}
-use Rattle.interleaving.proofs.Leaving.{puts_quiet, puts_again, posts_due, releases, closes, retires, gives}
-use Rattle.interleaving.proofs.Lost.{no_act_in_vain}
-use Rattle.interleaving.proofs.Openings.{registers, goes_half, half_world}
+use Rattle.dispatch.specs.Acts.{gone_turn, quiet_turn, again_turn}
+use Rattle.interleaving.specs.Threads.{Adopt, Claim, ProgramsAreThese, gone, resting, run, seen, start}
+use Rattle.interleaving.specs.Likeness.{all_outside, calls_of, exchanges, taken_word, EveryInterleavingIsARun, NoActInVain}
 
--- A thread's act and its call, where no opening is half way
+-- The programs are the server's acts
 
-some_more_left : (n more : ℕ) → (n == 0) ≡ false → n ≤ more → nat_lt 0 more ≡ true
-some_more_left zero more h least = absurd (cc)
-some_more_left (suc n) more h least = lt-ltb 0 more (omega arith)
+pub programs_are_these : ProgramsAreThese
+programs_are_these = record { gone = gone_is; quiet = quiet_is; again = again_is; ended = refl; opening = refl }
+  where
+    gone_is : (woke : Bool) → seen (gone_turn false woke) ≡ Claim ∷ TakeOut ∷ gone
+    gone_is true = refl
+    gone_is false = refl
 
-module _ (st : System) (p : SlotState) (workers : List WorkerState) (set : Settled st p workers) (i : ℕ) (t : Thread) (there : slice_get st.threads i ≡ Some t)
-    (k : WorkerState) (had : slice_get workers i ≡ Some k) where
-  -- by the plan
-  module _ (c : Connection) (more : ℕ) (held : Held p i t c) (at : st.place ≡ None) (out : t.out ≡ Some c) (least : t.left ≤ more)
-      (is : k ≡ Rattle.world.specs.Acts.busy (Rattle.world.specs.declared.actors.Doing.TheVariants.Holds 0 more)) where
-    plan_acts : (live none spent : Bool) → is_live (verdict c.pair) ≡ live → is_none (next_call c.pair) ≡ none → (t.left == 0) ≡ spent
-        → Kept (Follows [] (exchange st.word (first_kind (plan t.left c.pair))) (machine_of st p st.entry st.tickets workers) (Acts i)) (acts st i t (plan t.left c.pair))
-    plan_acts true true spent lives rest over = rw (rest, lives)
-        (kept_some (puts_quiet st p workers set i t there k had c more held out is lives rest))
-    plan_acts true false true lives rest over = rw (rest, lives, over)
-        (kept_some (puts_again st p workers set i t there k had c more held out is lives))
-    plan_acts true false false lives rest over = rw (rest, lives, over) kept_none
-    plan_acts false none spent lives rest over = rw lives (kept_bind _ t.out (λ d has.
-        let same : d ≡ c = (let both : Some d ≡ Some c = sym has ∙ out in cc) in
-        rw same (closes st p workers set i t there k had c more held at is lives)))
+    quiet_is : (woke : Bool) → seen (quiet_turn woke) ≡ turn ++ quiet
+    quiet_is true = refl
+    quiet_is false = refl
 
-    plan_calls : (r : Reply) (live none spent : Bool) → is_live (verdict c.pair) ≡ live → is_none (next_call c.pair) ≡ none → (t.left == 0) ≡ spent
-        → Kept (Follows [] [] (machine_of st p st.entry st.tickets workers) (Calls i r)) (calls st i t r (plan t.left c.pair))
-    plan_calls r true true spent lives rest over = rw (rest, lives) kept_none
-    plan_calls r true false true lives rest over = rw (rest, lives, over) kept_none
-    plan_calls r true false false lives rest over = rw (rest, lives, over)
-        (makes_calls st p workers set i t there k had c held at out more least is (some_more_left t.left more over least) r)
-    plan_calls r false none spent lives rest over = rw lives kept_none
+    again_is : (woke : Bool) → seen (again_turn woke) ≡ turn ++ again
+    again_is true = refl
+    again_is false = refl
 
-  thread_acts : Turns (machine_of st p st.entry st.tickets workers) → ThreadLike st.limits.budget st.place p i t k
-      → Kept (Follows [] (exchange st.word (first_kind t.todo)) (machine_of st p st.entry st.tickets workers) (Acts i)) (acts st i t t.todo)
-  thread_acts turns (Rests todo is) = rw todo kept_none
-  thread_acts turns (Opens first todo is) =
-      rw (todo, first) (registers st p workers set turns t (rw first at there) k (rw first at had) is)
-  thread_acts turns (Tries todo least is) = rw todo (kept_some (claims st p workers set turns i t there k had todo least is))
-  thread_acts turns (Holds c held at todo least is) = rw todo (kept_some (takes_out st p workers set turns i t there k had c held at least is))
-  thread_acts turns (HasOut c held at out todo least is) =
-      rw (todo, out) (kept_some (takes_notes st p workers set i t there k had c held at least is))
-  thread_acts turns (Goes c more held at out todo least is) = rw todo
-      (plan_acts c more held at out least is (is_live (verdict c.pair)) (is_none (next_call c.pair)) (t.left == 0) refl refl refl)
-  thread_acts turns (Stays c more held at live todo is) = rw todo (kept_some (posts_due st p workers set i t there k had c more held at live is))
-  thread_acts turns (Leaves c more held at may todo is) = rw todo (kept_some (releases st p workers set i t there k had c more held at may is))
-  thread_acts turns (HasClosed held at todo is) = rw todo (kept_some (retires st p workers set i t there k had held at is))
-  thread_acts turns (HasRetired own todo is) = rw todo (kept_some (gives st p workers set i t there k had own is))
+-- What a thread finds where it claims the slot, takes the connection out, puts one in, or adopts the slot
 
-  thread_calls : ThreadLike st.limits.budget st.place p i t k → (r : Reply) → Kept (Follows [] [] (machine_of st p st.entry st.tickets workers) (Calls i r)) (calls st i t r t.todo)
-  thread_calls (Rests todo is) r = rw todo kept_none
-  thread_calls (Opens first todo is) r = rw todo kept_none
-  thread_calls (Tries todo least is) r = rw todo kept_none
-  thread_calls (Holds c held at todo least is) r = rw todo kept_none
-  thread_calls (HasOut c held at out todo least is) r = rw todo kept_none
-  thread_calls (Goes c more held at out todo least is) r = rw todo
-      (plan_calls c more held at out least is r (is_live (verdict c.pair)) (is_none (next_call c.pair)) (t.left == 0) refl refl refl)
-  thread_calls (Stays c more held at live todo is) r = rw todo kept_none
-  thread_calls (Leaves c more held at may todo is) r = rw todo kept_none
-  thread_calls (HasClosed held at todo is) r = rw todo kept_none
-  thread_calls (HasRetired own todo is) r = rw todo kept_none
+record Finds (word : WordState) (place : Option Connection) (t : Thread) : Type 0 where
+  pub held : t.todo ≡ turn → word.held ≡ false
+  pub there : t.todo ≡ drop 1 turn → (c : Connection) × (place ≡ Some c) × (c.pair.generation ≡ t.generation)
+  pub empty : (rest : List Act) → t.todo ≡ PutIn ∷ rest → place ≡ None
+  pub free : t.todo ≡ drop 1 open_slot → word.free ≡ true
 
--- Any step, where no opening is half way
-follows_settled : (st : System) (p : SlotState) (workers : List WorkerState) → Settled st p workers → Turns (machine_of st p st.entry st.tickets workers)
-    → (s : Step) → Kept (Follows [] (exchange st.word (kind_in st s)) (machine_of st p st.entry st.tickets workers) s) (step st s)
-follows_settled st p workers set turns (Tick n) = ticks st [] p st.entry st.tickets workers (settled_frame st p workers set) n
-follows_settled st p workers set turns (Network side change) = network st [] p st.entry st.tickets workers (settled_frame st p workers set) side change
-follows_settled st p workers set turns Connect = connects st [] p st.entry st.tickets workers (settled_frame st p workers set)
-follows_settled st p workers set turns (Spurious who) = spurious st [] p st.entry st.tickets workers (settled_frame st p workers set) who
-follows_settled st p workers set turns (Vanish who) = vanishes st [] p st.entry st.tickets workers (settled_frame st p workers set) who
-follows_settled st p workers set turns (Accept reply) = accepts st [] p st.entry st.tickets workers (settled_frame st p workers set) reply
-follows_settled st p workers set turns Drop = drops st [] p st.entry st.tickets workers (settled_frame st p workers set)
-follows_settled st p workers set turns (Poll names) = polls st [] p st.entry st.tickets workers (settled_frame st p workers set) names
-follows_settled st p workers set turns Deliver = reports st p workers set
-follows_settled st p workers set turns Sweep = sweeps st p workers set
-follows_settled st p workers set turns Open = begins_opening st p workers set
-follows_settled st p workers set turns (Begin i most) = begins_turn st p workers set i most
-follows_settled st p workers set turns (Acts i) = kept_bind _ (slice_get st.threads i) (λ t there.
-    rw there (thread_acts st p workers set i t there (set.threads i t there).worker (set.threads i t there).there turns (set.threads i t there).like))
-follows_settled st p workers set turns (Calls i r) = kept_bind _ (slice_get st.threads i) (λ t there.
-    thread_calls st p workers set i t there (set.threads i t there).worker (set.threads i t there).there (set.threads i t there).like r)
+abbrev finds_it : List Act → Bool
+finds_it (Claim ∷ rest) = true
+finds_it (TakeOut ∷ rest) = true
+finds_it (Adopt ∷ rest) = true
+finds_it acts = false
 
--- and where one is
+differs : {X : Type 0} {now todo at : List Act} → now ≡ todo → now ≡ at → finds_it todo ≡ false → finds_it at ≡ true → X
+differs is at other has = absurd (let both : true ≡ false = sym has ∙ (ap finds_it (sym at ∙ is) ∙ other) in cc)
 
-stage_acts : (word : Rattle.claims.specs.Words.WordState) (place : Option Connection) (entry : ℕ) (t : Thread) (c : Connection) → Stage word place entry t c → rests t ≡ false
-stage_acts word place entry t c (Registered notes todo is at out) = rw todo refl
-stage_acts word place entry t c (Adopted notes todo is at out) = rw todo refl
-stage_acts word place entry t c (Entered notes todo is at out own) = rw todo refl
-stage_acts word place entry t c (Emptied todo is at out own) = rw todo refl
-stage_acts word place entry t c (Placed todo is at own) = rw todo refl
-stage_acts word place entry t c (Posted todo is at own) = rw todo refl
+-- a thread that is about another act
+finds_none : {word : WordState} {place : Option Connection} {todo : List Act} (t : Thread) → t.todo ≡ todo → finds_it todo ≡ false
+    → ((rest : List Act) → t.todo ≡ PutIn ∷ rest → place ≡ None) → Finds word place t
+finds_none t is other puts = record {
+  held = λ at. differs is at other refl;
+  there = λ at. differs is at other refl;
+  empty = puts;
+  free = λ at. differs is at other refl;
+}
 
-stage_calls : (st : System) (before : List Exchange) (w : State) (t : Thread) (c : Connection) (r : Reply) → Stage st.word st.place st.entry t c
-    → Kept (Follows before [] w (Calls 0 r)) (calls st 0 t r t.todo)
-stage_calls st before w t c r (Registered notes todo is at out) = rw todo kept_none
-stage_calls st before w t c r (Adopted notes todo is at out) = rw todo kept_none
-stage_calls st before w t c r (Entered notes todo is at out own) = rw todo kept_none
-stage_calls st before w t c r (Emptied todo is at out own) = rw todo kept_none
-stage_calls st before w t c r (Placed todo is at own) = rw todo kept_none
-stage_calls st before w t c r (Posted todo is at own) = rw todo kept_none
+module _ (st : System) (p : SlotState) (workers : List WorkerState) (set : Settled st p workers) (turns : Turns (machine_of st p st.entry st.tickets workers)) where
+  finds_settled : (i : ℕ) (t : Thread) (k : WorkerState) → slice_get workers i ≡ Some k → ThreadLike st.limits.budget st.place p i t k → Finds st.word st.place t
+  finds_settled i t k had (Rests todo is) = finds_none t todo refl (λ rest at. absurd (cc))
+  finds_settled i t k had (Opens first todo is) = finds_none t todo refl (λ rest at. absurd (cc))
+  finds_settled i t k had (Tries todo least is) = record {
+    held = λ at.
+        let wait : Waiting p = waiting (machine_of st p st.entry st.tickets workers) i k (ticket t.generation) p had (rw is refl) refl turns in
+        rw (set.word, wait.holder) refl;
+    there = λ at. absurd (cc);
+    empty = λ rest at. absurd (cc);
+    free = λ at. absurd (cc);
+  }
+  finds_settled i t k had (Holds c held in_place todo least is) = record {
+    held = λ at. absurd (cc);
+    there = λ at.
+        let f : Facts = facts (machine_of st p st.entry st.tickets workers) 0 p.generation in
+        let sv : SlotOk f p = turns.each 0 p refl in
+        (c, in_place, own_generation f p c (sv.connection c held.connection).stands ∙ held.generation);
+    empty = λ rest at. absurd (cc);
+    free = λ at. absurd (cc);
+  }
+  finds_settled i t k had (HasOut c held gone out todo least is) = finds_none t todo refl (λ rest at. gone)
+  finds_settled i t k had (Goes c more held gone out todo least is) = finds_none t todo (by_plan finds_it false t.left c.pair refl refl refl refl) (λ rest at. gone)
+  finds_settled i t k had (Stays c more held in_place live todo is) = finds_none t todo refl (λ rest at. absurd (cc))
+  finds_settled i t k had (Leaves c more held in_place may todo is) = finds_none t todo refl (λ rest at. absurd (cc))
+  finds_settled i t k had (HasClosed held gone todo is) = finds_none t todo refl (λ rest at. gone)
+  finds_settled i t k had (HasRetired own todo is) = finds_none t todo refl (λ rest at. absurd (cc))
 
-poller_acts : (st : System) (t : Thread) (c : Connection) (workers : List WorkerState) → HalfOpen st t c workers → poller_rests st ≡ false
-poller_acts st t c workers half = rw half.first (stage_acts st.word st.place st.entry t c half.stage)
+  -- any step, where no opening is half way
+  follows_settled : (s : Step) → Kept (Follows [] (exchange st.word (kind_in st s)) (machine_of st p st.entry st.tickets workers) s) (step st s)
+  follows_settled Deliver = reports set
+  follows_settled Sweep = sweeps set
+  follows_settled Open = kept_bind _ (slice_get st.threads 0) (λ t there. kept_guard (rests t) _ (λ r.
+      let it : WorkerFor st.limits.budget st.place p workers 0 t = set.threads 0 t there in
+      begins_opening st p workers set 0 t there it.worker it.there refl it.like r))
+  follows_settled (Begin i most) = kept_bind _ (slice_get st.threads i) (λ t there.
+      let it : WorkerFor st.limits.budget st.place p workers i t = set.threads i t there in
+      begins_turn st p workers set i t there it.worker it.there it.like most)
+  follows_settled (Acts i) = kept_bind _ (slice_get st.threads i) (λ t there.
+      let it : WorkerFor st.limits.budget st.place p workers i t = set.threads i t there in
+      rw there (thread_acts st p workers set i t there it.worker it.there turns it.like))
+  follows_settled (Calls i r) = kept_bind _ (slice_get st.threads i) (λ t there.
+      let it : WorkerFor st.limits.budget st.place p workers i t = set.threads i t there in
+      thread_calls st p workers set i t there it.worker it.there it.like r)
+  follows_settled s = beyond (settled_frame set) s refl
 
-never : (b : Bool) (X : Type 0) → b ≡ false → b ≡ true → X
-never b X a e = absurd (let no : false ≡ true = sym a ∙ e in cc)
+-- Where an opening is half way, the poller's thread alone acts, and the machine makes no event
 
-this_thread : (st : System) (t u : Thread) → slice_get st.threads 0 ≡ Some t → slice_get st.threads 0 ≡ Some u → u ≡ t
-this_thread st t u first there = let both : Some u ≡ Some t = sym there ∙ first in cc
+-- the thread is about this part of an opening
+record AtPart (word : WordState) (place : Option Connection) (t : Thread) : Type 0 where
+  pub acts : rests t ≡ false
+  pub calls : (st : System) (r : Reply) → calls st 0 t r t.todo ≡ None
+  pub finds : Finds word place t
 
-acts_half : (st : System) (t : Thread) (c : Connection) (workers : List WorkerState) → HalfOpen st t c workers
-    → (i : ℕ) (u : Thread) → slice_get st.threads i ≡ Some u → (i ≡ 0) ⊎ (i ≢ 0)
-    → Kept (Follows (left_of t.todo st.word) (exchange st.word (first_kind u.todo)) (half_world st t c workers) (Acts i)) (acts st i u u.todo)
-acts_half st t c workers half i u there (inl first) =
-    let same : u ≡ t = this_thread st t u half.first (rw first at there) in
-    rw (first, same) (goes_half st t c workers half half.stage)
-acts_half st t c workers half i u there (inr other) = rw (half.others i u other there).0 kept_none
+at_part : {word : WordState} {place : Option Connection} {todo : List Act} (t : Thread) → t.todo ≡ todo → is_over todo ≡ false → ((st : System) (r : Reply) → calls st 0 t r todo ≡ None)
+    → finds_it todo ≡ false → ((rest : List Act) → t.todo ≡ PutIn ∷ rest → place ≡ None) → AtPart word place t
+at_part t is acting none other puts = record { acts = rw is acting; calls = λ st r. rw is (none st r); finds = finds_none t is other puts }
 
-calls_half : (st : System) (t : Thread) (c : Connection) (workers : List WorkerState) → HalfOpen st t c workers
-    → (i : ℕ) (u : Thread) (r : Reply) → slice_get st.threads i ≡ Some u → (i ≡ 0) ⊎ (i ≢ 0)
-    → Kept (Follows (left_of t.todo st.word) [] (half_world st t c workers) (Calls i r)) (calls st i u r u.todo)
-calls_half st t c workers half i u r there (inl first) =
-    let same : u ≡ t = this_thread st t u half.first (rw first at there) in
-    rw (first, same) (stage_calls st (left_of t.todo st.word) (half_world st t c workers) t c r half.stage)
-calls_half st t c workers half i u r there (inr other) = rw (half.others i u other there).0 kept_none
+stage_part : {word : WordState} {place : Option Connection} {entry : ℕ} {c : Connection} (t : Thread) → Stage word place entry t c → AtPart word place t
+stage_part t (Registered notes todo is at out) = record {
+  acts = rw todo refl;
+  calls = λ st r. rw todo refl;
+  finds = record { held = λ at. absurd (cc); there = λ at. absurd (cc); empty = λ rest now. at; free = λ at. rw is refl };
+}
+stage_part t (Adopted notes todo is at out) = at_part t todo refl (λ st r. refl) refl (λ rest now. at)
+stage_part t (Entered notes todo is at out own) = at_part t todo refl (λ st r. refl) refl (λ rest now. at)
+stage_part t (Emptied todo is at out own) = at_part t todo refl (λ st r. refl) refl (λ rest now. at)
+stage_part t (Placed todo is at own) = at_part t todo refl (λ st r. refl) refl (λ rest now. absurd (cc))
+stage_part t (Posted todo is at own) = at_part t todo refl (λ st r. refl) refl (λ rest now. absurd (cc))
 
-follows_half : (st : System) (t : Thread) (c : Connection) (workers : List WorkerState) → HalfOpen st t c workers
-    → (s : Step) → Kept (Follows (left_of t.todo st.word) (exchange st.word (kind_in st s)) (half_world st t c workers) s) (step st s)
-follows_half st t c workers half (Tick n) = ticks st (left_of t.todo st.word) (opened_slot t.generation c) t.generation (t.generation ∷ []) workers (half_frame st t c workers half) n
-follows_half st t c workers half (Network side change) =
-    network st (left_of t.todo st.word) (opened_slot t.generation c) t.generation (t.generation ∷ []) workers (half_frame st t c workers half) side change
-follows_half st t c workers half Connect = connects st (left_of t.todo st.word) (opened_slot t.generation c) t.generation (t.generation ∷ []) workers (half_frame st t c workers half)
-follows_half st t c workers half (Spurious who) = spurious st (left_of t.todo st.word) (opened_slot t.generation c) t.generation (t.generation ∷ []) workers (half_frame st t c workers half) who
-follows_half st t c workers half (Vanish who) = vanishes st (left_of t.todo st.word) (opened_slot t.generation c) t.generation (t.generation ∷ []) workers (half_frame st t c workers half) who
-follows_half st t c workers half (Accept reply) = accepts st (left_of t.todo st.word) (opened_slot t.generation c) t.generation (t.generation ∷ []) workers (half_frame st t c workers half) reply
-follows_half st t c workers half Drop = drops st (left_of t.todo st.word) (opened_slot t.generation c) t.generation (t.generation ∷ []) workers (half_frame st t c workers half)
-follows_half st t c workers half (Poll names) = polls st (left_of t.todo st.word) (opened_slot t.generation c) t.generation (t.generation ∷ []) workers (half_frame st t c workers half) names
-follows_half st t c workers half Deliver = kept_when (poller_rests st) _ (λ b. never (poller_rests st) _ (poller_acts st t c workers half) b)
-follows_half st t c workers half Sweep = rw (poller_acts st t c workers half) kept_none
-follows_half st t c workers half Open = kept_bind _ (slice_get st.threads 0) (λ u there. kept_guard (rests u) _ (λ b.
-    let same : u ≡ t = this_thread st t u half.first there in
-    never (rests u) _ (ap rests same ∙ stage_acts st.word st.place st.entry t c half.stage) b))
-follows_half st t c workers half (Begin i most) = kept_bind _ (slice_get st.threads i) (λ u there. kept_when (rests u && nat_le most st.limits.budget) _ (λ b. rw half.tickets kept_none))
-follows_half st t c workers half (Acts i) = kept_bind _ (slice_get st.threads i) (λ u there.
-    rw there (acts_half st t c workers half i u there (cases_eq i 0)))
-follows_half st t c workers half (Calls i r) = kept_bind _ (slice_get st.threads i) (λ u there. calls_half st t c workers half i u r there (cases_eq i 0))
+module _ (st : System) (t : Thread) (c : Connection) (workers : List WorkerState) (half : HalfOpen st t c workers) where
+  abbrev half_world : State
+  half_world = machine_of st (opened_slot t.generation c) t.generation (t.generation ∷ []) workers
+
+  part : AtPart st.word st.place t
+  part = stage_part t half.stage
+
+  -- the next stage
+  stays_half : {before own : List Exchange} (new : WordState) (place : Option Connection) (entry : ℕ) (u : Thread) → u.generation ≡ t.generation → Stage new place entry u c
+      → before ++ [] ≡ own ++ left_of u.todo new
+      → Follows before own half_world (Acts 0) (with_thread (record st { word = new; place = place; entry = entry }) 0 u)
+  stays_half new place entry u same stage words = record {
+    events = [];
+    world = half_world;
+    allowed = refl;
+    like = IsHalfOpen u c workers (rw same refl) (record {
+      first = get-set_same st.threads 0 t u half.first;
+      worker = half.worker;
+      others = after_set st u workers (λ i v at other. half.others i v other at);
+      tickets = half.tickets;
+      ends = half.ends;
+      stage = stage;
+    });
+    calls = refl;
+    outside = refl;
+    words = words;
+  }
+
+  -- the slot is released, and the opening is over
+  leaves_half : st.word ≡ taken_word 1 → st.place ≡ Some c → st.entry ≡ t.generation
+      → Follows (left_of (Release ∷ []) st.word) (exchange_made word.release st.word ∷ []) half_world (Acts 0) (with_thread (released st t.generation) 0 (goes_on t []))
+  leaves_half is at own = rw (is, half.tickets) (record {
+    events = [];
+    world = half_world;
+    allowed = refl;
+    like = IsSettled (opened_slot t.generation c) workers (rw own refl)
+        (record { ends = half.ends; word = refl; place = λ yes. at; threads = λ i u there. over i u there (cases_eq i 0) });
+    calls = refl;
+    outside = refl;
+    words = refl;
+  })
+    where
+      over : (i : ℕ) (u : Thread) → slice_get (slice_set st.threads 0 (goes_on t [])) i ≡ Some u → (i ≡ 0) ⊎ (i ≢ 0)
+          → WorkerFor st.limits.budget st.place (opened_slot t.generation c) workers i u
+      over i u there (inl first) =
+          let same : Some (goes_on t []) ≡ Some u = sym (get-set_same st.threads 0 t (goes_on t []) half.first) ∙ (rw first at there) in
+          let it : u ≡ goes_on t [] = cc in
+          record { worker = machine_states.resting; there = rw first half.worker; like = Rests (rw it refl) refl }
+      over i u there (inr other) =
+          let rest : (u.todo ≡ []) × (slice_get workers i ≡ Some machine_states.resting) = after_set st (goes_on t []) workers (λ j v at other. half.others j v other at) i u other there in
+          record { worker = machine_states.resting; there = rest.1; like = Rests rest.0 refl }
+
+  goes_half : Stage st.word st.place st.entry t c → Kept (Follows (left_of t.todo st.word) (exchange st.word (first_kind t.todo)) half_world (Acts 0)) (acts st 0 t t.todo)
+  goes_half (Registered notes todo is at out) = rw (todo, is) (kept_some
+      (stays_half (taken_word notes) st.place st.entry (goes_on t (drop 2 open_slot)) refl (Adopted notes refl refl at out) refl))
+  goes_half (Adopted notes todo is at out) = rw todo (kept_some
+      (stays_half st.word st.place t.generation (goes_on t (drop 3 open_slot)) refl (Entered notes refl is at out refl) refl))
+  goes_half (Entered notes todo is at out own) = rw (todo, is) (kept_some
+      (stays_half (taken_word 0) st.place st.entry (goes_on t (drop 4 open_slot)) refl (Emptied refl refl at out own) refl))
+  goes_half (Emptied todo is at out own) = rw todo (kept_some
+      (stays_half st.word t.out st.entry (record t { out = None; todo = drop 5 open_slot }) refl (Placed refl is out own) refl))
+  goes_half (Placed todo is at own) = rw (todo, is) (kept_some
+      (stays_half (taken_word 1) st.place st.entry (goes_on t (drop 6 open_slot)) refl (Posted refl refl at own) refl))
+  goes_half (Posted todo is at own) = rw todo (kept_some (leaves_half is at own))
+
+  poller_acts : {X : Type 0} → poller_rests st ≡ true → X
+  poller_acts b = absurd (let no : poller_rests st ≡ false = rw half.first part.acts in cc)
+
+  this_thread : (i : ℕ) (u : Thread) → i ≡ 0 → slice_get st.threads i ≡ Some u → u ≡ t
+  this_thread i u first there = let both : Some u ≡ Some t = sym (rw first at there) ∙ half.first in cc
+
+  acts_half : (i : ℕ) (u : Thread) → slice_get st.threads i ≡ Some u → (i ≡ 0) ⊎ (i ≢ 0)
+      → Kept (Follows (left_of t.todo st.word) (exchange st.word (first_kind u.todo)) half_world (Acts i)) (acts st i u u.todo)
+  acts_half i u there (inl first) = let same : u ≡ t = this_thread i u first there in rw (first, same) (goes_half half.stage)
+  acts_half i u there (inr other) = rw (half.others i u other there).0 kept_none
+
+  calls_half : (i : ℕ) (u : Thread) (r : Reply) → slice_get st.threads i ≡ Some u → (i ≡ 0) ⊎ (i ≢ 0) → calls st i u r u.todo ≡ None
+  calls_half i u r there (inl first) = let same : u ≡ t = this_thread i u first there in rw (first, same) (part.calls st r)
+  calls_half i u r there (inr other) = rw (half.others i u other there).0 refl
+
+  follows_half : (s : Step) → Kept (Follows (left_of t.todo st.word) (exchange st.word (kind_in st s)) half_world s) (step st s)
+  follows_half Deliver = kept_when (poller_rests st) _ (λ b. poller_acts b)
+  follows_half Sweep = kept_guard _ _ (λ b. poller_acts (and_parts (poller_rests st) _ b).0)
+  follows_half Open = kept_bind _ (slice_get st.threads 0) (λ u there. kept_guard (rests u) _ (λ b. poller_acts (rw there b)))
+  follows_half (Begin i most) = kept_bind _ (slice_get st.threads i) (λ u there. kept_when (rests u && nat_le most st.limits.budget) _ (λ b. rw half.tickets kept_none))
+  follows_half (Acts i) = kept_bind _ (slice_get st.threads i) (λ u there. rw there (acts_half i u there (cases_eq i 0)))
+  follows_half (Calls i r) = kept_bind _ (slice_get st.threads i) (λ u there. rw (calls_half i u r there (cases_eq i 0)) kept_none)
+  follows_half s = beyond (half_frame half) s refl
+
+  finds_half : (i : ℕ) (u : Thread) → slice_get st.threads i ≡ Some u → (i ≡ 0) ⊎ (i ≢ 0) → Finds st.word st.place u
+  finds_half i u there (inl first) = let same : u ≡ t = this_thread i u first there in rw same part.finds
+  finds_half i u there (inr other) = finds_none u (half.others i u other there).0 refl (λ rest at. absurd (let no : PutIn ∷ rest ≡ [] = sym at ∙ (half.others i u other there).0 in cc))
 
 follows : (st : System) (w : State) (like : Like st w) → Turns w → (s : Step) → Kept (Follows (ahead st w like) (exchange st.word (kind_in st s)) w s) (step st s)
 follows st w (IsSettled p workers is set) turns s = rw is (follows_settled st p workers set (rw is at turns) s)
 follows st w (IsHalfOpen t c workers is half) turns s = rw is (follows_half st t c workers half s)
 
+-- No act is in vain: besides, there is one ticket at most, and the slot is free once at most
+
+count_tickets : (xs : List ℕ) → total (of_slot 0) (map ticket xs) ≡ length xs
+count_tickets [] = refl
+count_tickets (x ∷ xs) = let rest : total (of_slot 0) (map ticket xs) ≡ length xs = count_tickets xs in omega arith
+
+count_free : (n : ℕ) → total (is_number 0) (replicate {A = ℕ} n zero) ≡ n
+count_free zero = refl
+count_free (suc n) = let rest : total (is_number 0) (replicate {A = ℕ} n zero) ≡ n = count_free n in omega arith
+
+one_at_most : (b : Bool) → one b ≤ 1
+one_at_most true = omega arith
+one_at_most false = omega arith
+
+few : (st : System) (p : SlotState) (entry : ℕ) (ts : List ℕ) (workers : List WorkerState) → Turns (machine_of st p entry ts workers)
+    → (length ts ≤ 1) × (st.free ≤ 1)
+few st p entry ts workers turns =
+    let w : State = machine_of st p entry ts workers in
+    let sv : SlotOk (facts w 0 p.generation) p = turns.each 0 p refl in
+    let made : tickets w 0 ≡ one (not (is_held p.holder) && is_nonempty p.notes) = sv.tickets in
+    let gone : total (worker_retires 0) workers + total (is_number 0) (replicate st.free 0) ≤ one (is_free p.holder) = sv.gone in
+    let a : one (not (is_held p.holder) && is_nonempty p.notes) ≤ 1 = one_at_most _ in
+    let b : one (is_free p.holder) ≤ 1 = one_at_most _ in
+    let c : total (of_slot 0) (map ticket ts) ≡ length ts = count_tickets ts in
+    let d : total (is_number 0) (replicate {A = ℕ} st.free 0) ≡ st.free = count_free st.free in
+    (omega arith, omega arith)
+
+none_in_vain : (st : System) → ((i : ℕ) (t : Thread) → slice_get st.threads i ≡ Some t → Finds st.word st.place t) → length st.tickets ≤ 1 → st.free ≤ 1 → NoActInVain st
+none_in_vain st finds tickets free = record {
+  held = λ i t there. (finds i t there).held;
+  there = λ i t there. (finds i t there).there;
+  empty = λ i t rest there. (finds i t there).empty rest;
+  free = λ i t there. (finds i t there).free;
+  one_ticket = tickets;
+  free_once = free;
+}
+
+no_act_in_vain : (st : System) (w : State) → Like st w → Turns w → NoActInVain st
+no_act_in_vain st w (IsSettled p workers is set) turns =
+    let now : Turns (machine_of st p st.entry st.tickets workers) = rw is at turns in
+    let least : (length st.tickets ≤ 1) × (st.free ≤ 1) = few st p st.entry st.tickets workers now in
+    none_in_vain st (λ i t there. finds_settled st p workers set now i t (set.threads i t there).worker (set.threads i t there).there (set.threads i t there).like) least.0 least.1
+no_act_in_vain st w (IsHalfOpen t c workers is half) turns =
+    none_in_vain st (λ i u there. finds_half st t c workers half i u there (cases_eq i 0)) (rw half.tickets (omega arith))
+    (few st (opened_slot t.generation c) t.generation (t.generation ∷ []) workers (rw is at turns)).1
+
 -- A list of steps
+
+more_runs : (es more : List Event) (o : Option State)
+    → ((q : State) → machine_runs.run q (es ++ more) ≡ option_and_then (λ (v : State). machine_runs.run v more) (machine_runs.run q es))
+    → option_and_then (λ (q : State). machine_runs.run q (es ++ more)) o
+    ≡ option_and_then (λ (v : State). machine_runs.run v more) (option_and_then (λ (q : State). machine_runs.run q es) o)
+more_runs es more None rest = refl
+more_runs es more (Some q) rest = rest q
+
+runs_append : (w : State) (es more : List Event) → machine_runs.run w (es ++ more) ≡ option_and_then (λ (q : State). machine_runs.run q more) (machine_runs.run w es)
+runs_append w [] more = refl
+runs_append w (e ∷ es) more = more_runs es more (machine.step w e) (λ q. runs_append q es more)
+
+run_append : (w v u : State) (es more : List Event) → machine_runs.run w es ≡ Some v → machine_runs.run v more ≡ Some u → machine_runs.run w (es ++ more) ≡ Some u
+run_append w v u es more one two = runs_append w es more ∙ (rw one two)
 
 record Ran (st : System) (w : State) (before : List Exchange) (steps : List Step) (to : System) : Type 0 where
   pub events : List Event
@@ -249,8 +361,8 @@ at_first l one = IsSettled (machine_states.unused l.generation) (replicate l.wor
   word = refl;
   place = λ yes. refl;
   threads = λ i t there.
-      let same : Rattle.interleaving.specs.Threads.resting ≡ t = get-replicate l.workers i Rattle.interleaving.specs.Threads.resting t there in
-      record { worker = machine_states.resting; there = get_beside l.workers i Rattle.interleaving.specs.Threads.resting t machine_states.resting there; like = Rests (rw (sym same) refl) refl };
+      let same : resting ≡ t = get-replicate l.workers i resting t there in
+      record { worker = machine_states.resting; there = get_beside l.workers i resting t machine_states.resting there; like = Rests (rw (sym same) refl) refl };
 })
 
 pub every_interleaving : CoreLaws → EveryRunHolds → EveryInterleavingIsARun

@@ -1,12 +1,16 @@
--- When a state of the threads and a state of the machine are alike, and the law. Part of the promises. The machine has one
--- slot. It makes an opening in one event where the threads make seven acts: it is ahead of them until the last of these.
-use Rattle.std.specs.Prelude.{◌≡◌, ◌≢◌, ℕ, ◌≤◌, true, false, List, [], ◌∷◌, ◌++◌, map, replicate, slice_get, drop, Option, Some, None, option_map, length}
+-- The exchanges of the slot's word with their answers, when a state of the threads and one of the machine are alike, and the
+-- law. Part of the promises. The machine has one slot. It makes an opening in one event where the threads make seven acts: it
+-- is ahead of them until the last of these.
+use Rattle.std.specs.Prelude.{◌≡◌, ◌≢◌, ℕ, ◌≤◌, ◌==◌, ◌&&◌, true, false, if◌then◌else◌, List, [], ◌∷◌, ◌++◌, map, replicate, slice_get, drop, Option, Some, None, option_map, option_and_then, unwrap_or, length}
+use Rattle.token.specs.declared.name.Name.{Name}
+use Rattle.token.specs.declared.name.Name.TheVariants as name
 use Rattle.kernel_model.specs.declared.reply.Reply.{Reply}
 use Rattle.kernel_model.specs.declared.both.Descriptors.{Descriptors}
 use Rattle.kernel_model.specs.Ends.{is_nonempty}
 use Rattle.relay_core.specs.Pairs.{verdict, is_live}
 use Rattle.claims.specs.declared.view.Exchange.{Exchange}
-use Rattle.claims.specs.Words.{WordState}
+use Rattle.claims.specs.Words.{WordState, StepKind, word_after, made as exchange_made}
+use Rattle.claims.specs.Words as word
 use Rattle.world.specs.declared.connection.Connection.{Connection}
 use Rattle.world.specs.declared.limits.Limits.{Limits}
 use Rattle.world.specs.declared.actors.Ticket.{Ticket}
@@ -22,30 +26,93 @@ use Rattle.world.specs.declared.event.Reported.TheVariants as reported
 use Rattle.world.specs.Slots.{SlotState, WorkerState, is_by_worker}
 use Rattle.world.specs.States.{State}
 use Rattle.world.specs.States as machine
-use Rattle.world.specs.Steps.{may_release}
-use Rattle.world.specs.Words.{word_at}
+use Rattle.world.specs.Steps.{may_release, step as machine_step}
+use Rattle.world.specs.Words.{word_at, steps}
 use Rattle.world.specs.Acts.{busy}
 use Rattle.world.specs.Runs as events
 use Rattle.world.specs.Headline.{HeadlineHolds}
-use Rattle.interleaving.specs.Programs.{Act, PutIn, TakeOut, TakeNotes, Post, Release, Retire, Give, turn, plan, open_slot}
-use Rattle.interleaving.specs.Histories.{exchanges, exchanges_in, left_of}
-use Rattle.interleaving.specs.Threads.{System, Thread, Step, Tick, Network, Connect, Spurious, Vanish, Accept, Drop, Poll, Calls, start, run}
+use Rattle.interleaving.specs.Threads.{Act, Claim, TakeOut, TakeNotes, PutIn, Post, Release, Retire, Give, Adopt, Discard, turn, plan, open_slot, System, Thread, Step, Tick, Network, Connect, Spurious, Vanish, Accept, Drop, Poll, Deliver, Sweep, Acts, Calls, start, step, run}
+
+-- Exchanges
+
+-- the kind of exchange that an act is, if it is one
+abbrev pub kind_of : Act → Option StepKind
+kind_of Claim = Some word.claim
+kind_of TakeNotes = Some word.take
+kind_of Discard = Some word.take
+kind_of Post = Some word.post
+kind_of Release = Some word.release
+kind_of Retire = Some word.retire
+kind_of Adopt = Some word.adopt
+kind_of act = None
+
+-- the kind that comes first in the rest of a program
+abbrev pub first_kind : List Act → Option StepKind
+first_kind [] = None
+first_kind (act ∷ rest) = kind_of act
+
+-- a report of an end of the table's generation is posted
+abbrev pub posts : System → List Name → Option StepKind
+posts st [] = None
+posts st (name.Listener ∷ rest) = None
+posts st (name.Waker ∷ rest) = None
+posts st (name.End n ∷ rest) = if (n.slot == 0) && (st.entry == n.generation) then Some word.post else None
+
+abbrev pub kind_in : System → Step → Option StepKind
+kind_in st (Acts i) = option_and_then (λ (t : Thread). first_kind t.todo) (slice_get st.threads i)
+kind_in st Deliver = posts st st.batch
+kind_in st Sweep = Some word.post
+kind_in st s = None
+
+-- the exchange of this kind, by what the word says
+abbrev pub exchange : WordState → Option StepKind → List Exchange
+exchange w None = []
+exchange w (Some kind) = exchange_made kind w ∷ []
+
+-- the exchanges of a list of steps
+abbrev pub exchanges : System → List Step → List Exchange
+exchanges st [] = []
+exchanges st (s ∷ rest) = exchange st.word (kind_in st s) ++ unwrap_or (option_map (λ (q : System). exchanges q rest) (step st s)) []
+
+-- some steps of the word, one after the other
+abbrev pub made_all : List StepKind → WordState → List Exchange
+made_all [] w = []
+made_all (kind ∷ kinds) w = exchange_made kind w ∷ made_all kinds (word_after kind w)
+
+-- the exchanges of an event of the machine, at its one slot
+abbrev pub exchanges_of : State → Event → List Exchange
+exchanges_of st e = unwrap_or (option_map (λ (p : SlotState). made_all (steps st e 0) (word_at p)) (slice_get st.slots 0)) []
+
+abbrev pub exchanges_in : State → List Event → List Exchange
+exchanges_in st [] = []
+exchanges_in st (e ∷ es) = exchanges_of st e ++ unwrap_or (option_map (λ (q : State). exchanges_in q es) (machine_step st e)) []
+
+-- what is left of a program, if nobody else changes the word
+abbrev pub word_then : WordState → Option StepKind → WordState
+word_then w None = w
+word_then w (Some kind) = word_after kind w
+
+abbrev pub left_of : List Act → WordState → List Exchange
+left_of [] w = []
+left_of (act ∷ rest) w = exchange w (kind_of act) ++ left_of rest (word_then w (kind_of act))
+
+-- Likeness
 
 -- the ticket of a generation of the one slot
 abbrev pub ticket : ℕ → Ticket
 ticket g = record { slot = 0; generation = g }
 
--- The thread i, which is t, holds the slot, of which the machine has p there, with this connection
-pub record Held (p : SlotState) (i : ℕ) (t : Thread) (c : Connection) : Type 0 where
+-- The thread i, whose ticket is of the generation g, holds the slot, of which the machine has p there, with this connection
+pub record Held (p : SlotState) (i g : ℕ) (c : Connection) : Type 0 where
   pub holder : p.holder ≡ By i
   pub connection : p.connection ≡ Some c
-  pub generation : p.generation ≡ t.generation
+  pub generation : p.generation ≡ g
 
 -- it has closed the connection
-pub record HeldClosed (p : SlotState) (i : ℕ) (t : Thread) : Type 0 where
+pub record HeldClosed (p : SlotState) (i g : ℕ) : Type 0 where
   pub holder : p.holder ≡ By i
   pub connection : p.connection ≡ None
-  pub generation : p.generation ≡ t.generation
+  pub generation : p.generation ≡ g
 
 -- The thread i is where the machine's worker i is, if `place` is what the threads have in the slot's place. It has nothing
 -- to do; is to open a connection; has a ticket; holds the slot; has its connection out; has taken the notes too, and goes
@@ -55,20 +122,18 @@ pub data ThreadLike (budget : ℕ) (place : Option Connection) (p : SlotState) (
   Rests : t.todo ≡ [] → k ≡ machine.resting → ThreadLike budget place p i t k
   Opens : i ≡ 0 → t.todo ≡ open_slot → k ≡ machine.resting → ThreadLike budget place p i t k
   Tries : t.todo ≡ turn → t.left ≤ budget → k ≡ busy (doing.Tries (ticket t.generation)) → ThreadLike budget place p i t k
-  Holds : (c : Connection) → Held p i t c → place ≡ Some c → t.todo ≡ TakeOut ∷ TakeNotes ∷ [] → t.left ≤ budget
-      → k ≡ busy (doing.Holds 0 budget)
+  Holds : (c : Connection) → Held p i t.generation c → place ≡ Some c → t.todo ≡ TakeOut ∷ TakeNotes ∷ [] → t.left ≤ budget
+      → k ≡ busy (doing.Holds 0 budget) → ThreadLike budget place p i t k
+  HasOut : (c : Connection) → Held p i t.generation c → place ≡ None → t.out ≡ Some c → t.todo ≡ TakeNotes ∷ [] → t.left ≤ budget
+      → k ≡ busy (doing.Holds 0 budget) → ThreadLike budget place p i t k
+  Goes : (c : Connection) (more : ℕ) → Held p i t.generation c → place ≡ None → t.out ≡ Some c → t.todo ≡ plan t.left c.pair
+      → t.left ≤ more → k ≡ busy (doing.Holds 0 more) → ThreadLike budget place p i t k
+  Stays : (c : Connection) (more : ℕ) → Held p i t.generation c → place ≡ Some c → is_live (verdict c.pair) ≡ true
+      → t.todo ≡ Post ∷ Release ∷ [] → k ≡ busy (doing.Holds 0 more) → ThreadLike budget place p i t k
+  Leaves : (c : Connection) (more : ℕ) → Held p i t.generation c → place ≡ Some c → may_release c (is_nonempty p.notes) ≡ true
+      → t.todo ≡ Release ∷ [] → k ≡ busy (doing.Holds 0 more) → ThreadLike budget place p i t k
+  HasClosed : HeldClosed p i t.generation → place ≡ None → t.todo ≡ Retire ∷ Give ∷ [] → k ≡ busy (doing.Closed 0)
       → ThreadLike budget place p i t k
-  HasOut : (c : Connection) → Held p i t c → place ≡ None → t.out ≡ Some c → t.todo ≡ TakeNotes ∷ [] → t.left ≤ budget
-      → k ≡ busy (doing.Holds 0 budget)
-      → ThreadLike budget place p i t k
-  Goes : (c : Connection) (more : ℕ) → Held p i t c → place ≡ None → t.out ≡ Some c → t.todo ≡ plan t.left c.pair → t.left ≤ more
-      → k ≡ busy (doing.Holds 0 more)
-      → ThreadLike budget place p i t k
-  Stays : (c : Connection) (more : ℕ) → Held p i t c → place ≡ Some c → is_live (verdict c.pair) ≡ true → t.todo ≡ Post ∷ Release ∷ []
-      → k ≡ busy (doing.Holds 0 more) → ThreadLike budget place p i t k
-  Leaves : (c : Connection) (more : ℕ) → Held p i t c → place ≡ Some c → may_release c (is_nonempty p.notes) ≡ true → t.todo ≡ Release ∷ []
-      → k ≡ busy (doing.Holds 0 more) → ThreadLike budget place p i t k
-  HasClosed : HeldClosed p i t → place ≡ None → t.todo ≡ Retire ∷ Give ∷ [] → k ≡ busy (doing.Closed 0) → ThreadLike budget place p i t k
   HasRetired : p.generation ≡ t.generation → t.todo ≡ Give ∷ [] → k ≡ busy (doing.Retired 0) → ThreadLike budget place p i t k
 
 -- the machine has a worker that is where the thread is

@@ -1,8 +1,9 @@
--- The threads of the server at one slot: what they share, and what each of their acts does. Part of the promises. A turn
--- and an opening go by the programs, and what is not a thread's own is shared: the slot's word, its place, the queues
--- and the kernel. Acts of different threads come in any order.
+-- The threads of the server at one slot. Part of the promises. First the programs of a turn and of an opening, as lists of
+-- atomic acts; then what the threads share, which is the slot's word, its place, the queues and the kernel, and what each act
+-- does to it. Acts of different threads come in any order.
 use Rattle.std.specs.Global.{Global}
-use Rattle.std.specs.Prelude.{Vec, ℕ, zero, suc, ◌+◌, ◌-◌, ◌==◌, Bool, true, false, not, ◌&&◌, nat_lt, nat_le, if◌then◌else◌, List, [], ◌∷◌, ◌++◌, length, replicate, slice_get, slice_set, Option, Some, None, option_map, option_and_then}
+use Rattle.std.specs.Prelude.{◌≡◌, Vec, ℕ, zero, suc, ◌+◌, ◌-◌, ◌==◌, Bool, true, false, not, ◌&&◌, nat_lt, nat_le, if◌then◌else◌, List, [], ◌∷◌, ◌++◌, length, replicate, slice_get, slice_set, Option, Some, None, option_map, option_and_then}
+use Rattle.std.specs.Option.{is_none}
 use Rattle.token.specs.declared.side.Side.{Side}
 use Rattle.token.specs.declared.side.Side.TheVariants.{Client, Target}
 use Rattle.token.specs.declared.name.Name.{Name}
@@ -18,7 +19,8 @@ use Rattle.kernel_model.specs.declared.both.Sockets.{Sockets}
 use Rattle.kernel_model.specs.Outcome.{guard, Told}
 use Rattle.kernel_model.specs.Kernel as kernel
 use Rattle.kernel_model.specs.Kernel.{KernelState}
-use Rattle.relay_core.specs.Pairs.{fresh, noted, verdict}
+use Rattle.relay_core.specs.Pairs.{PairState, fresh, noted, verdict, is_live}
+use Rattle.relay_core.specs.Order.{next_call}
 use Rattle.relay_core.specs.Idle.{expired}
 use Rattle.claims.specs.Words.{WordState, word_after, wakes, some_wait}
 use Rattle.claims.specs.Words as word
@@ -30,7 +32,57 @@ use Rattle.world.specs.declared.event.Reported.{Reported}
 use Rattle.world.specs.declared.event.Reported.TheVariants as reported
 use Rattle.world.specs.Calls.{when, OpenConnection, descriptor, called}
 use Rattle.world.specs.Steps.{change_at, token_of, is_worn}
-use Rattle.interleaving.specs.Programs.{Act, Claim, TakeOut, TakeNotes, Call, PutIn, Post, Release, Close, Retire, Give, Register, Adopt, Enter, Discard, Settle, PutTicket, turn, gone, plan, open_slot}
+pub use Rattle.dispatch.specs.Acts.{Act, Claim, TakeOut, TakeNotes, Call, PutIn, Post, Release, Close, Retire, Give, Register, Adopt, Enter, Discard, Settle, PutTicket}
+use Rattle.dispatch.specs.Acts.{gone_turn, quiet_turn, again_turn, ended_turn}
+use Rattle.dispatch.specs.Acts as server
+
+-- Programs
+
+-- a turn begins so
+abbrev pub turn : List Act
+turn = Claim ∷ TakeOut ∷ TakeNotes ∷ []
+
+-- it ends so where the slot has no connection of the ticket's generation
+abbrev pub gone : List Act
+gone = Discard ∷ Release ∷ []
+
+-- where the connection has no call to make
+abbrev pub quiet : List Act
+quiet = PutIn ∷ Release ∷ []
+
+-- where the budget of calls is spent
+abbrev pub again : List Act
+again = PutIn ∷ Post ∷ Release ∷ []
+
+-- and where the connection is done or failed
+abbrev pub ended : List Act
+ended = Close ∷ Retire ∷ Give ∷ []
+
+-- what comes next in a turn with this many calls left, by the pair
+abbrev pub plan : ℕ → PairState → List Act
+plan left p = if is_live (verdict p) then (if is_none (next_call p) then quiet else (if left == 0 then again else Call ∷ [])) else ended
+
+-- the opening of a connection
+abbrev pub open_slot : List Act
+open_slot = Register ∷ Adopt ∷ Enter ∷ Discard ∷ PutIn ∷ Post ∷ Release ∷ []
+
+-- Two acts change nothing here: after `Settle` the sockets hold nothing back, and whether a ticket is in the queue or in
+-- a hand does not matter
+abbrev pub seen : List Act → List Act
+seen [] = []
+seen (Settle ∷ acts) = seen acts
+seen (PutTicket ∷ acts) = seen acts
+seen (act ∷ acts) = act ∷ seen acts
+
+-- the acts that a turn of the server makes are these programs, but for its calls; and so are those of an opening
+pub record ProgramsAreThese : Type 0 where
+  pub gone : (woke : Bool) → seen (gone_turn false woke) ≡ Claim ∷ TakeOut ∷ gone
+  pub quiet : (woke : Bool) → seen (quiet_turn woke) ≡ turn ++ quiet
+  pub again : (woke : Bool) → seen (again_turn woke) ≡ turn ++ again
+  pub ended : seen (ended_turn true) ≡ turn ++ ended
+  pub opening : server.open_slot ≡ open_slot
+
+-- What the threads share
 
 -- A thread: the generation of its ticket or of the connection that it opens, the connection that it has out of its
 -- place, the calls that are left, and the rest of its program. Without one it rests

@@ -1,6 +1,6 @@
 //! What holds for every interleaving. The functions do nothing: the contract of each is the law that it is named after.
 ghost use Rattle.interleaving.specs.Likeness.{EveryInterleavingIsARun};
-ghost use Rattle.interleaving.specs.Programs.{ProgramsAreThese};
+ghost use Rattle.interleaving.specs.Threads.{ProgramsAreThese};
 
 use relay_core::laws;
 
@@ -20,6 +20,7 @@ pub fn every_interleaving_is_a_run()
 
 /// The acts that a turn of the server makes, by the contract of `turns`, are the program of that turn here, but for its
 /// calls, and for acts that change nothing here; and those of an opening, by the contract of `rounds`, are its program.
+#[tactic(auto, using(crate::proofs::Runs::programs_are_these))]
 pub fn programs_are_these()
     ensures { ProgramsAreThese }
 {}

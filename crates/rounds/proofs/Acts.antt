@@ -13,7 +13,7 @@ use Rattle.claims.specs.declared.view.Exchange.{Exchange}
 use Rattle.claims.specs.declared.view.Exchange.TheVariants.{Post, NotFree}
 use Rattle.claims.specs.Views.{blank, after_all, account_of, minted_by}
 use Rattle.claims.specs.Seats.{SeatState, trace_at, account_at, HoldsNothing, Adds}
-use Rattle.claims.proofs.Histories.{after_both}
+use Rattle.claims.proofs.Seats.{after_both}
 use Rattle.ready.specs.declared.ticket.Ticket.{Ticket}
 use Rattle.rounds.specs.Acts.{Act, tickets_of, exchanges_at, made_by, due_of, ActsMade, IsPost, ArePosts, opening, IsTry, found_held, held_of, AreTries}
 use Rattle.rounds.specs.Deliveries.{at_slot}

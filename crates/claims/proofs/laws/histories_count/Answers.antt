@@ -1,4 +1,4 @@
-use Rattle.claims.proofs.States.{histories_count}
+use Rattle.claims.proofs.Steps.Rule.{histories_count}
 use Rattle.claims.proofs.laws.histories_count.Goals as goal
 
 pub returns : goal.returns

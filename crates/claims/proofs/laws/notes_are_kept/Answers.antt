@@ -1,4 +1,4 @@
-use Rattle.claims.proofs.States.{notes_are_kept}
+use Rattle.claims.proofs.Steps.Rule.{notes_are_kept}
 use Rattle.claims.proofs.laws.notes_are_kept.Goals as goal
 
 pub returns : goal.returns

@@ -1,4 +1,4 @@
-use Rattle.claims.proofs.States.{tickets_are_needed}
+use Rattle.claims.proofs.Steps.Rule.{tickets_are_needed}
 use Rattle.claims.proofs.laws.tickets_are_needed.Goals as goal
 
 pub returns : goal.returns

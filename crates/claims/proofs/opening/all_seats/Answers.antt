@@ -1,6 +1,5 @@
 use Rattle.std.proofs.Common.{arith, ap, ◌∙◌}
-use Rattle.claims.proofs.Fields.{spare_of}
-use Rattle.claims.proofs.Opens.{may_split, spare_used, one_seat_more}
+use Rattle.claims.proofs.Steps.Rule.{spare_of, may_split, spare_used, one_seat_more}
 use Rattle.claims.proofs.opening.all_seats.Goals as goal
 
 pub split_seat-next-requires : goal.split_seat-next-requires

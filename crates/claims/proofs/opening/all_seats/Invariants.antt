@@ -1,4 +1,4 @@
-use Rattle.claims.proofs.Prelude.{◌≡◌, ◌-◌, replicate, unused_view, fresh_seat}
+use Rattle.claims.proofs.Steps.Rule.Histories.{◌≡◌, ◌-◌, replicate, unused_view, fresh_seat}
 use Rattle.claims.proofs.opening.all_seats.Given as goal
 
 -- the first seat may still make the seats that are left, and those that it made have done nothing

@@ -1,4 +1,4 @@
-use Rattle.claims.proofs.Opens.{unused_ok}
+use Rattle.claims.proofs.Steps.Rule.{unused_ok}
 use Rattle.claims.proofs.opening.seat_of.Goals as goal
 
 pub invariant_of-result : goal.invariant_of-result

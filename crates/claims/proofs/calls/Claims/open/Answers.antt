@@ -1,5 +1,5 @@
 use Rattle.std.proofs.Common.{arith}
-use Rattle.claims.proofs.Opens.{opens_lawful}
+use Rattle.claims.proofs.Steps.Rule.{opens_lawful}
 use Rattle.claims.proofs.calls.Claims.open.Goals as goal
 
 pub returns-in-Ok-clause-lawful : goal.returns-in-Ok-clause-lawful

@@ -1,5 +1,5 @@
 use Rattle.std.proofs.Common.{rules}
-use Rattle.claims.proofs.Tells.{marked_right}
+use Rattle.claims.proofs.Steps.{marked_right}
 use Rattle.claims.proofs.seat.ClaimSeat.holds.Goals as goal
 
 pub returns : goal.returns
