@@ -11,12 +11,12 @@ use Rattle.world.specs.declared.event.Act.TheVariants as act
 use Rattle.world.specs.Steps
 use Rattle.world.proofs.Runs.{run_and}
 use Rattle.world.proofs.TurnsTotals.{get-set_same, get-replicate}
-use Rattle.world.proofs.TurnsKept.{Kept, kept_some, kept_none, kept_bind, kept_map, kept_when, kept_then, kept_at}
+use Rattle.world.proofs.TurnsKept.{Kept, kept_some, kept_none, kept_bind, kept_map, kept_when, kept_then, kept_at, kept_next}
 use Rattle.world.proofs.TurnsExpired.{Expired, expired_so}
-use Rattle.world.proofs.EndsNames.{at_one, last_of}
+use Rattle.world.proofs.EndsHeld.{at_one, last_of, before}
 use Rattle.world.proofs.EndsFrame.{Lies, lies}
 use Rattle.world.proofs.EndsShapes.{cause_by, Continues, IsFresh, Clock, Shape, Same, Changed, Opened, Ended}
-use Rattle.world.proofs.EndsSteps.{closes, step_goes}
+use Rattle.world.proofs.EndsRuns.{closes, step_goes}
 
 -- Lists of events
 
@@ -57,9 +57,11 @@ record TimesOk (first : State) (done : List Event) (st : State) : Type 0 where
   moved : (s : ℕ) (p : SlotState) (c : Connection) → slice_get st.slots s ≡ Some p → p.connection ≡ Some c → LastMoved first done st s c
 
 -- the connection that an event opened or moved has moved now
+abbrev NowAt : State → Option Named → State → Type 0
+NowAt st x q = (i : ℕ) (p : SlotState) (c : Connection) → slice_get q.slots i ≡ Some p → p.connection ≡ Some c → x ≡ Some (named i c.pair.generation) → st.second ≤ c.pair.moved
+
 abbrev MovesNow : State → Event → State → Type 0
-MovesNow st e q = (i : ℕ) (p : SlotState) (c : Connection) → slice_get q.slots i ≡ Some p → p.connection ≡ Some c → moved_by st e ≡ Some (named i c.pair.generation)
-    → st.second ≤ c.pair.moved
+MovesNow st e q = NowAt st (moved_by st e) q
 
 clock : {st : State} {e : Event} {q : State} → Shape st e q → Clock st q
 clock (Same slots past on) = on
@@ -121,30 +123,23 @@ kept_any : {X : Type 0} {P : X → Type 0} (o : Option X) → ((x : X) → P x) 
 kept_any None h = kept_none
 kept_any (Some x) h = kept_some (h x)
 
-kept_more : {X : Type 0} {P Q : X → Type 0} → ((x : X) → P x → Q x) → (o : Option X) → Kept P o → Kept Q o
-kept_more more None h = kept_none
-kept_more more (Some x) h = kept_some (more x h.kept)
-
 -- an event that opens and moves nothing
 still : (st : State) (e : Event) → moved_by st e ≡ None → Kept (MovesNow st e) (step st e)
 still st e none = kept_any (step st e) (λ q i p c here lying is. absurd (cc))
 
 -- The pair is given a movement where the reply is one
 
-plain_moves : (r : Reply) (t : answer.AnswerValue) → plain r ≡ Some t → is_movement r ≡ true → moves t ≡ true
-plain_moves reply.End t told is = let same : answer.End ≡ t = cc in rw (← same) refl
-plain_moves (reply.Wrote n full) t told is = let same : answer.Wrote n ≡ t = cc in rw (← same) refl
-plain_moves reply.Joined t told is = let same : answer.Joined ≡ t = cc in rw (← same) refl
-plain_moves reply.Shut t told is = let same : answer.Shut ≡ t = cc in rw (← same) refl
-plain_moves _ t told is = absurd (cc)
+plain_moves : (r : Reply) → is_movement r ≡ true → Kept (λ (t : answer.AnswerValue). moves t ≡ true) (plain r)
+plain_moves reply.End is = kept_some refl
+plain_moves (reply.Wrote n full) is = kept_some refl
+plain_moves reply.Joined is = kept_some refl
+plain_moves reply.Shut is = kept_some refl
+plain_moves (reply.Bytes n) is = kept_none
+plain_moves _ is = absurd (cc)
 
-bytes_move : (o : Option (List ℕ)) (t : answer.AnswerValue) → option_map (λ (bytes : List ℕ). answer.Bytes bytes) o ≡ Some t → moves t ≡ true
-bytes_move None t told = absurd (cc)
-bytes_move (Some bytes) t told = let same : answer.Bytes bytes ≡ t = cc in rw (← same) refl
-
-told_moves : (l : OpenConnection) (call : Call) (r : Reply) (t : answer.AnswerValue) → told_of l call r ≡ Some t → is_movement r ≡ true → moves t ≡ true
-told_moves l (Read side most) (reply.Bytes n) t told is = bytes_move _ t told
-told_moves l _ r t told is = plain_moves r t told is
+told_moves : (l : OpenConnection) (call : Call) (r : Reply) → is_movement r ≡ true → Kept (λ (t : answer.AnswerValue). moves t ≡ true) (told_of l call r)
+told_moves l (Read side most) (reply.Bytes n) is = kept_map _ _ (λ bytes was. refl)
+told_moves l _ r is = plain_moves r is
 
 if_so : (b : Bool) (m n : ℕ) → b ≡ true → (if b then n else m) ≡ n
 if_so true m n is = refl
@@ -153,9 +148,9 @@ if_so false m n is = absurd (cc)
 called_moves : (now : ℕ) (l : OpenConnection) (r : Reply) → is_movement r ≡ true → Kept (λ (m : OpenConnection). m.connection.pair.moved ≡ now) (called now l r)
 unfolding called
 called_moves now l r is = kept_bind _ (next_call l.connection.pair) (λ call next.
-    kept_bind _ (told_of l call r) (λ t told.
+    kept_next _ (told_of l call r) (λ t moved.
     kept_when (fits l.connection.pair call t) _ (λ fit.
-    kept_map _ (made l call r) (λ k done. if_so (moves t) l.connection.pair.moved now (told_moves l call r t told is)))))
+    kept_map _ (made l call r) (λ k done. if_so (moves t) l.connection.pair.moved now moved))) (told_moves l call r is))
 
 -- the place has a connection that moved at this second
 record MovedPlace (now : ℕ) (p : SlotState) : Type 0 where
@@ -196,8 +191,7 @@ lodged_moves st w s left k p r there does here is = kept_bind _ p.connection (λ
     (called_moves st.second (record { kernel = st.kernel; connection = c }) r is))
 
 call_moves : (st : State) (w : ℕ) (k : WorkerState) (d : Doing) (r : Reply) → slice_get st.workers w ≡ Some k → k.doing ≡ d → is_movement r ≡ true
-    → Kept (λ (q : State). (i : ℕ) (p : SlotState) (c : Connection) → slice_get q.slots i ≡ Some p → p.connection ≡ Some c → held_connection st w ≡ Some (named i c.pair.generation)
-    → st.second ≤ c.pair.moved) (Steps.call st w k d r)
+    → Kept (NowAt st (held_connection st w)) (Steps.call st w k d r)
 call_moves st w k (Holds s left) r there does is = kept_when (nat_lt 0 left) _ (λ some.
     kept_bind _ (slice_get st.slots s) (λ old was.
     kept_then _ (slot_call st.second (record { kernel = st.kernel; place = old }) r)
@@ -207,17 +201,10 @@ call_moves st w k (Holds s left) r there does is = kept_when (nat_lt 0 left) _ (
     (lodged_moves st w s left k old r there does was is)))
 call_moves st w k _ r there does is = kept_none
 
-not_moved : (b : Bool) (o : Option Named) (x : Named) → (if b then o else None) ≡ Some x → (b ≡ true) × (o ≡ Some x)
-not_moved true o x h = (refl, h)
-not_moved false o x h = absurd (cc)
-
 worker_moves : (st : State) (w : ℕ) (k : WorkerState) (r : Reply) (b : Bool) → is_movement r ≡ b → slice_get st.workers w ≡ Some k
-    → Kept (MovesNow st (event.Work w (act.Call r))) (Steps.call st w k k.doing r)
-worker_moves st w k r true is there = kept_more
-    (λ q moved i p c here lying moves_it. moved i p c here lying (not_moved (is_movement r) (held_connection st w) (named i c.pair.generation) moves_it).1)
-    _ (call_moves st w k k.doing r there refl is)
-worker_moves st w k r false is there = kept_any _
-    (λ q i p c here lying moves_it. (let so : is_movement r ≡ true = (not_moved (is_movement r) (held_connection st w) (named i c.pair.generation) moves_it).0 in absurd (cc)))
+    → Kept (NowAt st (if b then held_connection st w else None)) (Steps.call st w k k.doing r)
+worker_moves st w k r true is there = call_moves st w k k.doing r there refl is
+worker_moves st w k r false is there = kept_any _ (λ q i p c here lying moves_it. absurd (cc))
 
 open_moves : (st : State) → Kept (MovesNow st (event.Poll polling.Open)) (Steps.polled st polling.Open)
 open_moves st = kept_when st.accepted _ (λ some.

@@ -5,8 +5,7 @@ use Rattle.token.specs.declared.name.Name.TheVariants as name
 use Rattle.kernel_model.specs.Kernel as kernel
 use Rattle.kernel_model.specs.declared.watched.Watched.TheVariants as watched
 use Rattle.world.proofs.TurnsKept.{Kept, kept_some, kept_none}
-use Rattle.world.proofs.EndsNames.{at_one, set_same, other_slot, or_left, or_both, has_reported, is_reported, has_without, end_same, end_kept}
-use Rattle.world.proofs.EndsHeld.{History, same_before, token_at, is_pending, registered, ConnectionOk, SlotOk, AllOk, with_socket, pair_more, pair_unready, pair_changed, Changes}
+use Rattle.world.proofs.EndsHeld.{at_one, set_same, other_slot, or_left, or_both, has_reported, is_reported, has_without, end_same, end_kept, History, same_before, token_at, is_pending, registered, ConnectionOk, SlotOk, AllOk, with_socket, pair_more, pair_unready, pair_changed, Changes}
 
 -- the rest of the machine has at least as much for slot s
 pub record Better (st q : State) (s : ℕ) : Type 0 where

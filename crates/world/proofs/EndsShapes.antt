@@ -12,8 +12,7 @@ use Rattle.world.specs.declared.event.Listening.TheVariants as listening
 use Rattle.world.specs.Steps
 use Rattle.world.proofs.TurnsKept.{Kept, kept_some, kept_none, kept_bind, kept_map, kept_when, kept_guard, kept_then, kept_map_map, kept_bind_map, either_of}
 use Rattle.world.proofs.TurnsExpired.{expired_so}
-use Rattle.world.proofs.EndsNames.{Yes, No, tell, same_end_is, other_slot, or_left, or_right, or_then, or_both, has_with, has_reported, has_without, has_polled}
-use Rattle.world.proofs.EndsHeld.{History, token_at, ConnectionOk, SlotOk, AllOk, by_side, by_direction, pair_more, nonempty_more}
+use Rattle.world.proofs.EndsHeld.{Yes, No, tell, same_end_is, other_slot, or_left, or_right, or_then, or_both, has_with, has_reported, has_without, has_polled, History, token_at, ConnectionOk, SlotOk, AllOk, by_side, by_direction, pair_more, nonempty_more}
 use Rattle.world.proofs.EndsFrame.{Better, better, keep_place, over_guard, vanish_end}
 
 -- the failure that an event brings, by a call or by the idle limit
@@ -167,42 +166,9 @@ noted_ok {past} st {s = s} {p} g ok = record {
 note_turns : {st : State} {e : Event} {s : ℕ} {p : SlotState} (g : ℕ) → Turned st e s p (with_note p g)
 note_turns g = record { stays = same_connection refl refl; ok = λ past q ok. noted_ok q g ok }
 
--- The clock, the reports and the listener
-
-pub tick_calm : {e : Event} (st : State) (n : ℕ) → Kept (Calm st e) (Steps.tick st n)
-tick_calm st n = kept_guard _ (record st { second = st.second + n }) (λ may. passes (omega arith))
-
-pub spurious_calm : {e : Event} (st : State) (who : Reported) → Kept (Calm st e) (Steps.spurious st who)
-spurious_calm st who = kept_bind _ (watched_of st who) (λ w at_w. kept_map_map _ _ (name_of st.kernel w) (λ n at_n. queued (λ m h. has_with (name.End m) n st.kernel.queue h)))
-
-pub vanish_calm : {e : Event} (st : State) (who : Reported) → Kept (Calm st e) (Steps.vanish st who)
-vanish_calm st reported.Listener = over_guard st _ _ (λ may. queued (λ n h. has_without (name.End n) name.Listener st.kernel.queue refl h))
-vanish_calm st reported.Waker = over_guard st _ _ (λ may. queued (λ n h. has_without (name.End n) name.Waker st.kernel.queue refl h))
-vanish_calm st (reported.End s side) = kept_bind_map _ _ (connection_at st s) (λ c at_s. kept_calm _ (over_same _) (λ past all. vanish_end past st s side c at_s all))
-
-pub listen_calm : {e : Event} (st : State) (l : Listening) → Kept (Calm st e) (Steps.listen st l)
-listen_calm st listening.Connect = over_guard st _ _ (λ may. queued (λ n h. has_reported (name.End n) name.Listener st.kernel.armed st.kernel.queue h))
-listen_calm st (listening.Accept Accepted) = kept_when (may_accept st) _ (λ may. over_guard (record st { accepted = true }) _ _ (λ some. queued (λ n h. h)))
-listen_calm st (listening.Accept Blocked) = kept_when (may_accept st) _ (λ may. over_guard (record st { flag = false }) _ _ (λ none. queued (λ n h. h)))
-listen_calm st (listening.Accept Again) = kept_when (may_accept st) _ (λ may. kept_some rests)
-listen_calm st (listening.Accept Starved) = kept_when (may_accept st) _ (λ may. kept_some rests)
-listen_calm st listening.Drop = kept_guard st.accepted _ (λ some. rests)
-
--- The poller
-
 none_in : (n : Name) (names : List Name) → names ≡ [] → has n names ≡ true → ⊥
 none_in n [] e h = absurd (cc)
 none_in n (m ∷ names) e h = absurd (cc)
-
-pub batched_calm : {e : Event} (st : State) (names : List Name) → Kept (Calm st e) (Steps.batched st names)
-batched_calm st names = kept_when (length st.batch == 0) _ (λ none. over_guard (record st { batch = names }) _ _ (λ may.
-    calm (same_clock refl refl) refl refl (λ i. record {
-      table = refl;
-      limits = refl;
-      ends = λ d r there of_i. there;
-      pending = λ side g entry. or_then _ _ (has_polled (name.End (token_at i side g)) names st.kernel.queue)
-          (λ k. absurd (none_in (name.End (token_at i side g)) st.batch (nil_from_length st.batch (eqb-true (length st.batch) 0 none)) k));
-    })))
 
 batch_left : (n m : Name) (batch : List Name) → slice_get batch 0 ≡ Some m → same n m ≡ false → has n batch ≡ true → has n (drop 1 batch) ≡ true
 batch_left n m [] first apart h = absurd (cc)
@@ -250,47 +216,6 @@ posted_calm {st} n g {p} first here = record {
   }) (noted_ok st g (all.each n.slot p here));
 }
 
-delivered_calm : {e : Event} (st : State) (m : Name) → slice_get st.batch 0 ≡ Some m → Kept (Calm st e) (option_map (behind st) (delivered st m))
-delivered_calm st name.Listener first = kept_some (left_behind first (λ i side g entry. refl))
-delivered_calm st name.Waker first = kept_some (left_behind first (λ i side g entry. refl))
-delivered_calm {e} st (name.End n) first = elim (slice_get st.table n.slot) as (λ o. slice_get st.table n.slot ≡ o → Kept (Calm st e) (option_map (behind st) (delivered_at st n o))) [
-  | None ↦ λ is. kept_some (left_behind first (λ i side g entry. not_this st n i side g (λ h. absurd (cc)) entry))
-  | Some g ↦ λ is. kept_map_if (behind st) (g == n.generation) (post_at st n.slot g) (Some st)
-      (λ same. kept_map_map (behind st) (λ (p : SlotState). posted st n.slot g p) (slice_get st.slots n.slot) (λ p here. posted_calm n g first here))
-      (λ other. kept_some (left_behind first
-      (λ i side h entry. not_this st n i side h (λ now. (let e : g ≡ n.generation = cc in let stale : (n.generation == n.generation) ≡ false = rw e at other in
-      let is_not : (n.generation == n.generation) ≡ true = eq-eqb n.generation n.generation refl in absurd (cc))) entry)))
-] refl
-
-pub deliver_calm : {e : Event} (st : State) → Kept (Calm st e) (Steps.deliver st)
-deliver_calm st = kept_bind _ (slice_get st.batch 0) (λ m first. delivered_calm st m first)
-
-pub sweep_calm : {e : Event} (st : State) (s : ℕ) → Kept (Calm st e) (Steps.sweep st s)
-sweep_calm st s = kept_when (is_limited st) _ (λ limited. kept_bind _ (slice_get st.table s) (λ g entry. kept_when (nat_lt 0 g) (post_at st s g) (λ over.
-    kept_map _ (slice_get st.slots s) (λ p here. turns here (note_turns _)))))
-
-pub put_by_poller_calm : {e : Event} (st : State) (hand : List Ticket) → Kept (Calm st e) (put_by_poller st hand)
-put_by_poller_calm st [] = kept_none
-put_by_poller_calm st (t ∷ rest) = kept_some rests
-
--- The workers
-
-pub put_by_worker_calm : {e : Event} (st : State) (w : ℕ) (k : WorkerState) (hand : List Ticket) → Kept (Calm st e) (put_by_worker st w k hand)
-put_by_worker_calm st w k [] = kept_none
-put_by_worker_calm st w k (t ∷ rest) = kept_some rests
-
-popped_calm : {e : Event} (st : State) (w : ℕ) (k : WorkerState) (ready : List Ticket) → Kept (Calm st e) (popped st w k ready)
-popped_calm st w k [] = kept_none
-popped_calm st w k (t ∷ rest) = kept_some rests
-
-pub pop_calm : {e : Event} (st : State) (w : ℕ) (k : WorkerState) (d : Doing) → Kept (Calm st e) (Steps.pop st w k d)
-pop_calm st w k Idle = kept_when (length k.hand == 0) _ (λ none. popped_calm st w k st.ready)
-pop_calm st w k _ = kept_none
-
-pub claim_calm : {e : Event} (st : State) (w : ℕ) (k : WorkerState) (d : Doing) → Kept (Calm st e) (Steps.claim st w k d)
-claim_calm st w k (Tries t) = kept_map _ (slice_get st.slots t.slot) (λ p here. either_of (Calm st _) (is_held p.holder) _ _ rests (turns here held_turns))
-claim_calm st w k _ = kept_none
-
 heard_continues : {st : State} {e : Event} {s : ℕ} (c : Connection) (b : Bool) → Continues st e s c (if b then record c { pair = noted c.pair } else c)
 heard_continues c true = continues refl refl refl
 heard_continues c false = continues refl refl refl
@@ -317,11 +242,6 @@ heard_ok false none ok = record {
   pair = pair_more ok.pair (λ side. refl) (λ side. or_then _ _ (λ k. or_left _ false k) (λ k. absurd (cc)));
 }
 
-pub take_calm : {e : Event} (st : State) (d : Doing) → Kept (Calm st e) (Steps.take st d)
-take_calm {e} st (Holds s left) = kept_bind _ (slice_get st.slots s) (λ p here. kept_map_map _ _ p.connection (λ c lying.
-    turns here (connection_turns lying (heard_continues c (is_nonempty p.notes)) (λ past q ok. heard_ok (is_nonempty p.notes) refl ok))))
-take_calm st _ = kept_none
-
 -- an overdue connection fails, and keeps all else
 timed_out_ok : {past : History} {st : State} {s g : ℕ} {notes : List ℕ} {c : Connection} → ConnectionOk past st s g notes c
     → ConnectionOk past st s g notes (record c { pair = timed_out c.pair })
@@ -337,6 +257,100 @@ timed_out_ok ok = record {
   };
 }
 
+-- The clock, the reports, the listener, the poller and the workers
+
+module _ {e : Event} (st : State) where
+  pub tick_calm : (n : ℕ) → Kept (Calm st e) (Steps.tick st n)
+  tick_calm n = kept_guard _ (record st { second = st.second + n }) (λ may. passes (omega arith))
+
+  pub spurious_calm : (who : Reported) → Kept (Calm st e) (Steps.spurious st who)
+  spurious_calm who = kept_bind _ (watched_of st who) (λ w at_w. kept_map_map _ _ (name_of st.kernel w) (λ n at_n. queued (λ m h. has_with (name.End m) n st.kernel.queue h)))
+
+  pub vanish_calm : (who : Reported) → Kept (Calm st e) (Steps.vanish st who)
+  vanish_calm reported.Listener = over_guard st _ _ (λ may. queued (λ n h. has_without (name.End n) name.Listener st.kernel.queue refl h))
+  vanish_calm reported.Waker = over_guard st _ _ (λ may. queued (λ n h. has_without (name.End n) name.Waker st.kernel.queue refl h))
+  vanish_calm (reported.End s side) = kept_bind_map _ _ (connection_at st s) (λ c at_s. kept_calm _ (over_same _) (λ past all. vanish_end past st s side c at_s all))
+
+  pub listen_calm : (l : Listening) → Kept (Calm st e) (Steps.listen st l)
+  listen_calm listening.Connect = over_guard st _ _ (λ may. queued (λ n h. has_reported (name.End n) name.Listener st.kernel.armed st.kernel.queue h))
+  listen_calm (listening.Accept Accepted) = kept_when (may_accept st) _ (λ may. over_guard (record st { accepted = true }) _ _ (λ some. queued (λ n h. h)))
+  listen_calm (listening.Accept Blocked) = kept_when (may_accept st) _ (λ may. over_guard (record st { flag = false }) _ _ (λ none. queued (λ n h. h)))
+  listen_calm (listening.Accept Again) = kept_when (may_accept st) _ (λ may. kept_some rests)
+  listen_calm (listening.Accept Starved) = kept_when (may_accept st) _ (λ may. kept_some rests)
+  listen_calm listening.Drop = kept_guard st.accepted _ (λ some. rests)
+
+  pub batched_calm : (names : List Name) → Kept (Calm st e) (Steps.batched st names)
+  batched_calm names = kept_when (length st.batch == 0) _ (λ none. over_guard (record st { batch = names }) _ _ (λ may.
+      calm (same_clock refl refl) refl refl (λ i. record {
+        table = refl;
+        limits = refl;
+        ends = λ d r there of_i. there;
+        pending = λ side g entry. or_then _ _ (has_polled (name.End (token_at i side g)) names st.kernel.queue)
+            (λ k. absurd (none_in (name.End (token_at i side g)) st.batch (nil_from_length st.batch (eqb-true (length st.batch) 0 none)) k));
+      })))
+
+  delivered_calm : (m : Name) → slice_get st.batch 0 ≡ Some m → Kept (Calm st e) (option_map (behind st) (delivered st m))
+  delivered_calm name.Listener first = kept_some (left_behind first (λ i side g entry. refl))
+  delivered_calm name.Waker first = kept_some (left_behind first (λ i side g entry. refl))
+  delivered_calm (name.End n) first = elim (slice_get st.table n.slot) as (λ o. slice_get st.table n.slot ≡ o → Kept (Calm st e) (option_map (behind st) (delivered_at st n o))) [
+    | None ↦ λ is. kept_some (left_behind first (λ i side g entry. not_this st n i side g (λ h. absurd (cc)) entry))
+    | Some g ↦ λ is. kept_map_if (behind st) (g == n.generation) (post_at st n.slot g) (Some st)
+        (λ same. kept_map_map (behind st) (λ (p : SlotState). posted st n.slot g p) (slice_get st.slots n.slot) (λ p here. posted_calm n g first here))
+        (λ other. kept_some (left_behind first
+        (λ i side h entry. not_this st n i side h (λ now. (let e : g ≡ n.generation = cc in let stale : (n.generation == n.generation) ≡ false = rw e at other in
+        let is_not : (n.generation == n.generation) ≡ true = eq-eqb n.generation n.generation refl in absurd (cc))) entry)))
+  ] refl
+
+  pub deliver_calm : Kept (Calm st e) (Steps.deliver st)
+  deliver_calm = kept_bind _ (slice_get st.batch 0) (λ m first. delivered_calm m first)
+
+  pub sweep_calm : (s : ℕ) → Kept (Calm st e) (Steps.sweep st s)
+  sweep_calm s = kept_when (is_limited st) _ (λ limited. kept_bind _ (slice_get st.table s) (λ g entry. kept_when (nat_lt 0 g) (post_at st s g) (λ over.
+      kept_map _ (slice_get st.slots s) (λ p here. turns here (note_turns _)))))
+
+  pub put_by_poller_calm : (hand : List Ticket) → Kept (Calm st e) (put_by_poller st hand)
+  put_by_poller_calm [] = kept_none
+  put_by_poller_calm (t ∷ rest) = kept_some rests
+
+  pub put_by_worker_calm : (w : ℕ) (k : WorkerState) (hand : List Ticket) → Kept (Calm st e) (put_by_worker st w k hand)
+  put_by_worker_calm w k [] = kept_none
+  put_by_worker_calm w k (t ∷ rest) = kept_some rests
+
+  popped_calm : (w : ℕ) (k : WorkerState) (ready : List Ticket) → Kept (Calm st e) (popped st w k ready)
+  popped_calm w k [] = kept_none
+  popped_calm w k (t ∷ rest) = kept_some rests
+
+  pub pop_calm : (w : ℕ) (k : WorkerState) (d : Doing) → Kept (Calm st e) (Steps.pop st w k d)
+  pop_calm w k Idle = kept_when (length k.hand == 0) _ (λ none. popped_calm w k st.ready)
+  pop_calm w k _ = kept_none
+
+  pub claim_calm : (w : ℕ) (k : WorkerState) (d : Doing) → Kept (Calm st e) (Steps.claim st w k d)
+  claim_calm w k (Tries t) = kept_map _ (slice_get st.slots t.slot) (λ p here. either_of (Calm st _) (is_held p.holder) _ _ rests (turns here held_turns))
+  claim_calm w k _ = kept_none
+
+  pub take_calm : (d : Doing) → Kept (Calm st e) (Steps.take st d)
+  take_calm (Holds s left) = kept_bind _ (slice_get st.slots s) (λ p here. kept_map_map _ _ p.connection (λ c lying.
+      turns here (connection_turns lying (heard_continues c (is_nonempty p.notes)) (λ past q ok. heard_ok (is_nonempty p.notes) refl ok))))
+  take_calm _ = kept_none
+
+  pub post_calm : (d : Doing) → Kept (Calm st e) (Steps.post st d)
+  post_calm (Holds s left) = kept_bind _ (slice_get st.slots s) (λ p here.
+      kept_bind _ p.connection (λ c lying. kept_guard (is_live (verdict c.pair)) _ (λ live. turns here (note_turns _))))
+  post_calm _ = kept_none
+
+  pub release_calm : (w : ℕ) (k : WorkerState) (d : Doing) → Kept (Calm st e) (Steps.release st w k d)
+  release_calm w k (Holds s left) = kept_bind _ (slice_get st.slots s) (λ p here.
+      kept_bind _ p.connection (λ c lying. kept_guard (may_release c (is_nonempty p.notes)) _ (λ may. turns here held_turns)))
+  release_calm w k _ = kept_none
+
+  pub retire_calm : (w : ℕ) (k : WorkerState) (d : Doing) → Kept (Calm st e) (Steps.retire st w k d)
+  retire_calm w k (Closed s) = kept_map _ (slice_get st.slots s) (λ p here. turns here held_turns)
+  retire_calm w k _ = kept_none
+
+  pub free_calm : (w : ℕ) (k : WorkerState) (d : Doing) → Kept (Calm st e) (Steps.free st w k d)
+  free_calm w k (Retired s) = kept_map _ (slice_get st.slots s) (λ p here. rests)
+  free_calm w k _ = kept_none
+
 the_fault : (fault : Fault) → Failed reason.Idle ≡ Failed fault → reason.Idle ≡ fault
 the_fault fault h = cc
 
@@ -351,21 +365,3 @@ expire_calm st w k (Holds s left) there holds = kept_bind _ (slice_get st.slots 
     }) (λ past r ok. timed_out_ok ok))))
     (expired_so st.second st.limits.idle p))
 expire_calm st w k _ there holds = kept_none
-
-pub post_calm : {e : Event} (st : State) (d : Doing) → Kept (Calm st e) (Steps.post st d)
-post_calm st (Holds s left) = kept_bind _ (slice_get st.slots s) (λ p here.
-    kept_bind _ p.connection (λ c lying. kept_guard (is_live (verdict c.pair)) _ (λ live. turns here (note_turns _))))
-post_calm st _ = kept_none
-
-pub release_calm : {e : Event} (st : State) (w : ℕ) (k : WorkerState) (d : Doing) → Kept (Calm st e) (Steps.release st w k d)
-release_calm st w k (Holds s left) = kept_bind _ (slice_get st.slots s) (λ p here.
-    kept_bind _ p.connection (λ c lying. kept_guard (may_release c (is_nonempty p.notes)) _ (λ may. turns here held_turns)))
-release_calm st w k _ = kept_none
-
-pub retire_calm : {e : Event} (st : State) (w : ℕ) (k : WorkerState) (d : Doing) → Kept (Calm st e) (Steps.retire st w k d)
-retire_calm st w k (Closed s) = kept_map _ (slice_get st.slots s) (λ p here. turns here held_turns)
-retire_calm st w k _ = kept_none
-
-pub free_calm : {e : Event} (st : State) (w : ℕ) (k : WorkerState) (d : Doing) → Kept (Calm st e) (Steps.free st w k d)
-free_calm st w k (Retired s) = kept_map _ (slice_get st.slots s) (λ p here. rests)
-free_calm st w k _ = kept_none

@@ -3,7 +3,7 @@ use Rattle.world.proofs.Prelude.{◌≡◌, List, Some, Event, Limits, State, op
 use Rattle.world.proofs.TurnsRun.{turns_after, own_after, support_from}
 use Rattle.world.proofs.TurnsHeard.{listener_after}
 use Rattle.world.proofs.TurnsDue.{movable_is_due}
-use Rattle.world.proofs.EndsClosed.{bytes_hold, closed_hold, edges_hold}
+use Rattle.world.proofs.EndsRuns.{bytes_hold, closed_hold, edges_hold}
 use Rattle.world.proofs.EndsFailures.{failures_hold}
 
 pub headline : (laws : CoreLaws) (l : Limits) (events : List Event) (st : State) → run (opening l) events ≡ Some st → HeadlineHolds l events st
