@@ -3,19 +3,18 @@ use Rattle.world.proofs.Prelude.{◌≡◌, List, Some, Event, Limits, State, op
 use Rattle.world.proofs.TurnsRun.{turns_after, own_after, support_from}
 use Rattle.world.proofs.TurnsHeard.{listener_after}
 use Rattle.world.proofs.TurnsDue.{movable_is_due}
-use Rattle.world.proofs.EndsTheorem.{bytes_hold, edges_hold}
+use Rattle.world.proofs.EndsRuns.{bytes_hold, closed_hold, edges_hold}
 use Rattle.world.proofs.EndsFailures.{failures_hold}
-use Rattle.world.proofs.EndsClosed.{closed_hold}
 
 pub headline : (laws : CoreLaws) (l : Limits) (events : List Event) (st : State) → run (opening l) events ≡ Some st → HeadlineHolds l events st
 headline laws l events st ran = record {
-  bytes = bytes_hold l events st ran;
+  bytes = bytes_hold laws l events st ran;
   closed = closed_hold laws l events st ran;
   own = own_after laws l events st ran;
   failures = failures_hold laws l events st ran;
-  due = movable_is_due laws st (turns_after laws l events st ran) (edges_hold l events st ran);
+  due = movable_is_due laws st (turns_after laws l events st ran) (edges_hold laws l events st ran);
   listener = listener_after l events st ran;
 }
 
 pub support : (laws : CoreLaws) (l : Limits) (events : List Event) (st : State) → run (opening l) events ≡ Some st → SupportHolds st
-support laws l events st ran = support_from st (turns_after laws l events st ran) (edges_hold l events st ran)
+support laws l events st ran = support_from st (turns_after laws l events st ran) (edges_hold laws l events st ran)
