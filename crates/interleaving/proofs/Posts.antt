@@ -12,7 +12,7 @@ use Rattle.interleaving.specs.Histories.{posts}
 use Rattle.interleaving.proofs.Frames.{Follows, settled_frame}
 use Rattle.interleaving.proofs.Outside.{two_parts, alone}
 use Rattle.token.specs.declared.name.Name.TheVariants as name
-pub use Rattle.world.proofs.TurnsPoller.{some_more}
+pub use Rattle.world.proofs.TurnsRun.{some_more}
 
 -- What the word says, and what the place does
 

@@ -17,11 +17,11 @@ pub use Rattle.relay_core.specs.Order.{next_call}
 pub use Rattle.relay_core.specs.Pairs.{PairState, is_live, verdict}
 pub use Rattle.token.specs.Names.{EndName}
 pub use Rattle.token.specs.declared.name.Name.{Name}
-pub use Rattle.world.proofs.TurnsEnded.{own_generation}
+pub use Rattle.world.proofs.TurnsRun.{own_generation}
 pub use Rattle.world.proofs.TurnsFacts.{SlotOk, Turns, facts, is_number, worker_retires}
 pub use Rattle.world.proofs.TurnsKept.{Kept, kept_at, kept_bind, kept_guard, kept_map, kept_none, kept_some, kept_when}
 pub use Rattle.world.proofs.TurnsTotals.{get-set_other, get-set_same}
-pub use Rattle.world.proofs.TurnsWorker.{Waiting, waiting}
+pub use Rattle.world.proofs.TurnsRun.{Waiting, waiting}
 pub use Rattle.world.specs.Acts.{busy}
 pub use Rattle.world.specs.Slots.{SlotState, WorkerState, is_by_worker, is_held}
 pub use Rattle.world.specs.States.{State}

@@ -48,6 +48,12 @@ pub kept_map_map : {X Y Z : Type 0} {P : Z → Type 0} (f : Y → Z) (g : X → 
 kept_map_map f g None next = record { kept = tt }
 kept_map_map f g (Some x) next = record { kept = next x refl }
 
+-- a step of what two made, of which either may refuse
+pub kept_map_bind : {X Y Z : Type 0} {P : Z → Type 0} (f : Y → Z) (g : X → Option Y) (o : Option X) → ((x : X) → o ≡ Some x → Kept P (option_map f (g x)))
+    → Kept P (option_map f (option_and_then g o))
+kept_map_bind f g None next = record { kept = tt }
+kept_map_bind f g (Some x) next = next x refl
+
 -- and then a step that may refuse
 pub kept_next : {X Y : Type 0} {P : X → Type 0} {Q : Y → Type 0} (f : X → Option Y) (o : Option X) → ((x : X) → P x → Kept Q (f x)) → Kept P o → Kept Q (option_and_then f o)
 kept_next f None next k = record { kept = tt }
