@@ -8,8 +8,7 @@ use Rattle.world.specs.declared.event.Polling.TheVariants as polling
 use Rattle.world.specs.declared.event.Act.TheVariants as act
 use Rattle.world.specs.Steps
 use Rattle.world.proofs.TurnsTotals.{get-set_same}
-use Rattle.world.proofs.TurnsKept.{Kept, kept_none, kept_bind, kept_map, kept_when, kept_then, kept_at}
-use Rattle.world.proofs.TurnsExpired.{Expired, expired_so}
+use Rattle.world.proofs.TurnsKept.{Kept, kept_none, kept_bind, kept_map, kept_when, kept_then, kept_at, Expired, expired_so}
 use Rattle.world.proofs.EndsTimes.{TimesOk, MovesBy, MovesNow, throughout_more}
 
 kept_any : {X : Type 0} {P : X → Type 0} (o : Option X) → ((x : X) → P x) → Kept P o

@@ -9,8 +9,7 @@ use Rattle.world.specs.declared.event.Act.TheVariants as act
 use Rattle.world.specs.declared.event.Listening.TheVariants as listening
 use Rattle.world.specs.declared.event.Polling.TheVariants as polling
 use Rattle.world.specs.Steps
-use Rattle.world.proofs.TurnsKept.{Kept, kept_bind, kept_map, kept_guard, kept_when, kept_then, kept_map_map}
-use Rattle.world.proofs.TurnsExpired.{Expired, expired_so}
+use Rattle.world.proofs.TurnsKept.{Kept, kept_bind, kept_map, kept_guard, kept_when, kept_then, kept_map_map, Expired, expired_so}
 use Rattle.world.proofs.EndsSlots.{behind, kept_map_if}
 
 -- the failure that an event brings, by a call or by the idle limit

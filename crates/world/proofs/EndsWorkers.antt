@@ -3,8 +3,7 @@
 use Rattle.world.proofs.Prelude.{◌≡◌, ℕ, ◌+◌, Bool, true, false, not, List, [], ◌∷◌, Some, None, refl, sym, subst, ap, ◌∙◌, length, nat_lt, slice_get, slice_set, if◌then◌else◌, ◌==◌, Side, Client, Target, EndName, without_name, KernelState, end_at, timed_out, Up, Down, verdict, is_live, is_nonempty, Connection, Ticket, Holder, Doing, Idle, Tries, Holds, Closed, Retired, SlotState, WorkerState, is_held, State, is_limited, tick, sweep, posted, post_at, with_note, put_by_poller, put_by_worker, popped, pop, claim, noted_slot, take, with_place, post, expired_place, expire, may_release, release, closed_world, close, retire, free}
 use Rattle.token.specs.declared.name.Name.TheVariants as name
 use Rattle.kernel_model.specs.Kernel as kernel
-use Rattle.world.proofs.TurnsKept.{Kept, kept_bind, kept_map, kept_then, kept_guard, kept_when}
-use Rattle.world.proofs.TurnsExpired.{Expired, expired_so}
+use Rattle.world.proofs.TurnsKept.{Kept, kept_bind, kept_map, kept_then, kept_guard, kept_when, Expired, expired_so}
 use Rattle.world.proofs.EndsPairs.{by_side, by_direction}
 use Rattle.world.proofs.EndsHeld.{History, token_at, registered, ConnectionOk, SlotOk, AllOk}
 use Rattle.world.proofs.EndsNames.{has_without, other_slot}

@@ -4,8 +4,7 @@ use Rattle.world.proofs.Prelude.{◌≡◌, ◌∙◌, ℕ, ◌+◌, ◌==◌, B
 use Rattle.kernel_model.specs.declared.watched.Watched.TheVariants as watched
 use Rattle.kernel_model.specs.Kernel as kernel
 use Rattle.world.proofs.EndsNames.{has_with, has_reported, is_reported, has_without, has_polled, or_left, or_right, or_then}
-use Rattle.world.proofs.TurnsKept.{Kept, kept_bind, kept_map, kept_when, kept_guard, kept_then, kept_next, kept_at, kept_bind_map, either_of}
-use Rattle.world.proofs.TurnsHappens.{Happens, Changes, Reports, Vanishes, Connects, Accepts, Polls, Hears, Passes, Delivers, Claims, Calls, Closes, holds_after}
+use Rattle.world.proofs.TurnsKept.{Kept, kept_bind, kept_map, kept_when, kept_guard, kept_then, kept_next, kept_at, kept_bind_map, either_of, Happens, Changes, Reports, Vanishes, Connects, Accepts, Polls, Hears, Passes, Delivers, Claims, Calls, Closes, holds_after}
 
 abbrev hears : List Name → Bool
 hears names = has Listener names

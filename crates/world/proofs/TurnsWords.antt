@@ -3,9 +3,8 @@ use Rattle.world.proofs.Prelude.{◌≡◌, ◌≢◌, ◌⊎◌, inl, inr, ◌�
 use Rattle.kernel_model.specs.Kernel as kernel
 use Rattle.claims.specs.Words as words
 use Rattle.world.proofs.TurnsTotals.{total_push, get-set_same, get-set_other}
-use Rattle.world.proofs.TurnsKept.{kept_at}
+use Rattle.world.proofs.TurnsKept.{kept_at, hand_after, Happens, Accepts, Opens, Hears, Passes, Delivers, Sweeps, Puts, HandsIn, Pops, Claims, Takes, Calls, Posts, Releases, Expires, Closes, Retires, Frees, happens}
 use Rattle.world.proofs.TurnsFacts.{Turns, one_same, one_other, replaced, turned, doing_so}
-use Rattle.world.proofs.TurnsHappens.{hand_after, Happens, Accepts, Opens, Hears, Passes, Delivers, Sweeps, Puts, HandsIn, Pops, Claims, Takes, Calls, Posts, Releases, Expires, Closes, Retires, Frees, happens}
 use Rattle.world.proofs.TurnsRun.{handed, first_free, waiting, held_by, closed_by, turns_after}
 
 -- an event that changes no slot and makes no step

@@ -8,9 +8,6 @@ free_grows st w k s p there young =
     rw (there, lt-leb 140737488355327 p.generation young)
     (lt-ltb (length st.free) (length (st.free ++ s ∷ [])) (omega (arith, length-append st.free (s ∷ []))))
 
-pub returns-clause-event : goal.returns-clause-event
-returns-clause-event c = grind (arith, gets)
-
 pub returns-in_err-reserve-clause-memory : goal.returns-in_err-reserve-clause-memory
 returns-in_err-reserve-clause-memory c =
     let there : slice_get c.args.self.now.slots c.args.slot ≡ Some c.index.result.now = grind (arith, gets) in
