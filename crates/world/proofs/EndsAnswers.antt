@@ -1,6 +1,8 @@
 -- A worker's call. Its answer, for a pair and the end on which it is made: the bytes keep their order, an end comes
 -- last, and a flag that goes down is covered. The kernel changes at that end, and the pair takes the answer in.
-use Rattle.world.proofs.Prelude.{Bool, List, None, Option, Some, [], ap, append_assoc, arith, drop, false, if◌then◌else◌, inr, le_refl, leb-true, length, ltb-true, nat_lt, not, option_map, refl, slice_get, slice_set, subst, sym, take-append-drop, true, ℕ, ◌&&◌, ◌++◌, ◌<◌, ◌||◌, ◌∙◌, ◌∷◌, ◌≡◌, ◌≤◌, drop-nil, nat_tests, nil_from_length, first_so, second_so, option_or, nat_le, take-front, waiting-dropped, Stream, closed, dropped, ended, front, taken_in, waiting, EndState, is_nonempty, is_readable, is_writable, KernelState, end_at, same, guard, after_join, after_read, after_shut, after_write, bytes_read, is_count, Sockets, Reply, AnswersNext, Standing, TellsOf, call_for, is_drained, is_open, is_waiting, next_call, offer, PairState, flags_of, is_live, stream_of, verdict, after, fits, moves, Call, Join, Read, Shut, Write, Flags, Fault, Failed, inward, opposite, Direction, Down, Up, Kind, Side, Client, Target, called, OpenConnection, descriptor, made, plain, replied, told_of, CoreLaws, failure, failure_by, fault_of, socket_of, SlotState, WorkerState, State, slot_call, OpenSlot, call, connection_at, EndCovered, Doing, Holds, Connection}
+use Rattle.world.proofs.Prelude.{Bool, List, None, Option, Some, [], ap, append_assoc, arith, drop, false, if◌then◌else◌, inr, le_refl, leb-true, length, ltb-true, nat_lt, not, option_map, refl, slice_get, slice_set, subst, sym, take-append-drop, true, ℕ, ◌&&◌, ◌++◌, ◌<◌, ◌||◌, ◌∙◌, ◌∷◌, ◌≡◌, ◌≤◌, drop-nil, nat_tests, nil_from_length, first_so, second_so, option_or, nat_le, take-front, waiting-dropped, Stream, closed, dropped, ended, front, taken_in, waiting, EndState, is_nonempty, is_readable, is_writable, KernelState, end_at, same, guard, after_join, after_read, after_shut, after_write, bytes_read, is_count, Sockets, Reply, AnswersNext, Standing, TellsOf, call_for, is_drained, is_open, is_waiting, next_call, offer, PairState, flags_of, is_live, stream_of, verdict, after, fits, moves, Call, Join, Read, Shut, Write, Flags, Fault, Failed, inward, opposite, Direction, Down, Up, Kind, Side, Client, Target, OpenConnection, descriptor, made, plain, replied, told_of, CoreLaws, failure, failure_by, fault_of, socket_of, SlotState, WorkerState, State, OpenSlot, call, connection_at, EndCovered, Doing, Holds, Connection}
+use Rattle.world.specs.Calls.{called}
+use Rattle.world.specs.Steps.{slot_call}
 use Rattle.std.proofs.Common.{take}
 use Rattle.kernel_model.specs.declared.reply.Reply.TheVariants as reply
 use Rattle.relay_core.specs.Replies as answer

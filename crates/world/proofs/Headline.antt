@@ -1,7 +1,7 @@
 -- The headline of every run.
 use Rattle.world.proofs.Prelude.{◌≡◌, List, Some, Event, Limits, State, opening, run, HeadlineHolds, SupportHolds, CoreLaws}
 use Rattle.world.proofs.TurnsRun.{turns_after, own_after, support_from}
-use Rattle.world.proofs.TurnsHeard.{listener_after}
+use Rattle.world.proofs.TurnsListener.{listener_after}
 use Rattle.world.proofs.TurnsDue.{movable_is_due}
 use Rattle.world.proofs.EndsRuns.{bytes_hold, closed_hold, edges_hold}
 use Rattle.world.proofs.EndsFailures.{failures_hold}

@@ -52,8 +52,7 @@ unfoldable pub use Rattle.world.specs.Calls.{called}
 pub use Rattle.world.specs.Calls.{OpenConnection, descriptor, made, plain, replied, told_of, when}
 pub use Rattle.world.specs.CoreLaws.{CoreLaws}
 pub use Rattle.world.specs.Due.{due, due_at, due_place, flows, gives, has_place, has_ticket, is_report, is_reported, is_ticket, is_ticketed, movable, movable_at, moves_if_any, takes, tries}
-pub use Rattle.world.specs.Given.{given, given_by, has_generation}
-pub use Rattle.world.specs.Headline.{BytesAndEndsHold, ClaimsByOwnTicket, ClosedHold, ConnectionHolds, DirectionHolds, FailedAfter, FailedBy, Failure, FailuresHold, HeadlineHolds, LiesBack, ListenerHolds, Named, TakesOwnNotes, Throughout, TriedOnOwn, end_of, failure, failure_by, fault_of, held_by, held_connection, is_movement, moved_by, named, next_fails, next_opened, preamble, socket_of}
+pub use Rattle.world.specs.Headline.{BytesAndEndsHold, ClaimsByOwnTicket, ClosedHold, ConnectionHolds, DirectionHolds, FailedAfter, FailedBy, Failure, FailuresHold, HeadlineHolds, LiesBack, ListenerHolds, Named, TakesOwnNotes, Throughout, TriedOnOwn, end_of, failure, failure_by, fault_of, given, given_by, has_generation, held_by, held_connection, is_movement, moved_by, named, next_fails, next_opened, preamble, socket_of}
 pub use Rattle.world.specs.LeadLaws.{is_padded}
 pub use Rattle.world.specs.Memory.{free_length, grows}
 pub use Rattle.world.specs.Runs.{run}

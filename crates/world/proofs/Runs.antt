@@ -1,45 +1,29 @@
 -- A run with one event more.
-use Rattle.world.proofs.Prelude.{◌≡◌, ℕ, zero, suc, ◌+◌, List, [], ◌∷◌, ◌++◌, Option, Some, None, refl, ◌∙◌, option_and_then, add-one, slice_get, Event, State, step, run}
+use Rattle.world.proofs.Prelude.{◌≡◌, ℕ, ◌+◌, List, [], ◌∷◌, ◌++◌, Option, Some, None, refl, ◌∙◌, option_and_then, slice_get, slice_get_within, Event, State, step, run}
 use Rattle.std.proofs.Common.{take}
+use Rattle.std.proofs.lemmas.List.{take_more}
+use Rattle.std.proofs.lemmas.Option.{get_or_from_slice_get}
+
+both_if : (xs ys : List Event) (o : Option State) → ((q : State) → run q (xs ++ ys) ≡ option_and_then (λ (r : State). run r ys) (run q xs))
+    → option_and_then (λ (q : State). run q (xs ++ ys)) o ≡ option_and_then (λ (r : State). run r ys) (option_and_then (λ (q : State). run q xs) o)
+both_if xs ys None each = refl
+both_if xs ys (Some q) each = each q
+
+run_both : (st : State) (xs ys : List Event) → run st (xs ++ ys) ≡ option_and_then (λ (r : State). run r ys) (run st xs)
+run_both st [] ys = refl
+run_both st (x ∷ xs) ys = both_if xs ys (step st x) (λ q. run_both q xs ys)
 
 one_step : (o : Option State) → option_and_then (λ (p : State). Some p) o ≡ o
 one_step None = refl
 one_step (Some p) = refl
 
-further : (q : State) (events : List Event) (i : ℕ) (e : Event)
-    → ((p : State) → run p (take i events) ≡ Some q → run p (take (suc i) events) ≡ step q e)
-    → (o : Option State) → option_and_then (λ (p : State). run p (take i events)) o ≡ Some q
-    → option_and_then (λ (p : State). run p (take (suc i) events)) o ≡ step q e
-further q events i e more None ran = absurd (cc)
-further q events i e more (Some p) ran = more p ran
-
-one_more : (st q : State) (events : List Event) (i : ℕ) (e : Event)
-    → run st (take i events) ≡ Some q → slice_get events i ≡ Some e → run st (take (suc i) events) ≡ step q e
-one_more st q [] i e ran here = absurd (cc)
-one_more st q (f ∷ events) zero e ran here =
-    let same : st ≡ q = cc in
-    let this : f ≡ e = cc in
-    rw (same, this) (one_step (step q e))
-one_more st q (f ∷ events) (suc i) e ran here =
-    further q events i e (λ p ran'. one_more p q events i e ran' here) (step st f) ran
+-- where the events lead to a world in which one more can happen
+pub run_and : (st q r : State) (events : List Event) (e : Event)
+    → run st events ≡ Some q → step q e ≡ Some r → run st (events ++ e ∷ []) ≡ Some r
+run_and st q r events e ran one = rw (run_both st events (e ∷ []), ran) (one_step (step q e) ∙ one)
 
 -- after the first i events comes the event at i
 pub run_more : (st q : State) (events : List Event) (i : ℕ) (e : Event)
     → run st (take i events) ≡ Some q → slice_get events i ≡ Some e → run st (take (i + 1) events) ≡ step q e
-run_more st q events i e ran here = rw add-one (one_more st q events i e ran here)
-
-further_by : (q r : State) (events : List Event) (e : Event)
-    → ((p : State) → run p events ≡ Some q → run p (events ++ e ∷ []) ≡ Some r)
-    → (o : Option State) → option_and_then (λ (p : State). run p events) o ≡ Some q
-    → option_and_then (λ (p : State). run p (events ++ e ∷ [])) o ≡ Some r
-further_by q r events e more None ran = absurd (cc)
-further_by q r events e more (Some p) ran = more p ran
-
--- where the events lead to a world in which one more can happen
-pub run_and : (st q r : State) (events : List Event) (e : Event)
-    → run st events ≡ Some q → step q e ≡ Some r → run st (events ++ e ∷ []) ≡ Some r
-run_and st q r [] e ran one =
-    let same : st ≡ q = cc in
-    rw same (one_step (step q e) ∙ one)
-run_and st q r (f ∷ events) e ran one =
-    further_by q r events e (λ p ran'. run_and p q r events e ran' one) (step st f) ran
+run_more st q events i e ran here =
+    rw (take_more events i e (slice_get_within events i e here), get_or_from_slice_get events i e e here, run_both st (take i events) (e ∷ []), ran) (one_step (step q e))

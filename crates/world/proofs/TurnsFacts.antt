@@ -86,14 +86,19 @@ pub record ConnectionOk (f : Facts) (p : SlotState) (c : Connection) : Type 0 wh
 abbrev pub are_own : ℕ → List ℕ → Bool
 are_own g notes = list_all (λ (n : ℕ). n == g) notes
 
-pub record SlotOk (f : Facts) (p : SlotState) : Type 0 where
-  pub entry : f.entry ≡ Some p.generation
-  pub notes : are_own p.generation p.notes ≡ true
+-- the numbers of a slot that is as it has to be
+pub record CountsOk (f : Facts) (p : SlotState) : Type 0 where
   pub tickets : f.tickets ≡ one (not (is_held p.holder) && is_nonempty p.notes)
   pub right : f.right ≡ f.tickets
   pub holding : f.holding ≡ one (is_by_worker p.holder && is_some p.connection)
   pub closing : f.closing ≡ one (is_by_worker p.holder && not (is_some p.connection))
   pub gone : f.gone ≤ one (is_free p.holder)
+
+pub record SlotOk (f : Facts) (p : SlotState) : Type 0 where
+  pub entry : f.entry ≡ Some p.generation
+  pub notes : are_own p.generation p.notes ≡ true
+  pub counts : CountsOk f p
+  pub open counts use *
   pub shape : is_shaped p.holder (is_some p.connection) ≡ true
   pub connection : (c : Connection) → p.connection ≡ Some c → ConnectionOk f p c
 
@@ -102,64 +107,53 @@ pub record Turns (st : State) : Type 0 where
   pub each : (s : ℕ) (p : SlotState) → slice_get st.slots s ≡ Some p → SlotOk (facts st s p.generation) p
 
 -- the same numbers, but for those that are gone, which may be fewer
-pub record Same (f g : Facts) : Type 0 where
+pub record SameCounts (f g : Facts) : Type 0 where
   pub ring : f.ring ≡ g.ring
   pub slot : f.slot ≡ g.slot
-  pub entry : f.entry ≡ g.entry
   pub tickets : f.tickets ≡ g.tickets
   pub right : f.right ≡ g.right
   pub holding : f.holding ≡ g.holding
   pub closing : f.closing ≡ g.closing
   pub gone : g.gone ≤ f.gone
 
-pub same_self : (f : Facts) → Same f f
-same_self f = record { ring = refl; slot = refl; entry = refl; tickets = refl; right = refl; holding = refl; closing = refl; gone = omega arith }
+pub record Same (f g : Facts) : Type 0 where
+  pub entry : f.entry ≡ g.entry
+  pub counts : SameCounts f g
+  pub open counts use *
 
-same_connection : (f g : Facts) (p : SlotState) (c : Connection) → Same f g → ConnectionOk f p c → ConnectionOk g p c
-same_connection f g p c m ok = record {
-  stands = rw (← m.ring, ← m.slot) ok.stands;
-  live = ok.live;
-  rest = ok.rest;
-}
+pub same_self : {f : Facts} → Same f f
+same_self = record { entry = refl; counts = omega arith }
 
-pub same_ok : (f g : Facts) (p : SlotState) → Same f g → SlotOk f p → SlotOk g p
-same_ok f g p m ok = record {
+same_ok : {f g : Facts} {p : SlotState} → Same f g → SlotOk f p → SlotOk g p
+same_ok m ok = record {
   entry = rw (← m.entry) ok.entry;
   notes = ok.notes;
-  tickets = rw (← m.tickets) ok.tickets;
-  right = rw (← m.tickets, ← m.right) ok.right;
-  holding = rw (← m.holding) ok.holding;
-  closing = rw (← m.closing) ok.closing;
-  gone = let was : f.gone ≤ one (is_free p.holder) = ok.gone in let less : g.gone ≤ f.gone = m.gone in omega arith;
+  counts = omega arith;
   shape = ok.shape;
-  connection = λ c is. same_connection f g p c m (ok.connection c is);
+  connection = λ c is. record {
+    stands = rw (← m.ring, ← m.slot) (ok.connection c is).stands;
+    live = (ok.connection c is).live;
+    rest = (ok.connection c is).rest;
+  };
 }
 
 -- an event that changes no slot
-pub keep_slots : (st next : State) → next.slots ≡ st.slots → ((s g : ℕ) → Same (facts st s g) (facts next s g)) → Turns st → Turns next
-keep_slots st next all same turns = record {
-  each = λ s p there. same_ok (facts st s p.generation) (facts next s p.generation) p (same s p.generation) (turns.each s p (rw all at there));
-}
+pub keep_slots : {st next : State} → Turns st → next.slots ≡ st.slots → ((s g : ℕ) → Same (facts st s g) (facts next s g)) → Turns next
+keep_slots turns all same = record { each = λ s p there. same_ok (same s p.generation) (turns.each s p (rw all at there)) }
 
-other_slot : (st next : State) (s i : ℕ) (old new p : SlotState) → (s ≡ i) ⊎ (s ≢ i) → slice_get st.slots s ≡ Some old → next.slots ≡ slice_set st.slots s new
-    → ((j : ℕ) (q : SlotState) → s ≢ j → slice_get st.slots j ≡ Some q → Same (facts st j q.generation) (facts next j q.generation))
-    → SlotOk (facts next s new.generation) new → Turns st → slice_get next.slots i ≡ Some p → SlotOk (facts next i p.generation) p
-other_slot st next s i old new p (inl same) there all others ok turns here =
-    let set : slice_get (slice_set st.slots s new) s ≡ Some p = rw (← all, same) here in
-    let is : new ≡ p = let one : slice_get (slice_set st.slots s new) s ≡ Some new = get-set_same st.slots s old new there in (cc) in
+other_slot : {st : State} (next : State) (s i : ℕ) {old new p : SlotState} → Turns st → (s ≡ i) ⊎ (s ≢ i) → slice_get st.slots s ≡ Some old → next.slots ≡ slice_set st.slots s new
+    → ((j g : ℕ) → s ≢ j → Same (facts st j g) (facts next j g)) → SlotOk (facts next s new.generation) new → slice_get next.slots i ≡ Some p → SlotOk (facts next i p.generation) p
+other_slot {st} next s i {old} {new} {p} turns (inl same) there all others ok here =
+    let is : new ≡ p = let set : slice_get (slice_set st.slots s new) s ≡ Some p = rw (← all, same) here in cc (get-set_same st.slots s old new there) in
     rw (← same, ← is) ok
-other_slot st next s i old new p (inr apart) there all others ok turns here =
+other_slot {st} next s i {old} {new} {p} turns (inr apart) there all others ok here =
     let set : slice_get (slice_set st.slots s new) i ≡ Some p = rw (← all) here in
-    let was : slice_get st.slots i ≡ Some p = sym (get-set_other st.slots s i new apart) ∙ set in
-    same_ok (facts st i p.generation) (facts next i p.generation) p (others i p apart was) (turns.each i p was)
+    same_ok (others i p.generation apart) (turns.each i p (sym (get-set_other st.slots s i new apart) ∙ set))
 
 -- an event that changes one slot, s
-pub keep_others : (st next : State) (s : ℕ) (old new : SlotState) → slice_get st.slots s ≡ Some old → next.slots ≡ slice_set st.slots s new
-    → ((j : ℕ) (q : SlotState) → s ≢ j → slice_get st.slots j ≡ Some q → Same (facts st j q.generation) (facts next j q.generation))
-    → SlotOk (facts next s new.generation) new → Turns st → Turns next
-keep_others st next s old new there all others ok turns = record {
-  each = λ i p here. other_slot st next s i old new p (cases_eq s i) there all others ok turns here;
-}
+pub keep_others : {st next : State} (s : ℕ) {old new : SlotState} → Turns st → slice_get st.slots s ≡ Some old → next.slots ≡ slice_set st.slots s new
+    → ((j g : ℕ) → s ≢ j → Same (facts st j g) (facts next j g)) → SlotOk (facts next s new.generation) new → Turns next
+keep_others {next = next} s turns there all others ok = record { each = λ i p here. other_slot next s i turns (cases_eq s i) there all others ok here }
 
 -- the numbers of a slot where one worker is replaced
 pub record Replaced (st : State) (w : ℕ) (k j : WorkerState) (s g : ℕ) : Type 0 where
@@ -169,8 +163,8 @@ pub record Replaced (st : State) (w : ℕ) (k j : WorkerState) (s g : ℕ) : Typ
   pub closing : total (worker_closes s) (slice_set st.workers w j) + worker_closes s k ≡ total (worker_closes s) st.workers + worker_closes s j
   pub gone : total (worker_retires s) (slice_set st.workers w j) + worker_retires s k ≡ total (worker_retires s) st.workers + worker_retires s j
 
-pub replaced : (st : State) (w : ℕ) (k j : WorkerState) (s g : ℕ) → slice_get st.workers w ≡ Some k → Replaced st w k j s g
-replaced st w k j s g there = record {
+pub replaced : (st : State) (w : ℕ) {k : WorkerState} (j : WorkerState) (s g : ℕ) → slice_get st.workers w ≡ Some k → Replaced st w k j s g
+replaced st w {k} j s g there = record {
   tickets = total-set (worker_tickets s) st.workers w k j there;
   right = total-set (worker_right s g) st.workers w k j there;
   holding = total-set (worker_holds s) st.workers w k j there;
@@ -202,6 +196,17 @@ pub tried_less : (s g : ℕ) (d : Doing) → tried_right s g d ≤ tried s d
 tried_less s g (Tries t) = names_of_slot s g t
 tried_less s g _ = omega arith
 
+-- the parts of a worker in the numbers of a slot, by what it does
+pub record Does (c d : Doing) (s g : ℕ) : Type 0 where
+  pub tickets : tried s c ≡ tried s d
+  pub right : tried_right s g c ≡ tried_right s g d
+  pub holding : holds s c ≡ holds s d
+  pub closing : closes s c ≡ closes s d
+  pub gone : retires s c ≡ retires s d
+
+pub doing_so : {c d : Doing} (s g : ℕ) → c ≡ d → Does c d s g
+doing_so s g does = record { tickets = ap (tried s) does; right = ap (tried_right s g) does; holding = ap (holds s) does; closing = ap (closes s) does; gone = ap (retires s) does }
+
 -- the numbers of a slot where one worker, that does d, goes on to e
 pub record Turned (st : State) (w : ℕ) (k : WorkerState) (d e : Doing) (s g : ℕ) : Type 0 where
   pub tickets : total (worker_tickets s) (slice_set st.workers w (record k { doing = e })) + tried s d ≡ total (worker_tickets s) st.workers + tried s e
@@ -210,36 +215,14 @@ pub record Turned (st : State) (w : ℕ) (k : WorkerState) (d e : Doing) (s g : 
   pub closing : total (worker_closes s) (slice_set st.workers w (record k { doing = e })) + closes s d ≡ total (worker_closes s) st.workers + closes s e
   pub gone : total (worker_retires s) (slice_set st.workers w (record k { doing = e })) + retires s d ≡ total (worker_retires s) st.workers + retires s e
 
-pub turned : (st : State) (w : ℕ) (k : WorkerState) (d e : Doing) (s g : ℕ) → slice_get st.workers w ≡ Some k → k.doing ≡ d → Turned st w k d e s g
-turned st w k d e s g there does =
-    let r : Replaced st w k (record k { doing = e }) s g = replaced st w k (record k { doing = e }) s g there in
-    let a : tried s k.doing ≡ tried s d = ap (tried s) does in
-    let b : tried_right s g k.doing ≡ tried_right s g d = ap (tried_right s g) does in
-    let c : holds s k.doing ≡ holds s d = ap (holds s) does in
-    let f : closes s k.doing ≡ closes s d = ap (closes s) does in
-    let h : retires s k.doing ≡ retires s d = ap (retires s) does in
-    record {
-      tickets = omega arith;
-      right = omega arith;
-      holding = omega arith;
-      closing = omega arith;
-      gone = omega arith;
-    }
+pub turned : (st : State) (w : ℕ) {k : WorkerState} {d : Doing} (e : Doing) (s g : ℕ) → slice_get st.workers w ≡ Some k → k.doing ≡ d → Turned st w k d e s g
+turned st w {k} e s g there does = let r = replaced st w (record k { doing = e }) s g there in let m = doing_so s g does in omega arith
 
 -- where neither has a part in slot i, its numbers stay
-pub turned_elsewhere : (st : State) (w : ℕ) (k : WorkerState) (d e : Doing) (i g : ℕ) → slice_get st.workers w ≡ Some k → k.doing ≡ d
+pub turned_elsewhere : (st : State) (w : ℕ) {k : WorkerState} {d : Doing} (e : Doing) (i g : ℕ) → slice_get st.workers w ≡ Some k → k.doing ≡ d
     → tried i d + (holds i d + (closes i d + retires i d)) ≡ 0 → tried i e + (holds i e + (closes i e + retires i e)) ≡ 0 → Same (facts st i g) (facts (doing st w k e) i g)
-turned_elsewhere st w k d e i g there does before after =
-    let m : Turned st w k d e i g = turned st w k d e i g there does in
-    let less : tried_right i g d ≤ tried i d = tried_less i g d in
-    let less_after : tried_right i g e ≤ tried i e = tried_less i g e in
-    record {
-      ring = refl;
-      slot = refl;
-      entry = refl;
-      tickets = omega arith;
-      right = omega arith;
-      holding = omega arith;
-      closing = omega arith;
-      gone = omega arith;
-    }
+turned_elsewhere st w {k} {d} e i g there does before after =
+    let m = turned st w e i g there does in
+    let less = tried_less i g d in
+    let less_after = tried_less i g e in
+    record { entry = refl; counts = omega arith }

@@ -1,73 +1,426 @@
--- Who has a slot, after any list of events.
-use Rattle.world.proofs.Prelude.{◌≡◌, ◌≢◌, ◌⊎◌, inl, inr, ◌∙◌, ℕ, zero, suc, ◌+◌, ◌≤◌, ◌==◌, true, ◌&&◌, List, [], ◌∷◌, ◌++◌, replicate, slice_get, Option, Some, None, is_some, refl, ap, sym, subst, arith, eqb-true, ne_eqb, eq-eqb, option_map, option_and_then, cases_eq, and_parts, Limits, Connection, Ticket, Doing, Tries, Holds, Event, SlotState, WorkerState, State, opening, unused, resting, numbers_below, connection_at, claimed, claim, worked, step, run, Throughout, TakesOwnNotes, ClaimsByOwnTicket, TriedOnOwn, one, total, of_slot, tried, worker_tickets, tickets, EdgesHold, SupportHolds, CoreLaws}
-use Rattle.world.specs.declared.event.Event.TheVariants as event
-use Rattle.world.specs.declared.event.Act.TheVariants as act
-use Rattle.world.proofs.TurnsTotals.{total_push, total_none, total_le, total_le_at, get-replicate, get_beside}
-use Rattle.world.proofs.TurnsKept.{Kept, kept_some, kept_next, kept_at}
-use Rattle.world.proofs.TurnsFacts.{facts, SlotOk, Turns, names, tried_right, worker_right, worker_holds, worker_closes, worker_retires, is_number, right_tickets, one_same, names_of_slot}
-use Rattle.world.proofs.TurnsPoller.{tick_turns, network_turns, spurious_turns, vanish_turns, listen_turns, polled_turns, right_is_less, sure}
-use Rattle.world.proofs.TurnsWorker.{Waiting, waiting}
-use Rattle.world.proofs.TurnsEnded.{own_generation, worked_turns}
+-- Who has a slot, through every event, and so after any list of events.
+use Rattle.std.proofs.Common.{◌*◌}
+use Rattle.world.proofs.Prelude.{◌≡◌, ◌∙◌, ℕ, ◌+◌, ◌-◌, ◌≤◌, ◌==◌, Bool, true, false, not, ◌&&◌, ◌||◌, List, [], ◌∷◌, ◌++◌, length, slice_get, slice_set, drop, Option, Some, None, is_some, is_none, refl, ap, sym, subst, arith, eq-eqb, lt-ltb, length-append, if◌then◌else◌, and_parts, Descriptors, Sockets, Told, KernelState, Accepted, verdict, is_live, next_call, fresh, Standing, place_of, noted, is_nonempty, Reply, Connection, Ticket, Holder, Nobody, By, Free, Doing, Idle, Tries, Holds, Closed, Retired, Event, SlotState, WorkerState, is_held, is_by_worker, State, OpenConnection, expired, with_note, brings_ticket, with_ticket, posted, opened_place, opened_world, with_place, doing, claimed, heard, closed_world, is_worn, freed, one, total, of_slot, worker_tickets, tickets, ◌≢◌, ◌⊎◌, inl, inr, zero, suc, replicate, eqb-true, option_and_then, cases_eq, Limits, opening, unused, resting, numbers_below, step, run, Throughout, TakesOwnNotes, ClaimsByOwnTicket, TriedOnOwn, EdgesHold, SupportHolds, CoreLaws, Call, told_of, made, replied}
+use Rattle.world.specs.Calls.{called}
+use Rattle.world.specs.Steps.{may_release}
+use Rattle.kernel_model.specs.Kernel as kernel
+use Rattle.world.proofs.TurnsTotals.{total_push, total_moved, total_none, total_le, total_le_at, total_at, get-set_same, get-set_other, get-replicate, get_beside}
+use Rattle.world.proofs.TurnsKept.{Kept, kept_bind, kept_map, kept_when, kept_guard, kept_at, Holding, called_on, hand_after, released, Happens, Accepts, Opens, Delivers, Sweeps, Puts, HandsIn, Pops, Claims, Takes, Calls, Posts, Releases, Expires, Closes, Retires, Frees, happens, holds_after}
+use Rattle.world.proofs.TurnsFacts.{Facts, facts, SlotOk, ConnectionOk, Turns, Same, same_self, keep_slots, keep_others, names, worker_right, worker_holds, worker_closes, worker_retires, is_number, right_tickets, is_free, are_own, standing, one_same, one_other, names_of_slot, names_other, names_own, tried_less, replaced, turned, turned_elsewhere, doing_so}
 
--- each event keeps it, and so does a list of them
+-- a test that counts holds
+pub sure : (b : Bool) → 1 ≤ one b → b ≡ true
+sure true some = refl
+sure false some = absurd (omega arith)
 
-step_turns : (laws : CoreLaws) (st : State) (e : Event) → Turns st → Kept Turns (step st e)
-step_turns laws st (event.Tick n) turns = tick_turns st n turns
-step_turns laws st (event.Network s side change) turns = network_turns st s side change turns
-step_turns laws st (event.Spurious who) turns = spurious_turns st who turns
-step_turns laws st (event.Vanish who) turns = vanish_turns st who turns
-step_turns laws st (event.Listen l) turns = listen_turns st l turns
-step_turns laws st (event.Poll p) turns = polled_turns st p turns
-step_turns laws st (event.Work w a) turns = worked_turns laws st w a turns
+pub unless : (b : Bool) → not b ≡ true → b ≡ false
+unless true h = absurd (cc)
+unless false h = refl
 
-run_turns : (laws : CoreLaws) (st : State) (events : List Event) → Turns st → Kept Turns (run st events)
-run_turns laws st [] turns = kept_some turns
-run_turns laws st (e ∷ events) turns = kept_next (λ (q : State). run q events) (step st e) (λ q now. run_turns laws q events now) (step_turns laws st e turns)
+-- a note more, and the ticket that it brings
+
+pub some_more : (xs : List ℕ) (x : ℕ) → is_nonempty (xs ++ x ∷ []) ≡ true
+some_more xs x = lt-ltb 0 (length (xs ++ x ∷ [])) (omega (arith, length-append xs (x ∷ [])))
+
+none_more : (xs : List ℕ) (x : ℕ) → xs ++ x ∷ [] ≡ [] → ⊥
+none_more [] x none = absurd (cc)
+none_more (y ∷ ys) x none = absurd (cc)
+
+are_own_more : (g : ℕ) (xs : List ℕ) → are_own g xs ≡ true → are_own g (xs ++ g ∷ []) ≡ true
+are_own_more g [] own = rw (eq-eqb g g refl) refl
+are_own_more g (x ∷ xs) own = let parts = and_parts (x == g) (are_own g xs) own in rw (parts.0) (are_own_more g xs parts.1)
+
+noted_tickets : (held some : Bool) (n m : ℕ) → n ≡ one (not held && some) → m ≡ n + one (not (held || some)) → m ≡ one (not held && true)
+noted_tickets true some n m was more = omega arith
+noted_tickets false true n m was more = omega arith
+noted_tickets false false n m was more = omega arith
+
+-- a hand that may get one more ticket
+pub handed : (f : Ticket → ℕ) (b : Bool) (s g : ℕ) (hand : List Ticket) {n : ℕ} → f (record { slot = s; generation = g }) ≡ n
+    → total f (with_ticket b s g hand) ≡ total f hand + n * one b
+handed f true s g hand is = omega (arith, total_push f hand (record { slot = s; generation = g }))
+handed f false s g hand is = omega arith
+
+-- the poller posts to a slot
+posted_turns : (st : State) (s g : ℕ) (p : SlotState) → slice_get st.table s ≡ Some g → slice_get st.slots s ≡ Some p → Turns st → Turns (posted st s g p)
+posted_turns st s g p entry lies turns =
+    let sv = turns.each s p lies in
+    let own : p.generation ≡ g = cc (entry, sv.entry) in
+    let more = handed (of_slot s) (brings_ticket p) s p.generation st.hand (one_same s) in
+    let more_right = handed (names s p.generation) (brings_ticket p) s p.generation st.hand (names_own s p.generation) in
+    rw (← own) (keep_others s turns lies refl (λ j i apart.
+    let same = handed (of_slot j) (brings_ticket p) s p.generation st.hand (one_other s j apart) in
+    let same_right = handed (names j i) (brings_ticket p) s p.generation st.hand (names_other j i (record { slot = s; generation = p.generation }) apart) in
+    record { entry = refl; counts = omega arith }) (record {
+      entry = sv.entry;
+      notes = are_own_more p.generation p.notes sv.notes;
+      counts = record {
+        tickets = rw (some_more p.notes p.generation) (noted_tickets (is_held p.holder) (is_nonempty p.notes) (tickets st s) (tickets (posted st s p.generation p) s) sv.tickets
+            (omega arith));
+        right = omega arith;
+        holding = sv.holding;
+        closing = sv.closing;
+        gone = sv.gone;
+      };
+      shape = sv.shape;
+      connection = λ c is. record {
+        stands = (sv.connection c is).stands;
+        live = (sv.connection c is).live;
+        rest = λ nobody none. absurd (none_more p.notes p.generation none);
+      };
+    }))
+
+-- the poller opens a slot
+
+total_first : {X : Type 0} (f : X → ℕ) (xs : List X) (x : X) → slice_get xs 0 ≡ Some x → total f xs ≡ f x + total f (drop 1 xs)
+total_first f [] x first = absurd (cc)
+total_first f (y ∷ ys) x first = let same : y ≡ x = (cc) in let part = ap f same in omega arith
+
+free_so : (h : Holder) → is_free h ≡ true → h ≡ Free
+free_so Nobody free = absurd (cc)
+free_so (By w) free = absurd (cc)
+free_so Free free = refl
+
+pub right_is_less : (s g : ℕ) (k : WorkerState) → worker_right s g k ≤ worker_tickets s k
+right_is_less s g k = omega (arith, total_le (names s g) (of_slot s) k.hand (names_of_slot s g), tried_less s g k.doing)
+
+right_within : (st : State) (s g : ℕ) → right_tickets st s g ≤ tickets st s
+right_within st s g = omega (
+  arith,
+  total_le (names s g) (of_slot s) st.ready (names_of_slot s g),
+  total_le (names s g) (of_slot s) st.hand (names_of_slot s g),
+  total_le (worker_right s g) (worker_tickets s) st.workers (right_is_less s g),
+)
+
+-- a slot of the free queue is free: so it has no ticket, and no worker holds it
+pub record FirstFree (st : State) (s : ℕ) (p : SlotState) : Type 0 where
+  pub holder : p.holder ≡ Free
+  pub tickets : tickets st s ≡ 0
+  pub holding : total (worker_holds s) st.workers ≡ 0
+  pub closing : total (worker_closes s) st.workers ≡ 0
+  pub gone : total (worker_retires s) st.workers + total (is_number s) (drop 1 st.free) ≡ 0
+
+pub first_free : (st : State) (s : ℕ) (p : SlotState) → slice_get st.slots s ≡ Some p → slice_get st.free 0 ≡ Some s → Turns st → FirstFree st s p
+first_free st s p lies first turns =
+    let sv = turns.each s p lies in
+    let split = total_first (is_number s) st.free s first in
+    let this = one_same s in
+    let free = free_so p.holder (sure (is_free p.holder) (omega arith)) in
+    let most = rw free at sv.gone in
+    record { holder = free; tickets = rw free at sv.tickets; holding = rw free at sv.holding; closing = rw free at sv.closing; gone = omega arith }
+
+opened_connection : (st : State) (s g : ℕ) (ends : Descriptors) (f : Facts) (c : Connection) → f.slot ≡ s → f.ring ≡ st.limits.ring
+    → (opened_place s g st.limits st.second ends).connection ≡ Some c → ConnectionOk f (opened_place s g st.limits st.second ends) c
+opened_connection st s g ends f c slot ring is =
+    let same : record { pair = fresh s g st.limits.ring st.second st.limits.lead; ends = ends } ≡ c = (cc) in
+    rw (← same) (record { stands = rw (slot, ring) refl; live = λ nobody. refl; rest = λ nobody none. absurd (cc) })
+
+opened_turns : (st : State) (s g : ℕ) (p : SlotState) (t : Told KernelState Descriptors) → slice_get st.free 0 ≡ Some s → slice_get st.slots s ≡ Some p → Turns st
+    → Turns (opened_world st s g t)
+opened_turns st s g p t first lies turns =
+    let new : Ticket = record { slot = s; generation = g } in
+    let sv = turns.each s p lies in
+    let free = first_free st s p lies first turns in
+    let within = right_within st s g in
+    let more = total_push (of_slot s) st.hand new in
+    let more_right = total_push (names s g) st.hand new in
+    let this = one_same s in
+    let this_right = names_own s g in
+    keep_others s turns lies refl (λ j i apart.
+    let other = one_other s j apart in
+    let other_right = names_other j i new apart in
+    let same = total_push (of_slot j) st.hand new in
+    let same_right = total_push (names j i) st.hand new in
+    let split = total_first (is_number j) st.free s first in
+    record { entry = sym (get-set_other st.table s j g apart); counts = omega arith }) (record {
+      entry = get-set_same st.table s p.generation g sv.entry;
+      notes = rw (eq-eqb g g refl) refl;
+      counts = omega arith;
+      shape = refl;
+      connection = λ c is. opened_connection st s g t.told (facts (opened_world st s g t) s g) c refl refl is;
+    })
+
+-- a ticket is claimed: a slot of which there is a ticket is held by nobody, and has notes
+pub record Waiting (p : SlotState) : Type 0 where
+  pub holder : p.holder ≡ Nobody
+  pub some : is_nonempty p.notes ≡ true
+  pub lies : is_some p.connection ≡ true
+
+unheld : (h : Holder) (some : Bool) → 1 ≤ one (not (is_held h) && some) → (h ≡ Nobody) × (some ≡ true)
+unheld Nobody true n = (refl, refl)
+unheld Nobody false n = absurd (omega arith)
+unheld (By w) some n = absurd (omega arith)
+unheld Free some n = absurd (omega arith)
+
+pub waiting : (st : State) (w : ℕ) (k : WorkerState) (t : Ticket) (p : SlotState) → slice_get st.workers w ≡ Some k → k.doing ≡ Tries t → slice_get st.slots t.slot ≡ Some p
+    → Turns st → Waiting p
+waiting st w k t p there does lies turns =
+    let sv = turns.each t.slot p lies in
+    let least = total_at (worker_tickets t.slot) st.workers w k there in
+    let tries = doing_so t.slot 0 does in
+    let this = one_same t.slot in
+    let parts = unheld p.holder (is_nonempty p.notes) (omega arith) in
+    record { holder = parts.0; some = parts.1; lies = rw (parts.0) at sv.shape }
+
+claimed_turns : (st : State) (w : ℕ) (k : WorkerState) (t : Ticket) (p : SlotState) → slice_get st.workers w ≡ Some k → k.doing ≡ Tries t → slice_get st.slots t.slot ≡ Some p
+    → Turns st → Turns (claimed st w k t.slot p)
+claimed_turns st w k t p there does lies turns =
+    let s : ℕ = t.slot in
+    let sv = turns.each s p lies in
+    let wait = waiting st w k t p there does lies turns in
+    let r = turned st w (Holds s st.limits.budget) s p.generation there does in
+    let this = one_same s in
+    let had = rw (wait.holder, wait.some) at sv.tickets in
+    let within = right_within (doing st w k (Holds s st.limits.budget)) s p.generation in
+    let holding = rw wait.holder at sv.holding in
+    let closing = rw wait.holder at sv.closing in
+    let gone = rw wait.holder at sv.gone in
+    let none : is_held p.holder ≡ false = rw wait.holder refl in
+    rw none (keep_others s turns lies refl
+    (λ j g apart. let away = one_other s j apart in turned_elsewhere st w (Holds s st.limits.budget) j g there does (omega arith) (omega arith)) (record {
+      entry = sv.entry;
+      notes = sv.notes;
+      counts = record { tickets = omega arith; right = omega arith; holding = rw wait.lies (omega arith); closing = rw wait.lies (omega arith); gone = omega arith };
+      shape = refl;
+      connection = λ c is. record { stands = (sv.connection c is).stands; live = λ h. absurd (cc); rest = λ h n. absurd (cc) };
+    }))
+
+-- a slot that a worker holds, with its connection or after that was closed; and the slot's numbers
+pub record Held (f : Facts) (p : SlotState) (has : Bool) : Type 0 where
+  pub by : ℕ
+  pub holder : p.holder ≡ By by
+  pub some : is_some p.connection ≡ has
+  pub tickets : f.tickets ≡ 0
+  pub right : f.right ≡ 0
+  pub holding : f.holding ≡ one has
+  pub closing : f.closing ≡ one (not has)
+  pub gone : f.gone ≤ 0
+
+by_one : (h : Holder) (b : Bool) → 1 ≤ one (is_by_worker h && b) → (w : ℕ) × (h ≡ By w) × (b ≡ true)
+by_one (By w) true n = (w, refl, refl)
+by_one (By w) false n = absurd (omega arith)
+by_one Nobody b n = absurd (omega arith)
+by_one Free b n = absurd (omega arith)
+
+held_so : {f : Facts} {p : SlotState} {has : Bool} (by : ℕ) → SlotOk f p → p.holder ≡ By by → is_some p.connection ≡ has → Held f p has
+held_so by sv holder some =
+    let none = rw holder at sv.tickets in
+    record {
+      by = by;
+      holder = holder;
+      some = some;
+      tickets = none;
+      right = sv.right ∙ none;
+      holding = rw (holder, some) at sv.holding;
+      closing = rw (holder, some) at sv.closing;
+      gone = rw holder at sv.gone;
+    }
+
+pub held_by : {st : State} {w : ℕ} (h : Holding st w) → Turns st → Held (facts st h.s h.p.generation) h.p true
+held_by {st} {w} h turns =
+    let sv = turns.each h.s h.p h.lies in
+    let least = total_at (worker_holds h.s) st.workers w h.k h.there in
+    let does = doing_so h.s 0 h.does in
+    let this = one_same h.s in
+    let by = by_one h.p.holder (is_some h.p.connection) (omega arith) in
+    held_so by.0 sv by.1 by.2
+
+pub closed_by : (st : State) (w : ℕ) (k : WorkerState) (s : ℕ) (p : SlotState) → slice_get st.workers w ≡ Some k → k.doing ≡ Closed s → slice_get st.slots s ≡ Some p → Turns st
+    → Held (facts st s p.generation) p false
+closed_by st w k s p there does lies turns =
+    let sv = turns.each s p lies in
+    let least = total_at (worker_closes s) st.workers w k there in
+    let closes = doing_so s 0 does in
+    let this = one_same s in
+    let by = by_one p.holder (not (is_some p.connection)) (omega arith) in
+    held_so by.0 sv by.1 (unless (is_some p.connection) by.2)
+
+-- a worker keeps the slot that it holds, and changes its notes and the connection's state
+keeps_held : {st next : State} {w : ℕ} (h : Holding st w) (notes : List ℕ) (c : Connection) → Turns st
+    → next.slots ≡ slice_set st.slots h.s (record h.p { notes = notes; connection = Some c }) → ((j g : ℕ) → Same (facts st j g) (facts next j g))
+    → are_own h.p.generation notes ≡ true → place_of c.pair ≡ place_of h.c.pair → Turns next
+keeps_held {st} {next} h notes c turns all same own stands =
+    let sv = turns.each h.s h.p h.lies in
+    let held = held_by h turns in
+    let m = same h.s h.p.generation in
+    keep_others h.s turns h.lies all (λ j g apart. same j g) (record {
+      entry = rw (← m.entry) sv.entry;
+      notes = own;
+      counts = record { tickets = rw held.holder (omega arith); right = omega arith; holding = rw held.holder (omega arith); closing = rw held.holder (omega arith); gone = omega arith };
+      shape = rw held.holder refl;
+      connection = λ d at. let same : c ≡ d = (cc) in rw (← same) (record {
+        stands = rw (← m.ring, ← m.slot) (stands ∙ (sv.connection h.c h.is).stands);
+        live = λ none. absurd (cc held.holder);
+        rest = λ none empty. absurd (cc held.holder);
+      });
+    })
+
+heard_stands : (c : Connection) (some : Bool) → place_of (if some then record c { pair = noted c.pair } else c).pair ≡ place_of c.pair
+heard_stands c true = refl
+heard_stands c false = refl
+
+-- a connection's call with its reply leaves it what it is: the same slot, generation and rings
+
+abbrev StandsAs : Connection → OpenConnection → Type 0
+StandsAs c line = place_of line.connection.pair ≡ place_of c.pair
+
+replied_stands : (laws : CoreLaws) (now : ℕ) (l : OpenConnection) (call : Call) (r : Reply) → Kept (StandsAs l.connection) (replied now l call r)
+replied_stands laws now l call r = kept_bind _ (told_of l call r) (λ t is. kept_when _ _ (λ fit. kept_map _ (made l call r) (λ k done. laws.place now l.connection.pair call t)))
+
+called_stands : (laws : CoreLaws) (now : ℕ) (l : OpenConnection) (r : Reply) → Kept (StandsAs l.connection) (called now l r)
+unfolding called
+called_stands laws now l r = kept_bind _ (next_call l.connection.pair) (λ call next. replied_stands laws now l call r)
+
+call_turns : (laws : CoreLaws) (st : State) (w : ℕ) (h : Holding st w) (r : Reply) (l : OpenConnection)
+    → called st.second (record { kernel = st.kernel; connection = h.c }) r ≡ Some l → Turns st → Turns (called_on h l)
+call_turns laws st w h r l so turns = keeps_held h h.p.notes l.connection turns refl
+    (λ j g. let m = turned st w (Holds h.s (h.left - 1)) j g h.there h.does in record { entry = refl; counts = omega arith })
+    (turns.each h.s h.p h.lies).notes
+    (kept_at (called st.second (record { kernel = st.kernel; connection = h.c }) r) l so (called_stands laws st.second (record { kernel = st.kernel; connection = h.c }) r))
+
+expired_stands : (now limit : ℕ) (c : Connection) → Kept (λ (d : Connection). place_of d.pair ≡ place_of c.pair) (expired now limit c)
+expired_stands now limit c = kept_guard _ _ (λ over. refl)
+
+pub own_generation : (f : Facts) (p : SlotState) (c : Connection) → place_of c.pair ≡ standing f p.generation → c.pair.generation ≡ p.generation
+own_generation f p c stands = ap (λ (x : Standing). x.generation) stands
+
+post_turns : {st : State} {w : ℕ} (h : Holding st w) → Turns st → Turns (with_place st h.s (with_note h.p h.c.pair.generation))
+post_turns {st} h turns =
+    let sv = turns.each h.s h.p h.lies in
+    let own = own_generation (facts st h.s h.p.generation) h.p h.c (sv.connection h.c h.is).stands in
+    keeps_held h (h.p.notes ++ h.c.pair.generation ∷ []) h.c turns (ap (λ (o : Option Connection). slice_set st.slots h.s (record h.p { notes = h.p.notes ++ h.c.pair.generation ∷ []; connection = o })) h.is)
+    (λ j g. same_self) (rw own (are_own_more h.p.generation h.p.notes sv.notes)) refl
+
+-- it lets the slot go
+
+or_none : {X : Type 0} (o : Option X) (some : Bool) → (is_none o || some) ≡ true → some ≡ false → o ≡ None
+or_none None some h none = refl
+or_none (Some x) some h none = absurd (cc)
+
+lets_go : (c : Connection) (some : Bool) → may_release c some ≡ true → (is_live (verdict c.pair) ≡ true) × (some ≡ false → next_call c.pair ≡ None)
+unfolding may_release
+lets_go c some may = let parts = and_parts (is_live (verdict c.pair)) (is_none (next_call c.pair) || some) may in (parts.0, or_none (next_call c.pair) some parts.1)
+
+released_turns : {st : State} {w : ℕ} (h : Holding st w) → may_release h.c (is_nonempty h.p.notes) ≡ true → Turns st → Turns (released h)
+released_turns {st} {w} h may turns =
+    let s : ℕ = h.s in
+    let g : ℕ = h.p.generation in
+    let sv = turns.each s h.p h.lies in
+    let held = held_by h turns in
+    let free = lets_go h.c (is_nonempty h.p.notes) may in
+    let next : WorkerState = record { doing = Idle; hand = hand_after h } in
+    let r = replaced st w next s g h.there in
+    let did = doing_so s g h.does in
+    let this = one_same s in
+    let more = handed (of_slot s) (is_nonempty h.p.notes) s g h.k.hand (one_same s) in
+    let more_right = handed (names s g) (is_nonempty h.p.notes) s g h.k.hand (names_own s g) in
+    keep_others s turns h.lies refl (λ j i apart.
+    let m = replaced st w next j i h.there in
+    let away = one_other s j apart in
+    let a = doing_so j i h.does in
+    let x = handed (of_slot j) (is_nonempty h.p.notes) s g h.k.hand away in
+    let y = handed (names j i) (is_nonempty h.p.notes) s g h.k.hand (names_other j i (record { slot = s; generation = g }) apart) in
+    record { entry = refl; counts = omega arith }) (record {
+      entry = sv.entry;
+      notes = sv.notes;
+      counts = omega arith;
+      shape = held.some;
+      connection = λ d at. let same : h.c ≡ d = cc h.is in record {
+        stands = (sv.connection d at).stands;
+        live = λ none. rw (← same) free.0;
+        rest = λ none empty. rw (← same) (free.1 (rw empty refl));
+      };
+    })
+
+closed_turns : {st : State} {w : ℕ} (h : Holding st w) (t : Told KernelState Sockets) → Turns st → Turns (closed_world st w h.k h.s h.p h.c t)
+closed_turns {st} {w} h t turns =
+    let sv = turns.each h.s h.p h.lies in
+    let held = held_by h turns in
+    let r = turned st w (Closed h.s) h.s h.p.generation h.there h.does in
+    let this = one_same h.s in
+    keep_others h.s turns h.lies refl
+    (λ j g apart. let away = one_other h.s j apart in turned_elsewhere st w (Closed h.s) j g h.there h.does (omega arith) (omega arith)) (record {
+      entry = sv.entry;
+      notes = sv.notes;
+      counts = record { tickets = rw held.holder (omega arith); right = omega arith; holding = rw held.holder (omega arith); closing = rw held.holder (omega arith); gone = omega arith };
+      shape = rw held.holder refl;
+      connection = λ d at. absurd (cc);
+    })
+
+retired_turns : (st : State) (w : ℕ) (k : WorkerState) (s : ℕ) (p : SlotState) → slice_get st.workers w ≡ Some k → k.doing ≡ Closed s → slice_get st.slots s ≡ Some p → Turns st
+    → Turns (doing (with_place st s (record p { holder = Free })) w k (Retired s))
+retired_turns st w k s p there does lies turns =
+    let sv = turns.each s p lies in
+    let held = closed_by st w k s p there does lies turns in
+    let r = turned st w (Retired s) s p.generation there does in
+    let this = one_same s in
+    keep_others s turns lies refl (λ j g apart. let away = one_other s j apart in turned_elsewhere st w (Retired s) j g there does (omega arith) (omega arith)) (record {
+      entry = sv.entry;
+      notes = sv.notes;
+      counts = omega arith;
+      shape = rw held.some refl;
+      connection = λ c at. absurd (let some : is_some p.connection ≡ true = rw at refl in (cc held.some));
+    })
+
+freed_most : (i : ℕ) (slots : List ℕ) (s : ℕ) (p : SlotState) → total (is_number i) (freed slots s p) ≤ total (is_number i) slots + one (s == i)
+freed_most i slots s p = elim (is_worn p.generation) as (λ b. total (is_number i) (if b then slots else slots ++ s ∷ []) ≤ total (is_number i) slots + one (s == i))
+    [ true ↦ omega arith | false ↦ omega (arith, total_push (is_number i) slots s) ]
+
+-- each event keeps it
+pub turns_on : (laws : CoreLaws) (st : State) {e : Event} {q : State} → Turns st → Happens st e q → Turns q
+turns_on laws st turns (Accepts Accepted k may is) = record { each = turns.each }
+turns_on laws st turns (Opens s g p client target first lies) = opened_turns st s g p (kernel.open_both st.kernel client target) first lies turns
+turns_on laws st turns (Delivers n g p first entry own lies) = record { each = (posted_turns st n.slot g p entry lies turns).each }
+turns_on laws st turns (Sweeps s g p entry lies) = posted_turns st s g p entry lies turns
+turns_on laws st turns (Puts t rest is) = keep_slots turns refl (λ s g.
+    let a = total_moved (of_slot s) st.ready st.hand rest t is in let b = total_moved (names s g) st.ready st.hand rest t is in record { entry = refl; counts = omega arith })
+turns_on laws st turns (HandsIn w k t rest there is) = keep_slots turns refl (λ s g.
+    let r = replaced st w (record k { hand = rest }) s g there in
+    let a = total_moved (of_slot s) st.ready k.hand rest t is in let b = total_moved (names s g) st.ready k.hand rest t is in record { entry = refl; counts = omega arith })
+turns_on laws st turns (Pops w k t rest there idle is) = keep_slots turns refl (λ s g.
+    let r = turned st w (Tries t) s g there idle in let a = ap (total (of_slot s)) is in let b = ap (total (names s g)) is in record { entry = refl; counts = omega arith })
+turns_on laws st turns (Claims w k t p there does lies) = claimed_turns st w k t p there does lies turns
+turns_on laws st turns (Takes w h) = keeps_held h [] (heard h.c h.p.notes) turns refl (λ j g. same_self) refl (heard_stands h.c (is_nonempty h.p.notes))
+turns_on laws st turns (Calls w h r l so) = call_turns laws st w h r l so turns
+turns_on laws st turns (Posts w h) = post_turns h turns
+turns_on laws st turns (Releases w h may) = released_turns h may turns
+turns_on laws st turns (Expires w h d so) = keeps_held h h.p.notes d turns refl (λ j g. same_self) (turns.each h.s h.p h.lies).notes
+    (kept_at (expired st.second st.limits.idle h.c) d so (expired_stands st.second st.limits.idle h.c))
+turns_on laws st turns (Closes w h t both) = closed_turns h t turns
+turns_on laws st turns (Retires w k s p there does lies) = retired_turns st w k s p there does lies turns
+turns_on laws st turns (Frees w k s p there does) = keep_slots turns refl (λ i g.
+    let r = turned st w Idle i g there does in let most = freed_most i st.free s p in record { entry = refl; counts = omega arith })
+turns_on laws st turns _ = record { each = turns.each }
 
 -- the opening world has it
 
 numbers_past : (n s : ℕ) → n ≤ s → total (is_number s) (numbers_below n) ≡ 0
 numbers_past zero s past = refl
 numbers_past (suc n) s past =
-    let split : total (is_number s) (numbers_below n ++ n ∷ []) ≡ total (is_number s) (numbers_below n) + one (n == s) = total_push (is_number s) (numbers_below n) n in
-    let before : total (is_number s) (numbers_below n) ≡ 0 = numbers_past n s (omega arith) in
-    let other : one (n == s) ≡ 0 = rw (ne_eqb n s (λ same. absurd (omega arith))) refl in
-    omega arith
+    let other : one (n == s) ≡ 0 = one_other n s (λ same. absurd (omega arith)) in
+    omega (arith, total_push (is_number s) (numbers_below n) n, numbers_past n s (omega arith))
 
 last_number : (n s : ℕ) → (n ≡ s) ⊎ (n ≢ s) → total (is_number s) (numbers_below n) ≤ 1 → total (is_number s) (numbers_below n) + one (n == s) ≤ 1
 last_number n s (inl same) before =
-    let none : total (is_number s) (numbers_below n) ≡ 0 = numbers_past n s (omega arith) in
+    let none = numbers_past n s (omega arith) in
     let this : one (n == s) ≡ 1 = rw (eq-eqb n s same) refl in
     omega arith
-last_number n s (inr other) before =
-    let none : one (n == s) ≡ 0 = rw (ne_eqb n s other) refl in
-    omega arith
+last_number n s (inr other) before = let none = one_other n s other in omega arith
 
 -- no number stands twice among the free slots
 numbers_once : (n s : ℕ) → total (is_number s) (numbers_below n) ≤ 1
 numbers_once zero s = omega arith
-numbers_once (suc n) s =
-    let split : total (is_number s) (numbers_below n ++ n ∷ []) ≡ total (is_number s) (numbers_below n) + one (n == s) = total_push (is_number s) (numbers_below n) n in
-    let most : total (is_number s) (numbers_below n) + one (n == s) ≤ 1 = last_number n s (cases_eq n s) (numbers_once n s) in
-    omega arith
+numbers_once (suc n) s = omega (arith, total_push (is_number s) (numbers_below n) n, last_number n s (cases_eq n s) (numbers_once n s))
 
 unused_ok : (l : Limits) (s : ℕ) → slice_get (replicate l.slots l.generation) s ≡ Some l.generation → SlotOk (facts (opening l) s l.generation) (unused l.generation)
 unused_ok l s entry =
-    let tickets : total (worker_tickets s) (replicate l.workers resting) ≡ 0 = total_none (worker_tickets s) l.workers resting refl in
-    let right : total (worker_right s l.generation) (replicate l.workers resting) ≡ 0 = total_none (worker_right s l.generation) l.workers resting refl in
-    let retired : total (worker_retires s) (replicate l.workers resting) ≡ 0 = total_none (worker_retires s) l.workers resting refl in
-    let once : total (is_number s) (numbers_below l.slots) ≤ 1 = numbers_once l.slots s in
-    record {
-      entry = entry;
-      notes = refl;
-      tickets = omega arith;
-      right = omega arith;
-      holding = total_none (worker_holds s) l.workers resting refl;
-      closing = total_none (worker_closes s) l.workers resting refl;
-      gone = omega arith;
-      shape = refl;
-      connection = λ c is. absurd (cc);
-    }
+    let tickets = total_none (worker_tickets s) l.workers resting refl in
+    let right = total_none (worker_right s l.generation) l.workers resting refl in
+    let holding = total_none (worker_holds s) l.workers resting refl in
+    let closing = total_none (worker_closes s) l.workers resting refl in
+    let retired = total_none (worker_retires s) l.workers resting refl in
+    let once = numbers_once l.slots s in
+    record { entry = entry; notes = refl; counts = omega arith; shape = refl; connection = λ c is. absurd (cc) }
 
 opening_turns : (l : Limits) → Turns (opening l)
 opening_turns l = record {
@@ -78,7 +431,7 @@ opening_turns l = record {
 
 -- so every world that a run reaches has it
 pub turns_after : (laws : CoreLaws) (l : Limits) (events : List Event) (w : State) → run (opening l) events ≡ Some w → Turns w
-turns_after laws l events w ran = kept_at (run (opening l) events) w ran (run_turns laws (opening l) events (opening_turns l))
+turns_after laws l events w ran = holds_after Turns (λ st e q. turns_on laws st) (opening l) w events (opening_turns l) ran
 
 -- what follows from it
 
@@ -94,77 +447,55 @@ support_from st turns edges = record {
 
 takes_own : (st : State) (d : Doing) → Turns st → TakesOwnNotes st d
 takes_own st (Holds s left) turns = λ p c lies is.
-    let sv : SlotOk (facts st s p.generation) p = turns.each s p lies in
+    let sv = turns.each s p lies in
     rw (own_generation (facts st s p.generation) p c (sv.connection c is).stands) sv.notes
 takes_own st _ turns = tt
-
--- a worker's ticket is among those that name the slot's generation, as all are
-right_at : (st : State) (w : ℕ) (k : WorkerState) (s g : ℕ) → slice_get st.workers w ≡ Some k → right_tickets st s g + tried s k.doing ≤ tickets st s + tried_right s g k.doing
-right_at st w k s g there =
-    let a : total (names s g) st.ready ≤ total (of_slot s) st.ready = total_le (names s g) (of_slot s) st.ready (names_of_slot s g) in
-    let b : total (names s g) st.hand ≤ total (of_slot s) st.hand = total_le (names s g) (of_slot s) st.hand (names_of_slot s g) in
-    let c : total (names s g) k.hand ≤ total (of_slot s) k.hand = total_le (names s g) (of_slot s) k.hand (names_of_slot s g) in
-    let d : total (worker_right s g) st.workers + worker_tickets s k ≤ total (worker_tickets s) st.workers + worker_right s g k =
-    total_le_at (worker_right s g) (worker_tickets s) st.workers w k (right_is_less s g) there in
-    omega arith
 
 pub names_it : (st : State) (w : ℕ) (k : WorkerState) (t : Ticket) (p : SlotState) → slice_get st.workers w ≡ Some k → k.doing ≡ Tries t → slice_get st.slots t.slot ≡ Some p → Turns st
     → t.generation ≡ p.generation
 names_it st w k t p there does lies turns =
-    let sv : SlotOk (facts st t.slot p.generation) p = turns.each t.slot p lies in
-    let same : right_tickets st t.slot p.generation ≡ tickets st t.slot = sv.right in
-    let most : right_tickets st t.slot p.generation + tried t.slot k.doing ≤ tickets st t.slot + tried_right t.slot p.generation k.doing =
-    right_at st w k t.slot p.generation there in
-    let is : tried t.slot k.doing ≡ one (t.slot == t.slot) = ap (tried t.slot) does in
-    let is_right : tried_right t.slot p.generation k.doing ≡ one ((t.slot == t.slot) && (t.generation == p.generation)) = ap (tried_right t.slot p.generation) does in
-    let this : one (t.slot == t.slot) ≡ 1 = one_same t.slot in
-    let both : ((t.slot == t.slot) && (t.generation == p.generation)) ≡ true = sure ((t.slot == t.slot) && (t.generation == p.generation)) (omega arith) in
-    eqb-true t.generation p.generation (and_parts (t.slot == t.slot) (t.generation == p.generation) both).1
+    let s : ℕ = t.slot in
+    let g : ℕ = p.generation in
+    let sv = turns.each s p lies in
+    let ready = total_le (names s g) (of_slot s) st.ready (names_of_slot s g) in
+    let hand = total_le (names s g) (of_slot s) st.hand (names_of_slot s g) in
+    let own = total_le (names s g) (of_slot s) k.hand (names_of_slot s g) in
+    let workers = total_le_at (worker_right s g) (worker_tickets s) st.workers w k (right_is_less s g) there in
+    let tries = doing_so s g does in
+    let this = one_same s in
+    let both = sure ((t.slot == s) && (t.generation == g)) (omega arith) in
+    eqb-true t.generation g (and_parts (t.slot == s) (t.generation == g) both).1
 
 there_is : {X : Type 0} (o : Option X) → is_some o ≡ true → (x : X) × (o ≡ Some x)
 there_is None h = absurd (cc)
 there_is (Some x) h = (x, refl)
 
-mapped : {X Y : Type 0} (f : X → Y) (o : Option X) (y : Y) → option_map f o ≡ Some y → (x : X) × (o ≡ Some x)
-mapped f None y h = absurd (cc)
-mapped f (Some x) y h = (x, refl)
+claims_own : (st : State) (w : ℕ) (k : WorkerState) (t : Ticket) (p : SlotState) → slice_get st.workers w ≡ Some k → k.doing ≡ Tries t → slice_get st.slots t.slot ≡ Some p → Turns st
+    → ClaimsByOwnTicket st (Tries t)
+claims_own st w k t p there does lies turns =
+    let sv = turns.each t.slot p lies in
+    let has = there_is p.connection (waiting st w k t p there does lies turns).lies in
+    (has.0, rw lies has.1, own_generation (facts st t.slot p.generation) p has.0 (sv.connection has.0 has.1).stands ∙ sym (names_it st w k t p there does lies turns))
 
-lies_at : (st : State) (s : ℕ) (p : SlotState) (c : Connection) → slice_get st.slots s ≡ Some p → p.connection ≡ Some c → connection_at st s ≡ Some c
-lies_at st s p c lies is = rw lies is
+tried_own : (st : State) {e : Event} {q : State} → Turns st → Happens st e q → TriedOnOwn st e
+tried_own st turns (Takes w h) = λ k there. takes_own st k.doing turns
+tried_own st turns (Claims w k t p there does lies) = λ j at. let same : j ≡ k = cc (at, there) in rw (same, does) (claims_own st w k t p there does lies turns)
+tried_own st turns _ = tt
 
-claims_own : (st : State) (w : ℕ) (k : WorkerState) (d : Doing) (q : State) → slice_get st.workers w ≡ Some k → k.doing ≡ d → claim st w k d ≡ Some q → Turns st
-    → ClaimsByOwnTicket st d
-claims_own st w k (Tries t) q there does made turns =
-    let found : (p : SlotState) × (slice_get st.slots t.slot ≡ Some p) = mapped (λ (p : SlotState). claimed st w k t.slot p) (slice_get st.slots t.slot) q made in
-    let sv : SlotOk (facts st t.slot found.0.generation) found.0 = turns.each t.slot found.0 found.1 in
-    let wait : Waiting found.0 = waiting st w k t found.0 there does found.1 turns in
-    let has : (c : Connection) × (found.0.connection ≡ Some c) = there_is found.0.connection wait.lies in
-    let lies : connection_at st t.slot ≡ Some has.0 = lies_at st t.slot found.0 has.0 found.1 has.1 in
-    let own : has.0.pair.generation ≡ found.0.generation = own_generation (facts st t.slot found.0.generation) found.0 has.0 (sv.connection has.0 has.1).stands in
-    let named : t.generation ≡ found.0.generation = names_it st w k t found.0 there does found.1 turns in
-    (has.0, lies, own ∙ sym named)
-claims_own st w k _ q there does made turns = tt
-
-tried_own : (st : State) (e : Event) (q : State) → step st e ≡ Some q → Turns st → TriedOnOwn st e
-tried_own st (event.Work w act.Take) q made turns = λ k there. takes_own st k.doing turns
-tried_own st (event.Work w act.Claim) q made turns = λ k there. claims_own st w k k.doing q there refl (let did : worked st w act.Claim ≡ Some q = made in rw there at did) turns
-tried_own st _ q made turns = tt
-
-first_ran : (f : State → Option State) (o : Option State) (w : State) → option_and_then f o ≡ Some w → (q : State) × (o ≡ Some q)
-first_ran f None w ran = absurd (cc)
-first_ran f (Some q) w ran = (q, refl)
+tried_first : (st : State) (e : Event) (events : List Event) (w : State) (o : Option State) → Turns st → Kept (Happens st e) o → option_and_then (λ (q : State). run q events) o ≡ Some w
+    → TriedOnOwn st e
+tried_first st e events w None turns h ran = absurd (cc)
+tried_first st e events w (Some q) turns h ran = tried_own st turns h.kept
 
 rest_ran : (f : State → Option State) (o : Option State) (q w : State) → o ≡ Some q → option_and_then f o ≡ Some w → f q ≡ Some w
 rest_ran f o q w is ran = rw is at ran
 
 tried_throughout : (laws : CoreLaws) (st : State) (events : List Event) (w : State) → run st events ≡ Some w → Turns st → Throughout TriedOnOwn st events
 tried_throughout laws st [] w ran turns = tt
-tried_throughout laws st (e ∷ events) w ran turns =
-    let first : (q : State) × (step st e ≡ Some q) = first_ran (λ (q : State). run q events) (step st e) w ran in (
-      tried_own st e first.0 first.1 turns,
-      λ q is. tried_throughout laws q events w (rest_ran (λ (x : State). run x events) (step st e) q w is ran)
-          (kept_at (step st e) q is (step_turns laws st e turns)),
-    )
+tried_throughout laws st (e ∷ events) w ran turns = (
+  tried_first st e events w (step st e) turns (happens st e) ran,
+  λ q is. tried_throughout laws q events w (rest_ran (λ (x : State). run x events) (step st e) q w is ran) (turns_on laws st turns (kept_at (step st e) q is (happens st e))),
+)
 
 -- so it all holds after every run from the opening world
 

@@ -1,6 +1,6 @@
 -- The headline: what holds after every run of events, clause by clause. Part of the promises. No definition here
 -- depends on how the relay achieves it; what the clause about due connections depends on is in `Support`.
-use Rattle.std.specs.Prelude.{◌≡◌, ℕ, ◌+◌, ◌≤◌, ◌==◌, Bool, true, false, ◌||◌, if◌then◌else◌, ◌⊎◌, List, [], ◌∷◌, ◌++◌, Option, Some, None, IsSome, slice_get, option_map, option_and_then}
+use Rattle.std.specs.Prelude.{◌≡◌, ℕ, ◌+◌, ◌≤◌, ◌==◌, Bool, true, false, ◌&&◌, ◌||◌, if◌then◌else◌, ◌⊎◌, List, [], ◌∷◌, ◌++◌, Option, Some, None, IsSome, slice_get, option_map, option_and_then, unwrap_or}
 use Rattle.std.specs.List.{list_all}
 use Rattle.token.specs.declared.kind.Kind.{Kind}
 use Rattle.token.specs.declared.side.Side.{Side}
@@ -8,7 +8,7 @@ use Rattle.token.specs.declared.side.Side.TheVariants.{Client, Target}
 use Rattle.token.specs.declared.direction.Direction.{Direction}
 use Rattle.token.specs.declared.direction.Direction.TheVariants.{Up, Down}
 use Rattle.token.specs.declared.name.Name.TheVariants as name
-use Rattle.token.specs.Sides.{source, destination}
+use Rattle.token.specs.Sides.{source, destination, side_number}
 use Rattle.flow.specs.Stream.{Stream}
 use Rattle.kernel_model.specs.declared.both.Sockets.{Sockets}
 use Rattle.kernel_model.specs.declared.reply.Reply.{Reply}
@@ -29,6 +29,7 @@ use Rattle.world.specs.declared.actors.Doing.TheVariants.{Tries, Holds}
 use Rattle.world.specs.declared.event.Event.{Event}
 use Rattle.world.specs.declared.event.Event.TheVariants as event
 use Rattle.world.specs.declared.event.Act.TheVariants as act
+use Rattle.world.specs.declared.event.Change.TheVariants.{Arrive}
 use Rattle.world.specs.declared.event.Polling.TheVariants as polling
 use Rattle.world.specs.declared.limits.Limits.{Limits}
 use Rattle.world.specs.declared.past.Past.{Past}
@@ -37,12 +38,29 @@ use Rattle.world.specs.States.{State, opening}
 use Rattle.world.specs.Calls.{descriptor}
 use Rattle.world.specs.Steps.{step, connection_at}
 use Rattle.world.specs.Runs.{run}
-use Rattle.world.specs.Given.{given}
 use Rattle.world.specs.Due.{movable, due}
 
 -- the open end of one side of a connection
 abbrev pub end_of : State → Connection → Side → Option Registered
 end_of st c side = end_at st.kernel.ends (descriptor c.ends side)
+
+-- The bytes that the network gave to an end: a filter of the events
+
+-- the slot has this generation
+abbrev pub has_generation : Option SlotState → ℕ → Bool
+has_generation None g = false
+has_generation (Some p) g = p.generation == g
+
+-- the bytes that one event brings to a side of a slot's connection of this generation
+abbrev pub given_by : State → ℕ → ℕ → Side → Event → List ℕ
+given_by st s g side (event.Network t other (Arrive bytes)) =
+    if (t == s && side_number other == side_number side) && has_generation (slice_get st.slots s) g then bytes.items else []
+given_by st s g side e = []
+
+-- all bytes that a list of events brings there, in order
+abbrev pub given : State → List Event → ℕ → ℕ → Side → List ℕ
+given st [] s g side = []
+given st (e ∷ es) s g side = given_by st s g side e ++ unwrap_or (option_map (λ (q : State). given q es s g side) (step st e)) []
 
 -- Bytes and ends, for a direction: `gave` are the bytes that were given to its source x, and y is its destination. The
 -- preamble `before` is sent before them

@@ -7,9 +7,7 @@ pub mod Calls
 pub mod Steps
 pub mod Memory
 pub mod Runs
-pub mod Tapes
 pub mod Due
-pub mod Given
 pub mod Headline
 pub mod Support
 pub mod Words

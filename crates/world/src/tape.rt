@@ -16,7 +16,7 @@ pub struct Tape {
 }
 
 impl Model for Tape {
-    ghost use Rattle.world.specs.Tapes.{TapeState, IsRun};
+    ghost use Rattle.world.specs.Runs.{TapeState, IsRun};
 
     ghost Value = { TapeState };
 

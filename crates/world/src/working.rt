@@ -210,6 +210,7 @@ impl World {
     }
 
     /// It releases its slot, and takes in hand the ticket that the notes create.
+    #[tactic(auto, using(std::proofs::lemmas::Option::gets))]
     fn release(&mut self, worker: usize, slot: usize, left: usize) -> Result<(), Refusal>
         requires { slice_get self.old.workers worker ≡ Some (busy (Doing.Holds slot left)) }
         ensures { MeetsAlways (release self.old worker (busy (Doing.Holds slot left)) (Doing.Holds slot left)) self.old self.new result }
@@ -240,6 +241,7 @@ impl World {
     }
 
     /// It closes the connection of its slot, which is done or failed.
+    #[tactic(auto, using(std::proofs::lemmas::Option::gets))]
     fn close(&mut self, worker: usize, slot: usize, left: usize) -> Result<(), Refusal>
         requires { slice_get self.old.workers worker ≡ Some (busy (Doing.Holds slot left)) }
         ensures { Meets (close self.old worker (busy (Doing.Holds slot left)) (Doing.Holds slot left)) self.old self.new result }
@@ -282,6 +284,7 @@ impl World {
     }
 
     /// It puts the slot that it retired into the free queue, unless the slot's last generation was used.
+    #[tactic(auto, using(std::proofs::lemmas::Option::gets))]
     fn free(&mut self, worker: usize, slot: usize) -> Result<(), Refusal>
         requires { slice_get self.old.workers worker ≡ Some (busy (Doing.Retired slot)) }
         ensures event { Meets (free self.old worker (busy (Doing.Retired slot)) (Doing.Retired slot)) self.old self.new result }

@@ -16,11 +16,10 @@ pub use Rattle.relay_core.specs.Order.{next_call}
 pub use Rattle.relay_core.specs.Pairs.{PairState, is_live, verdict}
 pub use Rattle.token.specs.Names.{EndName}
 pub use Rattle.token.specs.declared.name.Name.{Name}
-pub use Rattle.world.proofs.TurnsEnded.{own_generation}
+pub use Rattle.world.proofs.TurnsRun.{own_generation, Waiting, waiting, some_more}
 pub use Rattle.world.proofs.TurnsFacts.{SlotOk, Turns, facts, is_number, worker_retires}
 pub use Rattle.world.proofs.TurnsKept.{Kept, kept_at, kept_bind, kept_guard, kept_map, kept_none, kept_some, kept_when}
 pub use Rattle.world.proofs.TurnsTotals.{get-set_other, get-set_same}
-pub use Rattle.world.proofs.TurnsWorker.{Waiting, waiting}
 pub use Rattle.world.specs.Acts.{busy}
 pub use Rattle.world.specs.Slots.{SlotState, WorkerState, is_by_worker, is_held}
 pub use Rattle.world.specs.States.{State}
@@ -48,7 +47,6 @@ pub use Rattle.kernel_model.specs.declared.watched.Watched.TheVariants as watche
 pub use Rattle.world.specs.declared.event.Reported.TheVariants as reported
 pub use Rattle.world.specs.declared.event.Listening.TheVariants as listening
 pub use Rattle.token.specs.declared.name.Name.TheVariants as name
-pub use Rattle.world.proofs.TurnsPoller.{some_more}
 
 -- One step of the threads, which makes these exchanges, and what the machine makes of it, which was ahead by those before
 pub record Follows (before own : List Exchange) (w : State) (s : Step) (next : System) : Type 0 where

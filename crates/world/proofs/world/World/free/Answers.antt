@@ -1,9 +1,12 @@
-use Rattle.world.proofs.Prelude.{◌≡◌, ◌<◌, Some, slice_get, arith, gets, Retired, busy}
-use Rattle.world.proofs.Growing.{free_grows}
+use Rattle.world.proofs.Prelude.{◌≡◌, ◌<◌, ℕ, true, [], ◌∷◌, ◌++◌, length, lt-ltb, length-append, lt-leb, Some, slice_get, arith, gets, Retired, busy, SlotState, WorkerState, State, free, grows, free_length}
 use Rattle.world.proofs.world.World.free.Goals as goal
 
-pub returns-clause-event : goal.returns-clause-event
-returns-clause-event c = grind (arith, gets)
+-- a slot that is not worn goes to the free queue
+free_grows : (st : State) (w : ℕ) (k : WorkerState) (s : ℕ) (p : SlotState) → slice_get st.slots s ≡ Some p → p.generation < 140737488355327
+    → grows free_length st (free st w k (Retired s)) ≡ true
+free_grows st w k s p there young =
+    rw (there, lt-leb 140737488355327 p.generation young)
+    (lt-ltb (length st.free) (length (st.free ++ s ∷ [])) (omega (arith, length-append st.free (s ∷ []))))
 
 pub returns-in_err-reserve-clause-memory : goal.returns-in_err-reserve-clause-memory
 returns-in_err-reserve-clause-memory c =
