@@ -34,13 +34,13 @@ reports_one : (a : EndName) (names : List Name) → has (End a) names ≡ true �
 reports_one a [] h = absurd (cc)
 reports_one a (Listener ∷ names) h = reports_one a names h
 reports_one a (Waker ∷ names) h = reports_one a names h
-reports_one a (End b ∷ names) h = or_then (same (End a) (End b)) (has (End a) names) (list_any (is_report a.slot a.generation) (End b ∷ names))
+reports_one a (End b ∷ names) h = or_then (same (End a) (End b)) (has (End a) names)
     (λ here. let is = same_end_is a b here in or_left (is_report a.slot a.generation (End b)) _ (rw (is, eq-eqb b.slot b.slot refl, eq-eqb b.generation b.generation refl)))
     (λ later. or_right (is_report a.slot a.generation (End b)) _ (reports_one a names later)) h
 
 reported : (st : State) (a : EndName) (notes : List ℕ) → notes ≡ [] → has_report st a notes ≡ true → is_reported st a.slot a.generation ≡ true
-reported st a notes none h = or_then (has (End a) st.kernel.queue || has (End a) st.batch) (is_nonempty notes) (is_reported st a.slot a.generation)
-    (λ some. or_then (has (End a) st.kernel.queue) (has (End a) st.batch) (is_reported st a.slot a.generation)
+reported st a notes none h = or_then (has (End a) st.kernel.queue || has (End a) st.batch) (is_nonempty notes)
+    (λ some. or_then (has (End a) st.kernel.queue) (has (End a) st.batch)
     (λ queued. or_left (list_any (is_report a.slot a.generation) st.kernel.queue) _ (reports_one a st.kernel.queue queued))
     (λ taken. or_right (list_any (is_report a.slot a.generation) st.kernel.queue) _ (reports_one a st.batch taken)) some)
     (λ noted. absurd (let never : is_nonempty [] ≡ true = rw none at noted in (cc))) h
@@ -113,17 +113,17 @@ module _ (st : State) (s : ℕ) (p : SlotState) (c : Connection) (r : Rests st s
 
   passes_on : (d : Direction) → is_drained (stream_of c.pair d) ≡ true → (is_joined c.pair (destination d) || takes (end_of st c (destination d))) ≡ true
       → is_reported st s c.pair.generation ≡ true
-  passes_on d dry next = or_then (is_joined c.pair (destination d)) (takes (end_of st c (destination d))) (is_reported st s c.pair.generation)
+  passes_on d dry next = or_then (is_joined c.pair (destination d)) (takes (end_of st c (destination d)))
       (λ joined. absurd (cc ((r.rest d).unjoined (drained (stream_of c.pair d) dry))))
       (λ ready. writes_due (destination d) ((r.rest d).unasked (drained (stream_of c.pair d) dry)) ready) next
 
   flows_due : (d : Direction) → flows st.limits.ring st.kernel c d ≡ true → is_reported st s c.pair.generation ≡ true
-  flows_due d h = or_then _ _ (is_reported st s c.pair.generation) (both _ _ (comes_in d)) (or_then _ _ (is_reported st s c.pair.generation) (both _ _ (goes_out d)) (both _ _ (passes_on d))) h
+  flows_due d h = or_then _ _ (both _ _ (comes_in d)) (or_then _ _ (both _ _ (goes_out d)) (both _ _ (passes_on d))) h
 
   either_way : (live : Bool) → live ≡ true → (not live || (flows st.limits.ring st.kernel c Up || flows st.limits.ring st.kernel c Down)) ≡ true
       → is_reported st s c.pair.generation ≡ true
   either_way false live h = absurd (cc)
-  either_way true live h = or_then _ _ (is_reported st s c.pair.generation) (flows_due Up) (flows_due Down) h
+  either_way true live h = or_then _ _ (flows_due Up) (flows_due Down) h
 
 -- by who holds the slot
 

@@ -26,7 +26,7 @@ goes_on : {st next : State} → next.flag ≡ st.flag → next.kernel.armed ≡ 
     → Listens st → Listens next
 goes_on {st} {next} flag armed backlog queue batch l = record {
   covered = rw (flag, armed, backlog) (more_reported st.flag st.kernel.armed (nat_lt 0 st.kernel.backlog) (hears st.kernel.queue || hears st.batch)
-      (hears next.kernel.queue || hears next.batch) (or_then (hears st.kernel.queue) (hears st.batch) (hears next.kernel.queue || hears next.batch) queue batch) l.covered);
+      (hears next.kernel.queue || hears next.batch) (or_then (hears st.kernel.queue) (hears st.batch) queue batch) l.covered);
 }
 
 -- a kernel that has the listener as it was, and its name at least where it was queued
