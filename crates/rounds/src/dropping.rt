@@ -1,9 +1,9 @@
 //! An accepted connection that is closed unopened.
 ghost use Rattle.std.specs.Prelude.{◌≡◌, ◌<◌, Some};
 ghost use Rattle.log.specs.declared.level.Level.TheVariants as level;
-ghost use Rattle.rounds.specs.Drops.{dropped_for, line_of};
+ghost use Rattle.rounds.specs.Episodes.{dropped_for, line_of};
 
-use crate::drops::Drops;
+use crate::episodes::Drops;
 use relay_log::{Cause, Logs, log_drop, log_drops};
 use std::marker::Model;
 

@@ -1,8 +1,5 @@
-use Rattle.std.proofs.Common.{List, subst, sym, arith}
-use Rattle.claims.specs.Seats.{SeatState, HoldsNothing}
-use Rattle.ready.specs.declared.ticket.Ticket.{Ticket}
-use Rattle.rounds.specs.Deliveries.{ArePosted}
-use Rattle.rounds.proofs.Reports.{posted_none, posted_both, few_tickets, capacity_kept, holds_nothing_still, below_more, few_below}
+use Rattle.std.proofs.Common.{arith}
+use Rattle.rounds.proofs.Acts.{posted_none, posted_both, few_tickets, capacity_kept, holds_nothing_still, below_more, few_below}
 use Rattle.rounds.proofs.sweeping.sweep.Goals as goal
 
 pub loop-slot-init : goal.loop-slot-init
@@ -17,17 +14,13 @@ sweep_slot-requires-clause-room c =
     omega arith
 
 pub loop-slot-preserved : goal.loop-slot-preserved
-loop-slot-preserved c =
-    subst (λ (ts : List Ticket). ArePosted ts c.args.seat.now c.sweep_slot.new.seat c.args.hand.now c.sweep_slot.new.hand)
-    (sym (below_more c.args.table.now c.loop-slot.slot))
-    (posted_both c.loop-slot.invariant c.in_ok-sweep_slot.ensures.posted)
+loop-slot-preserved c = rw (below_more c.args.table.now c.loop-slot.slot) (posted_both c.loop-slot.invariant c.in_ok-sweep_slot.ensures.posted)
 
 pub sweep_slot-requires-clause-idle : goal.sweep_slot-requires-clause-idle
 sweep_slot-requires-clause-idle c = holds_nothing_still c.loop-slot.invariant c.requires.idle
 
 pub returns-in_err-sweep_slot-clause-idle : goal.returns-in_err-sweep_slot-clause-idle
-returns-in_err-sweep_slot-clause-idle c = subst (λ (s : SeatState). HoldsNothing s) (sym c.in_err-sweep_slot.ensures.seat)
-    (holds_nothing_still c.loop-slot.invariant c.requires.idle)
+returns-in_err-sweep_slot-clause-idle c = rw c.in_err-sweep_slot.ensures.seat (holds_nothing_still c.loop-slot.invariant c.requires.idle)
 
 pub returns-clause-idle : goal.returns-clause-idle
 returns-clause-idle c = holds_nothing_still c.loop-slot.invariant c.requires.idle
