@@ -1,6 +1,5 @@
 -- Acts, one after the other, and the posts of a round, in a poller's own slots alone.
-use Rattle.std.proofs.Common.{add-one, ◌≡◌, ℕ, zero, suc, ◌+◌, ◌≤◌, Bool, true, false, cond, List, [], ◌∷◌, ◌++◌, length, length-append, refl, sym, ap, ◌∙◌, arith, inl, inr, append_assoc, ◌≢◌, ◌⊎◌, ◌↔◌, IsTrue, slice_index, replicate, slice_set}
-use Rattle.std.specs.Prelude.{◌==◌, if◌then◌else◌, Option, Some, None, nat_lt, Contains}
+use Rattle.std.proofs.Common.{add-one, ◌≡◌, ℕ, zero, suc, ◌+◌, ◌≤◌, Bool, true, false, cond, List, [], ◌∷◌, ◌++◌, length, length-append, refl, sym, ap, ◌∙◌, arith, inl, inr, append_assoc, ◌≢◌, ◌⊎◌, ◌↔◌, IsTrue, slice_index, replicate, slice_set, ◌==◌, if◌then◌else◌, Option, Some, None, nat_lt, Contains}
 use Rattle.std.specs.List.{All, cons_option}
 use Rattle.std.proofs.lemmas.Bool.{eq-eqb, ne_eqb}
 use Rattle.std.proofs.lemmas.List.{append-nil, map-append, length-map, length-replicate, get_or-replicate, get_or_past, get_or-set_other}

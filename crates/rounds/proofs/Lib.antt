@@ -1,3 +1,2 @@
 pub mod Acts
-pub mod Connections
-pub mod WholeRounds
+pub mod Rounds

@@ -244,7 +244,7 @@ fn moved_to_heap<T: Drop>(alloc: Global, value: T) -> Result<Box<T>, AllocError>
 /// the addresses of their clients' connections, the pair begins with it on the way up. A refusal closes the target's
 /// connection if it had been started. The cause is the front's, or `Address` if an address of the line is missing, or
 /// `Memory`.
-#[tactic(auto, using(crate::proofs::Connections::refused_drops, crate::proofs::Connections::lacking_drops, crate::proofs::Connections::memory_drops))]
+#[tactic(auto, using(crate::proofs::Rounds::refused_drops, crate::proofs::Rounds::lacking_drops, crate::proofs::Rounds::memory_drops))]
 fn reach<F: Front, A: Moves<F>, N: Log>(
     rt: &N,
     alloc: Global,
@@ -422,7 +422,7 @@ pub(crate) fn start<F: Front, A: Moves<F>, R: Wait>(
 }
 
 /// Releases the slot of a connection that is in its place, and keeps the ticket in hand if notes wait.
-#[tactic(auto, using(crate::proofs::Connections::holding))]
+#[tactic(auto, using(crate::proofs::Rounds::holding))]
 fn let_go<F: Front, A: Acts>(acts: &mut A, shared: &Shared<F>, own: &mut Own, ticket: Ticket)
     requires same { own.old.seat.table ≡ shared.now.claims }
     requires inside { ticket.slot < shared.now.claims.words }

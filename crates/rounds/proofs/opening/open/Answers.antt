@@ -1,8 +1,7 @@
-use Rattle.std.proofs.Common.{rules, ◌≡◌, ◌+◌, ℕ, List, slice_index, refl, inl, inr, ap, arith, sym, ◌∙◌}
+use Rattle.std.proofs.Common.{rules, ◌≡◌, refl, inl, inr, arith, sym, ◌∙◌}
 use Rattle.std.proofs.lemmas.Result.{on_err_weaker, on_ok_weaker}
-use Rattle.token.specs.declared.token.Token.{Token}
 use Rattle.rounds.specs.Openings.{Dropped, Spent}
-use Rattle.rounds.proofs.Connections.{between_still, no_names, opened_never, opened_not, opened_there, placed_fate, registered_once, some_first, still}
+use Rattle.rounds.proofs.Rounds.{between_still, no_names, opened_never, opened_not, opened_there, placed_fate, registered_once, some_first, still}
 use Rattle.rounds.proofs.opening.open.Goals as goal
 
 pub returns-in_default : goal.returns-in_default
@@ -53,16 +52,14 @@ pub returns-in-Ok : goal.returns-in-Ok
 returns-in-Ok g c =
     let first = sym c.take_slot.ensures.value ∙ c.in-Some.is in
     let hand = c.in-Ok.ensures.prepared ∙ c.take_slot.ensures.left in
-    let here : c.in-Ok.berth.value.pair.slot ≡ c.in-Some.slot = c.in-Ok.ensures.slot ∙ ap (λ (t : Token). t.slot) c.in-Some-next_names.ensures.client in
+    let named = c.in-Some-next_names.ensures.client in
+    let here : c.in-Ok.berth.value.pair.slot ≡ c.in-Some.slot = rw (c.in-Ok.ensures.slot, named) in
     let registered = rw (← c.in-Ok.ensures.slot, here) at c.in-Ok.ensures.acts in
-    let numbered : c.in-Ok.berth.value.pair.generation ≡ slice_index c.args.poller.now.table c.in-Some.slot + 1 =
-    c.in-Ok.ensures.generation ∙ ap (λ (t : Token). t.generation) c.in-Some-next_names.ensures.client
-    ∙ ap (λ (table : List ℕ). slice_index table c.in-Some.slot + 1) c.table.ensures.table in
     record {
       between = c.place.ensures.between;
       worn = c.place.ensures.worn;
       counted = rw first (on_ok_weaker c.place.result
-          (placed_fate c.in-Ok.ensures.same (rw (here, numbered)) (λ acts made. (c.prepare.new.acts, registered, rw here at made))) c.place.ensures.placed);
+          (placed_fate c.in-Ok.ensures.same (rw (here, c.in-Ok.ensures.generation, named, c.table.ensures.table)) (λ acts made. (c.prepare.new.acts, registered, rw here at made))) c.place.ensures.placed);
       in_order = rw first (on_err_weaker c.place.result (λ made. (c.prepare.new.acts, registered, rw here at made)) c.place.ensures.in_order);
       done = on_ok_weaker c.place.result
           (λ x. record { done = opened_there hand (rw here first) (rw c.in-Ok.ensures.same at x.done) x.free x.slots; room = rw hand at x.room })
@@ -77,10 +74,10 @@ place-requires-clause-between g c = between_still c.requires.between refl (rw c.
 pub place-requires-clause-next : goal.place-requires-clause-next
 place-requires-clause-next g c =
     let named = c.in-Some-next_names.ensures.client in
-    let here : c.in-Ok.berth.value.pair.slot ≡ c.in-Some.slot = c.in-Ok.ensures.slot ∙ ap (λ (t : Token). t.slot) named in
+    let here : c.in-Ok.berth.value.pair.slot ≡ c.in-Some.slot = rw (c.in-Ok.ensures.slot, named) in
     record {
       inside = rw (c.in-Ok.ensures.same, ← c.table.ensures.table, here) c.in-Some-next_names.ensures.inside;
       own = search rules;
-      generation = rw (c.in-Ok.ensures.same, ← c.table.ensures.table, here) (c.in-Ok.ensures.generation ∙ ap (λ (t : Token). t.generation) named);
+      generation = rw (c.in-Ok.ensures.same, ← c.table.ensures.table, here, c.in-Ok.ensures.generation, named);
       most = search rules;
     }

@@ -5,7 +5,7 @@ use Rattle.claims.proofs.Seats.{account_after, adds_both, holds_nothing_again}
 use Rattle.dispatch.proofs.Holding.{holds_from}
 use Rattle.dispatch.specs.Acts.{AreMade, placing}
 use Rattle.ready.specs.declared.ticket.Ticket.{Ticket}
-use Rattle.rounds.proofs.Connections.{if_fails, not_ok, not_placed, passed_up, placed}
+use Rattle.rounds.proofs.Rounds.{if_fails, not_ok, not_placed, passed_up, placed}
 use Rattle.rounds.proofs.opening.place.Goals as goal
 
 pub returns-in_ok-start-in-Adopted : goal.returns-in_ok-start-in-Adopted

@@ -1,4 +1,4 @@
-use Rattle.rounds.proofs.Connections.{lacking_drops, passed_up}
+use Rattle.rounds.proofs.Rounds.{lacking_drops, passed_up}
 use Rattle.rounds.proofs.opening.reach.Goals as goal
 
 pub returns-in_err-lead-clause-cause : goal.returns-in_err-lead-clause-cause

@@ -1,5 +1,5 @@
 use Rattle.std.proofs.Common.{◌∙◌, refl}
-use Rattle.rounds.proofs.Connections.{accept_both, accept_none, accept_took, between_still, between_took, not_ok, passed_up, room_same, still}
+use Rattle.rounds.proofs.Rounds.{accept_both, accept_none, accept_took, between_still, between_took, not_ok, passed_up, room_same, still}
 use Rattle.rounds.proofs.round.accept.Goals as goal
 
 pub accept_all-requires : goal.accept_all-requires

@@ -1,5 +1,5 @@
 use Rattle.std.proofs.Common.{refl, inl, inr, ◌∙◌, arith}
-use Rattle.rounds.proofs.Connections.{accept_and_took, accept_both, accept_none, between_still, between_took, ended_by, not_ok, passed_up, room_same, still}
+use Rattle.rounds.proofs.Rounds.{accept_and_took, accept_both, accept_none, between_still, between_took, ended_by, not_ok, passed_up, room_same, still}
 use Rattle.rounds.proofs.round.accept_all.Goals as goal
 
 pub loop-try-init : goal.loop-try-init

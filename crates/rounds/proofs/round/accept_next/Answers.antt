@@ -1,5 +1,5 @@
 use Rattle.std.proofs.Common.{arith}
-use Rattle.rounds.proofs.Connections.{accept_both, accept_none, still}
+use Rattle.rounds.proofs.Rounds.{accept_both, accept_none, still}
 use Rattle.rounds.proofs.round.accept_next.Goals as goal
 
 pub returns-then-leaves-clause-done : goal.returns-then-leaves-clause-done
