@@ -173,7 +173,7 @@ reported_le generations (x ∷ xs) =
 module _ {xs : List Ticket} {old new : SeatState} {had has : HandState} (posted : ArePosted xs old new had has) where
   -- as many tickets came in as there were posts, or fewer
   pub few_tickets : length has.tickets ≤ length had.tickets + length xs
-  few_tickets = rw (posted.hand, length-append had.tickets (due_of posted.posts)) (let some = posts_le posted.are in omega arith)
+  few_tickets = rw (posted.hand, length-append had.tickets (due_of posted.posts)) (omega (arith, posts_le posted.are))
 
   pub capacity_kept : has.capacity ≡ had.capacity
   capacity_kept = rw posted.hand
@@ -191,9 +191,7 @@ own_report part table number slot ts own out rest None is = rest
 own_report part table number slot ts own out rest (Some t) is =
     let none = own slot out in
     let apart : slot ≢ t.slot = λ same. (let has = rw (← same) at (reported_has table number t is) in absurd (omega arith)) in
-    let first = none_at t slot apart in
-    let both = at_slot-append slot (t ∷ []) ts in
-    omega arith
+    omega (arith, none_at t slot apart, at_slot-append slot (t ∷ []) ts)
 
 pub own_reports : (part : Part) (table batch : List ℕ) → IsOwnTable part table → AreIn part (all_reported table batch)
 own_reports part table [] own slot out = refl
@@ -221,10 +219,7 @@ none_in table part slot at own out = dite (ℕ_discrete slot at) (λ same. rw (r
 below_own : (part : Part) (table : List ℕ) (slots : ℕ) → IsOwnTable part table → AreIn part (opened_below table slots)
 below_own part table zero own slot out = refl
 below_own part table (suc slots) own slot out =
-    let before = below_own part table slots own slot out in
-    let one = none_in table part slot slots own out in
-    let both = at_slot-append slot (opened_below table slots) (opened_in table slots) in
-    omega arith
+    omega (arith, below_own part table slots own slot out, none_in table part slot slots own out, at_slot-append slot (opened_below table slots) (opened_in table slots))
 
 -- a poller opened connections in its own slots alone
 pub own_opened : (part : Part) (table : List ℕ) → IsOwnTable part table → AreIn part (all_opened table)

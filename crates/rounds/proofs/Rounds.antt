@@ -69,11 +69,7 @@ opened-append [] ys a b c same rest = rw same at rest
 opened-append (x ∷ xs) ys a b c first rest = (first.0, opened-append xs ys (slice_set a x.slot x.generation) b c first.1 rest)
 
 own_both : (p q : Part) (xs ys : List Ticket) → q ≡ p → AreIn p xs → AreIn q ys → AreIn p (xs ++ ys)
-own_both p q xs ys same one two slot out =
-    let first = one slot out in
-    let second = two slot (λ is. out (rw same at is)) in
-    let both = at_slot-append slot xs ys in
-    omega arith
+own_both p q xs ys same one two slot out = omega (arith, one slot out, two slot (λ is. out (rw same at is)), at_slot-append slot xs ys)
 
 -- why slots are lost
 
@@ -81,7 +77,7 @@ raised : (xs : List ℕ) (i n slot : ℕ) → n ≡ slice_index xs i + 1 → sli
 raised xs i n slot next = dite (ℕ_discrete slot i) (λ same. by_length same (cases_lt i (length xs))) (λ other. omega (arith, get_or-set_other xs i slot n 0 other)) where
   by_length : slot ≡ i → (i < length xs) ⊎ (length xs ≤ i) → slice_index xs slot ≤ slice_index (slice_set xs i n) slot
   by_length same (inl inside) = rw (get_or-set_at xs i slot n 0 same inside, same) (omega arith)
-  by_length same (inr outside) = (let was = get_or_past xs slot 0 (omega arith) in omega arith)
+  by_length same (inr outside) = omega (arith, get_or_past xs slot 0 (omega arith))
 
 -- an opening leaves the size of the table, and no generation gets less
 opened_rises : (ts : List Ticket) (a b : List ℕ) → AreOpened a ts b → (slot : ℕ) → (length b ≡ length a) × (slice_index a slot ≤ slice_index b slot)
@@ -133,11 +129,7 @@ module _ {p q r : PollerState} {a b c : Own} where
     held = one.held ++ two.held;
     connected = connected_both one.connected two.connected;
     slots = λ slot. (
-        let first = one.slots slot in
-        let second = two.slots slot in
-        let tickets = at_slot-append slot one.opened two.opened in
-        let lost = times-append slot one.lost two.lost in
-        omega arith);
+        omega (arith, one.slots slot, two.slots slot, at_slot-append slot one.opened two.opened, times-append slot one.lost two.lost));
   }
 
 -- what connections say of a poller is as it was, as after a change that opens nothing
@@ -198,7 +190,7 @@ some_first (x ∷ xs) some is = none-some x (sym is)
 slot_left : (s slot : ℕ) (a b : Own) (hand : HandState) → hand ≡ record a.hand { slots = drop 1 a.hand.slots } → slice_get a.hand.slots 0 ≡ Some slot
     → b.free ≡ a.free → b.hand.slots ≡ hand.slots
     → times s (slots_in b) + times s a.hand.slots ≡ times s (slots_in a) + (times s b.hand.slots + times s (slot ∷ []))
-slot_left s slot a b hand taken is free slots = rw (free, slots, taken) (let first = times_first s a.hand.slots slot is in omega arith)
+slot_left s slot a b hand taken is free slots = rw (free, slots, taken) (omega (arith, times_first s a.hand.slots slot is))
 
 -- what became of a slot that was taken in hand
 module _ {p q : PollerState} {a : Own} {hand : HandState} (taken : hand ≡ record a.hand { slots = drop 1 a.hand.slots }) where
@@ -242,7 +234,7 @@ module _ {p q : PollerState} {a : Own} {hand : HandState} (taken : hand ≡ reco
       ready = refl;
       gave = refl;
     });
-    slots = λ s. (let left = slot_left s slot a (record a { hand = hand }) hand taken is refl refl in omega arith);
+    slots = λ s. omega (arith, slot_left s slot a (record a { hand = hand }) hand taken is refl refl);
   }
 
   -- its opening failed, and it is in hand again
@@ -255,7 +247,7 @@ module _ {p q : PollerState} {a : Own} {hand : HandState} (taken : hand ≡ reco
     capacity = rw (again, taken);
     gave = refl;
     slots = λ s. rw (again, taken)
-        (let first = times_first s a.hand.slots slot is in let both = times-append s (drop 1 a.hand.slots) (slot ∷ []) in omega arith);
+        (omega (arith, times_first s a.hand.slots slot is, times-append s (drop 1 a.hand.slots) (slot ∷ [])));
   })
 
   -- a connection was placed in it, or it is no longer used
@@ -267,14 +259,14 @@ module _ {p q : PollerState} {a : Own} {hand : HandState} (taken : hand ≡ reco
     lost = [];
     held = [];
     connected = from_hand one;
-    slots = λ s. (let left = slot_left s t.slot a b hand taken is free slots in omega arith);
+    slots = λ s. omega (arith, slot_left s t.slot a b hand taken is free slots);
   }
   opened_there {b} {t} is (inr none) free slots = record {
     opened = [];
     lost = t.slot ∷ [];
     held = t.slot ∷ [];
     connected = from_hand none;
-    slots = λ s. (let left = slot_left s t.slot a b hand taken is free slots in omega arith);
+    slots = λ s. omega (arith, slot_left s t.slot a b hand taken is free slots);
   }
 
 -- sockets that were not registered, or are closed again
@@ -449,7 +441,7 @@ round_of c looked took delivered ready free own flag posted ready_then free_then
       counted = rw (sweep, flag, looked) at done.counted;
       unused = rw (sweep, flag, looked) at done.unused;
       gave = rw (done.gave, free_then, free) took.gave;
-      slots = λ slot. (let counted = rw (free_then, free, posted.hand, delivered.hand) at (accepted.slots slot) in let taken = took.slots slot in omega arith);
+      slots = λ slot. (let counted = rw (free_then, free, posted.hand, delivered.hand) at (accepted.slots slot) in omega (arith, took.slots slot));
     }
 
 -- nothing was reported, nothing was posted for time, and nothing was accepted

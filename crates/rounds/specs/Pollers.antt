@@ -1,4 +1,4 @@
--- What the poller keeps between its rounds. Part of the promises.
+-- What the poller keeps between its rounds, and the numbers of a round that clauses name. Part of the promises.
 use Rattle.std.specs.Prelude.{◌≡◌, ◌⊎◌, ℕ, ◌+◌, ◌≤◌, min, Bool, List, All, slice_index}
 use Rattle.rounds.specs.declared.episodes.Episodes.{Episodes}
 use Rattle.rounds.specs.declared.opening.Opening.{Opening}

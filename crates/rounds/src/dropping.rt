@@ -16,15 +16,8 @@ pub(crate) struct Owed {
 }
 
 impl Owed {
-    /// The line about one drop.
-    pub(crate) fn first(cause: Cause) -> Owed
-        ensures { result ≡ record { cause = cause; more = 0 } }
-    {
-        Owed { cause, more: 0 }
-    }
-
-    /// The line that counts this many more.
-    pub(crate) fn further(cause: Cause, more: u64) -> Owed
+    /// The line that counts this many more, or with 0 the line about one drop.
+    pub(crate) fn new(cause: Cause, more: u64) -> Owed
         ensures { result ≡ record { cause = cause; more = more } }
     {
         Owed { cause, more }

@@ -102,7 +102,7 @@ impl Tally {
             return None;
         }
         self.line = second;
-        Some(Owed::first(cause))
+        Some(Owed::new(cause, 0))
     }
 
     /// Returns the line for what is counted, if anything is and this second has had no line.
@@ -117,7 +117,7 @@ impl Tally {
         let more = self.more;
         self.line = second;
         self.more = 0;
-        Some(Owed::further(cause, more))
+        Some(Owed::new(cause, more))
     }
 
     /// The next drop has a line of its own again. Returns the line for what is counted until now, if anything is.
@@ -130,7 +130,7 @@ impl Tally {
         if more == 0 {
             return None;
         }
-        Some(Owed::further(cause, more))
+        Some(Owed::new(cause, more))
     }
 }
 

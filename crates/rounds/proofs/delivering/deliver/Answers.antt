@@ -5,11 +5,13 @@ use Rattle.rounds.proofs.delivering.deliver.Goals as goal
 
 pub report-requires-clause-room : goal.report-requires-clause-room
 report-requires-clause-room c =
-    let few = few_tickets c.loop-number.invariant in
-    let same = capacity_kept c.loop-number.invariant in
-    let all = reported_le c.args.table.now (take c.loop-number.number-index c.args.batch.now) in
-    let taken = length-take c.loop-number.number-index c.args.batch.now in
-    omega arith
+    omega (
+      arith,
+      few_tickets c.loop-number.invariant,
+      capacity_kept c.loop-number.invariant,
+      reported_le c.args.table.now (take c.loop-number.number-index c.args.batch.now),
+      length-take c.loop-number.number-index c.args.batch.now,
+    )
 
 pub loop-number-preserved : goal.loop-number-preserved
 loop-number-preserved c = rw (take_more c.args.batch.now c.loop-number.number-index 0 c.loop-number-test.true)

@@ -55,12 +55,8 @@ returns-then-not-branch g c = record {
 pub loop-try-preserved : goal.loop-try-preserved
 loop-try-preserved g c = record {
   between = c.in_ok-accept_next.ensures.between;
-  room = (
-      let same = room_same c.may_accept.ensures.took in
-      let one = c.in_ok-accept_next.ensures.done.room in
-      let was = c.loop-try.invariant.room in
-      omega arith);
-  tries = (let less = c.in_ok-accept_next.ensures.tries c.if-not-branch.false in let sum = c.loop-try.invariant.tries in let more = c.loop-try-test.true in omega arith);
+  room = omega (arith, room_same c.may_accept.ensures.took, c.in_ok-accept_next.ensures.done.room, c.loop-try.invariant.room);
+  tries = omega (arith, c.in_ok-accept_next.ensures.tries c.if-not-branch.false, c.loop-try.invariant.tries, c.loop-try-test.true);
   done = accept_both (accept_and_took c.loop-try.invariant.done c.may_accept.ensures.took) c.in_ok-accept_next.ensures.done.done;
   poller = rw (c.accept_next.ensures.poller, c.loop-try.invariant.poller);
 }

@@ -52,14 +52,16 @@ returns-in_err-deliver_batch g c =
 
 pub keep_time-requires-clause-room : goal.keep_time-requires-clause-room
 keep_time-requires-clause-room g c =
-    let few = few_tickets c.in_ok-deliver_batch.ensures.delivered in
-    let same = capacity_kept c.in_ok-deliver_batch.ensures.delivered in
-    let reported = reported_le c.look.new.poller.table c.look.new.poller.batch in
-    let most = c.look.ensures.few in
-    let room = c.begin.ensures.room.0 c.if-not-begin.false in
-    let looked = room_same c.look.ensures.took in
-    let sized = c.deliver_batch.ensures.between.sized in
-    omega arith
+    omega (
+      arith,
+      few_tickets c.in_ok-deliver_batch.ensures.delivered,
+      capacity_kept c.in_ok-deliver_batch.ensures.delivered,
+      reported_le c.look.new.poller.table c.look.new.poller.batch,
+      c.look.ensures.few,
+      c.begin.ensures.room.0 c.if-not-begin.false,
+      room_same c.look.ensures.took,
+      c.deliver_batch.ensures.between.sized,
+    )
 
 pub returns-in_err-keep_time : goal.returns-in_err-keep_time
 returns-in_err-keep_time g c =
@@ -82,17 +84,19 @@ returns-in_err-keep_time g c =
 
 pub accept-requires-clause-room : goal.accept-requires-clause-room
 accept-requires-clause-room g c =
-    let few = few_tickets c.in_ok-deliver_batch.ensures.delivered in
-    let same = capacity_kept c.in_ok-deliver_batch.ensures.delivered in
-    let reported = reported_le c.look.new.poller.table c.look.new.poller.batch in
-    let most = c.look.ensures.few in
-    let room = c.begin.ensures.room.0 c.if-not-begin.false in
-    let looked = room_same c.look.ensures.took in
-    let sized = c.deliver_batch.ensures.between.sized in
-    let roused = few_tickets c.in_ok-keep_time.ensures.swept.posted in
-    let still = capacity_kept c.in_ok-keep_time.ensures.swept.posted in
-    let slots = few_sweep c.deliver_batch.new.poller c.keep_time.new.poller in
-    omega arith
+    omega (
+      arith,
+      few_tickets c.in_ok-deliver_batch.ensures.delivered,
+      capacity_kept c.in_ok-deliver_batch.ensures.delivered,
+      reported_le c.look.new.poller.table c.look.new.poller.batch,
+      c.look.ensures.few,
+      c.begin.ensures.room.0 c.if-not-begin.false,
+      room_same c.look.ensures.took,
+      c.deliver_batch.ensures.between.sized,
+      few_tickets c.in_ok-keep_time.ensures.swept.posted,
+      capacity_kept c.in_ok-keep_time.ensures.swept.posted,
+      few_sweep c.deliver_batch.new.poller c.keep_time.new.poller,
+    )
 
 pub returns-in_err-accept : goal.returns-in_err-accept
 returns-in_err-accept g c =

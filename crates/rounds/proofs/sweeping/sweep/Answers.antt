@@ -7,11 +7,7 @@ loop-slot-init c = posted_none c.args.seat.now c.args.hand.now
 
 -- each slot takes at most one ticket in hand
 pub sweep_slot-requires-clause-room : goal.sweep_slot-requires-clause-room
-sweep_slot-requires-clause-room c =
-    let few = few_tickets c.loop-slot.invariant in
-    let same = capacity_kept c.loop-slot.invariant in
-    let slots = few_below c.args.table.now c.loop-slot.slot in
-    omega arith
+sweep_slot-requires-clause-room c = omega (arith, few_tickets c.loop-slot.invariant, capacity_kept c.loop-slot.invariant, few_below c.args.table.now c.loop-slot.slot)
 
 pub loop-slot-preserved : goal.loop-slot-preserved
 loop-slot-preserved c = rw (below_more c.args.table.now c.loop-slot.slot) (posted_both c.loop-slot.invariant c.in_ok-sweep_slot.ensures.posted)
