@@ -1,37 +1,37 @@
--- Acts, one after the other.
-use Rattle.std.proofs.Common.{◌≡◌, ℕ, zero, suc, ◌+◌, ◌≤◌, Bool, true, false, cond, List, [], ◌∷◌, ◌++◌, length, length-append, refl, sym, subst, ap, ◌∙◌, arith, inl, inr, append_assoc}
-use Rattle.std.specs.Prelude.{◌==◌, if◌then◌else◌}
-use Rattle.std.specs.List.{All}
+-- Acts, one after the other, and the posts of a round, in a poller's own slots alone.
+use Rattle.std.proofs.Common.{add-one, ◌≡◌, ℕ, zero, suc, ◌+◌, ◌≤◌, Bool, true, false, cond, List, [], ◌∷◌, ◌++◌, length, length-append, refl, sym, ap, ◌∙◌, arith, inl, inr, append_assoc, ◌≢◌, ◌⊎◌, ◌↔◌, IsTrue, slice_index, replicate, slice_set, ◌==◌, if◌then◌else◌, Option, Some, None, nat_lt, Contains}
+use Rattle.std.specs.List.{All, cons_option}
 use Rattle.std.proofs.lemmas.Bool.{eq-eqb, ne_eqb}
-use Rattle.std.proofs.lemmas.List.{append-nil, map-append, length-map}
-use Rattle.std.proofs.lemmas.List.Elements.{All-append}
+use Rattle.std.proofs.lemmas.List.{append-nil, map-append, length-map, length-replicate, get_or-replicate, get_or_past, get_or-set_other}
+use Rattle.std.proofs.lemmas.List.Elements.{All-append, filter_map-append}
 use Rattle.std.proofs.lemmas.List.Sums.{sum_by-append}
 use mathlib.Core.Logic.{dite}
 use native.Mathlib.Decide.{ℕ_discrete}
 use Rattle.claims.specs.declared.view.Account.{Account}
-use Rattle.claims.specs.declared.view.Exchange.{Exchange}
-use Rattle.claims.specs.declared.view.Exchange.TheVariants.{Post, NotFree}
-use Rattle.claims.specs.Views.{blank, after_all, account_of, minted_by}
+use Rattle.claims.specs.declared.view.Exchange.TheVariants as exchange
+use Rattle.claims.specs.Views.{after_all, minted_by}
 use Rattle.claims.specs.Seats.{SeatState, trace_at, account_at, HoldsNothing, Adds}
 use Rattle.claims.proofs.Seats.{after_both}
 use Rattle.ready.specs.declared.ticket.Ticket.{Ticket}
-use Rattle.rounds.specs.Acts.{Act, tickets_of, exchanges_at, made_by, due_of, ActsMade, IsPost, ArePosts, opening, IsTry, found_held, held_of, AreTries}
-use Rattle.rounds.specs.Deliveries.{at_slot}
+use Rattle.rounds.specs.Acts.{Act, exchanges_at, made_by, due_of, ActsMade, IsPost, ArePosts, opening, IsTry, held_of, AreTries, at_slot, reported, all_reported, ArePosted, Delivered, is_due, last_in, opened_in, opened_below, all_opened, sweep_of}
+use Rattle.std.proofs.lemmas.Bool.Decides.{nat_tests}
+use Rattle.relay_core.specs.Idle.{is_past}
+use Rattle.dispatch.specs.Hands.{HandState}
+use Rattle.dispatch.specs.declared.part.Part.{Part}
+use Rattle.dispatch.specs.Splits.{IsIn}
+use Rattle.rounds.specs.Pollers.{IsOwnTable, PollerState, AreGenerations}
+use Rattle.rounds.specs.Openings.{AreIn}
 
 pub at_slot-append : (slot : ℕ) (xs ys : List Ticket) → at_slot slot (xs ++ ys) ≡ at_slot slot xs + at_slot slot ys
 at_slot-append slot xs ys = sum_by-append (λ (t : Ticket). cond (t.slot == slot) 1 0) xs ys
 
 exchanges-append : (slot : ℕ) (xs ys : List Act) → exchanges_at slot (xs ++ ys) ≡ exchanges_at slot xs ++ exchanges_at slot ys
 exchanges-append slot [] ys = refl
-exchanges-append slot (x ∷ xs) ys =
-    let first : List Exchange = if x.ticket.slot == slot then x.exchanges else [] in
-    ap (λ (es : List Exchange). first ++ es) (exchanges-append slot xs ys) ∙ sym (append_assoc first (exchanges_at slot xs) (exchanges_at slot ys))
+exchanges-append slot (x ∷ xs) ys = rw (exchanges-append slot xs ys, append_assoc)
 
 pub due-append : (xs ys : List Act) → due_of (xs ++ ys) ≡ due_of xs ++ due_of ys
 due-append [] ys = refl
-due-append (x ∷ xs) ys =
-    let first : List Ticket = made_by (minted_by x.exchanges) x.ticket in
-    ap (λ (ts : List Ticket). first ++ ts) (due-append xs ys) ∙ sym (append_assoc first (due_of xs) (due_of ys))
+due-append (x ∷ xs) ys = rw (due-append xs ys, append_assoc)
 
 pub acts_none : (s : SeatState) → ActsMade [] s s
 acts_none s = record { table = refl; traces = λ slot. sym (append-nil (trace_at s slot)) }
@@ -39,8 +39,7 @@ acts_none s = record { table = refl; traces = λ slot. sym (append-nil (trace_at
 pub acts_both : (xs ys : List Act) (a b c : SeatState) → ActsMade xs a b → ActsMade ys b c → ActsMade (xs ++ ys) a c
 acts_both xs ys a b c one two = record {
   table = two.table ∙ one.table;
-  traces = λ slot. two.traces slot ∙ ap (λ (t : List Exchange). t ++ exchanges_at slot ys) (one.traces slot)
-      ∙ append_assoc (trace_at a slot) (exchanges_at slot xs) (exchanges_at slot ys) ∙ ap (λ (t : List Exchange). trace_at a slot ++ t) (sym (exchanges-append slot xs ys));
+  traces = λ slot. rw (two.traces slot, one.traces slot, exchanges-append slot xs ys, append_assoc);
 }
 
 -- at the slot of an act's ticket, and at the others
@@ -48,11 +47,8 @@ pub acts_one : (act : Act) (old new : SeatState) → Adds act.ticket.slot act.ex
 acts_one act old new adds = record {
   table = adds.only.table;
   traces = λ slot. dite (ℕ_discrete act.ticket.slot slot)
-      (λ same. subst (λ (s : ℕ). trace_at new s ≡ trace_at old s ++ act.exchanges) same adds.here
-      ∙ ap (λ (t : List Exchange). trace_at old slot ++ t) (sym (append-nil act.exchanges)
-      ∙ sym (ap (λ (b : Bool). (if b then act.exchanges else []) ++ []) (eq-eqb act.ticket.slot slot same))))
-      (λ other. adds.only.others slot (λ e. other (sym e)) ∙ sym (append-nil (trace_at old slot))
-      ∙ ap (λ (t : List Exchange). trace_at old slot ++ t) (sym (ap (λ (b : Bool). (if b then act.exchanges else []) ++ []) (ne_eqb act.ticket.slot slot other))));
+      (λ same. rw (eq-eqb act.ticket.slot slot same, append-nil) (rw same at adds.here))
+      (λ other. rw (ne_eqb act.ticket.slot slot other, append-nil) (adds.only.others slot (λ e. other (sym e))));
 }
 
 pub all_none : {A : Type 0} (P : A → Type 0) → All P []
@@ -67,68 +63,192 @@ made_le zero t = omega arith
 made_le (suc n) t = omega arith
 
 -- as many tickets as acts, or fewer
-pub due_le : (acts : List Act) → length (due_of acts) ≤ length acts
+due_le : (acts : List Act) → length (due_of acts) ≤ length acts
 due_le [] = omega arith
-due_le (act ∷ acts) =
-    let rest = due_le acts in
-    let one = made_le (minted_by act.exchanges) act.ticket in
-    let both = length-append (made_by (minted_by act.exchanges) act.ticket) (due_of acts) in
-    omega arith
+due_le (act ∷ acts) = simp length-append (omega (arith, due_le acts, made_le (minted_by act.exchanges) act.ticket))
 
 -- Posts leave who holds a slot
 
-post_holds : (es : List Exchange) (a : Account) (woke : Bool) → es ≡ Post woke ∷ [] → (after_all es a).holds ≡ a.holds
-post_holds es a woke is = ap (λ (xs : List Exchange). (after_all xs a).holds) is
-
 posts_hold : (slot : ℕ) (acts : List Act) → All IsPost acts → (a : Account) → (after_all (exchanges_at slot acts) a).holds ≡ a.holds
 posts_hold slot [] each a = refl
-posts_hold slot (act ∷ acts) each a =
-    let first : List Exchange = if act.ticket.slot == slot then act.exchanges else [] in
-    ap (λ (x : Account). x.holds) (after_both first (exchanges_at slot acts) a)
-    ∙ posts_hold slot acts (λ i d lt. each (suc i) d (omega arith)) (after_all first a)
-    ∙ by_case (act.ticket.slot == slot)
-  where
-    by_case : (b : Bool) → (after_all (if b then act.exchanges else []) a).holds ≡ a.holds
-    by_case true = let is = each 0 act (omega arith) in post_holds act.exchanges a is.0 is.1
-    by_case false = refl
+posts_hold slot (act ∷ acts) each a = rw (after_both, posts_hold slot acts (λ i d lt. each (suc i) d (omega arith))) (by_case (act.ticket.slot == slot)) where
+  by_case : (b : Bool) → (after_all (if b then act.exchanges else []) a).holds ≡ a.holds
+  by_case true = let is = each 0 act (omega arith) in rw is.1
+  by_case false = refl
 
-pub posts_hold_nothing : (acts : List Act) (old new : SeatState) → All IsPost acts → ActsMade acts old new → HoldsNothing old → HoldsNothing new
-posts_hold_nothing acts old new each made nothing = record {
-  nowhere = λ slot. ap (λ (t : List Exchange). (account_of t).holds) (made.traces slot)
-      ∙ ap (λ (a : Account). a.holds) (after_both (trace_at old slot) (exchanges_at slot acts) blank)
-      ∙ posts_hold slot acts each (account_at old slot) ∙ nothing.nowhere slot;
+posts_hold_nothing : {acts : List Act} {old new : SeatState} → All IsPost acts → ActsMade acts old new → HoldsNothing old → HoldsNothing new
+posts_hold_nothing {acts} {old} each made nothing = record {
+  nowhere = λ slot. rw (made.traces slot, after_both) (posts_hold slot acts each (account_at old slot) ∙ nothing.nowhere slot);
 }
 
-pub posts_both : (xs ys : List Ticket) (us bs : List Act) → ArePosts xs us → ArePosts ys bs → ArePosts (xs ++ ys) (us ++ bs)
-posts_both xs ys us bs one two = record {
+posts_both : {xs ys : List Ticket} {us bs : List Act} → ArePosts xs us → ArePosts ys bs → ArePosts (xs ++ ys) (us ++ bs)
+posts_both {us = us} {bs = bs} one two = record {
   each = All-append IsPost us bs one.each two.each;
-  in_order = map-append (λ (act : Act). act.ticket) us bs ∙ ap (λ (ts : List Ticket). ts ++ tickets_of bs) one.in_order ∙ ap (λ (ts : List Ticket). xs ++ ts) two.in_order;
+  in_order = rw (map-append (λ (act : Act). act.ticket) us bs, one.in_order, two.in_order);
 }
 
-pub posts_le : (xs : List Ticket) (acts : List Act) → ArePosts xs acts → length (due_of acts) ≤ length xs
-posts_le xs acts posts =
-    let many : length xs ≡ length acts = sym (ap length posts.in_order) ∙ length-map acts (λ (act : Act). act.ticket) in
-    let few = due_le acts in
-    omega arith
+posts_le : {xs : List Ticket} {acts : List Act} → ArePosts xs acts → length (due_of acts) ≤ length xs
+posts_le {acts = acts} posts = rw (← posts.in_order, length-map) (due_le acts)
 
 held-append : (xs ys : List Act) → held_of (xs ++ ys) ≡ held_of xs ++ held_of ys
 held-append [] ys = refl
-held-append (x ∷ xs) ys =
-    let first : List ℕ = found_held x.exchanges x.ticket.slot in
-    ap (λ (slots : List ℕ). first ++ slots) (held-append xs ys) ∙ sym (append_assoc first (held_of xs) (held_of ys))
+held-append (x ∷ xs) ys = rw (held-append xs ys, append_assoc)
 
-pub tries_both : (xs ys : List Ticket) (h k : List ℕ) (us bs : List Act) → AreTries xs h us → AreTries ys k bs → AreTries (xs ++ ys) (h ++ k) (us ++ bs)
-tries_both xs ys h k us bs one two = record {
+pub tries_both : {xs ys : List Ticket} {h k : List ℕ} {us bs : List Act} → AreTries xs h us → AreTries ys k bs → AreTries (xs ++ ys) (h ++ k) (us ++ bs)
+tries_both {us = us} {bs = bs} one two = record {
   each = All-append IsTry us bs one.each two.each;
-  made = due-append us bs ∙ ap (λ (ts : List Ticket). ts ++ due_of bs) one.made ∙ ap (λ (ts : List Ticket). xs ++ ts) two.made;
-  found = held-append us bs ∙ ap (λ (slots : List ℕ). slots ++ held_of bs) one.found ∙ ap (λ (slots : List ℕ). h ++ slots) two.found;
+  made = rw (due-append us bs, one.made, two.made);
+  found = rw (held-append us bs, one.found, two.found);
 }
 
 pub tries_none : AreTries [] [] []
 tries_none = record { each = all_none IsTry; made = refl; found = refl }
 
 pub try_opened : (t : Ticket) (found noted : ℕ) → AreTries (t ∷ []) [] (record { ticket = t; exchanges = opening found noted } ∷ [])
-try_opened t found noted = record { each = all_one IsTry (record { ticket = t; exchanges = opening found noted }) (inl (found, noted, refl)); made = refl; found = refl }
+try_opened t found noted = record { each = all_one IsTry _ (inl (found, noted, refl)); made = refl; found = refl }
 
-pub try_held : (t : Ticket) → AreTries [] (t.slot ∷ []) (record { ticket = t; exchanges = NotFree ∷ [] } ∷ [])
-try_held t = record { each = all_one IsTry (record { ticket = t; exchanges = NotFree ∷ [] }) (inr refl); made = refl; found = refl }
+pub try_held : (t : Ticket) → AreTries [] (t.slot ∷ []) (record { ticket = t; exchanges = exchange.NotFree ∷ [] } ∷ [])
+try_held t = record { each = all_one IsTry _ (inr refl); made = refl; found = refl }
+
+-- A poller's table has connections in its own slots alone
+
+pub own_none : (part : Part) (n : ℕ) (table : List ℕ) → table ≡ replicate n 0 → IsOwnTable part table
+own_none part n table is slot out = rw is (grind (arith, length-replicate, get_or-replicate, get_or_past))
+
+pub are_none : (n : ℕ) (table : List ℕ) → table ≡ replicate n 0 → AreGenerations table
+are_none n table is = rw is (λ slot d inside. grind (arith, get_or-replicate, length-replicate))
+
+pub own_set : (part : Part) (table : List ℕ) (slot generation : ℕ) → IsOwnTable part table → IsIn part slot → IsOwnTable part (slice_set table slot generation)
+own_set part table slot generation own here other out = get_or-set_other table slot other generation 0 (λ same. out (rw same here)) ∙ own other out
+
+-- The reports of a batch, and the posts of a sweep, one after the other
+
+-- nothing was posted
+pub posted_none : (s : SeatState) (h : HandState) → ArePosted [] s s h h
+posted_none s h = record { posts = []; are = record { each = all_none IsPost; in_order = refl }; made = acts_none s; hand = rw append-nil }
+
+-- connections, and then others
+pub posted_both : {xs ys : List Ticket} {a b c : SeatState} {h k l : HandState} → ArePosted xs a b h k → ArePosted ys b c k l → ArePosted (xs ++ ys) a c h l
+posted_both one two = record {
+  posts = one.posts ++ two.posts;
+  are = posts_both one.are two.are;
+  made = acts_both _ _ _ _ _ one.made two.made;
+  hand = rw (two.hand, one.hand, due-append one.posts two.posts, append_assoc);
+}
+
+-- reports, and then others
+pub delivered_both : (generations xs ys : List ℕ) {a b c : SeatState} {h k l : HandState} → Delivered generations xs a b h k → Delivered generations ys b c k l
+    → Delivered generations (xs ++ ys) a c h l
+delivered_both generations xs ys one two = rw (filter_map-append (reported generations) xs ys) (posted_both one two)
+
+pub none_at : (t : Ticket) (slot : ℕ) → slot ≢ t.slot → at_slot slot (t ∷ []) ≡ 0
+none_at t slot other = rw (ne_eqb t.slot slot (λ e. other (sym e)))
+
+-- a report for a connection
+pub one_reported : (generations : List ℕ) (number : ℕ) (t : Ticket) → reported generations number ≡ Some t → all_reported generations (number ∷ []) ≡ t ∷ []
+one_reported generations number t is = ap (λ (o : Option Ticket). cons_option o []) is
+
+module _ {t : Ticket} {old new : SeatState} where
+  one_posted : (woke : Bool) {h k : HandState} → Adds t.slot (exchange.Post woke ∷ []) old new
+      → k ≡ record h { tickets = h.tickets ++ (made_by (minted_by (exchange.Post woke ∷ [])) t ++ []) } → ArePosted (t ∷ []) old new h k
+  one_posted woke adds hand =
+      let act : Act = record { ticket = t; exchanges = exchange.Post woke ∷ [] } in
+      record { posts = act ∷ []; are = record { each = all_one IsPost act (woke, refl); in_order = refl }; made = acts_one act old new adds; hand = hand }
+
+  -- a post that did not wake
+  pub posted_quiet : {h : HandState} → Adds t.slot (exchange.Post false ∷ []) old new → ArePosted (t ∷ []) old new h h
+  posted_quiet adds = one_posted false adds (rw append-nil)
+
+  -- a post that woke
+  pub posted_woke : {h k : HandState} → Adds t.slot (exchange.Post true ∷ []) old new → k ≡ record h { tickets = h.tickets ++ t ∷ [] } → ArePosted (t ∷ []) old new h k
+  posted_woke adds kept = one_posted true adds kept
+
+-- a batch is for as many connections as it has reports, or fewer
+pub reported_le : (generations xs : List ℕ) → length (all_reported generations xs) ≤ length xs
+reported_le generations [] = omega arith
+reported_le generations (x ∷ xs) =
+    let rest = reported_le generations xs in
+    elim (reported generations x) as (λ o. length (cons_option o (all_reported generations xs)) ≤ suc (length xs)) [ Some t ↦ omega arith | None ↦ omega arith ]
+
+module _ {xs : List Ticket} {old new : SeatState} {had has : HandState} (posted : ArePosted xs old new had has) where
+  -- as many tickets came in as there were posts, or fewer
+  pub few_tickets : length has.tickets ≤ length had.tickets + length xs
+  few_tickets = rw (posted.hand, length-append had.tickets (due_of posted.posts)) (omega (arith, posts_le posted.are))
+
+  pub capacity_kept : has.capacity ≡ had.capacity
+  capacity_kept = rw posted.hand
+
+  pub holds_nothing_still : HoldsNothing old → HoldsNothing new
+  holds_nothing_still nothing = posts_hold_nothing posted.are.each posted.made nothing
+
+-- a report is for a connection that the table has
+reported_has : (table : List ℕ) (number : ℕ) (t : Ticket) → reported table number ≡ Some t → 1 ≤ slice_index table t.slot
+reported_has table number t is = grind arith
+
+own_report : (part : Part) (table : List ℕ) (number slot : ℕ) (ts : List Ticket) → IsOwnTable part table → (IsIn part slot → ⊥)
+    → at_slot slot ts ≡ 0 → (o : Option Ticket) → reported table number ≡ o → at_slot slot (cons_option o ts) ≡ 0
+own_report part table number slot ts own out rest None is = rest
+own_report part table number slot ts own out rest (Some t) is =
+    let none = own slot out in
+    let apart : slot ≢ t.slot = λ same. (let has = rw (← same) at (reported_has table number t is) in absurd (omega arith)) in
+    omega (arith, none_at t slot apart, at_slot-append slot (t ∷ []) ts)
+
+pub own_reports : (part : Part) (table batch : List ℕ) → IsOwnTable part table → AreIn part (all_reported table batch)
+own_reports part table [] own slot out = refl
+own_reports part table (number ∷ batch) own slot out =
+    own_report part table number slot (all_reported table batch) own out (own_reports part table batch own slot out) (reported table number) refl
+
+few_in : (table : List ℕ) (slot : ℕ) → length (opened_in table slot) ≤ 1
+few_in table slot = elim (nat_lt 0 (slice_index table slot)) as (λ (b : Bool). length (if b then last_in table slot ∷ [] else []) ≤ 1) [ true ↦ omega arith | false ↦ omega arith ]
+
+-- as many as there are slots, or fewer
+pub few_below : (table : List ℕ) (slots : ℕ) → length (opened_below table slots) ≤ slots
+few_below table zero = omega arith
+few_below table (suc slots) = simp length-append (omega (arith, few_below table slots, few_in table slots))
+
+-- one slot more
+pub below_more : (table : List ℕ) (slot : ℕ) → opened_below table (slot + 1) ≡ opened_below table slot ++ opened_in table slot
+below_more table slot = rw add-one
+
+none_in : (table : List ℕ) (part : Part) (slot at : ℕ) → IsOwnTable part table → (IsIn part slot → ⊥) → at_slot slot (opened_in table at) ≡ 0
+none_in table part slot at own out = dite (ℕ_discrete slot at) (λ same. rw (rw same at (own slot out)))
+    (λ other.
+    elim (nat_lt 0 (slice_index table at)) as (λ (b : Bool). at_slot slot (if b then last_in table at ∷ [] else []) ≡ 0)
+    [ true ↦ none_at (last_in table at) slot other | false ↦ refl ])
+
+below_own : (part : Part) (table : List ℕ) (slots : ℕ) → IsOwnTable part table → AreIn part (opened_below table slots)
+below_own part table zero own slot out = refl
+below_own part table (suc slots) own slot out =
+    omega (arith, below_own part table slots own slot out, none_in table part slot slots own out, at_slot-append slot (opened_below table slots) (opened_in table slots))
+
+-- a poller opened connections in its own slots alone
+pub own_opened : (part : Part) (table : List ℕ) → IsOwnTable part table → AreIn part (all_opened table)
+own_opened part table own = below_own part table (length table) own
+
+-- what a round posts for time
+pub own_sweep : (part : Part) (old new : PollerState) → AreIn part (all_opened old.table) → AreIn part (sweep_of old new)
+own_sweep part old new own slot out =
+    elim (new.swept == old.swept) as (λ (b : Bool). at_slot slot (if b then [] else all_opened old.table) ≡ 0) [ true ↦ refl | false ↦ own slot out ]
+
+pub few_sweep : (old new : PollerState) → length (sweep_of old new) ≤ length old.table
+few_sweep old new =
+    let few = few_below old.table (length old.table) in
+    elim (new.swept == old.swept) as (λ (b : Bool). length (if b then [] else all_opened old.table) ≤ length old.table) [ true ↦ omega arith | false ↦ few ]
+
+-- no sweep was made
+pub no_sweep : (old : PollerState) (swept : ℕ) → swept ≡ old.swept → (if swept == old.swept then [] else all_opened old.table) ≡ []
+no_sweep old swept same = rw (eq-eqb swept old.swept same)
+
+past_later : (second limit last : ℕ) → is_past second limit last ≡ true → second ≢ last
+past_later second limit last past same = grind (arith, nat_tests)
+
+-- a sweep was made
+pub sweep_is : (limit : ℕ) (p r : PollerState) → r ≡ record p { swept = p.second } → is_due limit p ≡ true → sweep_of p r ≡ all_opened p.table
+sweep_is limit p r counted due = rw (counted, ne_eqb p.second p.swept (past_later p.second limit p.swept due))
+
+-- the listener was not reported
+pub flag_still : (told flag : Bool) (batch : List ℕ) → (IsTrue told ↔ Contains batch 0) → told ≡ false → IsTrue flag ↔ (IsTrue flag ⊎ Contains batch 0)
+flag_still told flag batch is not = (λ up. inl up, by_either) where
+  by_either : IsTrue flag ⊎ Contains batch 0 → IsTrue flag
+  by_either (inl up) = up
+  by_either (inr has) = let so : told ≡ true = is.1 has in cc

@@ -1,5 +1,2 @@
-pub mod Pollers
 pub mod Acts
-pub mod Connections
-pub mod Reports
-pub mod WholeRounds
+pub mod Rounds

@@ -1,11 +1,19 @@
--- What a thread's seat did, act by act: the exchanges of each at the slot of its ticket. Part of the promises.
-use Rattle.std.specs.Prelude.{◌≡◌, ◌⊎◌, ℕ, zero, suc, ◌==◌, Bool, true, false, if◌then◌else◌, List, [], ◌∷◌, ◌++◌, map}
-use Rattle.std.specs.List.{All}
+-- What a thread's seat did, act by act, and what a round posts. Part of the promises.
+use Rattle.std.specs.Prelude.{◌≡◌, ◌⊎◌, ℕ, zero, suc, ◌==◌, nat_lt, Bool, true, false, if◌then◌else◌, List, [], ◌∷◌, ◌++◌, length, map, Option, Some, None, slice_index}
+use Rattle.std.specs.List.{All, filter_map, count_by}
 use Rattle.claims.specs.declared.view.Exchange.{Exchange}
 use Rattle.claims.specs.declared.view.Exchange.TheVariants.{Post, Take, Release, Adopted, NotFree}
 use Rattle.claims.specs.Views.{minted_by}
 use Rattle.claims.specs.Seats.{SeatState, trace_at}
 use Rattle.ready.specs.declared.ticket.Ticket.{Ticket}
+use Rattle.token.specs.declared.name.Name.{Name}
+use Rattle.token.specs.declared.name.Name.TheVariants.{Listener, Waker, End}
+use Rattle.token.specs.Numbers.{name_of}
+use Rattle.relay_core.specs.Idle.{is_past}
+use Rattle.dispatch.specs.Hands.{HandState}
+use Rattle.rounds.specs.Pollers.{PollerState}
+
+-- Acts: the exchanges of each at the slot of its ticket
 
 pub record Act : Type 0 where
   pub ticket : Ticket
@@ -67,3 +75,71 @@ pub record AreTries (opened : List Ticket) (held : List ℕ) (tries : List Act) 
   pub each : All IsTry tries
   pub made : due_of tries ≡ opened
   pub found : held_of tries ≡ held
+
+-- What delivering the reports of one poll does. Each report that names an end of a connection which its slot still has
+-- becomes a note, and each note that found nobody at work there makes a ticket
+
+-- The connection that a name is of, if its slot still has it: the slot's generation in the table is the name's. A slot
+-- that the table lacks reads as generation 0, which no end has
+abbrev pub connection : List ℕ → Option Name → Option Ticket
+connection generations (Some (End end)) =
+    if slice_index generations end.slot == end.generation then Some (record { slot = end.slot; generation = end.generation }) else None
+connection generations (Some Listener) = None
+connection generations (Some Waker) = None
+connection generations None = None
+
+-- the connection that a report is for, by the report's number
+abbrev pub reported : List ℕ → ℕ → Option Ticket
+reported generations number = connection generations (name_of number)
+
+-- the connections that the reports of a batch are for, in order
+abbrev pub all_reported : List ℕ → List ℕ → List Ticket
+all_reported generations batch = filter_map (reported generations) batch
+
+-- how many of these are for this slot
+abbrev pub at_slot : ℕ → List Ticket → ℕ
+at_slot slot tickets = count_by (λ t. t.slot == slot) tickets
+
+-- A note was posted for each of these connections, in order, by one exchange at its slot, and those of them that woke
+-- left their tickets in hand, in order. Nothing else of the seat or of the hand changed
+pub record ArePosted (tickets : List Ticket) (old new : SeatState) (had has : HandState) : Type 0 where
+  pub posts : List Act
+  pub are : ArePosts tickets posts
+  pub made : ActsMade posts old new
+  pub hand : has ≡ record had { tickets = had.tickets ++ due_of posts }
+
+-- each report for a connection was posted
+abbrev pub Delivered : List ℕ → List ℕ → SeatState → SeatState → HandState → HandState → Type 0
+Delivered generations batch old new had has = ArePosted (all_reported generations batch) old new had has
+
+-- What a round posts for time: a connection whose sockets report nothing is looked at again once the idle limit has passed
+
+-- the last connection that was opened in a slot
+abbrev pub last_in : List ℕ → ℕ → Ticket
+last_in table slot = record { slot = slot; generation = slice_index table slot }
+
+-- that one, if one was
+abbrev pub opened_in : List ℕ → ℕ → List Ticket
+opened_in table slot = if nat_lt 0 (slice_index table slot) then last_in table slot ∷ [] else []
+
+-- of the first this many slots, each in which a connection was opened, once and in rising order
+abbrev pub opened_below : List ℕ → ℕ → List Ticket
+opened_below table zero = []
+opened_below table (suc slots) = opened_below table slots ++ opened_in table slots
+
+abbrev pub all_opened : List ℕ → List Ticket
+all_opened table = opened_below table (length table)
+
+-- A sweep is due in a round: at the second that the round before it read, the limit had passed since the last sweep.
+-- The round has asked for reports since then
+abbrev pub is_due : ℕ → PollerState → Bool
+is_due limit p = is_past p.second limit p.swept
+
+-- the second of the last sweep, after a look: this one, if the limit has passed since the one before
+abbrev pub swept_after : ℕ → ℕ → ℕ → ℕ
+swept_after limit second last = if is_past second limit last then second else last
+
+-- what a round posted for time: each slot in which a connection was opened, if it made a sweep, and nothing if the
+-- second of the last sweep is what it was
+abbrev pub sweep_of : PollerState → PollerState → List Ticket
+sweep_of old new = if new.swept == old.swept then [] else all_opened old.table

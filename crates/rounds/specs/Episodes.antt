@@ -1,7 +1,127 @@
--- What is logged once, when it begins, and not again while it lasts. Part of the promises.
-use Rattle.std.specs.Prelude.{false}
-use Rattle.rounds.specs.Drops.{no_drops}
+-- What the errors of accept(2) mean to the relay, and what is logged of accepting. Part of the promises.
+use Rattle.std.specs.Prelude.{◌≡◌, ℕ, ◌+◌, ◌==◌, ◌||◌, nat_lt, Bool, true, false, List, Option, Some, None, if◌then◌else◌}
+use Rattle.std.specs.declared.io.ErrorKind.{ErrorKind}
+use Rattle.std.specs.declared.io.ErrorKind.TheVariants.{Interrupted, ConnectionAborted, NetworkDown, NetworkUnreachable, HostUnreachable, WouldBlock}
+use Rattle.relay_log.specs.Messages.{drop_message, drops_message}
+use Rattle.relay_log.specs.declared.cause.Cause.{Cause}
+use Rattle.relay_log.specs.declared.cause.Cause.TheVariants as cause
+use Rattle.rounds.specs.Pollers.{counted_up}
+use Rattle.rounds.specs.declared.episodes.Accepted.{Accepted}
+use Rattle.rounds.specs.declared.episodes.Accepted.TheVariants.{Again, Blocked, Starved}
 use Rattle.rounds.specs.declared.episodes.Episodes.{Episodes}
+use Rattle.rounds.specs.declared.episodes.Tally.{Tally}
+use Rattle.rounds.specs.declared.episodes.Drops.{Drops}
+use Rattle.rounds.specs.declared.dropping.Owed.{Owed}
+
+-- A signal, a connection that was given up before it was accepted, or a network error that the new socket had pending:
+-- the next connection may be accepted at once. EAGAIN says that none waits. Anything else counts as a lack of
+-- descriptors or memory
+abbrev pub accepted_of : ErrorKind → Accepted
+accepted_of Interrupted = Again
+accepted_of ConnectionAborted = Again
+accepted_of NetworkDown = Again
+accepted_of NetworkUnreachable = Again
+accepted_of HostUnreachable = Again
+accepted_of WouldBlock = Blocked
+accepted_of error = Starved
+
+-- only the answer that none waits takes the accept flag down
+abbrev pub flag_after : Accepted → Bool → Bool
+flag_after Again flag = flag
+flag_after Blocked flag = false
+flag_after Starved flag = flag
+
+-- whether accept(2) is starved: until it answers that none waits, or gives a connection
+abbrev pub starved_after : Accepted → Bool → Bool
+starved_after Again starved = starved
+starved_after Blocked starved = false
+starved_after Starved starved = true
+
+-- what is logged once for as long as it lasts: a lack was logged, and that clients wait for a slot is over once none
+-- waits
+abbrev pub episodes_after : Accepted → Episodes → Episodes
+episodes_after Again e = e
+episodes_after Blocked e = record e { full = false }
+episodes_after Starved e = record e { starved = true }
+
+-- Which lines the log gets of accepted connections that are closed unopened. The first of a cause has a line of its own.
+-- Those that follow it are counted, and logged by one line a second
+
+-- nothing was logged of a cause, and nothing is counted
+abbrev pub no_tally : Tally
+no_tally = record { last = None; line = 0; more = 0 }
+
+-- whether no whole second passed between the last drop and this one
+abbrev pub follows : ℕ → Option ℕ → Bool
+follows second None = false
+follows second (Some last) = nat_lt second (last + 2)
+
+-- whether a drop at this second is counted: others are counted already, or it follows the last one
+abbrev pub is_counted : ℕ → Tally → Bool
+is_counted second t = nat_lt 0 t.more || follows second t.last
+
+-- what such a drop makes of it
+abbrev pub dropped_at : ℕ → Tally → Tally
+dropped_at second t =
+    if is_counted second t then record t { last = Some second; more = counted_up t.more 1 }
+    else record t { last = Some second; line = second }
+
+-- the line that must be logged for it: one of its own, if it is not counted
+abbrev pub owed_for : Cause → ℕ → Tally → Option Owed
+owed_for cause second t = if is_counted second t then None else Some (record { cause = cause; more = 0 })
+
+-- the line for this many, if there are any
+abbrev pub owed : Cause → ℕ → Option Owed
+owed cause more = if nat_lt 0 more then Some (record { cause = cause; more = more }) else None
+
+-- as it prints
+abbrev pub line_of : Owed → List ℕ
+line_of o = if nat_lt 0 o.more then drops_message o.cause o.more else drop_message o.cause
+
+-- how many must be logged at this second: all that are counted, unless the second has had a line of that cause
+abbrev pub due_at : ℕ → Tally → ℕ
+due_at second t = if t.line == second then 0 else t.more
+
+-- what is left once they are logged
+abbrev pub logged_at : ℕ → Tally → Tally
+logged_at second t = if nat_lt 0 (due_at second t) then record t { line = second; more = 0 } else t
+
+abbrev pub tally_of : Cause → Drops → Tally
+tally_of cause.Memory d = d.memory
+tally_of cause.Connect d = d.connect
+tally_of cause.Register d = d.register
+tally_of cause.Address d = d.address
+
+-- that cause has this tally
+abbrev pub with_tally : Cause → Tally → Drops → Drops
+with_tally cause.Memory t d = record d { memory = t }
+with_tally cause.Connect t d = record d { connect = t }
+with_tally cause.Register t d = record d { register = t }
+with_tally cause.Address t d = record d { address = t }
+
+-- all causes
+abbrev pub no_drops : Drops
+no_drops = record { memory = no_tally; connect = no_tally; register = no_tally; address = no_tally }
+
+abbrev pub dropped_for : Cause → ℕ → Drops → Drops
+dropped_for cause second d = with_tally cause (dropped_at second (tally_of cause d)) d
+
+abbrev pub all_logged_at : ℕ → Drops → Drops
+all_logged_at second d = record {
+  memory = logged_at second d.memory;
+  connect = logged_at second d.connect;
+  register = logged_at second d.register;
+  address = logged_at second d.address;
+}
+
+-- none must be logged at this second
+pub record AreLogged (second : ℕ) (d : Drops) : Type 0 where
+  pub memory : due_at second d.memory ≡ 0
+  pub connect : due_at second d.connect ≡ 0
+  pub register : due_at second d.register ≡ 0
+  pub address : due_at second d.address ≡ 0
+
+-- What is logged once, when it begins, and not again while it lasts
 
 -- nothing was logged that still lasts
 abbrev pub no_episodes : Episodes

@@ -1,13 +1,11 @@
 -- What accepting and opening connections does to what the poller's thread owns. Part of the promises.
-use Rattle.std.specs.Prelude.{◌≡◌, ◌⊎◌, ℕ, ◌+◌, ◌<◌, ◌≤◌, ◌==◌, Bool, false, List, [], ◌∷◌, ◌++◌, length, drop, map, Option, Some, None, Result, Ok, Err, slice_index, slice_set}
+use Rattle.std.specs.Prelude.{◌≡◌, ◌⊎◌, ℕ, ◌+◌, ◌<◌, ◌≤◌, ◌==◌, Bool, true, false, List, [], ◌∷◌, ◌++◌, length, drop, map, Option, Some, None, Result, Ok, Err, slice_index, slice_set}
 use Rattle.std.specs.List.{count_by}
 use Rattle.claims.specs.declared.view.Exchange.TheVariants as exchange
 use Rattle.claims.specs.Seats.{SeatState, TableId, Adds, HoldsNothing, account_at}
 use Rattle.ready.specs.declared.ticket.Ticket.{Ticket}
 use Rattle.dispatch.specs.declared.shared.Own.{Own}
 use Rattle.claims.specs.Views.{minted_by}
-use Rattle.rounds.specs.Acts.{Act, made_by, opening, ActsMade, AreTries}
-use Rattle.rounds.specs.Deliveries.{at_slot}
 use Rattle.dispatch.specs.Acts as act
 use Rattle.dispatch.specs.Splits.{IsIn}
 use Rattle.dispatch.specs.Hands.{ticket_room}
@@ -23,10 +21,13 @@ use Rattle.relay_log.specs.declared.cause.Cause.TheVariants as cause
 use Rattle.dispatch.specs.declared.front.Unopened.{Unopened}
 use Rattle.dispatch.specs.declared.front.Unopened.TheVariants as unopened
 use Rattle.dispatch.specs.declared.route.Route.{Route}
-use Rattle.rounds.specs.Leads.{LeadGiven}
 use Rattle.dispatch.specs.declared.part.Part.{Part}
-use Rattle.rounds.specs.Drops.{dropped_for}
-use Rattle.rounds.specs.Episodes.{opened_after}
+use Rattle.rounds.specs.Acts.{Act, made_by, opening, ActsMade, AreTries, at_slot}
+use Rattle.rounds.specs.Episodes.{dropped_for, opened_after}
+use Rattle.std.specs.declared.net.socket_addr.SocketAddrV4.{SocketAddrV4}
+use Rattle.std.specs.Net.Addr.{ipv4_octets}
+use Rattle.std.specs.Net.Socket.{v4_ip, v4_port}
+use Rattle.relay_core.specs.Proxy.{proxy_line}
 
 -- Between two steps of a round the poller's thread holds no slot, its seat is one of these claim words, and its table
 -- has a generation for each slot
@@ -127,6 +128,32 @@ abbrev pub IsLost : PollerState → PollerState → Type 0
 IsLost old new =
     (new.opened ≡ old.opened) × (new.dropped ≡ old.dropped) × (new.lost ≡ counted_up old.lost 1)
     × (new.episodes ≡ old.episodes)
+
+-- What a target is sent before the client's own bytes
+
+-- the line of the PROXY protocol from a client's own address to the one on which it was accepted, if both are given
+abbrev pub line_between : Option SocketAddrV4 → Option SocketAddrV4 → Option (List ℕ)
+line_between (Some client) (Some accepted) =
+    Some (proxy_line (ipv4_octets (v4_ip client)) (v4_port client) (ipv4_octets (v4_ip accepted)) (v4_port accepted))
+line_between (Some client) None = None
+line_between None accepted = None
+
+abbrev pub line_of : Route → Option (List ℕ)
+line_of route = line_between route.client route.accepted
+
+-- without a line nothing is sent; None if there must be one and an address is missing
+abbrev pub lead_of : Bool → Route → Option (List ℕ)
+lead_of true route = line_of route
+lead_of false route = Some []
+
+-- what was lacking if there is no lead: an address, or else memory
+abbrev pub lacks : Option (List ℕ) → Cause
+lacks None = cause.Address
+lacks (Some lead) = cause.Memory
+
+-- this is the lead, or the lack of one, for a route that the front may give
+abbrev pub LeadGiven : (Route → Type 0) → Bool → Option (List ℕ) → Type 0
+LeadGiven may_tell proxy lead = (route : Route) × may_tell route × (lead_of proxy route ≡ lead)
 
 -- Why an accepted connection is closed unopened: the front refused to open it; or the front opened it, and an address
 -- of the line for its target is missing, or else memory ran out

@@ -1,4 +1,4 @@
--- What the poller keeps between its rounds. Part of the promises.
+-- What the poller keeps between its rounds, and the numbers of a round that clauses name. Part of the promises.
 use Rattle.std.specs.Prelude.{◌≡◌, ◌⊎◌, ℕ, ◌+◌, ◌≤◌, min, Bool, List, All, slice_index}
 use Rattle.rounds.specs.declared.episodes.Episodes.{Episodes}
 use Rattle.rounds.specs.declared.opening.Opening.{Opening}
@@ -56,3 +56,11 @@ counted_up count more = min (count + more) 18446744073709551615
 -- such a count rose by this many, or has reached its greatest value
 abbrev pub Counted : ℕ → ℕ → ℕ → Type 0
 Counted old more new = (new ≡ old + more) ⊎ ((18446744073709551615 ≤ old + more) × (18446744073709551615 ≤ new))
+
+-- how many tickets a hand must have room for, beside one of each slot, before a round begins
+abbrev pub spare_room : ℕ
+spare_room = 512
+
+-- the most tries of accept(2) in a round
+abbrev pub max_accepts : ℕ
+max_accepts = 4

@@ -5,15 +5,12 @@ use Rattle.ready.specs.Steps.{HeldOnce}
 use Rattle.dispatch.specs.declared.front.Waiting.{Waiting}
 use Rattle.dispatch.specs.declared.front.Waiting.TheVariants as waiting
 use Rattle.dispatch.specs.declared.shared.Own.{Own}
-use Rattle.rounds.specs.Acts.{Act, due_of, ActsMade, ArePosts, AreTries}
-use Rattle.rounds.specs.Deliveries.{all_reported, ArePosted}
+use Rattle.rounds.specs.Acts.{Act, due_of, ActsMade, ArePosts, AreTries, all_reported, ArePosted, is_due, sweep_of, swept_after}
 use Rattle.dispatch.specs.Hands.{HasRoom, ticket_room}
 use Rattle.rounds.specs.Openings.{AreIn, AreLost, AreOpened, SlotsCounted}
 use Rattle.dispatch.specs.Outgoing.{tickets_out}
-use Rattle.rounds.specs.Pollers.{PollerState, HasOpenedAll, Counted}
-use Rattle.rounds.specs.Drops.{AreLogged}
-use Rattle.rounds.specs.Limits.{spare_room}
-use Rattle.rounds.specs.Sweeps.{is_due, sweep_of, swept_after}
+use Rattle.rounds.specs.Pollers.{PollerState, HasOpenedAll, Counted, spare_room}
+use Rattle.rounds.specs.Episodes.{AreLogged}
 use Rattle.dispatch.specs.Posts.{OnlyWorn}
 use Rattle.relay_log.specs.declared.faults.ServerFault.{ServerFault}
 use Rattle.relay_log.specs.declared.faults.ServerFault.TheVariants as server_fault

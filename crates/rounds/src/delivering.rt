@@ -3,7 +3,7 @@ ghost use Rattle.std.specs.Prelude.{◌≡◌, ℕ, ◌-◌, ◌<◌, ◌≤◌,
 ghost use Rattle.claims.specs.Seats.{HoldsNothing};
 ghost use Rattle.dispatch.specs.Hands.{ticket_room};
 ghost use Rattle.dispatch.specs.Posts.{OnlyWorn};
-ghost use Rattle.rounds.specs.Deliveries.{connection, reported, ArePosted, Delivered};
+ghost use Rattle.rounds.specs.Acts.{connection, reported, ArePosted, Delivered};
 
 use claims::{ClaimSeat, Claims, Posted};
 use dispatch::{Hand, LISTENER};
@@ -68,6 +68,7 @@ fn report(
 
 /// Posts a note at a connection's slot, and adds its ticket to the hand if the post answers Wake. `Worn` changes
 /// nothing.
+#[tactic(auto, using(crate::proofs::Acts::posted_quiet, crate::proofs::Acts::posted_woke))]
 pub(crate) fn post_note(
     claims: &Claims,
     seat: &mut ClaimSeat,

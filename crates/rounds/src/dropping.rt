@@ -1,9 +1,9 @@
 //! An accepted connection that is closed unopened.
 ghost use Rattle.std.specs.Prelude.{◌≡◌, ◌<◌, Some};
 ghost use Rattle.log.specs.declared.level.Level.TheVariants as level;
-ghost use Rattle.rounds.specs.Drops.{dropped_for, line_of};
+ghost use Rattle.rounds.specs.Episodes.{dropped_for, line_of};
 
-use crate::drops::Drops;
+use crate::episodes::Drops;
 use relay_log::{Cause, Logs, log_drop, log_drops};
 use std::marker::Model;
 
@@ -16,15 +16,8 @@ pub(crate) struct Owed {
 }
 
 impl Owed {
-    /// The line about one drop.
-    pub(crate) fn first(cause: Cause) -> Owed
-        ensures { result ≡ record { cause = cause; more = 0 } }
-    {
-        Owed { cause, more: 0 }
-    }
-
-    /// The line that counts this many more.
-    pub(crate) fn further(cause: Cause, more: u64) -> Owed
+    /// The line that counts this many more, or with 0 the line about one drop.
+    pub(crate) fn new(cause: Cause, more: u64) -> Owed
         ensures { result ≡ record { cause = cause; more = more } }
     {
         Owed { cause, more }

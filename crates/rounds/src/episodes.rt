@@ -1,8 +1,40 @@
-//! What is logged once, when it begins, and not again while it lasts.
-ghost use Rattle.std.specs.Prelude.{◌≡◌};
-ghost use Rattle.rounds.specs.Episodes.{no_episodes};
+//! What the errors of accept(2) mean, and what is logged of accepting. What lasts is logged once, when it begins, and
+//! not again while it lasts. Of the accepted connections that are closed unopened the first of a cause has a line of its
+//! own, and those that follow it are counted.
+ghost use Rattle.std.specs.Prelude.{◌≡◌, IfSome, Some};
+ghost use Rattle.log.specs.declared.level.Level.TheVariants as level;
+ghost use Rattle.rounds.specs.Episodes.{accepted_of, all_logged_at, dropped_at, dropped_for, due_at, follows, is_counted, line_of, no_drops, no_episodes, no_tally, owed, owed_for, tally_of, logged_at, with_tally, AreLogged};
 
-use crate::drops::Drops;
+use crate::dropping::Owed;
+use relay_log::{Cause, Logs};
+use std::io::ErrorKind;
+
+/// What an error of accept(2) means.
+#[derive(Clone, Copy, PartialEq, Eq)]
+pub(crate) enum Accepted {
+    /// The next connection may be accepted at once.
+    Again,
+    /// No connection waits.
+    Blocked,
+    /// There are no descriptors or no memory for it. It keeps waiting.
+    Starved,
+}
+
+/// The class of an error of accept(2), by its kind. Linux passes on errors that are pending on the new socket, and
+/// accept(2) is then to be tried again.
+pub(crate) fn accepted_of(kind: ErrorKind) -> Accepted
+    ensures { result ≡ accepted_of kind }
+{
+    match kind {
+        ErrorKind::Interrupted
+        | ErrorKind::ConnectionAborted
+        | ErrorKind::NetworkDown
+        | ErrorKind::NetworkUnreachable
+        | ErrorKind::HostUnreachable => Accepted::Again,
+        ErrorKind::WouldBlock => Accepted::Blocked,
+        _ => Accepted::Starved,
+    }
+}
 
 /// What lasts at a poller now, and was logged when it began.
 #[derive(Drop)]
@@ -26,5 +58,182 @@ impl Episodes {
             full: false,
             drops: Drops::none(),
         }
+    }
+}
+
+/// The drops of one cause.
+#[derive(Drop)]
+pub struct Tally {
+    /// The second of the last one, if one came since a connection was opened.
+    last: Option<u64>,
+    /// The second of the last line.
+    line: u64,
+    /// How many are counted, and in no line yet.
+    more: u64,
+}
+
+impl Tally {
+    fn none() -> Tally
+        ensures { result ≡ no_tally }
+    {
+        Tally {
+            last: None,
+            line: 0,
+            more: 0,
+        }
+    }
+
+    /// Whether a drop at this second is counted, and has no line of its own.
+    fn is_counted(&self, second: u64) -> bool
+        ensures { result ≡ is_counted second self.now }
+    {
+        self.more > 0 || follows(second, self.last)
+    }
+
+    /// Adds a drop at this second. Returns the line that must be logged, if the drop is not counted.
+    fn add(&mut self, cause: Cause, second: u64) -> Option<Owed>
+        ensures tally { self.new ≡ dropped_at second self.old }
+        ensures owed { result ≡ owed_for cause second self.old }
+    {
+        let is_counted = self.is_counted(second);
+        self.last = Some(second);
+        if is_counted {
+            self.more = self.more.saturating_add(1);
+            return None;
+        }
+        self.line = second;
+        Some(Owed::new(cause, 0))
+    }
+
+    /// Returns the line for what is counted, if anything is and this second has had no line.
+    fn counted_line(&mut self, cause: Cause, second: u64) -> Option<Owed>
+        ensures tally { self.new ≡ logged_at second self.old }
+        ensures owed { result ≡ owed cause (due_at second self.old) }
+        ensures logged { due_at second self.new ≡ 0 }
+    {
+        if self.line == second || self.more == 0 {
+            return None;
+        }
+        let more = self.more;
+        self.line = second;
+        self.more = 0;
+        Some(Owed::new(cause, more))
+    }
+
+    /// The next drop has a line of its own again. Returns the line for what is counted until now, if anything is.
+    fn end(&mut self, cause: Cause) -> Option<Owed>
+        ensures tally { self.new ≡ no_tally }
+        ensures owed { result ≡ owed cause self.old.more }
+    {
+        let more = self.more;
+        *self = Tally::none();
+        if more == 0 {
+            return None;
+        }
+        Some(Owed::new(cause, more))
+    }
+}
+
+/// Whether no whole second passed between the last drop, if there was one, and this second.
+fn follows(second: u64, last: Option<u64>) -> bool
+    ensures { result ≡ follows second last }
+{
+    match last {
+        None => false,
+        Some(last) => second < last || second - last < 2,
+    }
+}
+
+/// The drops of a poller, by their causes.
+#[derive(Drop)]
+pub struct Drops {
+    memory: Tally,
+    connect: Tally,
+    register: Tally,
+    address: Tally,
+}
+
+impl Drops {
+    /// Nothing was logged, and nothing is counted.
+    pub(crate) fn none() -> Drops
+        ensures { result ≡ no_drops }
+    {
+        Drops {
+            memory: Tally::none(),
+            connect: Tally::none(),
+            register: Tally::none(),
+            address: Tally::none(),
+        }
+    }
+
+    /// Adds a drop for this cause at this second. Returns the line that must be logged, if the drop is not counted.
+    pub(crate) fn add(&mut self, cause: Cause, second: u64) -> Option<Owed>
+        ensures drops { self.new ≡ dropped_for cause second self.old }
+        ensures owed { result ≡ owed_for cause second (tally_of cause self.old) }
+    {
+        match cause {
+            Cause::Memory => self.memory.add(cause, second),
+            Cause::Connect => self.connect.add(cause, second),
+            Cause::Register => self.register.add(cause, second),
+            Cause::Address => self.address.add(cause, second),
+        }
+    }
+
+    /// Logs at this second what is counted of each cause, unless the second has had a line of that cause.
+    pub(crate) fn log_counted(&mut self, rt: &impl Logs, second: u64)
+        ensures logged { self.new ≡ all_logged_at second self.old }
+        ensures all { AreLogged second self.new }
+    {
+        log_owed(rt, self.tell_of(Cause::Memory, second));
+        log_owed(rt, self.tell_of(Cause::Connect, second));
+        log_owed(rt, self.tell_of(Cause::Register, second));
+        log_owed(rt, self.tell_of(Cause::Address, second));
+    }
+
+    /// Returns the line for what is counted of a cause, if anything is and this second has had no line of it.
+    fn tell_of(&mut self, cause: Cause, second: u64) -> Option<Owed>
+        ensures drops { self.new ≡ with_tally cause (logged_at second (tally_of cause self.old)) self.old }
+        ensures owed { result ≡ owed cause (due_at second (tally_of cause self.old)) }
+        ensures logged { due_at second (tally_of cause self.new) ≡ 0 }
+    {
+        match cause {
+            Cause::Memory => self.memory.counted_line(cause, second),
+            Cause::Connect => self.connect.counted_line(cause, second),
+            Cause::Register => self.register.counted_line(cause, second),
+            Cause::Address => self.address.counted_line(cause, second),
+        }
+    }
+
+    /// Logs all that is counted. The next drop of each cause has a line of its own again.
+    pub(crate) fn end(&mut self, rt: &impl Logs)
+        ensures { self.new ≡ no_drops }
+    {
+        log_owed(rt, self.end_of(Cause::Memory));
+        log_owed(rt, self.end_of(Cause::Connect));
+        log_owed(rt, self.end_of(Cause::Register));
+        log_owed(rt, self.end_of(Cause::Address));
+    }
+
+    /// Returns the line for what is counted of a cause until now, if anything is. The next drop for it has a line of
+    /// its own.
+    fn end_of(&mut self, cause: Cause) -> Option<Owed>
+        ensures drops { self.new ≡ with_tally cause no_tally self.old }
+        ensures owed { result ≡ owed cause (tally_of cause self.old).more }
+    {
+        match cause {
+            Cause::Memory => self.memory.end(cause),
+            Cause::Connect => self.connect.end(cause),
+            Cause::Register => self.register.end(cause),
+            Cause::Address => self.address.end(cause),
+        }
+    }
+}
+
+/// Logs the line, if there is one.
+fn log_owed<L: Logs>(rt: &L, owed: Option<Owed>)
+    ensures { IfSome owed (λ line. L.logged rt.now level.Warn (Some (line_of line))) }
+{
+    if let Some(owed) = owed {
+        owed.log(rt);
     }
 }

@@ -28,9 +28,9 @@
 //!   anybody (`log_if_full`: `full`, `found`). It stays so until accept(2) answers that nobody waits.
 //! - Both tokens of a connection have the next generation of its slot (`next_names`). Its pair is a fresh one with the
 //!   poller's size of ring, made at the second of the round (`connect`: `pair`), and its lead the PROXY line of the
-//!   addresses that the front gave, or nothing (`lead`, by `LeadGiven` of `specs/Leads.antt`). Without a pair the cause
-//!   that is logged is the front's, or `address` if targets are sent the line and the front gave a route without one of
-//!   the two, or else `memory` (`cause`, by `DropsFor`).
+//!   addresses that the front gave, or nothing (`lead`, by `LeadGiven`). Without a pair the cause that is logged is the
+//!   front's, or `address` if targets are sent the line and the front gave a route without one of the two, or else
+//!   `memory` (`cause`, by `DropsFor`).
 //! - An accepted connection counts as opened, as dropped, or by its slot as lost (`open`: `counted`, by `Fate`), and
 //!   once: what comes with it out of `Poller::accept` cannot be dropped, and only these counts take it (`Uncounted`).
 //!   An opening passes its line to the log, and both are counted at their slot (`OpeningLogged`, `DropCounted`). A
@@ -40,12 +40,9 @@
 //!   generation 0 (`Poller::new`), and a table has its poller's own alone (`IsOwnTable`).
 #![tactic(auto)]
 
-mod accepting;
 mod delivering;
 mod dropping;
-mod drops;
 mod episodes;
-mod lead;
 mod limits;
 mod opening;
 mod poller;
@@ -53,8 +50,7 @@ mod round;
 mod sweeping;
 
 pub use delivering::deliver;
-pub use drops::{Drops, Tally};
-pub use episodes::Episodes;
+pub use episodes::{Drops, Episodes, Tally};
 pub use opening::{Opening, open};
 pub use poller::{Poller, Uncounted};
 pub use round::poller_round;

@@ -2,32 +2,33 @@
 //! connection, the connection to the target, what the target is sent first, the pair, the place, and the one note
 //! that starts it.
 ghost use Rattle.std.specs.Prelude.{◌≡◌, ◌≢◌, ◌⊎◌, ◌+◌, ◌<◌, ◌≤◌, [], ◌∷◌, ◌++◌, drop, length, Err, Some, None, IfOk, IfErr, OnOk, OnErr, OnSome, IfSome, IsNone, slice_get, slice_index};
+ghost use Rattle.std.specs.Net.Addr.{ipv4_octets};
+ghost use Rattle.std.specs.Net.Socket.{v4_ip, v4_port};
 ghost use Rattle.claims.specs.Seats.{HoldsNothing, OnlyAt};
 ghost use Rattle.relay_core.specs.Pairs.{fresh};
-ghost use Rattle.rounds.specs.Drops.{dropped_for};
+ghost use Rattle.relay_core.specs.Proxy.{proxy_line};
+ghost use Rattle.rounds.specs.Episodes.{dropped_for};
 ghost use Rattle.dispatch.specs.Acts.{AreMade, open_slot, placing};
 ghost use Rattle.dispatch.specs.Acts as act;
 ghost use Rattle.dispatch.specs.Posts.{HoldsOnly, OnlyWorn};
 ghost use Rattle.dispatch.specs.Hands.{ticket_room};
 ghost use Rattle.token.specs.Names.{last_generation};
-ghost use Rattle.rounds.specs.Leads.{LeadGiven};
-ghost use Rattle.rounds.specs.Openings.{next_in, Between, DropCounted, DropsFor, Fate, IsNext, LetGo, OneAccepted, OnlyOpened, OpeningLogged, Placed, Registered, SameQueues, Started};
+ghost use Rattle.rounds.specs.Openings.{lacks, lead_of, next_in, Between, DropCounted, DropsFor, Fate, IsNext, LeadGiven, LetGo, OneAccepted, OnlyOpened, OpeningLogged, Placed, Registered, SameQueues, Started};
 ghost use Rattle.rounds.specs.Pollers.{AreGenerations};
 
 use crate::dropping::Dropped;
-use crate::lead::lead;
 use crate::poller::{Poller, Uncounted};
 use berths::Berth;
 use claims::{Adopted, Posted, Released};
-use dispatch::{Acts, Counting, Front, Hand, Moves, Opened, Own, Settle, Shared};
+use dispatch::{Acts, Counting, Front, Hand, Moves, Opened, Own, Route, Settle, Shared};
 use log::Log;
 use ready::Ticket;
-use relay_core::Pair;
+use relay_core::{Pair, proxy_line};
 use relay_log::{
     Cause, ClientsAt, Gone, Known, Logs, ServerFault, Why, log_gone, log_open, log_peer, logs_gone,
 };
 use std::alloc::{AllocError, Global};
-use std::net::SocketAddr;
+use std::net::{SocketAddr, SocketAddrV4};
 use std::sync::Wait;
 use token::{Side, Token, next_gen};
 
@@ -243,7 +244,7 @@ fn moved_to_heap<T: Drop>(alloc: Global, value: T) -> Result<Box<T>, AllocError>
 /// the addresses of their clients' connections, the pair begins with it on the way up. A refusal closes the target's
 /// connection if it had been started. The cause is the front's, or `Address` if an address of the line is missing, or
 /// `Memory`.
-#[tactic(auto, using(crate::proofs::Connections::refused_drops, crate::proofs::Connections::lacking_drops, crate::proofs::Connections::memory_drops))]
+#[tactic(auto, using(crate::proofs::Rounds::refused_drops, crate::proofs::Rounds::lacking_drops, crate::proofs::Rounds::memory_drops))]
 fn reach<F: Front, A: Moves<F>, N: Log>(
     rt: &N,
     alloc: Global,
@@ -277,6 +278,36 @@ fn reach<F: Front, A: Moves<F>, N: Log>(
         lead.as_slice(),
     )?;
     Ok((pair, target))
+}
+
+/// What the target of a connection by this route is sent before the client's own bytes: with `proxy` the line with both
+/// addresses, else nothing, which takes no memory.
+///
+/// Refuses with `Address` if an address of the line is missing, and with `Memory` if there is none for the line.
+fn lead(alloc: Global, proxy: bool, route: &Route) -> Result<Vec<u8>, Cause>
+    ensures lead { IfOk result (λ lead. lead_of proxy route.now ≡ Some lead.items) }
+    ensures short { IfOk result (λ lead. length lead.items ≤ 107) }
+    ensures refused { IfErr result (λ cause. cause ≡ lacks (lead_of proxy route.now)) }
+{
+    if !proxy {
+        return Ok(Vec::new(alloc));
+    }
+    match (route.client, route.accepted) {
+        (Some(client), Some(accepted)) => line(alloc, client, accepted),
+        _ => Err(Cause::Address),
+    }
+}
+
+/// The line for a client with this address, which was accepted on that one. Refuses with `Memory` if there is none.
+fn line(alloc: Global, client: SocketAddrV4, accepted: SocketAddrV4) -> Result<Vec<u8>, Cause>
+    ensures line { IfOk result (λ line. line.items ≡ proxy_line (ipv4_octets (v4_ip client)) (v4_port client)
+        (ipv4_octets (v4_ip accepted)) (v4_port accepted)) }
+    ensures short { IfOk result (λ line. length line.items ≤ 107) }
+    ensures refused { IfErr result (λ cause. cause ≡ Cause.Memory) }
+{
+    let (source, dest) = (client.ip().octets(), accepted.ip().octets());
+    let line = proxy_line(alloc, source, client.port(), dest, accepted.port())?;
+    Ok(line)
 }
 
 /// Logs whose connection could not be opened, and why, if the log takes that.
@@ -391,6 +422,7 @@ pub(crate) fn start<F: Front, A: Moves<F>, R: Wait>(
 }
 
 /// Releases the slot of a connection that is in its place, and keeps the ticket in hand if notes wait.
+#[tactic(auto, using(crate::proofs::Rounds::holding))]
 fn let_go<F: Front, A: Acts>(acts: &mut A, shared: &Shared<F>, own: &mut Own, ticket: Ticket)
     requires same { own.old.seat.table ≡ shared.now.claims }
     requires inside { ticket.slot < shared.now.claims.words }

@@ -3,10 +3,8 @@ ghost use Rattle.std.specs.Prelude.{◌≡◌, ◌-◌, ◌<◌, ◌≤◌, ◌�
 ghost use Rattle.dispatch.specs.Acts as act;
 ghost use Rattle.token.specs.Names.{last_generation};
 ghost use Rattle.dispatch.specs.Splits.{IsIn};
-ghost use Rattle.rounds.specs.Drops.{all_logged_at, dropped_for, AreLogged};
-ghost use Rattle.rounds.specs.Episodes.{no_episodes, opened_after};
-ghost use Rattle.rounds.specs.Limits.{max_accepts};
-ghost use Rattle.rounds.specs.Pollers.{AreGenerations, IsOwnTable, HasOpenedAll, counted_up};
+ghost use Rattle.rounds.specs.Episodes.{all_logged_at, dropped_for, no_episodes, opened_after, AreLogged};
+ghost use Rattle.rounds.specs.Pollers.{AreGenerations, IsOwnTable, HasOpenedAll, counted_up, max_accepts};
 
 use crate::dropping::Dropped;
 use crate::episodes::Episodes;
@@ -103,6 +101,7 @@ impl<F: Front> Poller<F> {
     ///
     /// Fails only if there is no memory for what it keeps of each slot and for the batch. A round allocates memory
     /// only for connections and log lines.
+    #[tactic(auto, using(crate::proofs::Acts::own_none, crate::proofs::Acts::are_none))]
     pub fn new(
         alloc: Global,
         front: F,
@@ -162,7 +161,7 @@ impl<F: Front> Poller<F> {
 
     /// From now on this slot counts as having had this many connections: the next one there has the next generation, up
     /// to the last, 2^47 - 1. A server starts at 0; `drill` starts near the last.
-    #[tactic(auto, using(crate::proofs::Pollers::own_set))]
+    #[tactic(auto, using(crate::proofs::Acts::own_set))]
     pub fn start_at(&mut self, slot: usize, generation: u64)
         requires inside { slot < length self.old.table }
         requires own { IsIn self.old.part slot }
@@ -276,7 +275,7 @@ impl<F: Front> Poller<F> {
 
     /// A round opens an accepted connection in a slot that its thread holds: the slot has the ticket's generation
     /// from now on. The statistics have it, too.
-    #[tactic(auto, using(crate::proofs::Pollers::own_set))]
+    #[tactic(auto, using(crate::proofs::Acts::own_set))]
     pub(crate) fn count_opened<A: Acts>(
         &mut self,
         acts: &mut A,

@@ -31,9 +31,8 @@ use Rattle.rounds.specs.Pollers.{PollerState}
 use Rattle.rounds.specs.Rounds.{RoundDone, RoundRefused, EndedEarly, ListenerKept, ListensToOpen}
 use Rattle.turns.specs.Shares.{AreShared, OneShared, TicketsShared}
 use Rattle.turns.specs.Turns.{TicketsKept, SlotGiven, SlotsKept, IsTurnOf, TurnMade, OwnTurn, program}
-use Rattle.rounds.specs.Acts.{Act, ActsMade, made_by, due_of, IsPost, IsTry}
+use Rattle.rounds.specs.Acts.{Act, ActsMade, made_by, due_of, IsPost, IsTry, at_slot}
 use Rattle.rounds.proofs.Acts.{all_none, all_one, acts_none, acts_one, acts_both, at_slot-append, due-append}
-use Rattle.rounds.specs.Deliveries.{at_slot}
 use Rattle.rounds.specs.Openings.{slots_in}
 use Rattle.dispatch.specs.Posts.{OnlyWorn}
 use Rattle.threads.specs.declared.ending.Ended.{Ended}

@@ -12,13 +12,12 @@ use Rattle.relay_log.specs.declared.faults.ServerFault.TheVariants.{Poll, Worn}
 use Rattle.dispatch.specs.declared.shared.Own.{Own}
 use Rattle.turns.specs.declared.worker.Worked.{Worked}
 use Rattle.turns.specs.declared.worker.Worked.TheVariants as worked
-use Rattle.rounds.specs.Acts.{Act, ActsMade, IsPost, IsTry, due_of}
+use Rattle.rounds.specs.Acts.{Act, ActsMade, IsPost, IsTry, at_slot, due_of}
 use Rattle.dispatch.specs.Limits.{own_turns}
 use Rattle.dispatch.specs.Outgoing.{TookNothing, tickets_out, slots_out}
 use Rattle.dispatch.specs.Splits.{IsIn}
 use Rattle.rounds.specs.Pollers.{PollerState, HasOpenedAll}
 use Rattle.dispatch.specs.Posts.{IsWorn, OnlyWorn}
-use Rattle.rounds.specs.Deliveries.{at_slot}
 use Rattle.rounds.specs.Openings.{slots_in}
 use Rattle.rounds.specs.Rounds.{EndedEarly, ListenerKept, ListensToOpen, RoundDone}
 use Rattle.turns.specs.Shares.{TicketsShared}

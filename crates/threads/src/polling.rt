@@ -2,7 +2,7 @@
 ghost use Rattle.std.specs.Prelude.{◌≡◌, ◌⊎◌, ℕ, [], length, slice_get, Ok, Some, None, OnOk, OnSome, IfErr, IfOk, IfSome};
 ghost use Rattle.std.specs.Arc.{arc_value};
 ghost use Rattle.claims.specs.Seats.{HoldsNothing};
-ghost use Rattle.rounds.specs.Drops.{no_drops};
+ghost use Rattle.rounds.specs.Episodes.{no_drops};
 ghost use Rattle.rounds.specs.Pollers.{HasOpenedAll};
 ghost use Rattle.rounds.specs.Rounds.{EndedEarly, ListensToOpen};
 ghost use Rattle.turns.specs.Turns.{NoOwnTurn};

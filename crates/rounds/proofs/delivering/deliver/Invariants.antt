@@ -1,5 +1,5 @@
 use Rattle.std.proofs.Common.{take}
-use Rattle.rounds.specs.Deliveries.{Delivered}
+use Rattle.rounds.specs.Acts.{Delivered}
 use Rattle.rounds.proofs.delivering.deliver.Given as goal
 
 -- the reports so far are delivered

@@ -1,7 +1,6 @@
-use Rattle.rounds.proofs.WholeRounds.{waits_if}
+use Rattle.rounds.proofs.Rounds.{waits_if}
 use Rattle.rounds.proofs.round.look.Goals as goal
 
 pub returns-clause-waits : goal.returns-clause-waits
-returns-clause-waits g c = waits_if c.may_wait-wait.result c.args.limit c.args.poller.now c.listen_to_open.new.poller c.poll.new.poller c.args.own.now c.may_wait-wait.new.own
-    c.listen_to_open.ensures.poller c.may_wait-wait.ensures.reason c.may_wait-wait.ensures.brief c.may_wait-wait.ensures.took
-    c.poll.ensures.waited
+returns-clause-waits g c = waits_if _ _ c.args.poller.now _ c.poll.new.poller _ _ c.listen_to_open.ensures.poller
+    c.may_wait-wait.ensures.reason c.may_wait-wait.ensures.brief c.may_wait-wait.ensures.took c.poll.ensures.waited

@@ -1,221 +1,172 @@
-use Rattle.std.proofs.Common.{ℕ, ◌<◌, ◌+◌, ◌∙◌, ap, refl, inl, inr, List, sym, subst, length, arith}
-use Rattle.claims.specs.Seats.{SeatState, HoldsNothing}
-use Rattle.ready.specs.declared.ticket.Ticket.{Ticket}
-use Rattle.ready.specs.Steps.{EndState}
-use Rattle.rounds.specs.Drops.{AreLogged}
+use Rattle.std.proofs.Common.{◌<◌, ◌+◌, refl, inl, inr, arith}
 use Rattle.dispatch.specs.Hands.{ticket_room}
-use Rattle.rounds.specs.Pollers.{PollerState}
-use Rattle.rounds.proofs.Connections.{Fields, accept_both, accept_took, between_took, fields_of, room_same, took_none, passed_up, not_ok}
-use Rattle.rounds.proofs.Reports.{few_tickets, capacity_kept, reported_le, few_sweep}
-use Rattle.rounds.proofs.WholeRounds.{SameTable, begun_is, ended_still, looked_is, round_of, round_ended, swept_is, looked_lasts, delivered_lasts, swept_lasts, accepted_lasts, still_read, ended_early, begun_not_early, but_worn, keeps, over_before, listens_still}
-use Rattle.rounds.specs.Rounds.{WaitedAsMay}
+use Rattle.rounds.proofs.Rounds.{accept_both, accept_took, between_took, not_ok, passed_up, room_same, still, took_none, Lasting, Looked, begun_not_early, but_worn, ended_early, ended_still, keeps, listens_still, looked_lasts, over_before, round_ended, round_of}
+use Rattle.rounds.proofs.Acts.{few_tickets, capacity_kept, reported_le, few_sweep}
 use Rattle.rounds.proofs.round.poller_round.Goals as goal
 
 pub returns-then-not-begin : goal.returns-then-not-begin
 returns-then-not-begin g c =
-    let early : ticket_room c.args.own.now.hand < 512 + c.args.shared.now.claims.words =
-    ended_early c.begin.result c.slots.result c.args.shared.now.claims.words (ticket_room c.args.own.now.hand) c.begin.ensures.room c.if-not-begin.true c.slots.ensures in
-    let same = ap (λ (s : PollerState). s.table) c.begin.ensures.poller in
+    let early : ticket_room c.args.own.now.hand < 512 + c.args.shared.now.claims.words = ended_early _ _ _ _ c.begin.ensures.room c.if-not-begin.true c.slots.ensures in
+    let begun = c.begin.ensures.poller in
     record {
-      between = record { same = c.requires.same; idle = c.requires.idle; sized = ap (λ (t : List ℕ). length t) same ∙ c.requires.sized };
-      early = λ _. (refl, record { own = refl; poller = c.begin.ensures.poller });
+      between = record { same = c.requires.same; idle = c.requires.idle; sized = rw begun c.requires.sized };
+      early = λ _. (refl, record { own = refl; poller = begun });
       waits = inl early;
-      round = λ _. round_ended c.args.poller.now c.begin.new.poller c.args.own.now c.args.own.now
-          (begun_is c.begin.ensures.poller)
-          (ap (λ (s : PollerState). s.batch) c.begin.ensures.poller)
-          (took_none c.args.own.now);
+      round = λ _. round_ended (rw begun) (rw begun) (took_none c.args.own.now);
       ended = inl early;
-      keeps = record {
-        opening = ap (λ (s : PollerState). s.opening) c.begin.ensures.poller;
-        most = ap (λ (s : PollerState). s.most) c.begin.ensures.poller;
-        heavy = ap (λ (s : PollerState). s.heavy) c.begin.ensures.poller;
-        swept = inl (ap (λ (s : PollerState). s.swept) c.begin.ensures.poller);
-        listens = inl (ap (λ (s : PollerState). s.listening) c.begin.ensures.poller);
-        over = λ over. inl (sym (ap (λ (s : PollerState). s.over) c.begin.ensures.poller) ∙ over);
-        took = refl;
-      };
+      keeps = rw begun (record { opening = refl; most = refl; heavy = refl; swept = inl refl; listens = inl refl; over = λ over. inl over; took = refl });
       refused = tt;
     }
 
 pub returns-in_err-look : goal.returns-in_err-look
 returns-in_err-look g c =
-    let looked : SameTable c.args.poller.now c.look.new.poller = looked_is c.begin.ensures.poller c.look.ensures.poller in
-    let same = looked_lasts c.args.poller.now c.begin.new.poller c.look.new.poller c.begin.ensures.poller c.look.ensures.poller c.look.ensures.listens c.look.ensures.waits in
-    let failed = c.from_residual.ensures.1 in
+    let looked = c.look.ensures in
+    let same = looked_lasts c.args.timing.now.limit c.args.own.now c.args.poller.now _ _ c.begin.ensures.poller looked.poller looked.listens looked.waits in
+    let failed = c.in_err-look.ensures.failed in
     record {
-      between = record {
-        same = ap (λ (s : SeatState). s.table) c.look.ensures.took.seat ∙ c.requires.same;
-        idle = subst (λ (s : SeatState). HoldsNothing s) (sym c.look.ensures.took.seat) c.requires.idle;
-        sized = ap (λ (f : Fields). length f.table) looked.fields ∙ c.requires.sized;
-      };
-      early = λ early. begun_not_early c.slots.result c.args.shared.now.claims.words (ticket_room c.args.own.now.hand) (c.begin.ensures.room.0 c.if-not-begin.false) c.slots.ensures early;
+      between = between_took {p = c.args.poller.now} (record { same = c.requires.same; idle = c.requires.idle; sized = c.requires.sized }) looked.took (rw (looked.poller, c.begin.ensures.poller));
+      early = begun_not_early _ _ _ (c.begin.ensures.room.0 c.if-not-begin.false) c.slots.ensures;
       waits = inr same.waits;
-      round = λ _. round_ended c.args.poller.now c.look.new.poller c.args.own.now c.look.new.own looked c.in_err-look.ensures.failed.2 c.look.ensures.took;
-      ended = not_ok c.from_residual.result _ c.from_residual.ensures.0;
-      keeps = keeps same (inl looked.swept) (ap (λ (q : EndState Ticket). q.history.taken) c.look.ensures.took.ready);
-      refused = passed_up c.from_residual.result c.in_err-look.field-0.0 _ failed (inl (
-        c.in_err-look.ensures.failed.0,
-        record { failed = c.in_err-look.ensures.failed.1; none = c.in_err-look.ensures.failed.2; read = c.look.ensures.batch },
-      ));
+      round = λ _. round_ended (rw (looked.poller, c.begin.ensures.poller)) failed.2 looked.took;
+      ended = not_ok _ _ c.from_residual.ensures.0;
+      keeps = keeps same (inl (rw (looked.poller, c.begin.ensures.poller))) (rw looked.took.ready);
+      refused = passed_up _ _ _ c.from_residual.ensures.1 (inl (failed.0, record { failed = failed.1; none = failed.2; read = looked.batch }));
     }
 
 pub returns-in_err-deliver_batch : goal.returns-in_err-deliver_batch
 returns-in_err-deliver_batch g c =
-    let looked : SameTable c.args.poller.now c.look.new.poller = looked_is c.begin.ensures.poller c.look.ensures.poller in
-    let same = delivered_lasts (looked_lasts c.args.poller.now c.begin.new.poller c.look.new.poller c.begin.ensures.poller c.look.ensures.poller c.look.ensures.listens c.look.ensures.waits)
-    c.deliver_batch.ensures.poller in
-    let failed = c.from_residual-in_err-deliver_batch.ensures.1 in
+    let looked = c.look.ensures in
+    let delivered = c.deliver_batch.ensures in
+    let same = looked_lasts c.args.timing.now.limit c.args.own.now c.args.poller.now _ _ c.begin.ensures.poller looked.poller looked.listens looked.waits in
+    let failed = c.from_residual-in_err-deliver_batch.ensures in
     record {
-      between = c.deliver_batch.ensures.between;
-      early = λ early. begun_not_early c.slots.result c.args.shared.now.claims.words (ticket_room c.args.own.now.hand) (c.begin.ensures.room.0 c.if-not-begin.false) c.slots.ensures early;
-      waits = inr same.waits;
-      round = but_worn c.from_residual-in_err-deliver_batch.result c.in_err-deliver_batch.field-0.0 failed c.in_err-deliver_batch.ensures.worn.0;
-      ended = not_ok c.from_residual-in_err-deliver_batch.result _ c.from_residual-in_err-deliver_batch.ensures.0;
-      keeps = keeps same (inl (ap (λ (s : PollerState). s.swept) c.deliver_batch.ensures.poller ∙ looked.swept))
-          (ap (λ (q : EndState Ticket). q.history.taken) (c.deliver_batch.ensures.ready ∙ c.look.ensures.took.ready));
-      refused = passed_up c.from_residual-in_err-deliver_batch.result c.in_err-deliver_batch.field-0.0 _ failed (inr c.in_err-deliver_batch.ensures.worn);
+      between = delivered.between;
+      early = begun_not_early _ _ _ (c.begin.ensures.room.0 c.if-not-begin.false) c.slots.ensures;
+      waits = inr (rw delivered.poller same.waits);
+      round = but_worn _ _ failed.1 c.in_err-deliver_batch.ensures.worn.0;
+      ended = not_ok _ _ failed.0;
+      keeps = keeps (rw delivered.poller same) (inl (rw (delivered.poller, looked.poller, c.begin.ensures.poller)))
+          (rw (delivered.ready, looked.took.ready));
+      refused = passed_up _ _ _ failed.1 (inr c.in_err-deliver_batch.ensures.worn);
     }
 
 pub keep_time-requires-clause-room : goal.keep_time-requires-clause-room
 keep_time-requires-clause-room g c =
-    let few = few_tickets c.in_ok-deliver_batch.ensures.delivered in
-    let same = capacity_kept c.in_ok-deliver_batch.ensures.delivered in
-    let reported = reported_le c.look.new.poller.table c.look.new.poller.batch in
-    let most = c.look.ensures.few in
-    let room = c.begin.ensures.room.0 c.if-not-begin.false in
-    let looked = room_same c.args.own.now c.look.new.own c.look.ensures.took in
-    let sized = c.deliver_batch.ensures.between.sized in
-    omega arith
+    omega (
+      arith,
+      few_tickets c.in_ok-deliver_batch.ensures.delivered,
+      capacity_kept c.in_ok-deliver_batch.ensures.delivered,
+      reported_le c.look.new.poller.table c.look.new.poller.batch,
+      c.look.ensures.few,
+      c.begin.ensures.room.0 c.if-not-begin.false,
+      room_same c.look.ensures.took,
+      c.deliver_batch.ensures.between.sized,
+    )
 
 pub returns-in_err-keep_time : goal.returns-in_err-keep_time
 returns-in_err-keep_time g c =
-    let looked : SameTable c.args.poller.now c.look.new.poller = looked_is c.begin.ensures.poller c.look.ensures.poller in
-    let same = swept_lasts
-    (delivered_lasts (looked_lasts c.args.poller.now c.begin.new.poller c.look.new.poller c.begin.ensures.poller c.look.ensures.poller c.look.ensures.listens c.look.ensures.waits)
-    c.deliver_batch.ensures.poller) c.keep_time.ensures.poller in
-    let failed = c.from_residual-in_err-keep_time.ensures.1 in
+    let looked = c.look.ensures in
+    let delivered = c.deliver_batch.ensures in
+    let timed = c.keep_time.ensures in
+    let same = looked_lasts c.args.timing.now.limit c.args.own.now c.args.poller.now _ _ c.begin.ensures.poller looked.poller looked.listens looked.waits in
+    let failed = c.from_residual-in_err-keep_time.ensures in
     record {
-      between = c.keep_time.ensures.between;
-      early = λ early. begun_not_early c.slots.result c.args.shared.now.claims.words (ticket_room c.args.own.now.hand) (c.begin.ensures.room.0 c.if-not-begin.false) c.slots.ensures early;
-      waits = inr same.waits;
-      round = but_worn c.from_residual-in_err-keep_time.result c.in_err-keep_time.field-0.0 failed c.in_err-keep_time.ensures.worn.0;
-      ended = not_ok c.from_residual-in_err-keep_time.result _ c.from_residual-in_err-keep_time.ensures.0;
-      keeps = keeps same (inl (c.in_err-keep_time.ensures.unswept ∙ ap (λ (s : PollerState). s.swept) c.deliver_batch.ensures.poller ∙ looked.swept))
-          (ap (λ (q : EndState Ticket). q.history.taken) (c.keep_time.ensures.queues.ready ∙ c.deliver_batch.ensures.ready ∙ c.look.ensures.took.ready));
-      refused = passed_up c.from_residual-in_err-keep_time.result c.in_err-keep_time.field-0.0 _ failed (inr c.in_err-keep_time.ensures.worn);
+      between = timed.between;
+      early = begun_not_early _ _ _ (c.begin.ensures.room.0 c.if-not-begin.false) c.slots.ensures;
+      waits = inr (rw (timed.poller, delivered.poller) same.waits);
+      round = but_worn _ _ failed.1 c.in_err-keep_time.ensures.worn.0;
+      ended = not_ok _ _ failed.0;
+      keeps = keeps (rw (timed.poller, delivered.poller) same)
+          (inl (rw (c.in_err-keep_time.ensures.unswept, delivered.poller, looked.poller, c.begin.ensures.poller)))
+          (rw (timed.queues.ready, delivered.ready, looked.took.ready));
+      refused = passed_up _ _ _ failed.1 (inr c.in_err-keep_time.ensures.worn);
     }
 
 pub accept-requires-clause-room : goal.accept-requires-clause-room
 accept-requires-clause-room g c =
-    let few = few_tickets c.in_ok-deliver_batch.ensures.delivered in
-    let same = capacity_kept c.in_ok-deliver_batch.ensures.delivered in
-    let reported = reported_le c.look.new.poller.table c.look.new.poller.batch in
-    let most = c.look.ensures.few in
-    let room = c.begin.ensures.room.0 c.if-not-begin.false in
-    let looked = room_same c.args.own.now c.look.new.own c.look.ensures.took in
-    let sized = c.deliver_batch.ensures.between.sized in
-    let roused = few_tickets c.in_ok-keep_time.ensures.swept.posted in
-    let still = capacity_kept c.in_ok-keep_time.ensures.swept.posted in
-    let slots = few_sweep c.deliver_batch.new.poller c.keep_time.new.poller in
-    omega arith
+    omega (
+      arith,
+      few_tickets c.in_ok-deliver_batch.ensures.delivered,
+      capacity_kept c.in_ok-deliver_batch.ensures.delivered,
+      reported_le c.look.new.poller.table c.look.new.poller.batch,
+      c.look.ensures.few,
+      c.begin.ensures.room.0 c.if-not-begin.false,
+      room_same c.look.ensures.took,
+      c.deliver_batch.ensures.between.sized,
+      few_tickets c.in_ok-keep_time.ensures.swept.posted,
+      capacity_kept c.in_ok-keep_time.ensures.swept.posted,
+      few_sweep c.deliver_batch.new.poller c.keep_time.new.poller,
+    )
 
 pub returns-in_err-accept : goal.returns-in_err-accept
 returns-in_err-accept g c =
-    let looked : SameTable c.args.poller.now c.look.new.poller = looked_is c.begin.ensures.poller c.look.ensures.poller in
-    let same = accepted_lasts
-    (swept_lasts (delivered_lasts (looked_lasts c.args.poller.now c.begin.new.poller c.look.new.poller c.begin.ensures.poller c.look.ensures.poller c.look.ensures.listens c.look.ensures.waits)
-    c.deliver_batch.ensures.poller) c.keep_time.ensures.poller) c.accept.ensures.poller in
-    let failed = c.from_residual-in_err-accept.ensures.1 in
+    let looked = c.look.ensures in
+    let delivered = c.deliver_batch.ensures in
+    let timed = c.keep_time.ensures in
+    let accepted = c.accept.ensures in
+    let same = looked_lasts c.args.timing.now.limit c.args.own.now c.args.poller.now _ _ c.begin.ensures.poller looked.poller looked.listens looked.waits in
+    let swept = rw (delivered.poller, looked.poller, c.begin.ensures.poller) at c.in_ok-keep_time.ensures.swept.swept in
+    let failed = c.from_residual-in_err-accept.ensures in
     record {
-      between = c.accept.ensures.between;
-      early = λ early. begun_not_early c.slots.result c.args.shared.now.claims.words (ticket_room c.args.own.now.hand) (c.begin.ensures.room.0 c.if-not-begin.false) c.slots.ensures early;
-      waits = inr same.waits;
-      round = but_worn c.from_residual-in_err-accept.result c.in_err-accept.field-0.0 failed c.in_err-accept.ensures.worn.0;
-      ended = not_ok c.from_residual-in_err-accept.result _ c.from_residual-in_err-accept.ensures.0;
-      keeps = keeps same (inr (swept_is c.args.timing.now.limit c.args.poller.now c.deliver_batch.new.poller c.keep_time.new.poller c.accept.new.poller
-          (ap (λ (s : PollerState). s.second) c.deliver_batch.ensures.poller ∙ looked.second) (ap (λ (s : PollerState). s.swept) c.deliver_batch.ensures.poller ∙ looked.swept)
-          c.in_ok-keep_time.ensures.swept.swept (ap (λ (s : PollerState). s.swept) c.accept.ensures.poller)))
-          (ap (λ (q : EndState Ticket). q.history.taken) (c.accept.ensures.ready ∙ c.keep_time.ensures.queues.ready ∙ c.deliver_batch.ensures.ready ∙ c.look.ensures.took.ready));
-      refused = passed_up c.from_residual-in_err-accept.result c.in_err-accept.field-0.0 _ failed (inr c.in_err-accept.ensures.worn);
+      between = accepted.between;
+      early = begun_not_early _ _ _ (c.begin.ensures.room.0 c.if-not-begin.false) c.slots.ensures;
+      waits = inr (rw (accepted.poller, timed.poller, delivered.poller) same.waits);
+      round = but_worn _ _ failed.1 c.in_err-accept.ensures.worn.0;
+      ended = not_ok _ _ failed.0;
+      keeps = keeps (rw (accepted.poller, timed.poller, delivered.poller) same) (inr (rw accepted.poller swept))
+          (rw (accepted.ready, timed.queues.ready, delivered.ready, looked.took.ready));
+      refused = passed_up _ _ _ failed.1 (inr c.in_err-accept.ensures.worn);
     }
 
 pub returns : goal.returns
 returns g c =
-    let looked : SameTable c.args.poller.now c.look.new.poller = looked_is c.begin.ensures.poller c.look.ensures.poller in
-    let same = accepted_lasts
-    (swept_lasts (delivered_lasts (looked_lasts c.args.poller.now c.begin.new.poller c.look.new.poller c.begin.ensures.poller c.look.ensures.poller c.look.ensures.listens c.look.ensures.waits)
-    c.deliver_batch.ensures.poller) c.keep_time.ensures.poller) c.accept.ensures.poller in
-    let second = ap (λ (s : PollerState). s.second) c.take_back.ensures.poller ∙ ap (λ (s : PollerState). s.second) c.accept.ensures.poller in
-    let swept = swept_is c.args.timing.now.limit c.args.poller.now c.deliver_batch.new.poller c.keep_time.new.poller c.take_back.new.poller
-    (ap (λ (s : PollerState). s.second) c.deliver_batch.ensures.poller ∙ looked.second)
-    (ap (λ (s : PollerState). s.swept) c.deliver_batch.ensures.poller ∙ looked.swept)
-    c.in_ok-keep_time.ensures.swept.swept
-    (ap (λ (s : PollerState). s.swept) c.take_back.ensures.poller ∙ ap (λ (s : PollerState). s.swept) c.accept.ensures.poller) in
+    let looked = c.look.ensures in
+    let delivered = c.deliver_batch.ensures in
+    let timed = c.keep_time.ensures in
+    let accepted = c.accept.ensures in
+    let back = c.take_back.ensures in
+    let begun : Looked c.args.poller.now c.look.new.poller = rw (looked.poller, c.begin.ensures.poller) in
+    let same : Lasting c.args.timing.now.limit c.args.own.now c.args.poller.now c.accept.new.poller =
+    rw (accepted.poller, timed.poller, delivered.poller)
+    (looked_lasts _ _ c.args.poller.now _ _ c.begin.ensures.poller looked.poller looked.listens looked.waits) in
+    let end = back.poller in
+    let swept = rw (delivered.poller, looked.poller, c.begin.ensures.poller) at c.in_ok-keep_time.ensures.swept.swept in
     record {
-      between = record {
-        same = ap (λ (s : SeatState). s.table) c.take_back.ensures.took.seat ∙ c.accept.ensures.between.same;
-        idle = subst (λ (s : SeatState). HoldsNothing s) (sym c.take_back.ensures.took.seat) c.accept.ensures.between.idle;
-        sized = ap (λ (s : PollerState). length s.table) c.take_back.ensures.poller ∙ c.accept.ensures.between.sized;
-      };
-      early = λ early. begun_not_early c.slots.result c.args.shared.now.claims.words (ticket_room c.args.own.now.hand) (c.begin.ensures.room.0 c.if-not-begin.false) c.slots.ensures early;
-      waits = inr (subst (λ (s : PollerState). WaitedAsMay c.args.timing.now.limit c.args.poller.now s c.args.own.now) (sym c.take_back.ensures.poller) same.waits);
-      round = λ _. round_of c.args.poller.now c.look.new.poller c.deliver_batch.new.poller c.keep_time.new.poller c.take_back.new.poller
-          c.args.own.now c.look.new.own c.deliver_batch.new.own c.keep_time.new.own c.take_back.new.own
-          looked
-          c.look.ensures.took
-          c.in_ok-deliver_batch.ensures.delivered
-          c.deliver_batch.ensures.ready
-          c.deliver_batch.ensures.free
-          c.deliver_batch.ensures.own
-          (ap fields_of c.deliver_batch.ensures.poller)
-          (ap (λ (s : PollerState). s.swept) c.deliver_batch.ensures.poller)
-          c.in_ok-keep_time.ensures.swept.posted
-          c.keep_time.ensures.queues.ready
-          c.keep_time.ensures.queues.free
-          c.keep_time.ensures.own
-          (ap fields_of c.keep_time.ensures.poller)
-          (accept_both c.in_ok-accept.ensures.done (accept_took c.accept.new.poller c.take_back.new.poller c.accept.new.own c.take_back.new.own
-          (ap fields_of c.take_back.ensures.poller) c.take_back.ensures.took))
-          (ap (λ (s : PollerState). s.swept) c.take_back.ensures.poller ∙ ap (λ (s : PollerState). s.swept) c.accept.ensures.poller);
+      between = between_took accepted.between back.took (rw end);
+      early = begun_not_early _ _ _ (c.begin.ensures.room.0 c.if-not-begin.false) c.slots.ensures;
+      waits = inr (rw end same.waits);
+      round = λ _. round_of c.deliver_batch.new.own begun looked.took
+          c.in_ok-deliver_batch.ensures.delivered delivered.ready delivered.free delivered.own delivered.poller
+          c.in_ok-keep_time.ensures.swept.posted timed.queues.ready timed.queues.free timed.own timed.poller
+          (accept_both c.in_ok-accept.ensures.done (accept_took (rw end (still c.accept.new.poller)) back.took)) (rw (end, accepted.poller));
       ended = inr (record {
-        read = still_read c.look.new.poller c.deliver_batch.new.poller c.keep_time.new.poller c.accept.new.poller c.take_back.new.poller c.look.ensures.batch
-            c.deliver_batch.ensures.poller c.keep_time.ensures.poller c.accept.ensures.poller c.take_back.ensures.poller;
-        second = subst (λ (n : ℕ). g.C.Clock.tells c.args.timing.now.clock.now n) (sym second) c.in_ok-keep_time.ensures.told;
-        swept = swept;
-        accepted = ended_still c.accept.new.poller c.take_back.new.poller c.accept.new.own c.take_back.new.own
-            c.in_ok-accept.ensures.ended c.take_back.ensures.poller c.take_back.ensures.unlimited;
-        closed = c.take_back.ensures.closed;
-        back = c.take_back.ensures.all;
-        drops = subst (λ (s : PollerState). AreLogged s.second s.episodes.drops) (sym c.take_back.ensures.poller) c.in_ok-accept.ensures.logged;
+        read = rw (end, accepted.poller, timed.poller, delivered.poller) looked.batch;
+        second = rw (end, accepted.poller) c.in_ok-keep_time.ensures.told;
+        swept = rw (end, accepted.poller) swept;
+        accepted = ended_still c.in_ok-accept.ensures.ended end back.unlimited;
+        closed = back.closed;
+        back = back.all;
+        drops = rw end c.in_ok-accept.ensures.logged;
       });
       keeps = record {
-        opening = ap (λ (s : PollerState). s.opening) c.take_back.ensures.poller ∙ same.opening;
-        most = ap (λ (s : PollerState). s.most) c.take_back.ensures.poller ∙ same.most;
-        heavy = ap (λ (s : PollerState). s.heavy) c.take_back.ensures.poller ∙ same.heavy;
-        swept = inr swept;
-        listens = listens_still c.args.poller.now c.accept.new.poller c.take_back.new.poller c.accept.new.own c.take_back.new.own
-            same.listening c.take_back.ensures.poller c.take_back.ensures.unlimited c.take_back.ensures.closed;
-        over = λ over. over_before same.over (c.take_back.ensures.over over);
-        took = ap (λ (q : EndState Ticket). q.history.taken) (c.take_back.ensures.took.ready ∙ c.accept.ensures.ready ∙ c.keep_time.ensures.queues.ready
-            ∙ c.deliver_batch.ensures.ready ∙ c.look.ensures.took.ready);
+        opening = rw end same.opening;
+        most = rw end same.most;
+        heavy = rw end same.heavy;
+        swept = inr (rw (end, accepted.poller) swept);
+        listens = listens_still c.args.poller.now same.listening end back.unlimited back.closed;
+        over = λ over. over_before same.over (back.over over);
+        took = rw (back.took.ready, accepted.ready, timed.queues.ready, delivered.ready, looked.took.ready);
       };
       refused = tt;
     }
 
 pub deliver_batch-requires : goal.deliver_batch-requires
 deliver_batch-requires g c =
-    let looked : SameTable c.args.poller.now c.look.new.poller = looked_is c.begin.ensures.poller c.look.ensures.poller in
     let most = c.look.ensures.few in
     let room = c.begin.ensures.room.0 c.if-not-begin.false in
-    let same = room_same c.args.own.now c.look.new.own c.look.ensures.took in
+    let same = room_same c.look.ensures.took in
     record {
-      between = between_took c.args.shared.now.claims c.args.own.now c.look.new.own c.args.poller.now c.look.new.poller
-          (record { same = c.requires.same; idle = c.requires.idle; sized = c.requires.sized }) c.look.ensures.took (ap (λ (f : Fields). f.table) looked.fields);
+      between = between_took {p = c.args.poller.now} (record { same = c.requires.same; idle = c.requires.idle; sized = c.requires.sized }) c.look.ensures.took
+          (rw (c.look.ensures.poller, c.begin.ensures.poller));
       room = omega arith;
     }
-
-pub keep_time-requires-clause-between : goal.keep_time-requires-clause-between
-keep_time-requires-clause-between g c = c.deliver_batch.ensures.between
-
-pub accept-requires-clause-between : goal.accept-requires-clause-between
-accept-requires-clause-between g c = c.keep_time.ensures.between

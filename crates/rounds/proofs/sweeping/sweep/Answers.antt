@@ -1,8 +1,5 @@
-use Rattle.std.proofs.Common.{List, subst, sym, arith}
-use Rattle.claims.specs.Seats.{SeatState, HoldsNothing}
-use Rattle.ready.specs.declared.ticket.Ticket.{Ticket}
-use Rattle.rounds.specs.Deliveries.{ArePosted}
-use Rattle.rounds.proofs.Reports.{posted_none, posted_both, few_tickets, capacity_kept, holds_nothing_still, below_more, few_below}
+use Rattle.std.proofs.Common.{arith}
+use Rattle.rounds.proofs.Acts.{posted_none, posted_both, few_tickets, capacity_kept, holds_nothing_still, below_more, few_below}
 use Rattle.rounds.proofs.sweeping.sweep.Goals as goal
 
 pub loop-slot-init : goal.loop-slot-init
@@ -10,24 +7,16 @@ loop-slot-init c = posted_none c.args.seat.now c.args.hand.now
 
 -- each slot takes at most one ticket in hand
 pub sweep_slot-requires-clause-room : goal.sweep_slot-requires-clause-room
-sweep_slot-requires-clause-room c =
-    let few = few_tickets c.loop-slot.invariant in
-    let same = capacity_kept c.loop-slot.invariant in
-    let slots = few_below c.args.table.now c.loop-slot.slot in
-    omega arith
+sweep_slot-requires-clause-room c = omega (arith, few_tickets c.loop-slot.invariant, capacity_kept c.loop-slot.invariant, few_below c.args.table.now c.loop-slot.slot)
 
 pub loop-slot-preserved : goal.loop-slot-preserved
-loop-slot-preserved c =
-    subst (λ (ts : List Ticket). ArePosted ts c.args.seat.now c.sweep_slot.new.seat c.args.hand.now c.sweep_slot.new.hand)
-    (sym (below_more c.args.table.now c.loop-slot.slot))
-    (posted_both c.loop-slot.invariant c.in_ok-sweep_slot.ensures.posted)
+loop-slot-preserved c = rw (below_more c.args.table.now c.loop-slot.slot) (posted_both c.loop-slot.invariant c.in_ok-sweep_slot.ensures.posted)
 
 pub sweep_slot-requires-clause-idle : goal.sweep_slot-requires-clause-idle
 sweep_slot-requires-clause-idle c = holds_nothing_still c.loop-slot.invariant c.requires.idle
 
 pub returns-in_err-sweep_slot-clause-idle : goal.returns-in_err-sweep_slot-clause-idle
-returns-in_err-sweep_slot-clause-idle c = subst (λ (s : SeatState). HoldsNothing s) (sym c.in_err-sweep_slot.ensures.seat)
-    (holds_nothing_still c.loop-slot.invariant c.requires.idle)
+returns-in_err-sweep_slot-clause-idle c = rw c.in_err-sweep_slot.ensures.seat (holds_nothing_still c.loop-slot.invariant c.requires.idle)
 
 pub returns-clause-idle : goal.returns-clause-idle
 returns-clause-idle c = holds_nothing_still c.loop-slot.invariant c.requires.idle

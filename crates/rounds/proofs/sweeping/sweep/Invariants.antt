@@ -1,5 +1,4 @@
-use Rattle.rounds.specs.Deliveries.{ArePosted}
-use Rattle.rounds.specs.Sweeps.{opened_below}
+use Rattle.rounds.specs.Acts.{ArePosted, opened_below}
 use Rattle.rounds.proofs.sweeping.sweep.Given as goal
 
 -- the slots so far have their notes
