@@ -1,7 +1,8 @@
--- What a thread's loop does with tickets, and with free slots. Part of the promises.
-use Rattle.std.specs.Prelude.{◌≡◌, ◌≢◌, ◌⊎◌, ℕ, zero, suc, ◌+◌, ◌<◌, ◌≤◌, ◌==◌, ◌&&◌, Bool, true, false, nat_lt, if◌then◌else◌, List, [], ◌∷◌, ◌++◌, length, map, Result, Ok, Err, slice_get}
+-- Why a thread's loop ends, which fault a server ends by, and what a loop does with tickets and with free slots. Part of
+-- the promises.
+use Rattle.std.specs.Prelude.{◌≡◌, ◌≢◌, ◌⊎◌, ℕ, zero, suc, ◌+◌, ◌<◌, ◌≤◌, ◌==◌, ◌&&◌, Bool, true, false, nat_lt, if◌then◌else◌, Option, Some, None, option_to_list, List, [], ◌∷◌, ◌++◌, length, map, Result, Ok, Err, slice_get}
 use Rattle.token.specs.Names.{last_generation}
-use Rattle.std.specs.List.{count_by, sum_by, All}
+use Rattle.std.specs.List.{count_by, flat_map, sum_by, All}
 use Rattle.claims.specs.declared.view.Exchange.{Exchange}
 use Rattle.claims.specs.declared.view.Exchange.TheVariants.{Adopted}
 use Rattle.claims.specs.Seats.{SeatState}
@@ -15,7 +16,7 @@ use Rattle.turns.specs.declared.worker.Worked.TheVariants as worked
 use Rattle.rounds.specs.Acts.{Act, ActsMade, IsPost, IsTry, at_slot, due_of}
 use Rattle.dispatch.specs.Limits.{own_turns}
 use Rattle.dispatch.specs.Outgoing.{TookNothing, tickets_out, slots_out}
-use Rattle.dispatch.specs.Splits.{IsIn}
+use Rattle.dispatch.specs.Splits.{IsIn, part_of, parts_of}
 use Rattle.rounds.specs.Pollers.{PollerState, HasOpenedAll}
 use Rattle.dispatch.specs.Posts.{IsWorn, OnlyWorn}
 use Rattle.rounds.specs.Openings.{slots_in}
@@ -23,10 +24,28 @@ use Rattle.rounds.specs.Rounds.{EndedEarly, ListenerKept, ListensToOpen, RoundDo
 use Rattle.turns.specs.Shares.{TicketsShared}
 use Rattle.turns.specs.Turns.{IsTurnOf, NoOwnTurn}
 use Rattle.dispatch.specs.declared.split.Split.{Split}
-use Rattle.dispatch.specs.Splits.{part_of}
 use Rattle.threads.specs.declared.ending.Why.{Why}
 use Rattle.threads.specs.declared.ending.Why.TheVariants.{FaultFound, PollerOver, QueueClosed, Met}
-use Rattle.threads.specs.Endings.{faults_by}
+
+-- the fault that ended a thread's loop, if one did
+abbrev pub fault_by : Why → Option ServerFault
+fault_by FaultFound = None
+fault_by PollerOver = None
+fault_by QueueClosed = None
+fault_by (Met fault) = Some fault
+
+-- the same as a list
+abbrev pub faults_by : Why → List ServerFault
+faults_by why = option_to_list (fault_by why)
+
+-- of two faults, each with the number of its thread, that of the first thread; of one thread, the first
+abbrev pub earliest : Option (ℕ × ServerFault) → ℕ × ServerFault → ℕ × ServerFault
+earliest None new = new
+earliest (Some kept) new = if nat_lt new.0 kept.0 then new else kept
+
+-- every poller was woken, each by the first of its slots
+abbrev pub AllWoken : (ℕ → Type 0) → Split → Type 0
+AllWoken woken split = (poller : ℕ) → poller < parts_of split.slots split.size → woken (part_of split.slots split.size poller).first
 
 -- how often this very ticket, of its slot and its generation, stands in a list
 abbrev pub times_of : Ticket → List Ticket → ℕ
@@ -55,8 +74,7 @@ freed_by ticket (Ok worked.Ended) = if nat_lt ticket.generation last_generation 
 freed_by ticket answer = []
 
 abbrev pub freed : List Run → List ℕ
-freed [] = []
-freed (run ∷ ran) = freed_by run.ticket run.answer ++ freed ran
+freed ran = flat_map (λ (run : Run). freed_by run.ticket run.answer) ran
 
 -- the faults that turns met, in order
 abbrev pub fault_in : Result Worked ServerFault → List ServerFault
@@ -64,8 +82,7 @@ fault_in (Ok worked) = []
 fault_in (Err fault) = fault ∷ []
 
 abbrev pub faults_of : List Run → List ServerFault
-faults_of [] = []
-faults_of (run ∷ ran) = fault_in run.answer ++ faults_of ran
+faults_of ran = flat_map (λ (run : Run). fault_in run.answer) ran
 
 -- These turns were made by this seat, and nothing else was: each made the exchanges of its answer, in this order, and
 -- the tickets that they made are due
@@ -268,8 +285,7 @@ opened_by (Adopted found ∷ more) ticket = ticket ∷ []
 opened_by exchanges ticket = []
 
 abbrev pub openings_of : List Act → List Ticket
-openings_of [] = []
-openings_of (act ∷ acts) = opened_by act.exchanges act.ticket ++ openings_of acts
+openings_of acts = flat_map (λ (act : Act). opened_by act.exchanges act.ticket) acts
 
 -- What a poller's seat did is these acts, in order. By ticket: what its thread was to put before, and what they made,
 -- were run by the thread itself or are put or in hand, each once. No ticket was taken out of the queue. Each free slot

@@ -1,6 +1,6 @@
-//! What every thread of a server is handed, and how a fault of one ends the others.
-ghost use Rattle.std.specs.Prelude.{◌≡◌, OnSome, option_map};
-ghost use Rattle.threads.specs.Endings.{AllWoken, fault_by};
+//! What every thread of a server is handed, the flag that stops openings, and how a fault of one ends the others.
+ghost use Rattle.std.specs.Prelude.{◌≡◌, Bool, OnSome, option_map};
+ghost use Rattle.threads.specs.Loops.{AllWoken, fault_by};
 
 use crate::ending::{Ended, Ending};
 use crate::faults::Recorded;
@@ -9,6 +9,23 @@ use ready::ReadyQueue;
 use std::alloc::Global;
 use std::sync::Wait;
 use std::sync::atomic::AtomicBool;
+use std::sync::atomic::Ordering::SeqCst;
+
+/// A flag that is set once no more connections may be opened.
+pub trait StopFlag {
+    // What a look at it showed, if it says so.
+    ghost said: { Self → Bool → Type 0 } = { λ _ _. Unit {0} };
+
+    /// Whether it is set.
+    fn is_set(&self) -> bool
+        ensures { said self.now result };
+}
+
+impl StopFlag for AtomicBool {
+    fn is_set(&self) -> bool {
+        self.load(SeqCst)
+    }
+}
 
 /// What every thread of a server is handed at each of its steps.
 #[derive(Drop)]

@@ -6,7 +6,6 @@ ghost use Rattle.claims.specs.Seats.{fresh_seat};
 ghost use Rattle.dispatch.specs.Parts.{AreFresh};
 ghost use Rattle.threads.specs.Divided.{numbered, IsEndOf, AreEndsFrom, AreLeft, HasOneOfEach};
 
-use crate::limits::WORKER_HAND;
 use crate::polling::PollerThread;
 use crate::working::Worker;
 use dispatch::{Front, MAX_BATCH, Own, Parts, ServerFault, Shared};
@@ -14,6 +13,10 @@ use ready::FreeQueue;
 use rounds::Poller;
 use std::alloc::Global;
 use std::sync::Arc;
+
+/// For how many tickets, and for how many slots, a worker's hand has room. Nothing stays there for long, since a queue
+/// has room for each ticket and each slot.
+const WORKER_HAND: usize = 2;
 
 /// The threads of a server that have not begun.
 #[derive(Drop)]

@@ -3,8 +3,7 @@ ghost use Rattle.std.specs.Prelude.{◌≡◌, IfOk, IfErr, OnErr, OnOk, option_
 ghost use Rattle.dispatch.specs.Outgoing.{PutAll};
 ghost use Rattle.ready.specs.Steps.{HeldOnce};
 ghost use Rattle.relay_log.specs.declared.faults.ServerFault.{ServerFault};
-ghost use Rattle.threads.specs.Endings.{fault_by};
-ghost use Rattle.threads.specs.Loops.{Took};
+ghost use Rattle.threads.specs.Loops.{Took, fault_by};
 
 use crate::faults::{Earliest, Outcome, Recorded};
 use crate::running::Served;

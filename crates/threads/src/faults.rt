@@ -1,7 +1,7 @@
 //! What becomes of a fault: it is kept, unless a thread with a lower number has met one, and a flag is set that every
 //! thread looks at.
 ghost use Rattle.std.specs.Prelude.{◌≡◌, ◌↔◌, IfErr, IsOk, None, Some, option_map};
-ghost use Rattle.threads.specs.Endings.{earliest};
+ghost use Rattle.threads.specs.Loops.{earliest};
 
 use dispatch::ServerFault;
 use std::marker::Model;

@@ -23,17 +23,14 @@ mod context;
 mod dividing;
 mod ending;
 mod faults;
-mod limits;
 mod polling;
 mod running;
-mod stopping;
 mod working;
 
-pub use context::Context;
+pub use context::{Context, StopFlag};
 pub use dividing::{Rest, ServerThreads, divide};
 pub use ending::{Ended, Ending, Why};
 pub use faults::{Outcome, Recorded};
 pub use polling::PollerThread;
 pub use running::{Server, run_threads};
-pub use stopping::StopFlag;
 pub use working::Worker;

@@ -7,12 +7,10 @@ ghost use Rattle.rounds.specs.Pollers.{HasOpenedAll};
 ghost use Rattle.rounds.specs.Rounds.{EndedEarly, ListensToOpen};
 ghost use Rattle.turns.specs.Turns.{NoOwnTurn};
 ghost use Rattle.threads.specs.declared.ending.Why.{Why};
-ghost use Rattle.threads.specs.Endings.{AllWoken, faults_by};
-ghost use Rattle.threads.specs.Loops.{Asked, LoopMade, OwnTurnsRan, PollerEnded, PollerRan, RoundCut, RoundMade, RunMade, StepCut, StepMade, TurnsAfter, TurnsCut, WornEnd};
+ghost use Rattle.threads.specs.Loops.{AllWoken, faults_by, Asked, LoopMade, OwnTurnsRan, PollerEnded, PollerRan, RoundCut, RoundMade, RunMade, StepCut, StepMade, TurnsAfter, TurnsCut, WornEnd};
 
-use crate::context::Context;
+use crate::context::{Context, StopFlag};
 use crate::ending::{Ended, NoFault, end_if_over};
-use crate::stopping::StopFlag;
 use dispatch::{Clock, Front, Gate, MAX_OWN_TURNS, Own, Shared};
 use log::Log;
 use rounds::{Poller, poller_round};

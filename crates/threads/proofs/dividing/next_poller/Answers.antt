@@ -12,4 +12,4 @@ invariant_of-result g c = record {
 }
 
 pub returns-then-table-slots-clause-left : goal.returns-then-table-slots-clause-left
-returns-then-table-slots-clause-left g c = all_left _
+returns-then-table-slots-clause-left g c = all_left

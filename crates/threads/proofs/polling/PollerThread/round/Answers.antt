@@ -1,7 +1,12 @@
-use Rattle.threads.proofs.Loops.{turns_cut}
+use Rattle.std.proofs.Common.{inr}
+use Rattle.std.proofs.lemmas.Result.{IfErr-weaker}
 use Rattle.threads.proofs.polling.PollerThread.round.Goals as goal
 
 pub returns-in-Ok-clause-cut : goal.returns-in-Ok-clause-cut
-returns-in-Ok-clause-cut g c = turns_cut (g.S.StopFlag.said c.args.context.now.is_stopped.now) c.run_turns.result c.args.self.now.poller c.poll.new.self.poller c.run_turns.new.self.poller
-    c.args.self.now.own c.poll.new.self.own
-    c.run_turns.new.self.own c.in-Ok.ensures.made c.in-Ok.ensures.closed c.run_turns.ensures.cut
+returns-in-Ok-clause-cut g c = IfErr-weaker c.run_turns.result _ _ (λ ended cut. inr (inr (record {
+  polled = c.poll.new.self.poller;
+  between = c.poll.new.self.own;
+  round = c.in-Ok.ensures.made;
+  closed = c.in-Ok.ensures.closed;
+  turns = cut;
+}))) c.run_turns.ensures.cut

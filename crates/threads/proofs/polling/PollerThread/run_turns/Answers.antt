@@ -1,9 +1,6 @@
-use Rattle.std.proofs.Common.{rules, ap, subst, []}
-use Rattle.std.specs.Prelude.{Option, OnSome}
+use Rattle.std.proofs.Common.{rules, ap, subst}
 use Rattle.rounds.specs.Pollers.{PollerState}
 use Rattle.turns.specs.Shares.{TicketsShared}
-use Rattle.turns.specs.declared.worker.Worked.{Worked}
-use Rattle.threads.specs.Loops.{OwnTurnsRan}
 use Rattle.threads.proofs.Loops.{cut_worn, own_both, own_none}
 use Rattle.threads.proofs.polling.PollerThread.run_turns.Goals as goal
 
@@ -13,7 +10,7 @@ loop-turn-init g c = record {
   shared = c.share_tickets.new.own;
   sharing = subst (λ (s : PollerState). TicketsShared s.heavy c.share_tickets.new.heavy c.args.self.now.own c.share_tickets.new.own) c.poller.view_is
       c.share_tickets.ensures.shared;
-  turns = own_none c.share_tickets.new.own;
+  turns = own_none;
   poller = ap (λ (s : PollerState). record s { heavy = c.share_tickets.new.heavy }) c.poller.view_is;
 }
 
@@ -22,11 +19,9 @@ loop-turn-preserved g c = record {
   heavy = c.loop-turn.invariant.heavy;
   shared = c.loop-turn.invariant.shared;
   sharing = c.loop-turn.invariant.sharing;
-  turns = own_both c.loop-turn._turn 1 [] c.loop-turn.invariant.shared c.loop-turn.self.own c.turn.new.self.own c.loop-turn.invariant.turns
-      (subst (λ (o : Option Worked). OnSome o (OwnTurnsRan 1 [] c.loop-turn.self.own c.turn.new.self.own)) c.in-Ok-Some.field-0-is c.in-Ok-Some.ensures.ran);
+  turns = own_both c.loop-turn.invariant.turns (rw c.in-Ok-Some.field-0-is at c.in-Ok-Some.ensures.ran);
   poller = search rules;
 }
 
 pub returns-in-Err-turn-clause-cut : goal.returns-in-Err-turn-clause-cut
-returns-in-Err-turn-clause-cut g c = cut_worn c.loop-turn._turn c.in-Err-turn.ended.why c.args.self.now.poller c.loop-turn.self.poller c.turn.new.self.poller c.args.self.now.own
-    c.loop-turn.self.own c.turn.new.self.own c.in-Err-turn.ensures.cut.1 c.loop-turn.invariant c.in-Err-turn.ensures.cut.0 (search rules) c.loop-turn-test.true
+returns-in-Err-turn-clause-cut g c = cut_worn c.in-Err-turn.ensures.cut.1 c.loop-turn.invariant c.in-Err-turn.ensures.cut.0 (search rules) c.loop-turn-test.true

@@ -1,12 +1,12 @@
-use Rattle.std.proofs.Common.{[], refl}
+use Rattle.std.proofs.Common.{refl}
 use Rattle.threads.proofs.Loops.{worker_none, worker_both, worker_then_ends}
 use Rattle.threads.proofs.working.Worker.run_turns.Goals as goal
 
 pub loop-turn-init : goal.loop-turn-init
-loop-turn-init g c = worker_none c.args.self.now.own c.args.self.now.own _ _ refl refl refl refl refl refl
+loop-turn-init g c = worker_none refl refl refl refl refl refl
 
 pub returns-in-Err : goal.returns-in-Err
-returns-in-Err g c = record { ran = worker_then_ends c.in-Err.ended.why c.args.self.now.own c.loop-turn.self.own c.step.new.self.own _ _ _ c.loop-turn.invariant c.in-Err.ensures.cut }
+returns-in-Err g c = record { ran = worker_then_ends c.loop-turn.invariant c.in-Err.ensures.cut }
 
 pub loop-turn-preserved : goal.loop-turn-preserved
-loop-turn-preserved g c = worker_both [] [] c.args.self.now.own c.loop-turn.self.own c.step.new.self.own _ _ _ c.loop-turn.invariant c.in_default.ensures.ran
+loop-turn-preserved g c = worker_both c.loop-turn.invariant c.in_default.ensures.ran

@@ -1,11 +1,12 @@
-use Rattle.threads.proofs.Loops.{worker_found, worker_step_cut, worker_step_ran}
+use Rattle.std.proofs.lemmas.Result.{on_ok_weaker, IfErr-weaker}
+use Rattle.threads.proofs.Loops.{worker_both, worker_found, worker_then_ends}
 use Rattle.threads.proofs.working.Worker.step.Goals as goal
 
 pub returns-in-Err-clause-cut : goal.returns-in-Err-clause-cut
-returns-in-Err-clause-cut g c = worker_found _ c.args.self.now.own _ c.in-Err.ensures
+returns-in-Err-clause-cut g c = worker_found c.in-Err.ensures
 
 pub returns-clause-ran : goal.returns-clause-ran
-returns-clause-ran g c = worker_step_ran c.run_next.result c.args.self.now.own c.put_hand.new.self.own _ _ _ _ c.put_hand.ensures.ran c.run_next.ensures.ran
+returns-clause-ran g c = on_ok_weaker c.run_next.result (worker_both c.put_hand.ensures.ran) c.run_next.ensures.ran
 
 pub returns-clause-cut : goal.returns-clause-cut
-returns-clause-cut g c = worker_step_cut c.run_next.result c.args.self.now.own c.put_hand.new.self.own _ _ _ _ c.put_hand.ensures.ran c.run_next.ensures.cut
+returns-clause-cut g c = IfErr-weaker c.run_next.result _ _ (λ ended. worker_then_ends c.put_hand.ensures.ran) c.run_next.ensures.cut
