@@ -1,11 +1,70 @@
 -- What a loop of reads keeps: the text is what the reader has given, a byte at least for each read.
-use Rattle.std.proofs.Common.{◌≡◌, ◌≢◌, ℕ, ◌+◌, ◌<◌, ◌≤◌, List, ◌++◌, length, take, Option, Some, None, sym, ◌∙◌, ap, arith, append-nil, length-append}
-use Rattle.std.specs.Prelude.{IfSome}
+use Rattle.std.proofs.Common.{◌≡◌, ℕ, ◌+◌, List, [], ◌∷◌, Some, None, Bool, true, false, cond, take, drop, arith, subst, refl, ◌<◌, ◌≤◌, ◌^◌, ◌&&◌, length, get_or, ap, add-one, ◌∙◌, drop-cons, drop_of_length-le, ◌≢◌, ◌++◌, Option, sym, append-nil, length-append}
+use Rattle.std.specs.List.{slice_split, position, list_all}
+use Rattle.std.proofs.lemmas.Bool.{ltb-true, ltb-false, le-ltb, lt-ltb}
+use Rattle.std.proofs.lemmas.Option.{cond_some}
+use Rattle.std.proofs.lemmas.List.Sums.{fails_before_first}
+use Rattle.std.proofs.lemmas.List.Splits.{slice_split_first, slice_split_none}
+use Rattle.std.specs.Prelude.{fold, IfSome}
+use Rattle.input.specs.Texts.{is_digit, is_plain, value_of, with_digit, number_of, TakesAtMost, TakesSome, ReadsOn, Stops}
 use Rattle.std.specs.Io.KnownBytes.{Consumes, IsAtEnd}
 use Rattle.std.proofs.KnownBytes.{Consumes-trans}
 use Rattle.std.proofs.lemmas.List.{take_all}
 use Rattle.std.proofs.Math.Seq.{take-append_seam}
-use Rattle.input.specs.Reads.{TakesAtMost, TakesSome, ReadsOn, Stops}
+
+-- What stands before and after the first separator.
+
+-- a choice of nothing was no choice of something
+nothing_chosen : (b : Bool) (n : ℕ) → cond b (Some n) None ≡ None → b ≡ false
+nothing_chosen true n none = absurd (cc)
+nothing_chosen false n none = refl
+
+pub split_at_first : (p : ℕ → Bool) (xs : List ℕ) (at : ℕ) → position p xs ≡ Some at → slice_split p xs ≡ take at xs ∷ slice_split p (drop (at + 1) xs)
+split_at_first p xs at found =
+    let chosen = cond_some _ _ _ found in
+    subst (λ (i : ℕ). slice_split p xs ≡ take i xs ∷ slice_split p (drop (i + 1) xs)) chosen.1
+    (slice_split_first p xs 0 (ltb-true _ _ chosen.0))
+
+pub split_nowhere : (p : ℕ → Bool) (xs : List ℕ) → position p xs ≡ None → slice_split p xs ≡ xs ∷ []
+split_nowhere p xs none =
+    let past = ltb-false _ _ (nothing_chosen _ _ none) in
+    slice_split_none p xs (λ k d below. fails_before_first p xs k d (omega (arith, past, below)))
+
+-- Which texts are no numbers.
+
+-- the value grows with each digit
+value_grows : (n : ℕ) (digits : List ℕ) → n ≤ fold with_digit n digits
+value_grows n [] = omega arith
+value_grows n (digit ∷ digits) = omega (arith, value_grows (with_digit n digit) digits)
+
+none_at_last : (plain digits : Bool) (n : ℕ) → cond (plain && (digits && false)) (Some n) None ≡ None
+none_at_last true true n = refl
+none_at_last true false n = refl
+none_at_last false digits n = refl
+
+-- a value from 2^64 on
+too_large : (text : List ℕ) (n : ℕ) (rest : List ℕ) → value_of text ≡ fold with_digit n rest → 2 ^ 64 ≤ n → number_of text ≡ None
+too_large text n rest is large =
+    rw (le-ltb (value_of text) (2 ^ 64) (omega (arith, is, large, value_grows n rest))) (none_at_last (is_plain text) (list_all is_digit text) (value_of text))
+
+-- what is left begins with the byte at hand
+drop_at : (text : List ℕ) (i : ℕ) → i < length text → drop i text ≡ get_or text i 0 ∷ drop (i + 1) text
+drop_at text i within = rw (add-one i) (drop-cons text i 0 within)
+
+-- a digit that takes the value to 2^64 or past it
+pub too_large_at : (text : List ℕ) (value i : ℕ) → value_of text ≡ fold with_digit value (drop i text) → i < length text → 2 ^ 64 ≤ with_digit value (get_or text i 0)
+    → number_of text ≡ None
+too_large_at text value i is within large =
+    too_large text (with_digit value (get_or text i 0)) (drop (i + 1) text) (is ∙ ap (fold with_digit value) (drop_at text i within)) large
+
+-- digits to the end, whose value fits
+pub whole_number : (text : List ℕ) (value i : ℕ) → length text ≤ i → is_plain text ≡ true → list_all is_digit text ≡ list_all is_digit (drop i text)
+    → value_of text ≡ fold with_digit value (drop i text) → value < 2 ^ 64 → Some value ≡ number_of text
+whole_number text value i past plain digits is fits =
+    let ended = drop_of_length-le text past in
+    let all : list_all is_digit text ≡ true = digits ∙ ap (list_all is_digit) ended in
+    let same : value_of text ≡ value = is ∙ ap (fold with_digit value) ended in
+    rw (plain, all, same, lt-ltb value (2 ^ 64) fits) refl
 
 pub record Reads (most : ℕ) (first now : Option (List ℕ)) (text : List ℕ) (reads : ℕ) : Type 0 where
   pub consumed : Consumes first now text

@@ -1,5 +1,5 @@
 ghost use Rattle.std.specs.Prelude.{◌≡◌, ◌≤◌, IfOk, IfErr, IfSome, take, vec_len};
-ghost use Rattle.input.specs.Reads.{TakesAtMost, TakesSome, ReadsOn, Stops};
+ghost use Rattle.input.specs.Texts.{TakesAtMost, TakesSome, ReadsOn, Stops};
 
 use std::alloc::{AllocError, Global};
 use std::io::Read;

@@ -1,7 +1,3 @@
 -- The crate's definitions. The first line of each file says whether the promises need it.
-pub mod Files
-pub mod Arguments
-pub mod Seconds
+pub mod Faults
 pub mod Starting
-pub mod Statuses
-pub mod Streams

@@ -1,8 +1,14 @@
 -- What a relay needs to start: how many connections a process has descriptors for, and when a relay is its own target. Part
 -- of the promises.
-use Rattle.std.specs.Prelude.{◌≡◌, ◌⊎◌, ℕ, ◌+◌, ◌*◌, ◌≤◌, Bool, true, List, [], ◌∷◌, slice_index}
+use Rattle.std.specs.Prelude.{◌≡◌, ◌⊎◌, ℕ, ◌+◌, ◌*◌, ◌≤◌, Bool, true, List, [], ◌∷◌, slice_index, ℤ, pos, false}
 use Rattle.settings.specs.Addresses.{SocketAddress}
 use Rattle.settings.specs.Pollers.{pollers_for}
+use Rattle.program.specs.declared.extras.SecondsOption.{SecondsOption}
+use Rattle.program.specs.declared.extras.SecondsOption.TheVariants.{Stats, ConnectTimeout, Keepalive}
+use Rattle.std.specs.Fs.{asks_read, asks_write, asks_append}
+use Rattle.std.specs.declared.fs.options.OpenOptions.{OpenOptions}
+use Rattle.program.specs.declared.standard_streams.StandardStream.{StandardStream}
+use Rattle.program.specs.declared.standard_streams.StandardStream.TheVariants.{Input, Output, Errors}
 
 -- what this many slots and workers need beside what is open: two descriptors for each connection, and two for each
 -- poller
@@ -28,3 +34,25 @@ Meets listen target here =
     × ((listen.0 ≡ target.0)
     ⊎ (((listen.0 ≡ every) × ((slice_index target.0 0 ≡ 127) ⊎ (here ≡ true)))
     ⊎ ((listen.0 ≡ loopback) × (target.0 ≡ every))))
+
+-- The options whose values are numbers of seconds.
+
+-- the most that each may be
+abbrev pub most : SecondsOption → ℕ
+most Stats = 86400
+most ConnectTimeout = 3600
+most Keepalive = 32767
+
+-- The standard streams, and what stands in for one that was closed when the program started.
+
+-- the descriptor of a stream (stdin(3))
+abbrev pub number : StandardStream → ℤ
+number Input = pos 0
+number Output = pos 1
+number Errors = pos 2
+
+-- a file that is opened so refuses what is done with the stream, as the closed one would: read(2) and write(2) give
+-- EBADF
+abbrev pub Refuses : StandardStream → OpenOptions → Type 0
+Refuses Input how = asks_read how ≡ false
+Refuses _ how = (asks_write how ≡ false) × (asks_append how ≡ false)

@@ -1,15 +1,14 @@
 //! What the program does, from its arguments to its status.
 ghost use Rattle.std.specs.Prelude.{◌≡◌, ◌⊎◌, IfSome, IfOk, IfErr, Ok};
 ghost use Rattle.script.specs.Runs.{WritesReport, WritesFault};
-ghost use Rattle.program.specs.Statuses.{IsCarriedOut, status_of};
+ghost use Rattle.program.specs.Faults.{IsCarriedOut, status_of};
 
 use crate::command_line::{Command, read_command};
 use crate::config;
 use crate::constants::{DONE, FAULT, USAGE};
 use crate::extras::{Extras, extras_of};
-use crate::faults::ProgramFault;
+use crate::faults::{ArgumentsFault, ProgramFault};
 use crate::logging::{log_form, starting_filter};
-use crate::process_arguments::ArgumentsFault;
 use crate::recording_file::create;
 use crate::replaying_file::{find_wanted, replay_file};
 use crate::starting::{foresee, prepare};

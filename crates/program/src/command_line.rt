@@ -40,18 +40,13 @@ pub struct Replayed<'a> {
 /// An error is a usage text: the requested help or version, or why the arguments are refused; or it has the kind
 /// `OutOfMemory`. Nothing has been printed then.
 pub fn read_command<'a>(alloc: Global, arguments: &'a [&'a str]) -> Result<Command<'a>, Error> {
-    match matches_of(alloc, arguments) {
-        Ok(matches) => command_of(alloc, &matches),
-        Err(error) => Err(error),
-    }
+    let matches = matches_of(alloc, arguments)?;
+    command_of(alloc, &matches)
 }
 
 /// What the arguments say.
 fn matches_of<'a>(alloc: Global, arguments: &'a [&'a str]) -> Result<ArgMatches<'a>, Error> {
-    match relayd(alloc) {
-        Ok(command) => command.try_get_matches_from(arguments),
-        Err(error) => Err(Error::from(error)),
-    }
+    relayd(alloc)?.try_get_matches_from(arguments)
 }
 
 /// The command that they say.
@@ -124,10 +119,7 @@ fn add_subcommands<'a>(
     subcommands: &mut Vec<clap::Command<'a>>,
 ) -> Result<(), AllocError> {
     for row in rows {
-        match subcommand(alloc, *row) {
-            Ok(subcommand) => subcommands.push(subcommand)?,
-            Err(error) => return Err(error),
-        }
+        subcommands.push(subcommand(alloc, *row)?)?;
     }
     Ok(())
 }

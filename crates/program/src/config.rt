@@ -1,8 +1,8 @@
 //! The settings file.
 ghost use Rattle.std.specs.Prelude.{◌≡◌, ◌<◌, ◌≤◌, Ok, Err, None, IfOk, IfErr, IfSome, length, vec_len};
-ghost use Rattle.settings.specs.Names.{level_name};
-ghost use Rattle.settings.specs.Text.{IsSettingsOf};
-ghost use Rattle.program.specs.Files.{FileSets, HasFault};
+ghost use Rattle.settings.specs.Table.{level_name};
+ghost use Rattle.settings.specs.Document.{IsSettingsOf};
+ghost use Rattle.program.specs.Faults.{FileSets, HasFault};
 
 use crate::constants::MAX_CONFIG_BYTES;
 use crate::faults::ConfigFault;

@@ -1,9 +1,9 @@
 //! What the program reports on standard error.
 ghost use Rattle.std.specs.Prelude.{◌≡◌};
-ghost use Rattle.program.specs.Files.{settings_fault};
-ghost use Rattle.program.specs.Statuses.{argument_fault, status_of};
+ghost use Rattle.program.specs.Faults.{settings_fault, argument_fault, status_of, arguments_fault};
 ghost use Rattle.program.specs.declared.faults.ConfigFault.TheVariants.{NoMemory};
 ghost use Rattle.program.specs.declared.faults.ProgramFault.TheVariants.{Config};
+ghost use Rattle.std.specs.IoError.{error_kind};
 
 use crate::constants::{FAULT, USAGE};
 use crate::extras::SecondsOption;
@@ -12,6 +12,8 @@ use relay_log::ServerFault;
 use script::ScriptFault;
 use settings::SettingsFault;
 use std::alloc::AllocError;
+use std::env::{self, Env};
+use std::io;
 use thiserror::Error;
 
 /// A fault of the program. Its text is what a person sees after `relayd: `.
@@ -128,4 +130,43 @@ impl From<SettingsFault> for ConfigFault {
             fault => ConfigFault::Settings(fault),
         }
     }
+}
+
+/// Why the arguments of the command line cannot be read.
+#[derive(Clone, Copy)]
+pub enum ArgumentsFault {
+    /// Memory ran out.
+    NoMemory,
+    /// An argument is not UTF-8.
+    NotText,
+}
+
+impl From<AllocError> for ArgumentsFault {
+    ghost use Rattle.program.specs.declared.faults.ArgumentsFault.TheVariants.{NoMemory};
+
+    ghost from_gives = { λ _ fault. fault ≡ NoMemory };
+
+    fn from(_error: AllocError) -> ArgumentsFault {
+        ArgumentsFault::NoMemory
+    }
+}
+
+// The system provides the arguments as bytes.
+impl From<io::Error> for ArgumentsFault {
+    ghost from_gives = { λ error fault. fault ≡ arguments_fault (error_kind error) };
+
+    fn from(error: io::Error) -> ArgumentsFault {
+        match error.kind() {
+            io::ErrorKind::OutOfMemory => ArgumentsFault::NoMemory,
+            _ => ArgumentsFault::NotText,
+        }
+    }
+}
+
+/// The arguments of the command line; the first is the program's own name.
+///
+/// Refuses with `NoMemory` if there is none for them, and `NotText` if one is not UTF-8.
+pub fn arguments<R: AllocGlobal + Env>(rt: &R) -> Result<Vec<String>, ArgumentsFault> {
+    let arguments = env::args(rt)?;
+    Ok(arguments.collect(rt.alloc())?)
 }

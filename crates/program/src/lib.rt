@@ -6,7 +6,7 @@
 //!
 //! - `command_line` finds the command in them; `forwarding` has the settings that they may give, and `extras` the other
 //!   options.
-//! - `usage` prints help, and why words are refused; `tips` what to type instead.
+//! - `usage` prints help, and why words are refused, with what to type instead.
 //! - [`config`] reads the settings, and `starting` looks at what they need before a relay serves by them, and prints
 //!   where it listens ([`print_listening`]).
 //! - `recording_file` makes the file of a recording, and `replaying_file` replays one.
@@ -17,7 +17,7 @@
 //!
 //! # Inside
 //!
-//! `report_fault` (`status_of` of `specs/Statuses.antt`) and `answer_usage` give the statuses that `relayd(1)` names
+//! `report_fault` (`status_of` of `specs/Faults.antt`) and `answer_usage` give the statuses that `relayd(1)` names
 //! (EXIT STATUS); `simulate` and `simulate_each` (`report`, `refused`) say by the status whether the report, or each
 //! step, or a fault's line was written.
 #![tactic(auto)]
@@ -26,26 +26,22 @@ mod acting;
 mod command_line;
 pub mod config;
 mod constants;
-mod descriptors;
 mod extras;
 mod faults;
 mod forwarding;
 pub mod logging;
-mod process_arguments;
 mod recording_file;
 mod replaying_file;
 mod standard_streams;
 mod starting;
 mod streams;
 pub mod telling;
-mod tips;
 pub mod until_eof;
 mod usage;
 
 pub use acting::{act, report_arguments_fault};
 pub use extras::{Extras, SecondsOption};
-pub use faults::{ConfigFault, ProgramFault};
+pub use faults::{ArgumentsFault, ConfigFault, ProgramFault, arguments};
 pub use logging::{level_filter, starting_filter};
-pub use process_arguments::{ArgumentsFault, arguments};
 pub use standard_streams::{hold_closed, report_unheld};
 pub use starting::{foresee, log_start, prepare, print_listening};

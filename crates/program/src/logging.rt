@@ -5,7 +5,7 @@
 ghost use Rattle.std.specs.Prelude.{◌≡◌, ◌≢◌, ◌⊎◌, IfErr, map};
 ghost use Rattle.std.specs.Char.{to_ascii_lowercase};
 ghost use Rattle.log.specs.Level.{filter_name};
-ghost use Rattle.settings.specs.Names.{level_name};
+ghost use Rattle.settings.specs.Table.{level_name};
 
 use log::kv::Source;
 use log::span::Spans;

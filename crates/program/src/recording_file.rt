@@ -2,7 +2,7 @@
 //! name, and any other file that is not empty is refused.
 ghost use Rattle.std.specs.Prelude.{◌≡◌, IfErr, true, false};
 ghost use Rattle.std.specs.Fs.{asks_read, asks_write, asks_append, asks_truncate, asks_create, asks_create_new};
-ghost use Rattle.program.specs.Statuses.{status_of};
+ghost use Rattle.program.specs.Faults.{status_of};
 
 use crate::faults::ProgramFault;
 use crate::streams::{Unopened, log_error};

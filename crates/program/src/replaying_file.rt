@@ -1,6 +1,6 @@
 //! A recording that is replayed.
 ghost use Rattle.std.specs.Prelude.{◌≡◌, IfOk, IfErr};
-ghost use Rattle.program.specs.Statuses.{IsCarriedOut, status_of};
+ghost use Rattle.program.specs.Faults.{IsCarriedOut, status_of};
 
 use crate::command_line::Replayed;
 use crate::constants::{DONE, FAULT};

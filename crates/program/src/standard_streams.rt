@@ -1,7 +1,7 @@
 //! Standard streams that are closed when the program starts. A file or a socket that it opens gets the lowest number
 //! that is not open (open(2), socket(2)): it would be read, written or logged to in the place of such a stream.
 ghost use Rattle.std.specs.Prelude.{◌≡◌, ℤ, IfOk, IfSome};
-ghost use Rattle.program.specs.Streams.{number, Refuses};
+ghost use Rattle.program.specs.Starting.{number, Refuses};
 
 use crate::constants::FAULT;
 use std::fmt;

@@ -1,3 +1,2 @@
 -- The crate's definitions.
-pub mod Lending
 pub mod Records

@@ -1,10 +1,11 @@
 // A clock that records what it tells.
 ghost use Rattle.std.specs.Prelude.{◌≡◌, IsTrue, [], ◌∷◌};
 ghost use Rattle.records.specs.declared.act.Act.TheVariants.{Second};
-ghost use Rattle.recording.specs.Records.{Beside, Records};
+ghost use Rattle.recording.specs.Records.{Beside, Records, RecordsAtOnce};
+ghost use Rattle.records.specs.declared.act.Act.TheVariants as act;
 
 use crate::recorder::{Begun, Inner, Recorder, Sink};
-use dispatch::Clock;
+use dispatch::{Clock, Gate};
 use records::Act;
 
 /// A clock that tells what the one in it tells, and records it if there is an idle limit: for nothing else does a
@@ -51,5 +52,38 @@ impl<C: Clock, S: Sink> Clock for RecordedClock<'_, C, S> {
         let second = self.inner.shown(&begun).second();
         recorder.record(begun, Act::Second(second));
         second
+    }
+}
+
+/// A gate that does what the one in it does, and records where turns begin and end.
+#[derive(Drop)]
+pub struct RecordedGate<'r, G, S> {
+    inner: &'r G,
+    recorder: Recorder<S>,
+}
+
+impl<'r, G, S> RecordedGate<'r, G, S> {
+    pub fn new(inner: &'r G, recorder: Recorder<S>) -> RecordedGate<'r, G, S> {
+        RecordedGate { inner, recorder }
+    }
+}
+
+impl<G: Gate, S: Sink> Gate for RecordedGate<'_, G, S> {
+    fn all_started(&self) {
+        self.inner.all_started();
+    }
+
+    fn before_turn(&self, slot: usize)
+        ensures { Beside S.did (RecordsAtOnce S.did (act.Begin slot)) self.now.recorder.sink }
+    {
+        self.inner.before_turn(slot);
+        self.recorder.another().record_at_once(Act::Begin(slot));
+    }
+
+    fn after_turn(&self, slot: usize)
+        ensures { Beside S.did (RecordsAtOnce S.did (act.End slot)) self.now.recorder.sink }
+    {
+        self.inner.after_turn(slot);
+        self.recorder.another().record_at_once(Act::End(slot));
     }
 }

@@ -21,18 +21,14 @@
 
 mod clock;
 mod front;
-mod gate;
-mod limits;
 mod queue;
 mod recorder;
 mod wire;
 mod writing;
 
-pub use clock::RecordedClock;
+pub use clock::{RecordedClock, RecordedGate};
 pub use front::{RecordedFront, record_all};
-pub use gate::RecordedGate;
-pub use limits::{MAX_RECORDS, QUEUES};
-pub use queue::{QueueSink, RecordQueue};
+pub use queue::{MAX_RECORDS, QUEUES, QueueSink, RecordQueue};
 pub use recorder::{Recorder, Sink};
 pub use wire::RecordedWire;
 pub use writing::write_records;

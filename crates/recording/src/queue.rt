@@ -1,7 +1,6 @@
 // The records that wait.
 ghost use Rattle.std.specs.Prelude.{◌≡◌, IfOk, replicate};
 
-use crate::limits::{MAX_RECORDS, QUEUES};
 use crate::recorder::Sink;
 use crossbeam_queue::ArrayQueue;
 use crossbeam_utils::CachePadded;
@@ -12,6 +11,24 @@ use records::{Act, Record};
 use std::alloc::{AllocError, Global};
 use std::sync::Wait;
 use std::sync::atomic::{AtomicBool, AtomicU64, Ordering};
+use std::time::Duration;
+
+/// The queues of records. A poller has one of them, with its slots, so that threads seldom meet at one.
+pub const QUEUES: usize = 4;
+
+/// The most records that wait in a queue.
+pub const MAX_RECORDS: usize = 131_072;
+
+/// The most records that are written of one queue before the next one's turn.
+pub(crate) const MAX_RUN: usize = 256;
+
+/// The bytes that are gathered for one write(2).
+pub(crate) const MAX_WRITE: usize = 65_536;
+
+/// How long the writer rests after it found records, so that those who record meanwhile need not wake it.
+pub(crate) fn soon() -> Duration {
+    Duration::from_millis(2)
+}
 
 /// The records between the threads that record and the one that writes, and the count by which all of them tell when
 /// an act was. There are [`QUEUES`] queues, of at most [`MAX_RECORDS`] records each: what a poller did, and what was

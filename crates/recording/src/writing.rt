@@ -1,8 +1,7 @@
 // The thread that writes.
 ghost use Rattle.std.specs.Prelude.{◌<◌};
 
-use crate::limits::{MAX_RUN, MAX_WRITE, QUEUES, soon};
-use crate::queue::RecordQueue;
+use crate::queue::{MAX_RUN, MAX_WRITE, QUEUES, RecordQueue, soon};
 use arrayvec::ArrayString;
 use log::{Log, warn};
 use log_queue::Drain;

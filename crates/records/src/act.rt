@@ -1,4 +1,7 @@
 //! What a relay did.
+ghost use Rattle.std.specs.Prelude.{◌≡◌};
+ghost use Rattle.records.specs.Texts.{accepted_name, opening_name, yes_or_no};
+
 use token::{Kind, Name, Token};
 
 /// An act, and the values of the recording's count just before and just after it.
@@ -98,4 +101,38 @@ pub enum Answer {
     Interrupted,
     /// The call failed.
     Failed(Kind),
+}
+
+impl Accepted {
+    /// The word for it in a recording.
+    pub(crate) fn name(self) -> &'static str
+        ensures { result.now ≡ accepted_name self }
+    {
+        match self {
+            Accepted::Taken => "ok",
+            Accepted::Blocked => "blocked",
+            Accepted::Again => "again",
+            Accepted::Starved => "starved",
+        }
+    }
+}
+
+impl Opening {
+    /// The word for it in a recording.
+    pub(crate) fn name(self) -> &'static str
+        ensures { result.now ≡ opening_name self }
+    {
+        match self {
+            Opening::Opened => "ok",
+            Opening::Connect => "connect",
+            Opening::Register => "register",
+        }
+    }
+}
+
+/// The word for a truth value.
+pub(crate) fn yes_or_no(is_so: bool) -> &'static str
+    ensures { result.now ≡ yes_or_no is_so }
+{
+    if is_so { "yes" } else { "no" }
 }

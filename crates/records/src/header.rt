@@ -2,8 +2,8 @@
 ghost use Rattle.std.specs.Prelude.{Some};
 ghost use Rattle.records.specs.Texts.{header_text};
 
-use crate::names::yes_or_no;
-use crate::words::{Wrong, end, said, word};
+use crate::act::yes_or_no;
+use crate::reading::{Wrong, end, said, word};
 use input::{Pieces, is, number};
 use std::fmt::{self, Display};
 

@@ -11,15 +11,12 @@
 
 mod act;
 mod header;
-mod names;
 mod printing;
 mod reading;
 mod replay;
-mod words;
 
 pub use act::{Accepted, Act, Answer, Made, Opening, Polling, Record};
 pub use header::{Header, read_header};
 pub use printing::MAX_RECORD;
-pub use reading::read_line;
+pub use reading::{Wrong, read_line};
 pub use replay::{Outcome, Replay, ReplayFault, Wanted};
-pub use words::Wrong;

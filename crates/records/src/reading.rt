@@ -1,8 +1,67 @@
 // How a record is read: word by word, from left to right.
+
 use crate::act::{Accepted, Act, Answer, Made, Opening, Polling, Record};
-use crate::words::{Wrong, end, named, number, said, word};
 use input::{Pieces, is};
 use token::{Kind, Name, Side, Token};
+
+/// Why a line of a recording is not read: the first word from the left that is wrong, and what is expected there.
+#[derive(Clone, Copy)]
+pub struct Wrong<'a> {
+    /// The word, or none where one is missing.
+    pub word: Option<&'a [u8]>,
+    /// What is expected in its place, as a person reads it.
+    pub wanted: &'static str,
+}
+
+/// The next word, whatever it is.
+pub(crate) fn word<'a>(
+    words: &mut Pieces<'a>,
+    wanted: &'static str,
+) -> Result<&'a [u8], Wrong<'a>> {
+    match words.next() {
+        Some(word) => Ok(word),
+        None => Err(Wrong { word: None, wanted }),
+    }
+}
+
+/// The next word, which is a number.
+pub(crate) fn number<'a>(words: &mut Pieces<'a>, wanted: &'static str) -> Result<usize, Wrong<'a>> {
+    let word = word(words, wanted)?;
+    said(input::number(word), word, wanted)
+}
+
+/// The end of the line.
+pub(crate) fn end<'a>(words: &mut Pieces<'a>) -> Result<(), Wrong<'a>> {
+    match words.next() {
+        None => Ok(()),
+        Some(word) => said(None, word, "the line should end before this word"),
+    }
+}
+
+/// What a word says, if it says anything.
+pub(crate) fn said<'a, T>(
+    value: Option<T>,
+    word: &'a [u8],
+    wanted: &'static str,
+) -> Result<T, Wrong<'a>> {
+    match value {
+        Some(value) => Ok(value),
+        None => Err(Wrong {
+            word: Some(word),
+            wanted,
+        }),
+    }
+}
+
+/// What a word says by this table, if it says anything.
+pub(crate) fn named<T: Copy>(word: &[u8], table: &[(&str, T)]) -> Option<T> {
+    for (name, value) in table {
+        if is(word, name) {
+            return Some(*value);
+        }
+    }
+    None
+}
 
 /// What a call can be answered, other than that it was interrupted or failed.
 struct Answers {
@@ -76,39 +135,20 @@ fn act<'a>(words: &mut Pieces<'a>) -> Result<Act, Wrong<'a>> {
     let wanted = "pP, second, S, S.G.SIDE, end or full is wanted";
     let word = word(words, wanted)?;
     if is(word, "second") {
-        second(words)
+        Ok(Act::Second(number(words, "a number of seconds is wanted")? as u64))
     } else if is(word, "end") {
         Ok(Act::Ended)
     } else if is(word, "full") {
         Ok(Act::Full)
     } else if let Some(token) = end_named(word) {
-        wire(token, words)
+        Ok(Act::Wire(token, made(words)?))
     } else if let Some(poller) = poller_named(word) {
         match polling(words) {
             Ok(did) => Ok(Act::Poller(poller, did)),
             Err(wrong) => Err(wrong),
         }
     } else {
-        match input::number(word) {
-            Some(slot) => turn(slot, words),
-            None => said(None, word, wanted),
-        }
-    }
-}
-
-/// The second that the clock showed.
-fn second<'a>(words: &mut Pieces<'a>) -> Result<Act, Wrong<'a>> {
-    match number(words, "a number of seconds is wanted") {
-        Ok(second) => Ok(Act::Second(second as u64)),
-        Err(wrong) => Err(wrong),
-    }
-}
-
-/// What was done with the wire of this end.
-fn wire<'a>(token: Token, words: &mut Pieces<'a>) -> Result<Act, Wrong<'a>> {
-    match made(words) {
-        Ok(made) => Ok(Act::Wire(token, made)),
-        Err(wrong) => Err(wrong),
+        turn(said(input::number(word), word, wanted)?, words)
     }
 }
 
@@ -173,7 +213,7 @@ fn polling<'a>(words: &mut Pieces<'a>) -> Result<Polling, Wrong<'a>> {
             Err(wrong) => Err(wrong),
         }
     } else if is(word, "accept") {
-        accepted(words)
+        Ok(Polling::Accept(accepted(words)?))
     } else if is(word, "open") {
         opened(words)
     } else {
@@ -190,10 +230,7 @@ fn polled<'a>(words: &mut Pieces<'a>) -> Result<Polling, Wrong<'a>> {
     } else if is(word, "failed") {
         Ok(Polling::Failed)
     } else {
-        match input::number(word) {
-            Some(count) => Ok(Polling::Gave(count)),
-            None => said(None, word, wanted),
-        }
+        Ok(Polling::Gave(said(input::number(word), word, wanted)?))
     }
 }
 
@@ -214,13 +251,10 @@ fn reported<'a>(words: &mut Pieces<'a>) -> Result<Name, Wrong<'a>> {
 }
 
 /// What accept(2) answered.
-fn accepted<'a>(words: &mut Pieces<'a>) -> Result<Polling, Wrong<'a>> {
+fn accepted<'a>(words: &mut Pieces<'a>) -> Result<Accepted, Wrong<'a>> {
     let wanted = "one of again, blocked, ok and starved is wanted";
     let word = word(words, wanted)?;
-    match named(word, &ACCEPTED) {
-        Some(accepted) => Ok(Polling::Accept(accepted)),
-        None => said(None, word, wanted),
-    }
+    said(named(word, &ACCEPTED), word, wanted)
 }
 
 /// Where a connection was opened, or why it was not.
@@ -230,10 +264,8 @@ fn opened<'a>(words: &mut Pieces<'a>) -> Result<Polling, Wrong<'a>> {
     let (slot, generation) = said(place_named(at), at, place)?;
     let wanted = "one of ok, connect and register is wanted";
     let word = word(words, wanted)?;
-    match named(word, &OPENINGS) {
-        Some(opening) => Ok(Polling::Open(slot, generation, opening)),
-        None => said(None, word, wanted),
-    }
+    let opening = said(named(word, &OPENINGS), word, wanted)?;
+    Ok(Polling::Open(slot, generation, opening))
 }
 
 /// What was done with a wire.
@@ -241,53 +273,21 @@ fn made<'a>(words: &mut Pieces<'a>) -> Result<Made, Wrong<'a>> {
     let wanted = "one of drop, join, read, settle, shut and write is wanted";
     let word = word(words, wanted)?;
     if is(word, "read") {
-        read(words)
+        let most = number(words, "the number of bytes that were asked for is wanted")?;
+        Ok(Made::Read(most, answered(words, &READ)?))
     } else if is(word, "write") {
-        write(words)
+        let length = number(words, "the number of bytes that were offered is wanted")?;
+        Ok(Made::Write(length, answered(words, &WRITE)?))
     } else if is(word, "join") {
-        join(words)
+        Ok(Made::Join(answered(words, &JOIN)?))
     } else if is(word, "shut") {
-        shut(words)
+        Ok(Made::Shut(answered(words, &SHUT)?))
     } else if is(word, "settle") {
         Ok(Made::Settle)
     } else if is(word, "drop") {
         Ok(Made::Drop)
     } else {
         said(None, word, wanted)
-    }
-}
-
-/// A read, and what it is answered.
-fn read<'a>(words: &mut Pieces<'a>) -> Result<Made, Wrong<'a>> {
-    let most = number(words, "the number of bytes that were asked for is wanted")?;
-    match answered(words, &READ) {
-        Ok(answer) => Ok(Made::Read(most, answer)),
-        Err(wrong) => Err(wrong),
-    }
-}
-
-/// A write, and what it is answered.
-fn write<'a>(words: &mut Pieces<'a>) -> Result<Made, Wrong<'a>> {
-    let length = number(words, "the number of bytes that were offered is wanted")?;
-    match answered(words, &WRITE) {
-        Ok(answer) => Ok(Made::Write(length, answer)),
-        Err(wrong) => Err(wrong),
-    }
-}
-
-/// A join, and what it is answered.
-fn join<'a>(words: &mut Pieces<'a>) -> Result<Made, Wrong<'a>> {
-    match answered(words, &JOIN) {
-        Ok(answer) => Ok(Made::Join(answer)),
-        Err(wrong) => Err(wrong),
-    }
-}
-
-/// A shutdown, and what it is answered.
-fn shut<'a>(words: &mut Pieces<'a>) -> Result<Made, Wrong<'a>> {
-    match answered(words, &SHUT) {
-        Ok(answer) => Ok(Made::Shut(answer)),
-        Err(wrong) => Err(wrong),
     }
 }
 

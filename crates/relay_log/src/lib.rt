@@ -24,7 +24,6 @@ mod cause;
 mod faults;
 mod gone;
 mod messages;
-mod texts;
 
 pub use calls::{
     Logs, log_all_taken, log_done, log_drop, log_drops, log_end, log_fail, log_gone, log_no_thread,
@@ -33,5 +32,7 @@ pub use calls::{
 pub use cause::Cause;
 pub use faults::ServerFault;
 pub use gone::{ClientsAt, Gone, Known, Why};
-pub use messages::{AllTaken, Done, Dropped, Failed, MoreDropped, Opened, Peer};
-pub use texts::{done_text, drop_text, fail_text, open_text};
+pub use messages::{
+    AllTaken, Done, Dropped, Failed, MoreDropped, Opened, Peer, done_text, drop_text, fail_text,
+    open_text,
+};

@@ -1,10 +1,11 @@
 // A message is a value that prints itself: whoever writes a line prints it there, and nothing is made before that.
-ghost use Rattle.std.specs.Prelude.{Some, []};
+ghost use Rattle.std.specs.Prelude.{Some, [], ◌≡◌, string_bytes, IfOk};
 ghost use Rattle.std.specs.Fmt.{◌++?◌};
 ghost use Rattle.relay_log.specs.Messages.{open_message, peer_message, done_message, fail_message, drop_message, drops_message, full_message};
 
 use crate::Cause;
 use relay_core::Fault;
+use std::alloc::{AllocError, Global};
 use std::fmt::{self, Display};
 
 /// A connection was opened in a slot, which has now been opened `generation` times.
@@ -135,4 +136,56 @@ impl Display for AllTaken {
         let slots = self.slots;
         write!(f, "slots: all {slots} are taken; further clients wait")
     }
+}
+
+/// The text of [`Opened`].
+pub fn open_text(alloc: Global, slot: usize, generation: u64) -> Result<String, AllocError>
+    ensures { IfOk result (λ text. string_bytes text ≡ open_message slot generation) }
+{
+    let opened = Opened { slot, generation };
+    format!(in alloc; "{opened}")
+}
+
+/// The text of [`Done`].
+pub fn done_text(
+    alloc: Global,
+    slot: usize,
+    generation: u64,
+    up: u64,
+    down: u64,
+) -> Result<String, AllocError>
+    ensures { IfOk result (λ text. string_bytes text ≡ done_message slot generation up down) }
+{
+    let done = Done {
+        slot,
+        generation,
+        up,
+        down,
+    };
+    format!(in alloc; "{done}")
+}
+
+/// The text of [`Failed`].
+pub fn fail_text(
+    alloc: Global,
+    slot: usize,
+    generation: u64,
+    fault: Fault,
+) -> Result<String, AllocError>
+    ensures { IfOk result (λ text. string_bytes text ≡ fail_message slot generation fault) }
+{
+    let failed = Failed {
+        slot,
+        generation,
+        fault,
+    };
+    format!(in alloc; "{failed}")
+}
+
+/// The text of [`Dropped`].
+pub fn drop_text(alloc: Global, cause: Cause) -> Result<String, AllocError>
+    ensures { IfOk result (λ text. string_bytes text ≡ drop_message cause) }
+{
+    let dropped = Dropped { cause };
+    format!(in alloc; "{dropped}")
 }

@@ -1,5 +1,5 @@
 -- A run with one event more, and the connections of records with one more.
-use Rattle.std.proofs.Common.{◌≡◌, ℕ, List, [], ◌∷◌, ◌++◌, drop, take, Option, Some, None, refl, sym, ◌∙◌, ap, arith, option_and_then}
+use Rattle.std.proofs.Common.{◌≡◌, ℕ, List, [], ◌∷◌, ◌++◌, drop, take, Option, Some, None, refl, sym, ◌∙◌, ap, arith, option_and_then, ◌-◌, ◌<◌, length, get_or, subst}
 use Rattle.std.proofs.lemmas.List.{append-nil, append_assoc, take-append-drop}
 use Rattle.std.proofs.lemmas.List.Elements.{All-append, All-cons}
 use Rattle.std.specs.Prelude.{All}
@@ -10,8 +10,9 @@ use Rattle.world.specs.Steps.{step}
 use Rattle.world.specs.Runs.{run}
 use Rattle.replaying.specs.declared.action.Action.{Action}
 use Rattle.replaying.specs.declared.recording.Numbered.{Numbered}
-use Rattle.replaying.specs.Histories.{IsHistory}
-use Rattle.replaying.specs.Traces.{action_in, and_then, joined, trace_next, trace_of_run}
+use Rattle.replaying.specs.Traces.{IsHistory, action_in, and_then, joined, trace_next, trace_of_run}
+use Rattle.std.proofs.lemmas.Option.{get_or_from_slice_get, slice_get_read}
+use Rattle.replaying.specs.Sequences.{Follows, FollowsAt}
 
 one_step : (o : Option State) → option_and_then (λ (p : State). Some p) o ≡ o
 one_step None = refl
@@ -99,3 +100,16 @@ one_more P records rest n before is =
           ∙ ap (λ xs. joined done ++ xs) (take-append-drop n rest) ∙ before.1,
       All-append P done (connection ∷ []) before.2 (All-cons P connection [] is (λ k d below. absurd (omega arith))),
     )
+
+-- Whether the act at a place follows, by the two acts themselves.
+
+pub follows_at : (list : List Numbered) (place : ℕ) (a b : Numbered) → a ≡ get_or list (place - 1) a → b ≡ get_or list place b → Follows a.record b.record → FollowsAt list place
+follows_at list place a b is_a is_b follows last next at_last at_next =
+    let first : a ≡ last = is_a ∙ get_or_from_slice_get list (place - 1) last a at_last in
+    let second : b ≡ next = is_b ∙ get_or_from_slice_get list place next b at_next in
+    subst (λ (x : Numbered). Follows x.record next.record) first (subst (λ (x : Numbered). Follows a.record x.record) second follows)
+
+pub follows_there : (list : List Numbered) (place : ℕ) (a b : Numbered) → place < length list → a ≡ get_or list (place - 1) a → b ≡ get_or list place b → FollowsAt list place
+    → Follows a.record b.record
+follows_there list place a b within is_a is_b at = at a b (slice_get_read list (length list) (place - 1) a refl (omega arith) is_a)
+    (slice_get_read list (length list) place b refl within is_b)

@@ -1,5 +1,5 @@
 -- What one thread at a time does is one act after another. Part of the promises.
-use Rattle.std.specs.Prelude.{◌≡◌, ◌⊎◌, ◌-◌, ◌<◌, ℕ, Bool, true, false, List, Some, slice_get}
+use Rattle.std.specs.Prelude.{◌≡◌, ◌⊎◌, ◌-◌, ◌<◌, ℕ, Bool, true, false, List, Some, slice_get, ◌≤◌, length, slice_index}
 use Rattle.records.specs.declared.act.Record.{Record}
 use Rattle.records.specs.declared.act.Act.{Act}
 use Rattle.records.specs.declared.act.Act.TheVariants.{Poller}
@@ -18,3 +18,16 @@ Follows last next = (last.after < next.before) ⊎ ((is_report next.act ≡ true
 abbrev pub FollowsAt : List Numbered → ℕ → Type 0
 FollowsAt list place = (last next : Numbered) → slice_get list (place - 1) ≡ Some last → slice_get list place ≡ Some next
     → Follows last.record next.record
+
+-- Which counts are of no record. The counts are those of all records, and rise.
+
+-- the count lies before the one at this place, and after the one before that
+pub record IsMissing (counts : List ℕ) (place count : ℕ) : Type 0 where
+  pub inside : place < length counts
+  pub after : 1 ≤ place → slice_index counts (place - 1) < count
+  pub before : count < slice_index counts place
+
+-- as many acts as were begun, in the order of the least counts that they can have: of those that are missing, this one
+-- is the act's at the place that this many others have which are missing before it
+abbrev pub IsBegun : List ℕ → ℕ → ℕ → Type 0
+IsBegun begun place count = (count - place < length begun) × (slice_index begun (count - place) ≤ count)

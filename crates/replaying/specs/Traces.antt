@@ -192,3 +192,17 @@ records_at r at = items_of (slice_get r.lists.items at)
 -- the lists of the slots come first
 abbrev pub records_of : Recording → ℕ → List Numbered
 records_of r slot = if nat_lt slot r.header.slots then records_at r slot else []
+
+-- What is kept of a machine on which records are played.
+
+-- the limits of a world, the events that happened in it, in order, the world after them, and what they were
+pub record HistoryState : Type 0 where
+  pub limits : Limits
+  pub events : List Event
+  pub world : State
+  pub trace : List Action
+
+-- the events happened in this world, one after the other, from the opening world on, and were these actions
+pub record IsHistory (h : HistoryState) : Type 0 where
+  pub runs : run (opening h.limits) h.events ≡ Some h.world
+  pub trace : trace_of_run (opening h.limits) h.events ≡ h.trace

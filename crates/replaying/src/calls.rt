@@ -1,8 +1,7 @@
 //! The calls of a turn, and what the network did before them. It does that as late as can be: bytes and ends arrive
 //! just before the call that shows them, and room comes just before the write that takes it.
 use crate::action::offered;
-use crate::flaw::Flaw;
-use crate::machine::Machine;
+use crate::machine::{Flaw, Machine};
 use crate::recording::Numbered;
 use crate::slot_replay::{Phase, SlotReplay};
 use kernel_model::{End, Reply};

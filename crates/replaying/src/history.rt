@@ -16,7 +16,7 @@ pub(crate) struct History {
 }
 
 impl Model for History {
-    ghost use Rattle.replaying.specs.Histories.{HistoryState, IsHistory};
+    ghost use Rattle.replaying.specs.Traces.{HistoryState, IsHistory};
 
     ghost Value = { HistoryState };
 
@@ -29,7 +29,7 @@ impl Model for History {
 impl History {
     ghost use Rattle.std.specs.Prelude.{◌≡◌, [], ◌∷◌, ◌++◌, IfOk, OnOk, OnErr};
     ghost use Rattle.world.specs.States.{IsWithinLimits};
-    ghost use Rattle.replaying.specs.Histories.{IsHistory};
+    ghost use Rattle.replaying.specs.Traces.{IsHistory};
 
     /// The opening world with these limits, in which nothing has happened yet.
     pub(crate) fn new(alloc: Global, limits: Limits) -> Result<History, AllocError>

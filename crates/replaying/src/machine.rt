@@ -1,13 +1,38 @@
 //! A world in which what was recorded happens.
 ghost use Rattle.world.specs.States.{IsWithinLimits};
 
-use crate::flaw::Flaw;
 use crate::history::History;
-use kernel_model::{End, Refusal};
+use kernel_model::{Accepting, End, Refusal};
+use records::{Accepted, Act as Recorded, Polling as Polled};
 use relay_core::{Pair, Verdict};
-use std::alloc::{AllocError, Global};
+use std::alloc::{AllocError, AllocFailed, Global};
 use token::{Name, Side};
-use world::{Act, Change, Event, Lead, Limits, Polling, Reported, World};
+use world::{Act, Change, Event, Lead, Limits, Listening, Polling, Reported, World};
+
+/// Why a replay stops.
+#[derive(Clone, Copy)]
+pub(crate) enum Flaw {
+    /// The world refuses the event that its machine keeps.
+    Refused,
+    /// The connection has another call to make, or none.
+    NextCall,
+    /// This is why the record at hand can stand at no place.
+    Because(&'static str),
+    /// Memory ran out, so that nothing is wrong with the record.
+    NoMemory,
+}
+
+impl From<AllocError> for Flaw {
+    fn from(_error: AllocError) -> Flaw {
+        Flaw::NoMemory
+    }
+}
+
+impl<T: Drop> From<AllocFailed<T>> for Flaw {
+    fn from(_error: AllocFailed<T>) -> Flaw {
+        Flaw::NoMemory
+    }
+}
 
 /// A world, with each event that has happened there, and the one that it refused.
 #[derive(Drop)]
@@ -122,5 +147,44 @@ impl Machine {
         let connection = self.world().connection(0)?;
         let open = self.world().kernel().end(connection.descriptor(side))?;
         Some(&open.socket)
+    }
+
+    /// An act of the poller.
+    pub(crate) fn listen(&mut self, act: &Recorded) -> Result<(), Flaw> {
+        let Recorded::Poller(_, did) = act else {
+            return Ok(());
+        };
+        match did {
+            Polled::Reported(Name::Listener) => self.deliver(Name::Listener, Reported::Listener),
+            Polled::Reported(Name::Waker) => self.deliver(Name::Waker, Reported::Waker),
+            Polled::Accept(Accepted::Taken) => self.accept(),
+            Polled::Accept(Accepted::Blocked) => self.answer(Accepting::Blocked),
+            Polled::Accept(Accepted::Again) => self.answer(Accepting::Again),
+            Polled::Accept(Accepted::Starved) => self.answer(Accepting::Starved),
+            // What was accepted is opened in the world of its slot, or nowhere.
+            Polled::Open(_, _, _) => self.put(Event::Listen(Listening::Drop)),
+            _ => Ok(()),
+        }
+    }
+
+    fn answer(&mut self, reply: Accepting) -> Result<(), Flaw> {
+        self.put(Event::Listen(Listening::Accept(reply)))
+    }
+
+    /// A client comes in and is accepted. Where that is reported, the report vanishes: the poller was given it when
+    /// the client came, or did not have to be.
+    fn accept(&mut self) -> Result<(), Flaw> {
+        let was_queued = self.is_queued(&Name::Listener);
+        self.come_in()?;
+        if !was_queued && self.is_queued(&Name::Listener) {
+            return self.put(Event::Vanish(Reported::Listener));
+        }
+        Ok(())
+    }
+
+    /// A client comes in just before it is accepted.
+    pub(crate) fn come_in(&mut self) -> Result<(), Flaw> {
+        self.put(Event::Listen(Listening::Connect))?;
+        self.answer(Accepting::Accepted)
     }
 }

@@ -2,8 +2,8 @@
 ghost use Rattle.std.specs.Prelude.{◌≤◌, IfSome};
 ghost use Rattle.world.specs.States.{IsWithinLimits};
 
-use crate::flaw::Flaw;
 use crate::history::History;
+use crate::machine::Flaw;
 use crate::recording::Numbered;
 use crate::results::Results;
 use crate::slot_replay::{Phase, SlotReplay, State};

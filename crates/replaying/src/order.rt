@@ -1,11 +1,10 @@
 //! Looks at the order of the records, and finds out where a recording is no longer complete.
 ghost use Rattle.std.specs.Prelude.{◌≡◌, ◌≢◌, ◌-◌, ◌<◌, ◌≤◌, ◌↔◌, ℕ, IfNone, IfSome, IsTrue, length, slice_index};
-ghost use Rattle.replaying.specs.Counts.{IsBegun, IsMissing};
+ghost use Rattle.replaying.specs.Sequences.{IsBegun, IsMissing, Follows, FollowsAt, is_report};
 
 use crate::reading::{broken, wanted};
 use crate::recording::{Last, Numbered, Recording, is_twice};
-use crate::sequence::{first_overlap, is_report};
-use records::{Act, Made, ReplayFault};
+use records::{Act, Made, Polling, ReplayFault};
 use std::alloc::{AllocError, Global};
 
 /// Puts the last list of a recording in the order of the counts before its records. Refuses with `Broken` if the lines
@@ -238,4 +237,35 @@ fn leave_out_of(list: &mut Vec<Numbered>, of_slot: bool, lost: u64) -> usize {
     }
     list.truncate(kept);
     left_out
+}
+
+/// The place of the first of these acts that does not follow the one before it, or how many there are. They are those
+/// at a slot, or those of a poller.
+pub(crate) fn first_overlap(list: &[Numbered]) -> usize
+    ensures within { result ≤ length list.now }
+    ensures before { (place : ℕ) → place < result → 1 ≤ place → FollowsAt list.now place }
+    ensures found { result < length list.now → (1 ≤ result) × (FollowsAt list.now result → ⊥) }
+{
+    for place in 1..list.len() {
+        if !follows(&list[place - 1], &list[place]) {
+            return place;
+        }
+    }
+    list.len()
+}
+
+/// Whether one act begins once the other has ended, or is a report, which has the counts of its poll.
+fn follows(last: &Numbered, next: &Numbered) -> bool
+    ensures { IsTrue result ↔ Follows last.now.record next.now.record }
+{
+    let (last, next) = (&last.record, &next.record);
+    last.after < next.before
+        || is_report(&next.act) && last.before == next.before && last.after == next.after
+}
+
+/// Whether an act is a report.
+fn is_report(act: &Act) -> bool
+    ensures { result ≡ is_report act.now }
+{
+    matches!(act, Act::Poller(_, Polling::Reported(_)))
 }

@@ -1,6 +1,6 @@
 //! The notes of a slot: what its poller was given becomes a note where a turn needs one, and before the last moment at
 //! which it can have been posted.
-use crate::flaw::Flaw;
+use crate::machine::Flaw;
 use crate::slot_replay::{SlotReplay, State};
 use records::{Act, Polling};
 use token::{Name, Side, Token};

@@ -4,8 +4,7 @@ ghost use Rattle.world.specs.States.{IsWithinLimits};
 ghost use Rattle.replaying.specs.Traces.{AreRuns, records_of};
 
 use crate::clock::Clock;
-use crate::flaw::Flaw;
-use crate::machine::Machine;
+use crate::machine::{Flaw, Machine};
 use crate::opening::limits_of;
 use crate::order::put_in_order;
 use crate::reading::{broken, read, wanted};

@@ -1,7 +1,6 @@
 //! What came of the worlds in which slots and listeners were replayed.
-use crate::flaw::Flaw;
 use crate::history::History;
-use crate::machine::Machine;
+use crate::machine::{Flaw, Machine};
 use crate::recording::Numbered;
 use kernel_model::End;
 use records::Wanted;

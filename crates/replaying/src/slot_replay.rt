@@ -3,8 +3,7 @@ ghost use Rattle.std.specs.Prelude.{OnOk};
 ghost use Rattle.replaying.specs.Traces.{AreRuns, IsConnection};
 
 use crate::clock::Clock;
-use crate::flaw::Flaw;
-use crate::machine::Machine;
+use crate::machine::{Flaw, Machine};
 use crate::posts::{Post, Posts, posts_at};
 use crate::recording::{Last, Numbered, Recording};
 use crate::results::Results;

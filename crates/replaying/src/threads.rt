@@ -1,13 +1,13 @@
 //! How many threads were at work at once: a turn is made by the poller of its slot, while that does nothing else, or
 //! by a worker.
+use crate::order::first_overlap;
 use crate::reading::{broken, wanted};
 use crate::recording::{Numbered, Recording, lists};
-use crate::sequence::first_overlap;
 use records::{Act, Made, Record, ReplayFault};
 use std::alloc::{AllocError, Global};
 
-/// The most calls of a turn that a poller makes.
-const OWN_BUDGET: usize = 8;
+/// The most calls of a turn that a poller's own thread runs.
+pub(crate) const OWN_BUDGET: usize = 8;
 
 /// What one thread did at a slot without a break: a turn, with the closing that follows it, or another closing.
 #[derive(Clone, Copy)]

@@ -1,15 +1,12 @@
 //! The turns of a slot's connection.
-use crate::flaw::Flaw;
+use crate::machine::Flaw;
 use crate::recording::Numbered;
 use crate::slot_replay::{Phase, SlotReplay};
-use crate::threads::is_busy;
+use crate::threads::{OWN_BUDGET, is_busy};
 use records::{Act as Recorded, Made, Record};
 use relay_core::Verdict;
 use token::Side;
 use world::{Act, Event};
-
-/// The most calls of a turn that a poller's own thread runs.
-const OWN_BUDGET: usize = 8;
 
 impl SlotReplay<'_> {
     /// A turn begins: it has a note by then.

@@ -1,12 +1,11 @@
 //! What is written of a recording.
-use crate::flaw::Flaw;
 use crate::history::History;
-use crate::machine::Machine;
+use crate::machine::{Flaw, Machine};
 use crate::recording::Recording;
 use crate::results::{Flawed, Results, Whose};
-use records::{Record, ReplayFault, Wanted};
+use records::{ReplayFault, Wanted};
 use script_text::{Page, Piece, event_reason, put_event, put_header};
-use std::alloc::{AllocError, Global};
+use std::alloc::Global;
 use std::io::Write;
 use world::Event;
 
@@ -36,7 +35,8 @@ pub(crate) fn write_flaw<W: Write>(
     flawed: &Flawed,
     flaw: Flaw,
 ) -> Result<(), ReplayFault> {
-    let record = text_of(alloc, flawed.numbered.record)?;
+    let record = flawed.numbered.record;
+    let record = format!(in alloc; "{record}")?;
     write(output, first_line(alloc, flawed, flaw, record.as_str()))?;
     write_script(alloc, output, &flawed.machine.history)?;
     write(output, refused(alloc, &flawed.machine))
@@ -87,14 +87,10 @@ fn put_totals(page: &mut Page, results: &Results) {
     results.counts.put_lines(page);
     let [client_read, target_read, client_written, target_written] = results.moved;
     page.put(&[
-        Piece::Text("read client="),
-        Piece::Number(client_read),
-        Piece::Text(" target="),
-        Piece::Number(target_read),
-        Piece::Text(" written client="),
-        Piece::Number(client_written),
-        Piece::Text(" target="),
-        Piece::Number(target_written),
+        Piece::Named("read client=", client_read),
+        Piece::Named(" target=", target_read),
+        Piece::Named(" written client=", client_written),
+        Piece::Named(" target=", target_written),
         Piece::Text("\n"),
     ]);
 }
@@ -102,11 +98,7 @@ fn put_totals(page: &mut Page, results: &Results) {
 /// Adds what is not replayed, if anything.
 fn put_left_out(page: &mut Page, cut: Option<u64>, left_out: usize) {
     if let Some(line) = cut {
-        page.put(&[
-            Piece::Text("line "),
-            Piece::Number(line),
-            Piece::Text(" is cut off\n"),
-        ]);
+        page.put(&[Piece::Named("line ", line), Piece::Text(" is cut off\n")]);
     }
     if left_out > 0 {
         page.put(&[
@@ -151,8 +143,7 @@ fn first_line(alloc: Global, flawed: &Flawed, flaw: Flaw, record: &str) -> Page 
     let mut page = Page::new(alloc);
     put_whose(&mut page, flawed.whose);
     page.put(&[
-        Piece::Text(": line "),
-        Piece::Number(flawed.numbered.line),
+        Piece::Named(": line ", flawed.numbered.line),
         Piece::Text(": "),
         Piece::Text(record),
         Piece::Text(": "),
@@ -161,18 +152,12 @@ fn first_line(alloc: Global, flawed: &Flawed, flaw: Flaw, record: &str) -> Page 
     page
 }
 
-fn text_of(alloc: Global, record: Record) -> Result<String, AllocError> {
-    format!(in alloc; "{record}")
-}
-
 fn put_whose(page: &mut Page, whose: Whose) {
     match whose {
-        Whose::Poller(poller) => page.put(&[Piece::Text("# p"), Piece::Number(poller as u64)]),
+        Whose::Poller(poller) => page.put(&[Piece::Named("# p", poller as u64)]),
         Whose::Slot(slot, generation) => page.put(&[
-            Piece::Text("# "),
-            Piece::Number(slot as u64),
-            Piece::Text("."),
-            Piece::Number(generation),
+            Piece::Named("# ", slot as u64),
+            Piece::Named(".", generation),
         ]),
     }
 }
@@ -197,7 +182,7 @@ fn put_next_call(page: &mut Page, machine: &Machine) {
     let (side, name) = (next.call.side().name(), next.call.kind().name());
     page.put(&[Piece::Text(side), Piece::Text(" "), Piece::Text(name)]);
     if next.bytes > 0 {
-        page.put(&[Piece::Text(" "), Piece::Number(next.bytes as u64)]);
+        page.put(&[Piece::Named(" ", next.bytes as u64)]);
     }
     page.put(&[Piece::Text(" comes next\n")]);
 }

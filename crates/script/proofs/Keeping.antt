@@ -1,5 +1,5 @@
 -- Every step keeps the bytes in order and whole, and the end after them.
-use Rattle.script.proofs.Prelude.{◌≡◌, ℕ, List, [], ◌∷◌, ◌++◌, Bool, true, false, not, ◌&&◌, ◌||◌, cond, Option, Some, None, Ok, take, drop, refl, sym, ◌∙◌, ap, arith, append_assoc, append-nil, subst, length, nat_lt, nat_le, ◌≤◌, ◌⊎◌, inl, inr, IfSome, take-append-drop, nil_from_length, drop-nil, ltb-false, leb-true, waiting, front, dropped, waiting-dropped, take-front, waiting_ends, is_nonempty, is_count, Step, Arrive, Fin, Room, Read, End, Wrote, Shut, NumberedStep, Transfer, and_then, or_not_allowed, played, FlowPlan, word_of, opening, stepped, read_size, line_stepped, brought, given, is_fin, has_ended, KeepsBytes, KeepsEnd}
+use Rattle.script.proofs.Prelude.{◌≡◌, ℕ, List, [], ◌∷◌, ◌++◌, Bool, true, false, not, ◌||◌, cond, and_parts, both_ways, not-true, or-false, or-true, or_assoc, option_map, Option, Some, None, Ok, take, drop, refl, sym, ◌∙◌, ap, arith, append_assoc, append-nil, subst, length, nat_lt, nat_le, ◌≤◌, IfSome, take-append-drop, nil_from_length, drop-nil, ltb-false, leb-true, waiting, front, dropped, waiting-dropped, take-front, waiting_ends, is_nonempty, is_count, Step, Arrive, Fin, Room, Read, End, Wrote, Shut, NumberedStep, Transfer, and_then, or_not_allowed, played, FlowPlan, word_of, opening, stepped, read_size, line_stepped, brought, given, is_fin, has_ended, KeepsBytes, KeepsEnd}
 
 pub record Sound (t : Transfer) : Type 0 where
   pub bytes : t.source.arrived ≡ t.destination.taken ++ (waiting t.flow ++ t.source.unread)
@@ -13,167 +13,90 @@ pub record Goes (t : Transfer) (s : Step) (u : Transfer) : Type 0 where
   pub came : u.source.arrived ≡ t.source.arrived ++ brought s
   pub finished : u.source.fin ≡ (t.source.fin || is_fin s)
 
-tell : (b : Bool) → (b ≡ true) ⊎ (b ≡ false)
-tell true = inl refl
-tell false = inr refl
-
--- what holds of the value where a test fails
+-- what holds of the value where a test fails, and of one that a test allows
 unless : {X : Type 0} (P : X → Type 0) (b : Bool) (o : Option X) → (b ≡ false → IfSome o P) → IfSome (cond b None o) P
 unless P true o p = tt
 unless P false o p = p refl
 
--- the parts of a test
-first_part : (a b : Bool) → (a && b) ≡ true → a ≡ true
-first_part true b h = refl
-first_part false b h = h
+when : {X : Type 0} (P : X → Type 0) (b : Bool) (x : X) → (b ≡ true → P x) → IfSome (cond b (Some x) None) P
+when P true x p = p refl
+when P false x p = tt
 
-second_part : (a b : Bool) → (a && b) ≡ true → b ≡ true
-second_part true b h = h
-second_part false b h = absurd (cc)
-
-is_off : (b : Bool) → not b ≡ true → b ≡ false
-is_off true h = absurd (cc)
-is_off false h = refl
-
-true_or : (b : Bool) → b ≡ (b || false)
-true_or true = refl
-true_or false = refl
-
-or_true : (b : Bool) → true ≡ (b || true)
-or_true true = refl
-or_true false = refl
+allowed : {X Y : Type 0} (P : Y → Type 0) (f : X → Y) (b : Bool) (x : X) → (b ≡ true → P (f x)) → IfSome (option_map f (cond b (Some x) None)) P
+allowed P f true x p = p refl
+allowed P f false x p = tt
 
 -- a list that is not known to be nonempty is empty
 is_empty_list : (xs : List ℕ) → not (is_nonempty xs) ≡ true → xs ≡ []
-is_empty_list xs off = nil_from_length xs (omega (arith, ltb-false 0 (length xs) (is_off (is_nonempty xs) off)))
+is_empty_list xs off = nil_from_length xs (omega (arith, ltb-false 0 (length xs) (not-true (is_nonempty xs) off)))
 
-both : {A : Type 0} (b : Bool) → b ≡ false → b ≡ true → A
-both b off on = absurd (bool_clash (sym off ∙ on))
-  where
-    bool_clash : false ≡ true → ⊥
-    bool_clash e = cc
+-- a step by which nothing comes
+quiet : (t u : Transfer) (s : Step) → brought s ≡ [] → is_fin s ≡ false → u.source.arrived ≡ t.source.arrived → u.source.fin ≡ t.source.fin → Sound u → Goes t s u
+quiet t u s none still same open_ sound =
+    record { sound = sound; came = rw (none, same) (sym (append-nil t.source.arrived)); finished = rw (still, open_) (sym (or-false t.source.fin)) }
 
-arrives : (t : Transfer) (bytes : List ℕ) → Sound t → t.source.fin ≡ false
-    → Goes t (Arrive bytes) (record t { source = record t.source { arrived = t.source.arrived ++ bytes; unread = t.source.unread ++ bytes; read_armed = false } })
-arrives t bytes z open_ = record {
-  sound = record {
-    bytes = ap (λ (xs : List ℕ). xs ++ bytes) z.bytes ∙ append_assoc t.destination.taken (waiting t.flow ++ t.source.unread) bytes
-        ∙ ap (λ (xs : List ℕ). t.destination.taken ++ xs) (append_assoc (waiting t.flow) t.source.unread bytes);
-    ended = λ seen. both t.source.fin open_ (z.ended seen).0;
-    shut = z.shut;
-    leadless = z.leadless;
-  };
-  came = refl;
-  finished = true_or t.source.fin;
-}
-
-finishes : (t : Transfer) → Sound t → Goes t Fin (record t { source = record t.source { fin = true; read_armed = false } })
-finishes t z = record {
-  sound = record { bytes = z.bytes; ended = λ seen. (refl, (z.ended seen).1); shut = z.shut; leadless = z.leadless };
-  came = sym (append-nil t.source.arrived);
-  finished = or_true t.source.fin;
-}
-
-makes_room : (t : Transfer) → Sound t → Goes t Room (record t { destination = record t.destination { room = true; write_armed = false } })
-makes_room t z = record {
-  sound = record { bytes = z.bytes; ended = z.ended; shut = z.shut; leadless = z.leadless };
-  came = sym (append-nil t.source.arrived);
-  finished = true_or t.source.fin;
-}
-
-reads : (t : Transfer) (n : ℕ) → Sound t → t.flow.end_seen ≡ false
-    → Goes t (Read n) (record t { source = record t.source { unread = drop n t.source.unread }; flow = record t.flow { ring = t.flow.ring ++ take n t.source.unread } })
-reads t n z open_ = record {
-  sound = record {
-    bytes = z.bytes ∙ ap (λ (xs : List ℕ). t.destination.taken ++ xs)
-        (ap (λ (xs : List ℕ). waiting t.flow ++ xs) (sym (take-append-drop n t.source.unread))
-        ∙ sym (append_assoc (waiting t.flow) (take n t.source.unread) (drop n t.source.unread))
-        ∙ ap (λ (xs : List ℕ). xs ++ drop n t.source.unread) (append_assoc t.flow.lead t.flow.ring (take n t.source.unread)));
-    ended = λ seen. both t.flow.end_seen open_ seen;
-    shut = λ closed. both t.flow.end_seen open_ (z.shut closed).0;
-    leadless = z.leadless;
-  };
-  came = sym (append-nil t.source.arrived);
-  finished = true_or t.source.fin;
-}
-
-ends : (t : Transfer) → Sound t → t.source.fin ≡ true → t.source.unread ≡ [] → t.flow.end_seen ≡ false → Goes t End (record t { flow = record t.flow { end_seen = true } })
-ends t z fin none open_ = record {
-  sound = record { bytes = z.bytes; ended = λ seen. (fin, none); shut = λ closed. both t.flow.end_seen open_ (z.shut closed).0; leadless = z.leadless };
-  came = sym (append-nil t.source.arrived);
-  finished = true_or t.source.fin;
-}
-
-writes : (t : Transfer) (n : ℕ) (full : Bool) → n ≤ length (front t.flow) → Sound t
-    → Goes t (Wrote n full) (record t { destination = record t.destination { taken = t.destination.taken ++ take n (front t.flow); room = not full }; flow = dropped t.flow n })
-writes t n full within z = record {
-  sound = record {
-    bytes = z.bytes ∙ ap (λ (xs : List ℕ). t.destination.taken ++ (xs ++ t.source.unread)) (sym (take-append-drop n (waiting t.flow)))
-        ∙ ap (λ (xs : List ℕ). t.destination.taken ++ xs) (append_assoc (take n (waiting t.flow)) (drop n (waiting t.flow)) t.source.unread)
-        ∙ sym (append_assoc t.destination.taken (take n (waiting t.flow)) (drop n (waiting t.flow) ++ t.source.unread))
-        ∙ ap (λ (xs : List ℕ). (t.destination.taken ++ xs) ++ (drop n (waiting t.flow) ++ t.source.unread)) (sym (take-front t.flow n within))
-        ∙ ap (λ (xs : List ℕ). (t.destination.taken ++ take n (front t.flow)) ++ (xs ++ t.source.unread)) (sym (waiting-dropped t.flow n));
-    ended = z.ended;
-    shut = λ closed. ((z.shut closed).0, waiting-dropped t.flow n ∙ ap (drop n) (z.shut closed).1 ∙ drop-nil n);
-    leadless = ap (drop n) z.leadless ∙ drop-nil n;
-  };
-  came = sym (append-nil t.source.arrived);
-  finished = true_or t.source.fin;
-}
-
-shuts : (t : Transfer) → Sound t → t.flow.end_seen ≡ true → waiting t.flow ≡ []
-    → Goes t Shut (record t { destination = record t.destination { shut = true }; flow = record t.flow { shut = true } })
-shuts t z seen none = record {
-  sound = record { bytes = z.bytes; ended = z.ended; shut = λ closed. (seen, none); leadless = z.leadless };
-  came = sym (append-nil t.source.arrived);
-  finished = true_or t.source.fin;
-}
+writes : (t : Transfer) (n : ℕ) → n ≤ length (front t.flow) → Sound t
+    → t.source.arrived ≡ (t.destination.taken ++ take n (front t.flow)) ++ (waiting (dropped t.flow n) ++ t.source.unread)
+writes t n within z =
+    z.bytes ∙ ap (λ (xs : List ℕ). t.destination.taken ++ (xs ++ t.source.unread)) (sym (take-append-drop n (waiting t.flow)))
+    ∙ ap (λ (xs : List ℕ). t.destination.taken ++ xs) (append_assoc (take n (waiting t.flow)) (drop n (waiting t.flow)) t.source.unread)
+    ∙ sym (append_assoc t.destination.taken (take n (waiting t.flow)) (drop n (waiting t.flow) ++ t.source.unread))
+    ∙ ap (λ (xs : List ℕ). (t.destination.taken ++ xs) ++ (drop n (waiting t.flow) ++ t.source.unread)) (sym (take-front t.flow n within))
+    ∙ ap (λ (xs : List ℕ). (t.destination.taken ++ take n (front t.flow)) ++ (xs ++ t.source.unread)) (sym (waiting-dropped t.flow n))
 
 pub goes : (t : Transfer) (s : Step) → Sound t → IfSome (stepped t s) (Goes t s)
-goes t (Arrive bytes) z =
-    elim (tell (is_nonempty bytes && (not t.source.fin && not t.source.err))) [
-      | inl y ↦ rw y (arrives t bytes z (is_off t.source.fin (first_part (not t.source.fin) (not t.source.err)
-          (second_part (is_nonempty bytes) (not t.source.fin && not t.source.err) y))))
-      | inr n ↦ rw n tt
-    ]
-goes t Fin z =
-    elim (tell (not t.source.fin && not t.source.err)) [ inl y ↦ rw y (finishes t z) | inr n ↦ rw n tt ]
-goes t Room z =
-    elim (tell (not t.destination.room && not t.destination.err)) [ inl y ↦ rw y (makes_room t z) | inr n ↦ rw n tt ]
-goes t (Read n) z = unless (Goes t (Read n)) t.flow.end_seen _ (λ open_.
-    elim (tell (is_count n (read_size t.flow) && nat_le n (length t.source.unread))) [
-      | inl y ↦ rw y (reads t n z open_)
-      | inr other ↦ rw other tt
-    ])
-goes t End z = unless (Goes t End) t.flow.end_seen _ (λ open_.
-    elim (tell (not (is_nonempty t.source.unread) && t.source.fin)) [
-      | inl y ↦ rw y (ends t z (second_part (not (is_nonempty t.source.unread)) t.source.fin y)
-          (is_empty_list t.source.unread (first_part (not (is_nonempty t.source.unread)) t.source.fin y)) open_)
-      | inr other ↦ rw other tt
-    ])
-goes t (Wrote n full) z =
-    elim (tell (t.destination.room && is_count n (length (front t.flow)))) [
-      | inl y ↦ rw y (writes t n full (leb-true n (length (front t.flow)) (second_part (nat_lt 0 n) (nat_le n (length (front t.flow)))
-          (second_part t.destination.room (is_count n (length (front t.flow))) y))) z)
-      | inr other ↦ rw other tt
-    ]
-goes t Shut z =
-    elim (tell (t.flow.end_seen && (not (is_nonempty (waiting t.flow)) && not t.flow.shut))) [
-      | inl y ↦ rw y (shuts t z (first_part t.flow.end_seen (not (is_nonempty (waiting t.flow)) && not t.flow.shut) y)
-          (is_empty_list (waiting t.flow) (first_part (not (is_nonempty (waiting t.flow))) (not t.flow.shut)
-          (second_part t.flow.end_seen (not (is_nonempty (waiting t.flow)) && not t.flow.shut) y))))
-      | inr other ↦ rw other tt
-    ]
+goes t (Arrive bytes) z = allowed (Goes t (Arrive bytes)) _ _ _ (λ y.
+    let open_ = not-true t.source.fin (and_parts (not t.source.fin) (not t.source.err) (and_parts (is_nonempty bytes) _ y).1).0 in
+    record {
+      sound = record {
+        bytes = simp (z.bytes, append_assoc);
+        ended = λ seen. absurd (both_ways t.source.fin open_ (z.ended seen).0);
+        shut = z.shut;
+        leadless = z.leadless;
+      };
+      came = refl;
+      finished = sym (or-false t.source.fin);
+    })
+goes t Fin z = allowed (Goes t Fin) _ _ _ (λ y. record {
+  sound = record { bytes = z.bytes; ended = λ seen. (refl, (z.ended seen).1); shut = z.shut; leadless = z.leadless };
+  came = sym (append-nil t.source.arrived);
+  finished = sym (or-true t.source.fin);
+})
+goes t Room z = allowed (Goes t Room) _ _ _ (λ y.
+    quiet t _ Room refl refl refl refl (record { bytes = z.bytes; ended = z.ended; shut = z.shut; leadless = z.leadless }))
+goes t (Read n) z = unless (Goes t (Read n)) t.flow.end_seen _ (λ open_. allowed (Goes t (Read n)) _ _ _ (λ y.
+    quiet t _ (Read n) refl refl refl refl (record {
+      bytes = simp (z.bytes, append_assoc, take-append-drop);
+      ended = λ seen. absurd (both_ways t.flow.end_seen open_ seen);
+      shut = λ closed. absurd (both_ways t.flow.end_seen open_ (z.shut closed).0);
+      leadless = z.leadless;
+    })))
+goes t End z = unless (Goes t End) t.flow.end_seen _ (λ open_. allowed (Goes t End) _ _ _ (λ y.
+    let (none, fin) = and_parts (not (is_nonempty t.source.unread)) t.source.fin y in
+    quiet t _ End refl refl refl refl (record {
+      bytes = z.bytes;
+      ended = λ seen. (fin, is_empty_list t.source.unread none);
+      shut = λ closed. absurd (both_ways t.flow.end_seen open_ (z.shut closed).0);
+      leadless = z.leadless;
+    })))
+goes t (Wrote n full) z = allowed (Goes t (Wrote n full)) _ _ _ (λ y.
+    let within = leb-true n (length (front t.flow)) (and_parts (nat_lt 0 n) (nat_le n (length (front t.flow))) (and_parts t.destination.room _ y).1).1 in
+    quiet t _ (Wrote n full) refl refl refl refl (record {
+      bytes = writes t n within z;
+      ended = z.ended;
+      shut = λ closed. ((z.shut closed).0, waiting-dropped t.flow n ∙ ap (drop n) (z.shut closed).1 ∙ drop-nil n);
+      leadless = ap (drop n) z.leadless ∙ drop-nil n;
+    }))
+goes t Shut z = when (Goes t Shut) _ _ (λ y.
+    let (seen, left) = and_parts t.flow.end_seen _ y in
+    let none = is_empty_list (waiting t.flow) (and_parts (not (is_nonempty (waiting t.flow))) (not t.flow.shut) left).0 in
+    quiet t _ Shut refl refl refl refl (record { bytes = z.bytes; ended = z.ended; shut = λ closed. (seen, none); leadless = z.leadless }))
 
 -- the same of every line's step, and then of all
 record Comes (t : Transfer) (ss : List NumberedStep) (u : Transfer) : Type 0 where
   sound : Sound u
   came : u.source.arrived ≡ t.source.arrived ++ given ss
   finished : u.source.fin ≡ (t.source.fin || has_ended ss)
-
-or_assoc : (a b c : Bool) → ((a || b) || c) ≡ (a || (b || c))
-or_assoc true b c = refl
-or_assoc false b c = refl
 
 joined : (t u v : Transfer) (s : NumberedStep) (ss : List NumberedStep) → Goes t s.step u → Comes u ss v → Comes t (s ∷ ss) v
 joined t u v s ss first rest = record {
@@ -192,7 +115,7 @@ step_on t s ss v None g is rest = absurd (cc)
 comes : (t : Transfer) (ss : List NumberedStep) (v : Transfer) → Sound t → played line_stepped t ss ≡ Ok v → Comes t ss v
 comes t [] v z is =
     let same : t ≡ v = cc in
-    subst (λ (u : Transfer). Comes t [] u) same (record { sound = z; came = sym (append-nil t.source.arrived); finished = true_or t.source.fin })
+    subst (λ (u : Transfer). Comes t [] u) same (record { sound = z; came = sym (append-nil t.source.arrived); finished = sym (or-false t.source.fin) })
 comes t (s ∷ ss) v z is = step_on t s ss v (stepped t s.step) (goes t s.step z) is (λ u w js. comes u ss v w js)
 
 -- at the opening nothing has come

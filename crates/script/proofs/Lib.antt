@@ -3,4 +3,3 @@ pub mod FirstLine
 pub mod Playing
 pub mod Keeping
 pub mod Telling
-pub mod Headline

@@ -2,7 +2,7 @@
 use Rattle.std.specs.Prelude.{◌≡◌, ℕ, Bool, IsTrue, List, [], ◌∷◌, ◌++◌, codes, take, slice_get, Option, Some, None, Result, Ok, Err}
 use Rattle.std.specs.Fmt.{decimal}
 use Rattle.script_text.specs.declared.word.Word.{Word}
-use Rattle.script_text.specs.Words.{word_text}
+use Rattle.script_text.specs.Events.{word_text}
 use Rattle.script.specs.declared.fault.Fault.{Fault}
 use Rattle.script.specs.declared.fault.Fault.TheVariants.{TooLong, NoWorld, Malformed, NotAllowed, NoMemory}
 

@@ -3,7 +3,4 @@ pub mod Faults
 pub mod Plans
 pub mod Scripts
 pub mod Transfers
-pub mod Plays
-pub mod Reports
-pub mod Laws
 pub mod Runs

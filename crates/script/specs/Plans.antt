@@ -2,8 +2,8 @@
 use Rattle.std.specs.Prelude.{ℕ, List, map}
 use Rattle.world.specs.declared.limits.Limits.{Limits}
 use Rattle.world.specs.declared.event.Event.{Event}
-use Rattle.script_text.specs.declared.step.NumberedStep.{NumberedStep}
-use Rattle.script_text.specs.declared.step.NumberedEvent.{NumberedEvent}
+use Rattle.script_text.specs.declared.steps.NumberedStep.{NumberedStep}
+use Rattle.script_text.specs.declared.steps.NumberedEvent.{NumberedEvent}
 
 -- a script of one direction: the most bytes of its ring, and its steps with their lines
 pub record FlowPlan : Type 0 where

@@ -1,31 +1,63 @@
 -- What a run writes, given what its reader had. Part of the promises.
-use Rattle.std.specs.Prelude.{◌≡◌, ◌≢◌, ◌⊎◌, ℕ, List, [], Option, Some, Result, Ok, Err}
-use Rattle.std.specs.Io.KnownBytes.{Appends}
-use Rattle.world.specs.declared.limits.Limits.{Limits}
-use Rattle.world.specs.declared.event.Event.{Event}
+use Rattle.std.specs.Prelude.{Bool, Result, Ok, ℕ, List, ◌++◌, codes, ◌≡◌, ◌≢◌, ◌⊎◌, [], Option, Some, Err}
 use Rattle.world.specs.States.{State, opening}
-use Rattle.world.specs.Runs.{run}
-use Rattle.world.specs.Headline.{HeadlineHolds}
-use Rattle.world.specs.Support.{SupportHolds}
+use Rattle.world.specs.Steps.{step}
+use Rattle.world.specs.Memory.{may_allocate}
 use Rattle.script.specs.declared.fault.Fault.{Fault}
-use Rattle.script.specs.declared.fault.Fault.TheVariants.{NoMemory}
-use Rattle.script.specs.declared.running.Outcome.{Outcome}
-use Rattle.script.specs.declared.running.Outcome.TheVariants.{Report, Refused}
 use Rattle.script.specs.declared.script.Script.{Script}
 use Rattle.script.specs.declared.script.Script.TheVariants as script
 use Rattle.script.specs.declared.script.Reached.{Reached}
-use Rattle.script.specs.declared.script.Reached.TheVariants.{Flow, World}
-use Rattle.script.specs.Plans.{FlowPlan, WorldPlan, events_in}
+use Rattle.script.specs.declared.script.Reached.TheVariants as reached
+use Rattle.script_text.specs.declared.steps.NumberedEvent.{NumberedEvent}
+use Rattle.script.specs.Plans.{WorldPlan, FlowPlan, events_in}
 use Rattle.script.specs.Scripts.{FlowOf, TakesMemory, parsed, said_by}
-use Rattle.script.specs.Plays.{reached_by, world_of}
-use Rattle.script.specs.Reports.{report, fault_line}
+use Rattle.script_text.specs.Events.{event_word}
+use Rattle.script.specs.Transfers.{run_of, KeepsBytes, KeepsEnd}
+use Rattle.script.specs.Faults.{and_then, or_not_allowed, played, fault_text}
+use Rattle.script_text.specs.Pages.{newline, shown_bytes, stream_text}
+use Rattle.script.specs.declared.transfer.Transfer.{Transfer}
+use Rattle.std.specs.Io.KnownBytes.{Appends}
+use Rattle.world.specs.declared.limits.Limits.{Limits}
+use Rattle.world.specs.declared.event.Event.{Event}
+use Rattle.world.specs.Runs.{run}
+use Rattle.world.specs.Headline.{HeadlineHolds}
+use Rattle.world.specs.Support.{SupportHolds}
+use Rattle.script.specs.declared.fault.Fault.TheVariants.{NoMemory}
+use Rattle.script.specs.declared.running.Outcome.{Outcome}
+use Rattle.script.specs.declared.running.Outcome.TheVariants.{Report, Refused}
 use Rattle.script_text.specs.WorldReports.{world_report}
-use Rattle.script.specs.Laws.{KeepsBytes, KeepsEnd}
+
+-- What a script leads to. It is the state after all of it, or the fault of the first line that is
+-- not allowed.
+
+-- the event of a line
+abbrev pub line_happened : State → NumberedEvent → Result State Fault
+line_happened st e = or_not_allowed e.line (event_word e.event) (step st e.event)
+
+-- whether memory may run out for it
+abbrev pub line_takes_memory : State → NumberedEvent → Bool
+line_takes_memory st e = may_allocate st e.event
+
+abbrev pub world_of : WorldPlan → Result State Fault
+world_of plan = played line_happened (opening plan.limits) plan.events
+
+abbrev pub reached_by : Script → Result Reached Fault
+reached_by (script.Flow plan) = and_then (λ t. Ok (reached.Flow t)) (run_of plan)
+reached_by (script.World plan) = and_then (λ st. Ok (reached.World st)) (world_of plan)
+
+-- What is written of a script of one direction: its report, or the line of a fault.
+
+-- sent is what the destination took, unread what waits at the source
+abbrev pub report : Transfer → List ℕ
+report t = codes "up sent=" ++ (shown_bytes t.destination.taken ++ stream_text t.flow.ring t.source.unread t.flow.end_seen t.flow.shut)
+
+abbrev pub fault_line : Fault → List ℕ
+fault_line fault = fault_text fault ++ newline
 
 -- what is written of a state
 abbrev pub report_of : Reached → List ℕ
-report_of (Flow transfer) = report transfer
-report_of (World state) = world_report state
+report_of (reached.Flow transfer) = report transfer
+report_of (reached.World state) = world_report state
 
 -- What a text leads to: the state after the whole script that it is, or its first fault. The whole text is
 -- parsed before the first step is made. Memory runs out only for a text that takes some.

@@ -1,19 +1,18 @@
 -- The script that a text is, or its first fault. Part of the promises.
-use Rattle.std.specs.Prelude.{◌≡◌, ◌⊎◌, ℕ, nat_lt, Bool, false, IsTrue, if◌then◌else◌, List, [], ◌∷◌, ◌≤◌, map, length, is_some, Option, Some, None, Result, Ok, Err}
+use Rattle.std.specs.Prelude.{ℕ, List, map, ◌≡◌, ◌⊎◌, nat_lt, Bool, false, IsTrue, if◌then◌else◌, [], ◌∷◌, ◌≤◌, length, is_some, Option, Some, None, Result, Ok, Err}
 use Rattle.world.specs.declared.limits.Limits.{Limits}
+use Rattle.script_text.specs.declared.steps.NumberedStep.{NumberedStep}
+use Rattle.script_text.specs.declared.steps.NumberedEvent.{NumberedEvent}
 use Rattle.script.specs.declared.fault.Fault.{Fault}
 use Rattle.script.specs.declared.fault.Fault.TheVariants.{TooLong, NoWorld, Malformed}
+use Rattle.script.specs.Plans.{FlowPlan}
 use Rattle.script_text.specs.declared.header.Header.{Header}
 use Rattle.script_text.specs.declared.header.Header.TheVariants as header
 use Rattle.script.specs.declared.script.Script.{Script}
 use Rattle.script.specs.declared.script.Script.TheVariants as script
-use Rattle.script_text.specs.declared.step.NumberedStep.{NumberedStep}
-use Rattle.script_text.specs.declared.step.NumberedEvent.{NumberedEvent}
-use Rattle.script.specs.Plans.{FlowPlan}
 use Rattle.script_text.specs.Texts.{NumberedLine, lines_of, telling_lines}
 use Rattle.script_text.specs.Headers.{header_of}
-use Rattle.script_text.specs.Steps.{step_of}
-use Rattle.script_text.specs.Events.{Said, said_of, event_of}
+use Rattle.script_text.specs.Events.{step_of, Said, said_of, event_of}
 use Rattle.script.specs.Faults.{and_then}
 
 -- the most bytes of a script

@@ -1,17 +1,17 @@
 -- One direction as a machine. Part of the promises. It has a source, a ring and a destination; here is what each step
 -- of a script does to them.
-use Rattle.std.specs.Prelude.{ℕ, min, Bool, true, false, not, ◌&&◌, if◌then◌else◌, [], take, Option, None, option_map, Result}
+use Rattle.std.specs.Prelude.{ℕ, min, Bool, true, false, not, ◌&&◌, if◌then◌else◌, [], take, Option, None, option_map, Result, ◌≡◌, ◌||◌, List, ◌∷◌, ◌++◌, Ok}
 use Rattle.token.specs.declared.side.Side.TheVariants.{Client, Target}
 use Rattle.flow.specs.Stream.{Stream, empty_stream, free_room, waiting, front, taken_in, dropped, ended, closed}
 use Rattle.kernel_model.specs.Ends.{opened, is_nonempty, arrival, finish, new_room}
 use Rattle.kernel_model.specs.Replies.{after_read, after_write, after_shut}
 use Rattle.kernel_model.specs.declared.reply.Reply.TheVariants as reply
 use Rattle.script.specs.declared.fault.Fault.{Fault}
-use Rattle.script_text.specs.declared.step.Step.{Step}
-use Rattle.script_text.specs.declared.step.Step.TheVariants.{Arrive, Fin, Room, Read, End, Wrote, Shut}
-use Rattle.script_text.specs.declared.step.NumberedStep.{NumberedStep}
+use Rattle.script_text.specs.declared.steps.Step.{Step}
+use Rattle.script_text.specs.declared.steps.Step.TheVariants.{Arrive, Fin, Room, Read, End, Wrote, Shut}
+use Rattle.script_text.specs.declared.steps.NumberedStep.{NumberedStep}
 use Rattle.script.specs.declared.transfer.Transfer.{Transfer}
-use Rattle.script_text.specs.Steps.{word_of}
+use Rattle.script_text.specs.Events.{word_of}
 use Rattle.script.specs.Plans.{FlowPlan}
 use Rattle.script.specs.Faults.{or_not_allowed, played}
 
@@ -59,3 +59,39 @@ line_stepped t s = or_not_allowed s.line (word_of s.step) (stepped t s.step)
 
 abbrev pub run_of : FlowPlan → Result Transfer Fault
 run_of plan = played line_stepped (opening plan.ring) plan.steps
+
+-- What holds of every script of one direction, in terms of its steps alone.
+
+-- the bytes that a step brings to the source
+abbrev pub brought : Step → List ℕ
+brought (Arrive bytes) = bytes
+brought _ = []
+
+-- every byte that the steps bring, in order
+abbrev pub given : List NumberedStep → List ℕ
+given [] = []
+given (s ∷ ss) = brought s.step ++ given ss
+
+abbrev pub is_fin : Step → Bool
+is_fin Fin = true
+is_fin _ = false
+
+-- the source's end of input is among the steps
+abbrev pub has_ended : List NumberedStep → Bool
+has_ended [] = false
+has_ended (s ∷ ss) = is_fin s.step || has_ended ss
+
+-- The bytes that arrived are the sent bytes, then the ring, then the unread bytes.
+abbrev pub KeepsBytes : FlowPlan → Type 0
+KeepsBytes plan = (t : Transfer) → run_of plan ≡ Ok t → given plan.steps ≡ t.destination.taken ++ (t.flow.ring ++ t.source.unread)
+
+-- The source has ended, no byte is on its way, and what was sent is all that arrived.
+pub record IsComplete (steps : List NumberedStep) (t : Transfer) : Type 0 where
+  pub ended : has_ended steps ≡ true
+  pub unread : t.source.unread ≡ []
+  pub ring : t.flow.ring ≡ []
+  pub sent : t.destination.taken ≡ given steps
+
+-- The end is passed on only after every byte.
+abbrev pub KeepsEnd : FlowPlan → Type 0
+KeepsEnd plan = (t : Transfer) → run_of plan ≡ Ok t → t.flow.shut ≡ true → IsComplete plan.steps t

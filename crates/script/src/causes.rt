@@ -1,8 +1,8 @@
 //! What a person reads in addition to a fault: the word that is malformed and what is expected there, or why a step
 //! is not allowed at that point.
 
-use crate::limits::{MAX_BYTES, MAX_SHOWN};
 use crate::machine::Machine;
+use crate::running::{MAX_BYTES, MAX_SHOWN};
 use crate::{Fault, Script, parse};
 use input::Pieces;
 use script_text::{

@@ -1,11 +1,10 @@
 //! A run that shows each step.
 ghost use Rattle.std.specs.Prelude.{◌≡◌, ◌≢◌, ◌+◌, Err};
-ghost use Rattle.input.specs.Reads.{TakesAtMost};
+ghost use Rattle.input.specs.Texts.{TakesAtMost};
 ghost use Rattle.script.specs.Scripts.{most_bytes};
 
-use crate::limits::MAX_BYTES;
 use crate::machine::Machine;
-use crate::running::{answer_unread, tell_fault};
+use crate::running::{MAX_BYTES, answer_unread, tell_fault};
 use crate::{Explain, Fault, Outcome, Script, ScriptFault, parse};
 use script_text::Lines;
 use std::alloc::{AllocError, Global};

@@ -14,20 +14,15 @@
 //! What a line says, and what is printed of a world, is the crate `script_text`.
 //!
 //! `docs/FORMATS.md` describes scripts and reports; `specs/` has the same as definitions: `Scripts` for the text,
-//! over those of `script_text`; `Transfers` and `Plays` for the steps; `Reports` for what is written, over those of the
-//! same crate; and `Laws` and `Runs` for what holds for every run.
+//! over those of `script_text`; `Transfers` and `Runs` for the steps, what is written, and what holds for every run.
 #![tactic(auto)]
 
 mod causes;
 mod each;
-mod explain;
 mod fault;
 mod flow_script;
-mod laws;
-mod limits;
 mod machine;
 mod parsing;
-mod report;
 mod running;
 mod script;
 mod transfer;
@@ -35,14 +30,11 @@ mod world_script;
 
 pub use causes::cause;
 pub use each::run_each;
-pub use explain::Explain;
 pub use fault::Fault;
 pub use flow_script::FlowScript;
-pub use limits::MAX_BYTES;
 pub use parsing::parse;
-pub use report::{fault_line, print_transfer};
-pub use running::{Outcome, ScriptFault, answer, run};
-pub use script::{Reached, Script};
+pub use running::{Explain, MAX_BYTES, Outcome, ScriptFault, answer, run};
+pub use script::{Reached, Script, fault_line, print_transfer};
 pub use script_text::{Bytes, NumberedEvent, NumberedStep, Step, Word, print, word_of};
 pub use transfer::Transfer;
 pub use world_script::WorldScript;

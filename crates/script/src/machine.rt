@@ -1,6 +1,6 @@
 //! What the steps of a script are made on.
 
-use crate::report::print_transfer;
+use crate::script::print_transfer;
 use crate::world_script::happen;
 use crate::{Fault, Transfer};
 use script_text::{

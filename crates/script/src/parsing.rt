@@ -1,8 +1,9 @@
-ghost use Rattle.std.specs.Prelude.{◌≡◌, ◌^◌, ◌<◌, IsErrOf, IsTrue};
+ghost use Rattle.std.specs.Prelude.{◌≡◌, ◌^◌, ◌<◌, IsErrOf, IsTrue, Some};
+ghost use Rattle.script_text.specs.Headers.{IsWithin};
 ghost use Rattle.script.specs.Faults.{GivesBy};
-ghost use Rattle.script.specs.Scripts.{BeginsWell, parsed, steps_of, events_of, said_by, said_lines, starts_with_event, starts_with_step};
+ghost use Rattle.script.specs.Scripts.{BeginsWell, goes_on, headed, parsed, steps_of, events_of, said_by, said_lines, starts_with_event, starts_with_step};
 
-use crate::limits::MAX_BYTES;
+use crate::running::MAX_BYTES;
 use crate::{Fault, FlowScript, Script, WorldScript};
 use script_text::{
     Header, Lines, NotRead, NumberedEvent, NumberedStep, read_event, read_header, read_step,
@@ -25,11 +26,25 @@ pub fn parse(alloc: Global, text: &[u8]) -> Result<Script, Fault>
     };
     match read_header(first.text) {
         Err(_) => Err(Fault::Malformed(first.number)),
-        Ok(Header::Flow(ring)) => Ok(Script::Flow(FlowScript::new(ring, steps(alloc, lines)?))),
-        Ok(Header::World(limits)) => Ok(Script::World(WorldScript::new(
-            limits,
-            events(alloc, lines)?,
-        ))),
+        Ok(header) => headed(alloc, header, lines),
+    }
+}
+
+/// The script that the lines after its header stand for, or their first fault.
+fn headed(alloc: Global, header: Header, lines: Lines) -> Result<Script, Fault>
+    requires { IsWithin header }
+    ensures script { GivesBy said_by (headed header lines.entry) result }
+    ensures memory { IsErrOf result Fault.NoMemory → IsTrue (goes_on (Some header) lines.entry) }
+{
+    match header {
+        Header::Flow(ring) => match steps(alloc, lines) {
+            Ok(steps) => Ok(Script::Flow(FlowScript::new(ring, steps))),
+            Err(fault) => Err(fault),
+        },
+        Header::World(limits) => match events(alloc, lines) {
+            Ok(events) => Ok(Script::World(WorldScript::new(limits, events))),
+            Err(fault) => Err(fault),
+        },
     }
 }
 

@@ -1,17 +1,30 @@
 ghost use Rattle.std.specs.Prelude.{◌≡◌, ◌≢◌, ◌+◌, IfOk, IfErr, IfSome, Ok, Err};
 ghost use Rattle.std.specs.Io.KnownBytes.{Appends};
 ghost use Rattle.script.specs.Scripts.{most_bytes};
-ghost use Rattle.input.specs.Reads.{TakesAtMost};
-ghost use Rattle.script.specs.Reports.{fault_line};
-ghost use Rattle.script.specs.Runs.{LeadsTo, Tells, WritesReport, AnswersFault, WritesFault, EveryByte, EveryEnd, EveryRun};
+ghost use Rattle.input.specs.Texts.{TakesAtMost};
+ghost use Rattle.script.specs.Runs.{fault_line, LeadsTo, Tells, WritesReport, AnswersFault, WritesFault, EveryByte, EveryEnd, EveryRun, EveryRunIsSound};
 
-use crate::laws::every_run_is_sound;
-use crate::limits::MAX_BYTES;
-use crate::{Explain, Fault, Reached, parse};
+use crate::{Fault, Reached, parse};
 use input::InputFault;
+use relay_core::laws::{
+    answers_keep_place, failures_are_told, live_pairs_rest, only_overdue_pairs_expire,
+};
 use std::alloc::Global;
 use std::io::{Read, Write};
 use thiserror::Error;
+use world::laws::every_run_holds;
+
+/// Receives a script's fault, in addition to the line that is written for it.
+pub trait Explain {
+    /// This script has this fault. `text` is what was read of it, which is all of it unless it is too long.
+    fn explain(&self, text: &[u8], fault: Fault);
+}
+
+/// The maximum number of bytes in a script.
+pub const MAX_BYTES: usize = 1_048_576;
+
+/// The most bytes of a word that are shown to a person.
+pub(crate) const MAX_SHOWN: usize = 64;
 
 /// What a run wrote.
 #[derive(Clone, Copy)]
@@ -42,6 +55,7 @@ pub enum ScriptFault {
 ///
 /// If the script that was read has a fault, `explain` is called once, before anything is written. Otherwise it is not
 /// called; nor is it if memory runs out before the script was read, or for its output.
+#[tactic(auto, using(crate::proofs::Telling::every_byte, crate::proofs::Telling::every_end, crate::proofs::Telling::every_run))]
 pub fn run<R: Read, W: Write, X: Explain>(
     alloc: Global,
     reader: &mut R,
@@ -160,4 +174,16 @@ fn write<W: Write>(writer: &mut W, line: &[u8], told: Outcome) -> Result<Outcome
         return Err(ScriptFault::Write);
     }
     Ok(told)
+}
+
+/// After every list of events that can happen the headline holds, and what it depends on: tickets, rest, table and
+/// edges, as for a replay.
+fn every_run_is_sound()
+    ensures { EveryRunIsSound }
+{
+    every_run_holds();
+    answers_keep_place();
+    failures_are_told();
+    live_pairs_rest();
+    only_overdue_pairs_expire();
 }

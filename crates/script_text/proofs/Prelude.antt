@@ -14,13 +14,10 @@ pub use Rattle.hex.proofs.HexLemmas.{decode_pairs-ok}
 pub use Rattle.hex.specs.Hex.{decode_of, decode_pairs}
 pub use Rattle.hex.specs.declared.error.FromHexError.{FromHexError}
 pub use Rattle.hex.specs.declared.error.FromHexError.TheVariants.{OddLength}
-pub use Rattle.script_text.specs.Events.{all_names, event_of, event_of_words, plain_event, said_of}
+pub use Rattle.script_text.specs.Events.{all_names, event_of, event_of_words, plain_event, said_of, BeginsOtherwise, word_text, plain_step, step_of_words}
 pub use Rattle.script_text.specs.Headers.{short_enough}
-pub use Rattle.script_text.specs.Names.{name_text, spaced, ticket_text}
-pub use Rattle.script_text.specs.Pages.{Adds}
-pub use Rattle.script_text.specs.Steps.{plain_step, step_of_words}
+pub use Rattle.script_text.specs.Pages.{name_text, spaced, ticket_text, Adds}
 pub use Rattle.script_text.specs.Texts.{bytes_of, is_digit, is_hex_text, is_plain, number_of, value_of, with_digit}
-pub use Rattle.script_text.specs.Words.{BeginsOtherwise, word_text}
 pub use Rattle.script_text.specs.WorldReports.{in_order, past_line, placed, put_in_order, slot_lines, worker_line}
 pub use Rattle.script_text.specs.declared.word.Word.{Word}
 pub use Rattle.script_text.specs.declared.word.Word.TheVariants.{Accept}

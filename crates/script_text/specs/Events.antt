@@ -1,7 +1,19 @@
 -- The events of a world's script, and the lines that say them. Part of the promises.
-use Rattle.std.specs.Prelude.{ℕ, ◌+◌, nat_lt, nat_le, ◌&&◌, if◌then◌else◌, List, [], ◌∷◌, length, codes, Option, Some, None, option_map, option_and_then}
-use Rattle.token.specs.Names.{last_generation}
+use Rattle.std.specs.Prelude.{◌≡◌, ℕ, false, List, [], ◌∷◌, codes, ◌+◌, nat_lt, nat_le, ◌&&◌, if◌then◌else◌, length, Option, Some, None, option_map, option_and_then}
 use Rattle.std.specs.Str.{bytes_eq}
+use Rattle.world.specs.declared.event.Event.{Event}
+use Rattle.world.specs.declared.event.Event.TheVariants as event
+use Rattle.world.specs.declared.event.Change.{Change}
+use Rattle.world.specs.declared.event.Change.TheVariants as change
+use Rattle.world.specs.declared.event.Listening.{Listening}
+use Rattle.world.specs.declared.event.Listening.TheVariants as listening
+use Rattle.world.specs.declared.event.Polling.{Polling}
+use Rattle.world.specs.declared.event.Polling.TheVariants as polling
+use Rattle.world.specs.declared.event.Act.{Act}
+use Rattle.world.specs.declared.event.Act.TheVariants as act
+use Rattle.script_text.specs.declared.word.Word.{Word}
+use Rattle.script_text.specs.declared.word.Word.TheVariants as word
+use Rattle.token.specs.Names.{last_generation}
 use Rattle.token.specs.declared.side.Side.{Side}
 use Rattle.token.specs.Sides.{side_named}
 use Rattle.token.specs.Kinds.{kind_named}
@@ -11,18 +23,90 @@ use Rattle.kernel_model.specs.declared.reply.Reply.{Reply}
 use Rattle.kernel_model.specs.declared.reply.Reply.TheVariants as reply
 use Rattle.kernel_model.specs.declared.accepting.Accepting.{Accepting}
 use Rattle.kernel_model.specs.declared.accepting.Accepting.TheVariants as accepting
-use Rattle.world.specs.declared.event.Event.{Event}
-use Rattle.world.specs.declared.event.Event.TheVariants as event
-use Rattle.world.specs.declared.event.Change.{Change}
-use Rattle.world.specs.declared.event.Change.TheVariants as change
 use Rattle.world.specs.declared.event.Reported.{Reported}
 use Rattle.world.specs.declared.event.Reported.TheVariants as reported
-use Rattle.world.specs.declared.event.Listening.TheVariants as listening
-use Rattle.world.specs.declared.event.Polling.TheVariants as polling
-use Rattle.world.specs.declared.event.Act.{Act}
-use Rattle.world.specs.declared.event.Act.TheVariants as act
-use Rattle.script_text.specs.Texts.{pieces_of, words_of, number_of, number_below, bytes_of}
-use Rattle.script_text.specs.Reading.{word_then, if_last, full_of}
+use Rattle.script_text.specs.Texts.{pieces_of, words_of, number_of, number_below, bytes_of, word_then, if_last, full_of}
+use Rattle.script_text.specs.declared.steps.Step.{Step}
+use Rattle.script_text.specs.declared.steps.Step.TheVariants as step
+
+-- The first word of a step or an event, by which a fault names it.
+
+-- the first word of a step or an event
+abbrev pub word_text : Word → List ℕ
+word_text word.Accept = codes "accept"
+word_text word.Arrive = codes "arrive"
+word_text word.Call = codes "call"
+word_text word.Claim = codes "claim"
+word_text word.Close = codes "close"
+word_text word.Connect = codes "connect"
+word_text word.Deliver = codes "deliver"
+word_text word.Drop = codes "drop"
+word_text word.End = codes "end"
+word_text word.Fin = codes "fin"
+word_text word.Free = codes "free"
+word_text word.Idle = codes "idle"
+word_text word.Open = codes "open"
+word_text word.Poll = codes "poll"
+word_text word.Pop = codes "pop"
+word_text word.Post = codes "post"
+word_text word.Put = codes "put"
+word_text word.Read = codes "read"
+word_text word.Release = codes "release"
+word_text word.Reset = codes "reset"
+word_text word.Retire = codes "retire"
+word_text word.Room = codes "room"
+word_text word.Shut = codes "shut"
+word_text word.Spurious = codes "spurious"
+word_text word.Sweep = codes "sweep"
+word_text word.Take = codes "take"
+word_text word.Tick = codes "tick"
+word_text word.Vanish = codes "vanish"
+word_text word.Wrote = codes "wrote"
+
+-- the first of these words, if there is one, is none of them
+abbrev pub BeginsOtherwise : List (List ℕ) → Type 0
+BeginsOtherwise [] = Unit {0}
+BeginsOtherwise (name ∷ words) = (w : Word) → bytes_eq name (word_text w) ≡ false
+
+abbrev pub change_word : Change → Word
+change_word (change.Arrive bytes) = word.Arrive
+change_word change.Fin = word.Fin
+change_word change.Reset = word.Reset
+change_word change.Room = word.Room
+
+abbrev pub listening_word : Listening → Word
+listening_word listening.Connect = word.Connect
+listening_word (listening.Accept answer) = word.Accept
+listening_word listening.Drop = word.Drop
+
+abbrev pub polling_word : Polling → Word
+polling_word polling.Open = word.Open
+polling_word (polling.Poll names) = word.Poll
+polling_word polling.Deliver = word.Deliver
+polling_word (polling.Sweep slot) = word.Sweep
+polling_word polling.Put = word.Put
+
+abbrev pub act_word : Act → Word
+act_word act.Put = word.Put
+act_word act.Pop = word.Pop
+act_word act.Claim = word.Claim
+act_word act.Take = word.Take
+act_word (act.Call r) = word.Call
+act_word act.Post = word.Post
+act_word act.Release = word.Release
+act_word act.Expire = word.Idle
+act_word act.Close = word.Close
+act_word act.Retire = word.Retire
+act_word act.Free = word.Free
+
+abbrev pub event_word : Event → Word
+event_word (event.Tick seconds) = word.Tick
+event_word (event.Network slot side c) = change_word c
+event_word (event.Spurious who) = word.Spurious
+event_word (event.Vanish who) = word.Vanish
+event_word (event.Listen l) = listening_word l
+event_word (event.Poll p) = polling_word p
+event_word (event.Work worker a) = act_word a
 
 -- An event as a line says it. Two forms carry a list, of bytes or of names; each other one is an event of
 -- the machine as it stands.
@@ -175,3 +259,39 @@ event_of_words (name ∷ words) =
 -- the event that a line says
 abbrev pub event_of : List ℕ → Option Said
 event_of line = event_of_words (words_of line)
+
+-- The steps of a script of one direction, and the lines that say them.
+
+-- the steps that carry no bytes
+abbrev pub plain_step : List ℕ → List (List ℕ) → Option Step
+plain_step name words =
+    if bytes_eq name (codes "fin") then if_last step.Fin words
+    else if bytes_eq name (codes "room") then if_last step.Room words
+    else if bytes_eq name (codes "read") then word_then number_of (λ n. if_last (step.Read n)) words
+    else if bytes_eq name (codes "end") then if_last step.End words
+    else if bytes_eq name (codes "wrote") then word_then number_of (λ n left. option_map (λ full. step.Wrote n full) (full_of left)) words
+    else if bytes_eq name (codes "shut") then if_last step.Shut words
+    else None
+
+abbrev pub arrive_step : List (List ℕ) → Option Step
+arrive_step words = word_then bytes_of (λ bytes. if_last (step.Arrive bytes)) words
+
+abbrev pub step_of_words : List (List ℕ) → Option Step
+step_of_words [] = None
+step_of_words (name ∷ words) =
+    if bytes_eq name (codes "arrive") then arrive_step words
+    else plain_step name words
+
+-- the step that a line says
+abbrev pub step_of : List ℕ → Option Step
+step_of line = step_of_words (words_of line)
+
+-- the first word of a step
+abbrev pub word_of : Step → Word
+word_of (step.Arrive bytes) = word.Arrive
+word_of step.Fin = word.Fin
+word_of step.Room = word.Room
+word_of (step.Read n) = word.Read
+word_of step.End = word.End
+word_of (step.Wrote n full) = word.Wrote
+word_of step.Shut = word.Shut

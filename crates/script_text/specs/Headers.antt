@@ -7,8 +7,7 @@ use Rattle.world.specs.declared.limits.Limits.{Limits}
 use Rattle.world.specs.States.{IsWithinLimits}
 use Rattle.script_text.specs.declared.header.Header.{Header}
 use Rattle.script_text.specs.declared.header.Header.TheVariants.{Flow, World}
-use Rattle.script_text.specs.Texts.{words_of, value_after, bytes_after}
-use Rattle.script_text.specs.Reading.{Found, word_then, if_last}
+use Rattle.script_text.specs.Texts.{words_of, value_after, bytes_after, Found, word_then, if_last}
 
 -- `KEY=N` with N from 1 to the most
 abbrev pub size_of : List ℕ → ℕ → List ℕ → Option ℕ

@@ -1,10 +1,15 @@
 -- A text that is written piece by piece. Part of the promises.
-use Rattle.std.specs.Prelude.{◌≡◌, ℕ, List, [], ◌∷◌, ◌++◌, codes, if◌then◌else◌, Option, Some, option_map, IfSome}
+use Rattle.std.specs.Prelude.{◌≡◌, ℕ, List, [], ◌∷◌, ◌++◌, codes, if◌then◌else◌, Option, Some, option_map, IfSome, flat_map, Bool}
 use Rattle.std.specs.Fmt.{decimal}
 use Rattle.hex.specs.Hex.{encode_lower}
 use Rattle.kernel_model.specs.Ends.{is_nonempty}
 use Rattle.script_text.specs.declared.page.Piece.{Piece}
 use Rattle.script_text.specs.declared.page.Piece.TheVariants.{Text, Number, Named, Bytes}
+use Rattle.token.specs.declared.name.Name.{Name}
+use Rattle.token.specs.declared.name.Name.TheVariants as name
+use Rattle.token.specs.Names.{EndName}
+use Rattle.token.specs.Sides.{side_name}
+use Rattle.world.specs.declared.actors.Ticket.{Ticket}
 
 abbrev pub newline : List ℕ
 newline = 10 ∷ []
@@ -28,3 +33,34 @@ pieces_text (piece ∷ next ∷ pieces) = piece_text piece ++ pieces_text (next 
 -- What is written is the text before and these bytes, unless it was lost: then it is lost for good.
 abbrev pub Adds : Option (List ℕ) → Option (List ℕ) → List ℕ → Type 0
 Adds old new bytes = IfSome new (λ text. option_map (λ before. before ++ bytes) old ≡ Some text)
+
+-- How names and tickets are written.
+
+-- each with a space in front
+abbrev pub spaced : {X : Type 0} → (X → List ℕ) → List X → List ℕ
+spaced text xs = flat_map (λ x. codes " " ++ text x) xs
+
+abbrev pub end_text : EndName → List ℕ
+end_text n = decimal n.slot ++ (codes "." ++ (decimal n.generation ++ (codes "." ++ side_name n.side)))
+
+abbrev pub name_text : Name → List ℕ
+name_text name.Listener = codes "listener"
+name_text name.Waker = codes "waker"
+name_text (name.End n) = end_text n
+
+abbrev pub ticket_text : Ticket → List ℕ
+ticket_text t = decimal t.slot ++ (codes "." ++ decimal t.generation)
+
+-- How the bytes on their way are written.
+
+abbrev pub yes_or_no : Bool → List ℕ
+yes_or_no is_so = if is_so then codes "yes" else codes "no"
+
+-- what is written of one direction after the bytes that were sent, and a lead: the bytes in the ring, those that wait
+-- unread; whether the end was read, and whether it was passed on
+abbrev pub stream_text : List ℕ → List ℕ → Bool → Bool → List ℕ
+stream_text ring unread ended shut =
+    codes " ring=" ++ (shown_bytes ring
+    ++ (codes " unread=" ++ (shown_bytes unread
+    ++ (codes " end=" ++ (yes_or_no ended
+    ++ (codes " shut=" ++ (yes_or_no shut ++ newline)))))))

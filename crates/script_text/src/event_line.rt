@@ -1,8 +1,7 @@
 //! The header of a world's script, and the line of an event, as the readers of this crate read them. No clause says
 //! what they are: tests have `sim` read what is written of a drill or of a recording.
 
-use crate::names::put_names;
-use crate::page::{Page, Piece};
+use crate::page::{Page, Piece, put_names};
 use crate::word::word_of;
 use kernel_model::{Accepting, Reply};
 use token::Side;

@@ -2,14 +2,13 @@
 ghost use Rattle.std.specs.Prelude.{◌≡◌, ◌≤◌, ◌<◌, [], unwrap_or, IfSome, IfOk, option_and_then};
 ghost use Rattle.token.specs.Names.{last_generation};
 ghost use Rattle.world.specs.States.{IsWithinLimits};
-ghost use Rattle.script_text.specs.Reading.{first_as, Reads, Takes};
+ghost use Rattle.script_text.specs.Texts.{first_as, Reads, Takes, bytes_of};
 ghost use Rattle.script_text.specs.Headers.{size_of, generation_of, ring_of, idle_of, lead_of, short_enough, optional, with_extras, limits_of, lone_ring, header_of, IsRing, IsWithin};
-ghost use Rattle.script_text.specs.Texts.{bytes_of};
 
-use crate::limits::{MAX_BUDGET, MAX_IDLE, MAX_SLOTS, MAX_WORKERS};
-use crate::readers::{end_or, last, said, word};
-use crate::values::{is_hex_text, value_after};
-use crate::wrong::Wrong;
+use crate::readers::{
+    MAX_BUDGET, MAX_IDLE, MAX_SLOTS, MAX_WORKERS, Wrong, end_or, is_hex_text, last, said,
+    value_after, word,
+};
 use flow::Flow;
 use input::{Pieces, is};
 use token::MAX_GENERATION;
@@ -188,7 +187,7 @@ fn size_said(key: &[u8], most: usize, word: &[u8]) -> Option<usize>
 }
 
 /// The lead whose bytes a text stands for in lower-case hexadecimal.
-#[tactic(auto, using(crate::proofs::Leads::too_long))]
+#[tactic(auto, using(crate::proofs::Loops::too_long))]
 fn short_bytes(text: &[u8]) -> Option<Lead>
     ensures { result ≡ option_and_then short_enough (bytes_of text.now) }
 {

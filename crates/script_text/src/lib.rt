@@ -8,46 +8,35 @@
 //! why an event is not allowed in it. [`put_header`] and [`put_event`] add the lines of a script to a [`Page`], on
 //! which all these texts are written, and [`Counts`] counts events by kinds.
 //!
-//! `docs/FORMATS.md` describes lines and reports; `specs/` has the same as definitions: `Texts` and `Reading` for
-//! lines and words, `Headers`, `Steps` and `Events` for what they say, and `Words` for the word by which a fault
-//! names an event; `WorldReports` for the report, with `Names` and `Shown` for its parts, and `Pages` for what adds
+//! `docs/FORMATS.md` describes lines and reports; `specs/` has the same as definitions: `Texts` for lines and words,
+//! `Headers` and `Events` for what they say; `WorldReports` for the report, and `Pages` for its parts and for what adds
 //! to a page.
 #![tactic(auto)]
 
 mod changes;
 mod counts;
-mod ends;
 mod event_line;
-mod event_parts;
 mod events;
 mod header;
-mod limits;
 mod lines;
-mod names;
 mod page;
 mod readers;
 mod reasons;
 mod report;
-mod shown;
-mod step;
 mod steps;
-mod values;
 mod word;
-mod wrong;
 
 pub use changes::Outline;
 pub use counts::Counts;
-pub use ends::{NOT_HERE, end_reason, ended_reason, read_reason, room_reason, wrote_reason};
 pub use event_line::{put_event, put_header};
 pub use events::read_event;
 pub use header::{Header, read_header};
 pub use lines::{Line, Lines};
-pub use names::put_names;
-pub use page::{Page, Piece};
-pub use reasons::event_reason;
+pub use page::{Page, Piece, put_names, put_stream};
+pub use readers::{NotRead, Wrong};
+pub use reasons::{
+    NOT_HERE, end_reason, ended_reason, event_reason, read_reason, room_reason, wrote_reason,
+};
 pub use report::print;
-pub use shown::put_stream;
-pub use step::{Bytes, NumberedEvent, NumberedStep, Step};
-pub use steps::read_step;
+pub use steps::{Bytes, NumberedEvent, NumberedStep, Step, read_step};
 pub use word::{Word, word_of};
-pub use wrong::{NotRead, Wrong};

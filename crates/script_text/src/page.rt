@@ -1,9 +1,12 @@
 //! Text that is written piece by piece.
-ghost use Rattle.std.specs.Prelude.{◌≡◌, [], Some, None, IfOk, string_bytes};
-ghost use Rattle.script_text.specs.Pages.{Adds, piece_text, pieces_text};
+ghost use Rattle.std.specs.Prelude.{◌≡◌, [], Some, None, IfOk, string_bytes, ◌++◌, codes, if◌then◌else◌};
+ghost use Rattle.script_text.specs.Pages.{Adds, piece_text, pieces_text, name_text, ticket_text, spaced, stream_text, yes_or_no};
+ghost use Rattle.std.specs.Fmt.{decimal};
 
 use std::alloc::{AllocError, Global};
 use std::marker::Model;
+use token::Name;
+use world::Ticket;
 
 /// A piece of a text.
 #[derive(Clone, Copy)]
@@ -93,4 +96,81 @@ impl Page {
             None => Ok(self.text),
         }
     }
+}
+
+/// Adds names as a poll has them, each with a space in front.
+pub fn put_names(page: &mut Page, names: &[Name])
+    ensures { Adds page.old page.new (spaced name_text names.now) }
+{
+    for name in names {
+        put_name(page, name);
+    }
+}
+
+fn put_name(page: &mut Page, name: &Name)
+    ensures { Adds page.old page.new (codes " " ++ name_text name.now) }
+{
+    match *name {
+        Name::Listener => page.put(&[Piece::Text(" listener")]),
+        Name::Waker => page.put(&[Piece::Text(" waker")]),
+        Name::End(token) => page.put(&[
+            Piece::Named(" ", token.slot() as u64),
+            Piece::Named(".", token.generation()),
+            Piece::Text("."),
+            Piece::Text(token.side().name()),
+        ]),
+    }
+}
+
+/// Adds tickets, each with a space in front.
+pub(crate) fn put_tickets(page: &mut Page, tickets: &[Ticket])
+    ensures { Adds page.old page.new (spaced ticket_text tickets.now) }
+{
+    for ticket in tickets {
+        page.put(&[
+            Piece::Named(" ", ticket.slot as u64),
+            Piece::Named(".", ticket.generation),
+        ]);
+    }
+}
+
+/// Adds numbers, each with a space in front.
+pub(crate) fn put_numbers(page: &mut Page, numbers: &[usize])
+    ensures { Adds page.old page.new (spaced decimal numbers.now) }
+{
+    for number in numbers {
+        page.put(&[Piece::Named(" ", *number as u64)]);
+    }
+}
+
+/// Adds what is written of one direction after the bytes that were sent, and a lead: the bytes in the ring, those that
+/// wait unread; whether the end was read, and whether it was passed on.
+pub fn put_stream<'a>(page: &mut Page, ring: &'a [u8], unread: &'a [u8], ended: bool, shut: bool)
+    ensures { Adds page.old page.new (stream_text ring.now unread.now ended shut) }
+{
+    page.put(&[
+        Piece::Text(" ring="),
+        Piece::Bytes(ring),
+        Piece::Text(" unread="),
+        Piece::Bytes(unread),
+        Piece::Text(" end="),
+        Piece::Text(yes_or_no(ended)),
+        Piece::Text(" shut="),
+        Piece::Text(yes_or_no(shut)),
+        Piece::Text("\n"),
+    ]);
+}
+
+/// A truth value as shown in a report.
+pub(crate) fn yes_or_no(is_so: bool) -> &'static str
+    ensures { result.now ≡ yes_or_no is_so }
+{
+    if is_so { "yes" } else { "no" }
+}
+
+/// One of two words.
+pub(crate) fn one_of(is_first: bool, first: &'static str, second: &'static str) -> &'static str
+    ensures { result.now ≡ (if is_first then first.now else second.now) }
+{
+    if is_first { first } else { second }
 }

@@ -1,19 +1,32 @@
-//! What reads the next word of a line, or says what is wrong with it. The numbers in the texts are those of `limits`;
-//! a row of `tests/program/causes` tries each text with the last word that is taken and the first that is not.
-ghost use Rattle.std.specs.Prelude.{◌≡◌, ◌∷◌, [], MatchResult};
+//! What reads the next word of a line, or says what is wrong with it. The numbers in the texts are those of the limits;
+//! a row of `tests/program/causes` tries each text with the last word that is taken and the first that is not. A ring's
+//! limit is [`Flow::MAX`](flow::Flow::MAX), a lead's [`Flow::MAX_LEAD`](flow::Flow::MAX_LEAD), a generation's
+//! `token::MAX_GENERATION`, and a poll's `kernel_model::MAX_POLLED`.
+ghost use Rattle.std.specs.Prelude.{◌≡◌, ◌∷◌, [], MatchResult, IfOk, IfErr, IsSome};
 ghost use Rattle.token.specs.Sides.{side_named};
-ghost use Rattle.script_text.specs.Words.{word_text, BeginsOtherwise};
-ghost use Rattle.script_text.specs.Texts.{number_of, bytes_of};
-ghost use Rattle.script_text.specs.Reading.{first_as, word_then, line_end, if_last, full_of, Reads, ReadsBy, Takes};
-ghost use Rattle.script_text.specs.Events.{slot_of, worker_of};
+ghost use Rattle.script_text.specs.Events.{word_text, BeginsOtherwise, slot_of, worker_of};
+ghost use Rattle.script_text.specs.Texts.{number_of, bytes_of, first_as, word_then, line_end, if_last, full_of, Reads, ReadsBy, Takes, number_below, value_after, is_lower_hex, is_hex_text};
+ghost use Rattle.std.specs.List.{list_all};
 
-use crate::limits::{MAX_SLOTS, MAX_WORKERS};
-use crate::values::{bytes, number_below};
-use crate::wrong::{NotRead, Wrong};
 use crate::{Bytes, Word};
-use input::{Pieces, is, number};
-use std::alloc::Global;
+use input::{Pieces, is, is_digit, number};
+use std::alloc::{AllocError, Global};
 use token::Side;
+
+/// The most slots of a world.
+pub(crate) const MAX_SLOTS: usize = 64;
+
+/// The most workers of a world.
+pub(crate) const MAX_WORKERS: usize = 16;
+
+/// The most calls of one turn.
+pub(crate) const MAX_BUDGET: usize = 1_024;
+
+/// The most seconds of an idle limit.
+pub(crate) const MAX_IDLE: usize = 86_400;
+
+/// The most hexadecimal digits of a word, two for each byte.
+const MAX_DIGITS: usize = 2_048;
 
 /// The next word, whatever it is.
 pub(crate) fn word<'a>(words: &mut Pieces<'a>, wanted: &'static str) -> Result<&'a [u8], Wrong<'a>>
@@ -137,4 +150,127 @@ pub(crate) fn is_full(mut words: Pieces<'_>) -> Result<bool, Wrong<'_>>
     } else {
         Err(Wrong::malformed(word, "full, or the end of the line, is wanted"))
     }
+}
+
+/// The word of a line that is wrong, and what is expected there: the first such word from the left.
+#[derive(Drop)]
+pub struct Wrong<'a> {
+    /// The malformed word, or none if one is missing.
+    pub word: Option<&'a [u8]>,
+    /// Whether it is the line's first word, with which no line of this kind begins.
+    pub is_first: bool,
+    /// What is expected in its place, as a person reads it.
+    pub wanted: &'static str,
+}
+
+/// Why a line is not read, if reading it takes memory.
+#[derive(Drop)]
+pub enum NotRead<'a> {
+    /// This word is wrong.
+    Malformed(Wrong<'a>),
+    /// Memory ran out, so that the line may be right.
+    NoMemory,
+}
+
+impl<'a> Wrong<'a> {
+    /// No line of this kind begins with this word.
+    pub(crate) fn unknown(word: &'a [u8], wanted: &'static str) -> Wrong<'a> {
+        Wrong {
+            word: Some(word),
+            is_first: true,
+            wanted,
+        }
+    }
+
+    /// This is expected in place of a word after the first one.
+    pub(crate) fn malformed(word: &'a [u8], wanted: &'static str) -> Wrong<'a> {
+        Wrong {
+            word: Some(word),
+            is_first: false,
+            wanted,
+        }
+    }
+
+    /// The line ends, but this is expected.
+    pub(crate) fn missing(wanted: &'static str) -> Wrong<'a> {
+        Wrong {
+            word: None,
+            is_first: false,
+            wanted,
+        }
+    }
+}
+
+impl<'a> From<Wrong<'a>> for NotRead<'a> {
+    ghost use Rattle.script_text.specs.declared.readers.NotRead.TheVariants.{Malformed};
+
+    ghost from_gives = { λ wrong not_read. not_read ≡ Malformed wrong };
+
+    fn from(wrong: Wrong<'a>) -> NotRead<'a> {
+        NotRead::Malformed(wrong)
+    }
+}
+
+impl<'a> From<AllocError> for NotRead<'a> {
+    ghost use Rattle.script_text.specs.declared.readers.NotRead.TheVariants.{NoMemory};
+
+    ghost from_gives = { λ _ not_read. not_read ≡ NoMemory };
+
+    fn from(_error: AllocError) -> NotRead<'a> {
+        NotRead::NoMemory
+    }
+}
+
+/// The number that a text stands for, if it is below a bound.
+pub(crate) fn number_below(bound: usize, text: &[u8]) -> Option<usize>
+    ensures { result ≡ number_below bound text.now }
+{
+    let value = number(text)?;
+    if value < bound { Some(value) } else { None }
+}
+
+/// The number after a key, which ends with its `=`.
+pub(crate) fn value_after(key: &[u8], word: &[u8]) -> Option<usize>
+    ensures { result ≡ value_after key.now word.now }
+{
+    number(word.strip_prefix(key)?)
+}
+
+/// The bytes that a text stands for in lower-case hexadecimal, 1 to 1,024 of them. Memory is asked for only if it
+/// stands for some.
+pub(crate) fn bytes(alloc: Global, text: &[u8]) -> Result<Option<Bytes>, AllocError>
+    ensures value { IfOk result (λ bytes. bytes ≡ bytes_of text.now) }
+    ensures memory { IfErr result (λ _. IsSome (bytes_of text.now)) }
+{
+    if !is_hex_text(text) {
+        return Ok(None);
+    }
+    let mut room = [0; MAX_DIGITS / 2];
+    let length = text.len() / 2;
+    if hex::decode_to_slice(text, &mut room[..length]).is_err() {
+        return Ok(None);
+    }
+    let bytes = Vec::from_slice(alloc, &room[..length])?;
+    Ok(Some(Bytes::new(bytes)))
+}
+
+/// Whether a text is 1 to 1,024 bytes in lower-case hexadecimal, except that its length may be odd.
+pub(crate) fn is_hex_text(text: &[u8]) -> bool
+    ensures { result ≡ is_hex_text text.now }
+{
+    0 < text.len() && text.len() <= MAX_DIGITS && is_all_lower_hex(text)
+}
+
+/// Whether each byte is a lower-case hexadecimal digit.
+fn is_all_lower_hex(text: &[u8]) -> bool
+    ensures { result ≡ list_all is_lower_hex text.now }
+{
+    text.iter().all(|byte| is_lower_hex(*byte))
+}
+
+/// Whether a byte is a lower-case hexadecimal digit.
+fn is_lower_hex(byte: u8) -> bool
+    ensures { result ≡ is_lower_hex byte }
+{
+    is_digit(byte) || b'a' <= byte && byte <= b'f'
 }

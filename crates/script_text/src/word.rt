@@ -1,6 +1,6 @@
 ghost use Rattle.std.specs.Prelude.{◌≡◌, false, IfSome, IfNone};
 ghost use Rattle.std.specs.Str.{bytes_eq};
-ghost use Rattle.script_text.specs.Words.{word_text, event_word};
+ghost use Rattle.script_text.specs.Events.{word_text, event_word};
 ghost use Rattle.script_text.specs.declared.word.Word.{Word};
 
 use std::fmt;
@@ -97,7 +97,7 @@ impl Word {
 
 impl fmt::Display for Word {
     ghost use Rattle.std.specs.Prelude.{Some};
-    ghost use Rattle.script_text.specs.Words.{word_text};
+    ghost use Rattle.script_text.specs.Events.{word_text};
 
     ghost output = { λ word. Some (word_text word) };
 

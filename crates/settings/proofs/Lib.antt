@@ -1,4 +1,3 @@
-pub mod AddressParts
 pub mod Unknown
 pub mod Unique
 pub mod FewPollers

@@ -1,15 +1,18 @@
 -- What a TOML document sets, by the table of the settings, and what is wrong in one. Part of the promises.
-use Rattle.std.specs.Prelude.{◌≡◌, ◌≢◌, ℕ, ◌≤◌, List, [], ◌∷◌, Some, None, MatchOption, IsSome, pos, ◌⊎◌}
+use Rattle.std.specs.Prelude.{◌≡◌, ◌≢◌, ℕ, ◌≤◌, List, [], ◌∷◌, Some, None, MatchOption, IsSome, pos, ◌⊎◌, ◌++◌}
 use Rattle.std.specs.Ordering.{nat_cmp}
 use Rattle.std.specs.Cmp.Lexicographic.{slice_cmp}
 use Rattle.std.specs.declared.cmp.Ordering.TheVariants.{Greater}
 use Rattle.toml.specs.Data.{Data, Members, get_member, as_str, as_integer, as_bool}
-use Rattle.settings.specs.Names.{level_name}
 use Rattle.settings.specs.Addresses.{IsAddress, address_text}
-use Rattle.settings.specs.Table.{key_name, Setting, address, number, level, truth, ValueKind, an_address, a_number, a_level, a_truth, Row, row_of}
+use Rattle.settings.specs.Table.{level_name, truth_name, key_name, Setting, address, number, level, truth, ValueKind, an_address, a_number, a_level, a_truth, Row, row_of, setting, keys}
 use Rattle.settings.specs.declared.table.Key.{Key}
 use Rattle.settings.specs.declared.faults.SettingsFault.{SettingsFault}
-use Rattle.settings.specs.declared.faults.SettingsFault.TheVariants.{Missing, WrongKind, OutOfRange, BadAddress}
+use Rattle.settings.specs.declared.faults.SettingsFault.TheVariants.{Missing, WrongKind, OutOfRange, BadAddress, NotToml, UnknownKey}
+use Rattle.std.specs.Str.{IsUtf8}
+use Rattle.std.specs.Fmt.{decimal}
+use Rattle.toml.specs.Parse.{parse_document}
+use Rattle.settings.specs.declared.fields.Settings.{Settings}
 
 -- the value is a text, a whole number or a truth value, as the kind asks
 abbrev pub HasKind : ValueKind → Data → Type 0
@@ -68,3 +71,40 @@ IsFirstUnknown doc name = IsUnknown doc name × ((other : List ℕ) → IsUnknow
 
 abbrev pub HasNoUnknown : Members → Type 0
 HasNoUnknown doc = (name : List ℕ) → ¬ (IsUnknown doc name)
+
+-- The settings of a text, its fault, and how settings are printed.
+
+-- the bytes are UTF-8, and TOML reads them as this document
+abbrev pub IsDocument : List ℕ → Members → Type 0
+IsDocument text doc = IsUtf8 text × (parse_document text ≡ Some doc)
+
+-- the text has these settings: no unknown key, and each key set by its row of the table
+abbrev pub IsSettingsOf : List ℕ → Settings → Type 0
+IsSettingsOf text s = (doc : Members) × IsDocument text doc × HasNoUnknown doc × GivesEach doc (setting s)
+
+-- the document has this fault: its first unknown key, or where it has none the first fault in the order of the keys
+abbrev pub IsFaultOfDocument : Members → SettingsFault → Type 0
+IsFaultOfDocument doc fault =
+    ((name : List ℕ) × (fault ≡ UnknownKey name) × IsFirstUnknown doc name) ⊎ (HasNoUnknown doc × IsFirstFault keys doc fault)
+
+-- the text has this fault: it is no document, or it is one that has this fault
+abbrev pub IsFaultOf : List ℕ → SettingsFault → Type 0
+IsFaultOf text fault =
+    ((fault ≡ NotToml) × ((doc : Members) → ¬ (IsDocument text doc)))
+    ⊎ ((doc : Members) × IsDocument text doc × IsFaultOfDocument doc fault)
+
+-- a setting as it is printed
+abbrev pub setting_text : Setting → List ℕ
+setting_text (address a) = address_text a
+setting_text (number n) = decimal n
+setting_text (level l) = level_name l
+setting_text (truth b) = truth_name b
+
+-- a line `KEY=VALUE` for each of these keys
+abbrev pub lines_text : List Key → Settings → List ℕ
+lines_text [] s = []
+lines_text (k ∷ ks) s = key_name k ++ 61 ∷ (setting_text (setting s k) ++ 10 ∷ lines_text ks s)
+
+-- all of them
+abbrev pub settings_text : Settings → List ℕ
+settings_text s = lines_text keys s

@@ -1,6 +1,6 @@
 -- The table of the settings: each key with its name, the kind of its value, its range and its default. Part of the
 -- promises.
-use Rattle.std.specs.Prelude.{◌≡◌, ℕ, List, [], ◌∷◌, Bool, false, Option, Some, None, codes}
+use Rattle.std.specs.Prelude.{◌≡◌, ℕ, List, [], ◌∷◌, Bool, false, Option, Some, None, codes, if◌then◌else◌}
 use Rattle.settings.specs.Addresses.{SocketAddress}
 use Rattle.settings.specs.declared.table.Key.{Key}
 use Rattle.settings.specs.declared.table.Key.TheVariants.{Listen, Target, Ring, Budget, Workers, Slots, StopAfter, Log, Idle, Proxy}
@@ -8,7 +8,7 @@ use Rattle.settings.specs.declared.table.Takes.{Takes}
 use Rattle.settings.specs.declared.table.Takes.TheVariants as takes
 use Rattle.settings.specs.declared.fields.Settings.{Settings}
 use Rattle.settings.specs.declared.levels.LogLevel.{LogLevel}
-use Rattle.settings.specs.declared.levels.LogLevel.TheVariants.{Info}
+use Rattle.settings.specs.declared.levels.LogLevel.TheVariants.{Info, Off, Error, Warn, Debug, Trace}
 
 -- a key as it is written
 abbrev pub key_name : Key → List ℕ
@@ -86,3 +86,18 @@ setting s StopAfter = number s.stop_after
 setting s Log = level s.log
 setting s Idle = number s.idle
 setting s Proxy = truth s.proxy
+
+-- The words for the levels of `log` and for truth values.
+
+-- a level as it is written
+abbrev pub level_name : LogLevel → List ℕ
+level_name Off = codes "off"
+level_name Error = codes "error"
+level_name Warn = codes "warn"
+level_name Info = codes "info"
+level_name Debug = codes "debug"
+level_name Trace = codes "trace"
+
+-- a truth value as it is written
+abbrev pub truth_name : Bool → List ℕ
+truth_name b = if b then codes "true" else codes "false"

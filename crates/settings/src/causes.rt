@@ -3,11 +3,11 @@ ghost use Rattle.std.specs.Prelude.{◌≡◌, None};
 ghost use Rattle.std.specs.Str.{IsUtf8};
 ghost use Rattle.settings.specs.Faults.{IsOfValue};
 
+use crate::SettingsFault;
 use crate::limits::MAX_LOOKS;
-use crate::slips::Slip;
+use crate::one_line::OneLine;
 use crate::table::{Key, ROWS};
 use crate::wanted::Wanted;
-use crate::{OneLine, SettingsFault};
 use std::alloc::{AllocError, Global};
 use std::fmt;
 use toml::{Table, Value};
@@ -173,7 +173,7 @@ fn place_of(alloc: Global, text: &str, name: &str) -> Result<String, AllocError>
 /// The first line, from 1, that begins what sets a key: the text up to its end, or up to the end of a value that
 /// spans lines, is TOML that has the key. Only lines that contain the name as it is are tried, and the text is parsed
 /// at most [`MAX_LOOKS`] times.
-pub(crate) fn line_of(alloc: Global, text: &str, name: &str) -> Result<Option<usize>, AllocError> {
+fn line_of(alloc: Global, text: &str, name: &str) -> Result<Option<usize>, AllocError> {
     let mut looks = 0usize;
     let mut start = 0usize;
     let mut number = 0usize;
@@ -212,4 +212,66 @@ fn sets(alloc: Global, text: &str, name: &str) -> Result<Option<bool>, AllocErro
 /// Whether a document has this name at its top level.
 fn is_in(document: &Table, name: &str) -> bool {
     document.get(name).is_some()
+}
+
+/// What is wrong in a line that is not TOML.
+#[derive(Clone, Copy)]
+pub(crate) enum Slip<'a> {
+    /// Its key stands in this line, too.
+    Twice(&'a str, usize),
+    /// What it has for a key is no value.
+    NoValue(Key, &'a str, Wanted<'a>),
+}
+
+impl<'a> Slip<'a> {
+    /// What is wrong in the line of a text in which this byte stands, where the text stops being TOML. None if it is
+    /// nothing that has a word here, or there is no memory to find out.
+    pub(crate) fn of(alloc: Global, text: &'a str, index: usize) -> Option<Slip<'a>> {
+        let (before, line) = line_around(text, index)?;
+        let (name, written) = line.split_once('=')?;
+        let name = name.trim();
+        if let Some(first) = line_of(alloc, before, name).ok()? {
+            return Some(Slip::Twice(name, first));
+        }
+        let (key, written) = (Key::named(name)?, value_in(written));
+        let wanted = Wanted::in_place_of_written(written, key)?;
+        Some(Slip::NoValue(key, written, wanted))
+    }
+}
+
+/// The lines before the one in which this byte of a text stands, and that line.
+fn line_around(text: &str, index: usize) -> Option<(&str, &str)> {
+    let start = match text.get(..index)?.rfind('\n') {
+        Some(end) => end.saturating_add(1),
+        None => 0,
+    };
+    let before = text.get(..start)?;
+    let line = text.get(start..)?.lines().next().unwrap_or("");
+    Some((before, line))
+}
+
+/// What stands after the `=` of a line, without a comment after what has no quotes.
+fn value_in(written: &str) -> &str {
+    let written = written.trim();
+    match written.split_once('#') {
+        Some((value, _)) if !written.starts_with('"') && !written.starts_with('\'') => {
+            value.trim_end()
+        }
+        _ => written,
+    }
+}
+
+impl fmt::Display for Slip<'_> {
+    fn fmt<W: fmt::Write>(&self, f: &mut fmt::Formatter<W>) -> fmt::Result {
+        match *self {
+            Slip::Twice(name, line) => {
+                let name = OneLine(name);
+                write!(f, "{name} stands in line {line}, too")
+            }
+            Slip::NoValue(key, written, wanted) => {
+                let written = OneLine(written);
+                write!(f, "{key} = {written}: {wanted}")
+            }
+        }
+    }
 }

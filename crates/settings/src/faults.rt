@@ -40,7 +40,7 @@ impl KeyText {
 
 /// The key on one line, as [`OneLine`] shows it.
 impl fmt::Display for KeyText {
-    ghost use Rattle.settings.specs.Shown.{one_line};
+    ghost use Rattle.settings.specs.Faults.{one_line};
 
     ghost output = { λ key. Some (one_line key) };
 

@@ -80,7 +80,7 @@ impl Settings {
 
 /// A line `KEY=VALUE` for each key, in the order of `Key`.
 impl fmt::Display for Settings {
-    ghost use Rattle.settings.specs.Text.{settings_text};
+    ghost use Rattle.settings.specs.Document.{settings_text};
 
     ghost output = { λ s. Some (settings_text s) };
 

@@ -1,6 +1,6 @@
 //! The levels of the relay's messages.
 ghost use Rattle.std.specs.Prelude.{◌≡◌, ◌≢◌, Some, IfSome, IfNone};
-ghost use Rattle.settings.specs.Names.{level_name};
+ghost use Rattle.settings.specs.Table.{level_name};
 
 use std::fmt;
 

@@ -5,8 +5,7 @@ ghost use Rattle.toml.specs.Data.{get_member};
 ghost use Rattle.toml.specs.Errors.{IsBlank};
 ghost use Rattle.toml.specs.View.{view, table_view};
 ghost use Rattle.settings.specs.Table.{key_name, setting, an_address, a_number, a_level, a_truth, address, number, level, truth, required, optional};
-ghost use Rattle.settings.specs.Document.{Gives, Faults, Refuses, Writes, IsFirstUnknown, HasNoUnknown};
-ghost use Rattle.settings.specs.Text.{IsSettingsOf, IsFaultOf};
+ghost use Rattle.settings.specs.Document.{Gives, Faults, Refuses, Writes, IsFirstUnknown, HasNoUnknown, IsSettingsOf, IsFaultOf};
 
 use crate::addresses::{Address, address_of};
 use crate::faults::{KeyText, SettingsFault};

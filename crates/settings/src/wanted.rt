@@ -1,11 +1,160 @@
 //! What is wanted in place of a value that a key does not take.
 
 use crate::addresses::{address_of, decimal_number};
-use crate::mistakes::{Mistake, has_leading_zero, host_and_port};
 use crate::one_line::OneLine;
 use crate::table::{AddressRow, Key, Takes};
 use std::fmt;
+use std::net::{Ipv4Addr, Ipv6Addr};
 use toml::Value;
+
+/// What is wrong with a text: the part that is wrong, and the words before and after that part.
+#[derive(Clone, Copy)]
+pub(crate) struct Mistake<'a> {
+    pub(crate) before: &'static str,
+    pub(crate) part: &'a str,
+    pub(crate) after: &'static str,
+}
+
+/// What can be wrong with a text that is no address.
+#[derive(Clone, Copy)]
+enum Kind {
+    Blank,
+    Scheme,
+    Ipv6,
+    Slash,
+    Name,
+    LeadingZero,
+    LargeNumber,
+    LargePort,
+    NoPort,
+    Range,
+    NoNumber,
+}
+
+/// What is looked for, in this order, and the words before and after the part that is wrong.
+static KINDS: [(Kind, &str, &str); 11] = [
+    (Kind::Blank, "an address has no blanks", ""),
+    (Kind::Scheme, "an address alone is wanted, without ", "://"),
+    (
+        Kind::Ipv6,
+        "",
+        " is an IPv6 address, and only IPv4 is spoken",
+    ),
+    (
+        Kind::Slash,
+        "one address and one port are wanted, without /",
+        "",
+    ),
+    (Kind::Name, "", " is a name, and names are not looked up"),
+    (Kind::LeadingZero, "", " has a leading zero"),
+    (Kind::LargeNumber, "", " is over 255"),
+    (Kind::LargePort, "port ", " is over 65535"),
+    (Kind::NoPort, "a port is wanted", ""),
+    (
+        Kind::Range,
+        "one address and one port are wanted, without -",
+        "",
+    ),
+    (Kind::NoNumber, "", " is no port, which has digits only"),
+];
+
+impl<'a> Mistake<'a> {
+    /// What is wrong with a text that is no address. None if it is something else than what has words here.
+    pub(crate) fn of(text: &'a str) -> Option<Mistake<'a>> {
+        for (kind, before, after) in &KINDS {
+            if let Some(part) = kind.part_of(text) {
+                return Some(Mistake {
+                    before,
+                    part,
+                    after,
+                });
+            }
+        }
+        None
+    }
+}
+
+impl Kind {
+    /// The part of a text that is wrong in this way. None if none is.
+    fn part_of(self, text: &str) -> Option<&str> {
+        let (host, port) = host_and_port(text);
+        match self {
+            Kind::Blank if text.contains(' ') || text.contains('\n') || text.contains('\t') => Some(
+                "",
+            ),
+            Kind::Scheme => Some(text.split_once("://")?.0),
+            Kind::Ipv6 => ipv6_in(text),
+            Kind::Slash => text.split_once('/')?.1.split(':').next(),
+            Kind::Name if is_name(host) => Some(host),
+            Kind::LeadingZero if has_leading_zero(port) => Some(port),
+            Kind::LeadingZero => host.split('.').find(|number| has_leading_zero(number)),
+            Kind::LargeNumber => host.split('.').find(|number| is_over(number, 255)),
+            Kind::LargePort if is_over(port, 65_535) => Some(port),
+            Kind::NoPort if port.is_empty() && is_ipv4(host) => Some(""),
+            Kind::Range if !port.starts_with('-') => Some(port.split_once('-')?.1),
+            Kind::NoNumber if is_ipv4(host) => Some(port),
+            _ => None,
+        }
+    }
+}
+
+/// What stands before and after the first `:` of a text. Digits alone are a port.
+fn host_and_port(text: &str) -> (&str, &str) {
+    match text.split_once(':') {
+        Some(parts) => parts,
+        None if are_digits(text) => ("", text),
+        None => (text, ""),
+    }
+}
+
+/// The IPv6 address that a text is, or that stands in brackets before a port.
+fn ipv6_in(text: &str) -> Option<&str> {
+    let address = match text.strip_prefix('[') {
+        Some(rest) => rest.split_once(']')?.0,
+        None => text,
+    };
+    match address.parse::<Ipv6Addr>() {
+        Ok(_) => Some(address),
+        Err(_) => None,
+    }
+}
+
+/// Whether a text is four numbers, as an address has them.
+fn is_ipv4(text: &str) -> bool {
+    text.parse::<Ipv4Addr>().is_ok()
+}
+
+/// Whether a text is made as a host's name is: of letters, digits, `-`, `_` and `.`, with a letter among them.
+fn is_name(text: &str) -> bool {
+    let bytes = text.as_bytes();
+    bytes.iter().all(|byte| byte.is_ascii_alphanumeric() || matches!(byte, b'-' | b'_' | b'.'))
+        && bytes.iter().any(|byte| byte.is_ascii_alphabetic())
+}
+
+/// Whether a text has digits only, or is empty.
+fn are_digits(text: &str) -> bool {
+    text.as_bytes().iter().all(|byte| byte.is_ascii_digit())
+}
+
+/// Whether a text is a number that is written with a zero in front, after a sign or none.
+pub fn has_leading_zero(text: &str) -> bool {
+    let digits = text.strip_prefix('-').unwrap_or(text);
+    matches!(digits.as_bytes(), [b'0', _, ..]) && are_digits(digits)
+}
+
+/// Whether a text is a number over this one. Digits that are no number are too many, or none.
+fn is_over(text: &str, most: u32) -> bool {
+    let is_within = matches!(text.parse::<u32>(), Ok(number) if number <= most);
+    are_digits(text) && !text.is_empty() && !is_within
+}
+
+impl fmt::Display for Mistake<'_> {
+    fn fmt<W: fmt::Write>(&self, f: &mut fmt::Formatter<W>) -> fmt::Result {
+        let (before, after) = (self.before, self.after);
+        let part = OneLine(self.part);
+        write!(f, "{before}{part}{after}")
+    }
+}
 
 /// What is wanted in place of a value.
 #[derive(Clone, Copy)]

@@ -1,5 +1,5 @@
 -- What is counted at a slot. Part of the promises.
-use Rattle.std.specs.Prelude.{ℕ, ◌+◌, ◌-◌, min}
+use Rattle.std.specs.Prelude.{ℕ, ◌+◌, ◌-◌, min, List, ◌++◌, codes, ◌≡◌, [], ◌∷◌}
 use Rattle.token.specs.declared.kind.Kind.{Kind}
 use Rattle.token.specs.declared.kind.Kind.TheVariants.{Refused, Reset, TimedOut}
 use Rattle.token.specs.declared.side.Side.{Side}
@@ -10,6 +10,8 @@ use Rattle.relay_core.specs.declared.verdict.Verdict.TheVariants.{Live, Done, Fa
 use Rattle.statistics.specs.declared.counts.Counts.{Counts}
 use Rattle.statistics.specs.declared.event.Event.{Event}
 use Rattle.statistics.specs.declared.event.Event.TheVariants.{Dropped, Opened, Moved, Ended}
+use Rattle.std.specs.Fmt.{decimal}
+use Rattle.statistics.specs.declared.totals.Totals.{Totals}
 
 -- a count of 64 bits, this many later: it stays at its greatest value
 abbrev pub sum : ℕ → ℕ → ℕ
@@ -72,3 +74,51 @@ plus c d = record {
 -- how many of its connections are open: those that were opened and have not ended, and one at most
 abbrev pub live_at : Counts → ℕ
 live_at c = min (c.opened - c.done - c.client - c.target - c.idle) 1
+
+-- The line of the statistics.
+
+-- connections that failed: by a call on either side, or since the idle limit passed
+abbrev pub failed_of : Counts → ℕ
+failed_of c = c.client + (c.target + c.idle)
+
+-- connections that were opened: those that are open, are done and have failed
+abbrev pub opened_of : Totals → ℕ
+opened_of t = t.live + (t.sums.done + failed_of t.sums)
+
+-- these are the sums of this many slots, and no connection is open
+abbrev pub no_sums : ℕ → Counts → Totals
+no_sums slots counts = record { slots = slots; live = 0; sums = counts }
+
+-- the sums with the counts of one slot more
+abbrev pub added : Counts → Totals → Totals
+added c t = record { slots = t.slots; live = sum t.live (live_at c); sums = plus t.sums c }
+
+abbrev pub value : List ℕ → ℕ → List ℕ
+value name number = name ++ decimal number
+
+abbrev pub stats_message : Totals → List ℕ
+stats_message t =
+    value (codes "stats open=") t.live ++ (value (codes " slots=") t.slots
+    ++ (value (codes " opened=") (opened_of t) ++ (value (codes " done=") t.sums.done
+    ++ (value (codes " failed=") (failed_of t.sums) ++ (value (codes " dropped=") t.sums.dropped
+    ++ (value (codes " client=") t.sums.client ++ (value (codes " target=") t.sums.target
+    ++ (value (codes " refused=") t.sums.refused ++ (value (codes " reset=") t.sums.reset
+    ++ (value (codes " timedout=") t.sums.timedout ++ (value (codes " idle=") t.sums.idle
+    ++ (value (codes " up=") t.sums.up ++ value (codes " down=") t.sums.down))))))))))))
+
+-- What is done to the places of the slots' counts.
+
+-- all that it has was read, or it was given this
+pub data Step : Type 0 where
+  Loaded : Counts → Step
+  Stored : Counts → Step
+
+module _ {M : Type 0} (did : Step → M → Type 0) where
+  -- an event was counted in a place: it has what the event makes of what it had
+  abbrev pub IsCounted : Event → M → Type 0
+  IsCounted event place = (counts : Counts) × did (Loaded counts) place × did (Stored (after event counts)) place
+
+  -- these are the sums before, with what was read of each of these places
+  abbrev pub AreSums : List M → Totals → Totals → Type 0
+  AreSums [] before sums = sums ≡ before
+  AreSums (place ∷ places) before sums = (counts : Counts) × did (Loaded counts) place × AreSums places (added counts before) sums

@@ -1,5 +1,5 @@
 // Where the counts of one slot are kept.
-ghost use Rattle.statistics.specs.Keeping.{IsCounted, Step, Loaded, Stored};
+ghost use Rattle.statistics.specs.Counts.{IsCounted, Step, Loaded, Stored};
 
 use crate::counts::Counts;
 use crate::event::Event;

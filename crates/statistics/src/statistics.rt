@@ -1,6 +1,5 @@
 ghost use Rattle.std.specs.Prelude.{◌≡◌, ◌≤◌, IfOk, IfSome, length, slice_get};
-ghost use Rattle.statistics.specs.Keeping.{AreSums, IsCounted};
-ghost use Rattle.statistics.specs.Lines.{no_sums};
+ghost use Rattle.statistics.specs.Counts.{AreSums, IsCounted, no_sums};
 
 use crate::counts::Counts;
 use crate::event::Event;

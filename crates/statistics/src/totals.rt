@@ -1,5 +1,5 @@
 ghost use Rattle.std.specs.Prelude.{◌≡◌, Some};
-ghost use Rattle.statistics.specs.Lines.{added, failed_of, no_sums, opened_of, stats_message};
+ghost use Rattle.statistics.specs.Counts.{added, failed_of, no_sums, opened_of, stats_message};
 
 use crate::counts::Counts;
 use std::fmt::{self, Display};

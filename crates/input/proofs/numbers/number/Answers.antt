@@ -1,5 +1,5 @@
 use Rattle.std.proofs.Common.{sym, ◌∙◌, arith}
-use Rattle.input.proofs.Digits.{too_large_at, whole_number}
+use Rattle.input.proofs.Loops.{too_large_at, whole_number}
 use Rattle.input.proofs.numbers.number.Goals as goal
 
 pub returns-in_err-checked_mul : goal.returns-in_err-checked_mul

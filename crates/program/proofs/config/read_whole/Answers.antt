@@ -1,5 +1,5 @@
 use Rattle.std.proofs.Common.{arith}
-use Rattle.program.proofs.Fronts.{short_front_of, long_front_of}
+use Rattle.program.proofs.Files.{short_front_of, long_front_of}
 use Rattle.program.proofs.config.read_whole.Goals as goal
 
 pub returns-in-Ok-2-clause-whole : goal.returns-in-Ok-2-clause-whole

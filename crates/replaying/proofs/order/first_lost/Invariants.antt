@@ -1,5 +1,5 @@
 use Rattle.std.proofs.Common.{◌<◌, ℕ}
-use Rattle.replaying.specs.Counts.{IsBegun, IsMissing}
+use Rattle.replaying.specs.Sequences.{IsBegun, IsMissing}
 use Rattle.replaying.proofs.order.first_lost.Given as goal
 
 abbrev pub invariant-loop-place : goal.invariant-loop-place

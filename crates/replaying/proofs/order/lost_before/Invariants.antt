@@ -1,5 +1,5 @@
 use Rattle.std.proofs.Common.{◌<◌, ◌≤◌, ℕ}
-use Rattle.replaying.specs.Counts.{IsBegun}
+use Rattle.replaying.specs.Sequences.{IsBegun}
 use Rattle.replaying.proofs.order.lost_before.Given as goal
 
 abbrev pub invariant-loop-missing : goal.invariant-loop-missing

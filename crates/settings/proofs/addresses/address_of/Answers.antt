@@ -2,7 +2,7 @@
 use Rattle.std.proofs.Common.{sym, ◌∙◌, arith}
 use Rattle.std.proofs.lemmas.Fmt.{decimal_injective}
 use Rattle.std.proofs.lemmas.Grind.{common_steps}
-use Rattle.settings.proofs.AddressParts.{octet_at, rest_of_first, rest_of_second, rest_of_third, rest_of_fourth, text_parts, is_byte, from_parts}
+use Rattle.settings.proofs.Unique.{octet_at, rest_of_first, rest_of_second, rest_of_third, rest_of_fourth, text_parts, is_byte, from_parts}
 use Rattle.settings.proofs.addresses.address_of.Goals as goal
 
 pub returns-in_err-first-clause-none : goal.returns-in_err-first-clause-none

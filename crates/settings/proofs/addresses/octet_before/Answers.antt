@@ -1,7 +1,7 @@
 use Rattle.std.proofs.Common.{sym, ◌∙◌, arith}
 use Rattle.std.proofs.lemmas.Fmt.{decimal_injective}
 use Rattle.std.proofs.lemmas.Str.Pattern.{split_parts}
-use Rattle.settings.proofs.AddressParts.{split_number}
+use Rattle.settings.proofs.Unique.{split_number}
 use Rattle.settings.proofs.addresses.octet_before.Goals as goal
 
 pub returns-in_err-front-clause-none : goal.returns-in_err-front-clause-none

@@ -4,7 +4,7 @@ use Rattle.std.proofs.lemmas.Bool.Decides.{nat_tests}
 use Rattle.std.proofs.lemmas.List.{length-drop}
 use Rattle.std.proofs.lemmas.Str.{Chars-Drains, encodes-chars}
 use Rattle.std.specs.List.{flat_map}
-use Rattle.settings.specs.Shown.{shown_character, one_line, end_of_line}
+use Rattle.settings.specs.Faults.{shown_character, one_line, end_of_line}
 use Rattle.settings.proofs.one_line.EndOfLineDisplay.fmt.Goals as goal
 
 is_whole : (cs : List ℕ) → length cs ≤ 64 → nat_lt 64 (length cs) ≡ false

@@ -5,7 +5,7 @@ use Rattle.std.proofs.lemmas.Iterator.{YieldsList-from_chars}
 use Rattle.std.proofs.lemmas.Iterator.Consumers.{YieldsList-turn, YieldsList-end}
 use Rattle.std.proofs.lemmas.List.{take_more, flat_map_more, length_push}
 use Rattle.std.specs.List.{flat_map}
-use Rattle.settings.specs.Shown.{shown_character}
+use Rattle.settings.specs.Faults.{shown_character}
 use Rattle.settings.proofs.one_line.OneLineDisplay.fmt.Goals as goal
 
 -- the shown text of a character more

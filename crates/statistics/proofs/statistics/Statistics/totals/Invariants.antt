@@ -1,5 +1,5 @@
 use Rattle.std.proofs.Common.{◌≡◌, ◌≤◌, length, take}
-use Rattle.statistics.specs.Keeping.{AreSums}
+use Rattle.statistics.specs.Counts.{AreSums}
 use Rattle.statistics.proofs.statistics.Statistics.totals.Given as goal
 
 -- the sums of the places so far, and at most one connection is open at each

@@ -1,0 +1,59 @@
+-- What a settings file sets, or what is wrong with it, by its bytes. Part of the promises.
+use Rattle.std.specs.Prelude.{ℕ, ◌<◌, ◌≤◌, List, length, ◌≡◌, ◌⊎◌}
+use Rattle.settings.specs.Document.{IsSettingsOf, IsFaultOf}
+use Rattle.settings.specs.declared.fields.Settings.{Settings}
+use Rattle.settings.specs.declared.faults.SettingsFault.{SettingsFault}
+use Rattle.settings.specs.declared.faults.SettingsFault.TheVariants as settings
+use Rattle.program.specs.declared.faults.ConfigFault.{ConfigFault}
+use Rattle.program.specs.declared.faults.ConfigFault.TheVariants as config
+use Rattle.program.specs.declared.faults.ProgramFault.{ProgramFault}
+use Rattle.program.specs.declared.faults.ProgramFault.TheVariants.{Config, Argument, Seconds, Connection}
+use Rattle.std.specs.declared.io.ErrorKind.{ErrorKind}
+use Rattle.std.specs.declared.io.ErrorKind.TheVariants.{OutOfMemory}
+use Rattle.program.specs.declared.faults.ArgumentsFault.{ArgumentsFault}
+use Rattle.program.specs.declared.faults.ArgumentsFault.TheVariants.{NoMemory, NotText}
+
+-- the most bytes that a settings file may have
+abbrev pub most_bytes : ℕ
+most_bytes = 65536
+
+-- the file is no longer than it may be, and all of it sets this
+abbrev pub FileSets : List ℕ → Settings → Type 0
+FileSets bytes s = (length bytes ≤ most_bytes) × IsSettingsOf bytes s
+
+-- the file has this fault; reading that failed and memory that ran out say nothing of it
+abbrev pub HasFault : List ℕ → ConfigFault → Type 0
+HasFault bytes config.Read = Unit {0}
+HasFault bytes config.Long = most_bytes < length bytes
+HasFault bytes (config.Settings fault) = (length bytes ≤ most_bytes) × IsFaultOf bytes fault
+HasFault bytes config.NoMemory = Unit {0}
+
+-- the fault of a file whose text has this one: memory that ran out is the same fault wherever it did
+abbrev pub settings_fault : SettingsFault → ConfigFault
+settings_fault settings.NoMemory = config.NoMemory
+settings_fault fault = config.Settings fault
+
+-- By which fault the program ends with which status.
+
+-- a value that an argument of the command line gives, and its setting does not take, is a fault of the command line
+abbrev pub argument_fault : ConfigFault → ProgramFault
+argument_fault (config.Settings fault) = Argument fault
+argument_fault fault = Config fault
+
+-- 2 where the command line is refused, and else 1
+abbrev pub status_of : ProgramFault → ℕ
+status_of (Argument fault) = 2
+status_of (Seconds option) = 2
+status_of Connection = 2
+status_of _ = 1
+
+-- the status of a command that the program began to carry out: 0 where it did, or 1
+abbrev pub IsCarriedOut : ℕ → Type 0
+IsCarriedOut status = (status ≡ 0) ⊎ (status ≡ 1)
+
+-- Why the arguments of the command line can't be read, by the kind of the error.
+
+-- memory ran out, or else an argument is not UTF-8
+abbrev pub arguments_fault : ErrorKind → ArgumentsFault
+arguments_fault OutOfMemory = NoMemory
+arguments_fault _ = NotText

@@ -1,0 +1,12 @@
+use Rattle.script_text.proofs.Prelude.{◌≡◌, ◌+◌, ◌≤◌, ◌++◌, length, option_map, all_names}
+use Rattle.script_text.proofs.events.names.Given as goal
+
+-- the names so far, and those of the words that are left, are the names of all words
+abbrev pub invariant-loop-word : goal.invariant-loop-word
+invariant-loop-word l =
+    (all_names l.fn.words ≡ option_map (λ rest. l.names.items ++ rest) (all_names l.words))
+    × (length l.fn.words ≡ length l.names.items + length l.words)
+    × (length l.names.items ≤ 256)
+
+abbrev pub decreases-loop-word : goal.decreases-loop-word
+decreases-loop-word l = length l.words
