@@ -14,7 +14,7 @@ use Rattle.flow.specs.Stream.{Stream, closed, dropped, ended, free_room, front, 
 use Rattle.relay_core.specs.Calls.{direction_of, kind_of, side_of}
 use Rattle.relay_core.specs.Runs.{Answered, Event, Expired, Reported, brought_by, carried_by, ever_brought, ever_carried, happened, through, all_brought, all_carried, carried, or_nothing, same_way, answered, over}
 use Rattle.relay_core.specs.Idle.{is_overdue, is_past, timed_out}
-use Rattle.relay_core.specs.Laws.{AnswersAreEvents, AnswersAreToNextCalls, AnswersKeepOrder, AnswersKeepPlace, AnswersPassEndLast, CallsComeWhileLive, ExpiriesChangeVerdictAlone, FailuresAreTold, FreshPairsKeepEndLast, HasRoomFor, IsAtRest, IsClosedLast, IsDrained, IsOverdue, IsPossible, KeepsEndLast, KeepsOrder, LivePairsRest, OnlyEndsAreSeen, OnlyOverduePairsExpire, PassesEndLast, RunsKeepOrder, RunsKeepPlace, RunsPassEndLast, TellsOf, place_of}
+use Rattle.relay_core.specs.Laws.{AnswersAreEvents, AnswersAreToNextCalls, AnswersKeepOrder, AnswersKeepPlace, AnswersPassEndLast, CallsComeWhileLive, ExpiriesChangeVerdictAlone, FailuresAreTold, FreshPairsKeepEndLast, HasRoomFor, IsAtRest, IsDrained, IsOverdue, IsPossible, KeepsEndLast, KeepsOrder, LivePairsRest, OnlyEndsAreSeen, OnlyOverduePairsExpire, PassesEndLast, RunsKeepOrder, RunsKeepPlace, RunsPassEndLast, TellsOf, place_of}
 use Rattle.relay_core.specs.Order.{call_for, is_drained, is_open, is_waiting, next_call, offer, read_most}
 use Rattle.relay_core.specs.Pairs.{Flags, PairState, flags_of, is_joined, is_live, mark_joined, noted, ready, stream_of, verdict, verdict_of, with_flags, with_sent, with_stream}
 use Rattle.relay_core.specs.Replies.{AnswerValue, Blocked, Bytes, End, Failed, Interrupted, Joined, Shut, Wrote, after, fits}
@@ -225,61 +225,38 @@ take-offer p side n h = take-front (stream_of p (inward side)) n h
 pub order_kept : (now : ℕ) (p : PairState) (call : Call) (reply : AnswerValue) (q : PairState) → q ≡ after now p call reply → KeepsOrder p call reply q
 order_kept now p call reply q e = rw e (answers_keep_order now p call reply)
 
-pub same_direction : (e d : Direction) → same_way e d ≡ true → e ≡ d
-same_direction Up Up h = refl
-same_direction Up Down h = absurd (cc)
-same_direction Down Up h = absurd (cc)
-same_direction Down Down h = refl
-
--- only a shutdown marks the end as passed on
-marked : (b : Bool) (reply : AnswerValue) (s : Stream) (D : Type 0) → (b ≡ true → reply ≡ Shut → D) → (if b then served reply s else s).shut ≡ true → (s.shut ≡ true) ⊎ D
-marked true Shut s D drained h = inr (drained refl refl)
-marked _ _ s D drained h = inl h
-
--- and nothing takes the mark away
-stays : (b : Bool) (reply : AnswerValue) (s : Stream) → s.shut ≡ true → (if b then served reply s else s).shut ≡ true
-stays true Shut s h = refl
-stays _ _ s h = h
-
-drained_before : (p : PairState) (d : Direction) (call : Call) (reply : AnswerValue) → next_call p ≡ Some call → fits p call reply ≡ true → same_way (direction_of call) d ≡ true
-    → reply ≡ Shut → IsDrained (stream_of p d)
-drained_before p d call reply next fit way shut =
-    let e : direction_of call ≡ d = same_direction (direction_of call) d way in
-    let fit_shut : fits p call Shut ≡ true = rw shut at fit in
-    rw e at (shut_fits p call next fit_shut)
-
-open_before : (p : PairState) (d : Direction) (call : Call) (reply : AnswerValue) → next_call p ≡ Some call → fits p call reply ≡ true → same_way (direction_of call) d ≡ true
-    → (bytes : List ℕ) → reply ≡ Bytes bytes → (stream_of p d).end_seen ≡ false
-open_before p d call reply next fit way bytes came =
-    let e : direction_of call ≡ d = same_direction (direction_of call) d way in
-    let fit_bytes : fits p call (Bytes bytes) ≡ true = rw came at fit in
-    let room : (length bytes ≤ free_room (stream_of p (direction_of call))) × ((stream_of p (direction_of call)).end_seen ≡ false) = bytes_fit p call bytes next fit_bytes in
-    rw e at (room.1)
-
--- nothing comes after the end, and the end is passed on after everything
-closed_last : (b : Bool) (reply : AnswerValue) (s : Stream) → (b ≡ true → (bytes : List ℕ) → reply ≡ Bytes bytes → s.end_seen ≡ false) → (b ≡ true → reply ≡ Shut → IsDrained s)
-    → IsClosedLast s → IsClosedLast (if b then served reply s else s)
-closed_last true (Bytes bytes) s open_end drained c = record {
-  ended = c.ended;
-  empty = λ h. let seen : s.end_seen ≡ true = c.ended h in let unseen : s.end_seen ≡ false =
-      open_end refl bytes refl in absurd (cc);
+-- nothing comes after the end, and the end is passed on after everything, and for good
+passes_here : (reply : AnswerValue) (s : Stream) → ((bytes : List ℕ) → reply ≡ Bytes bytes → s.end_seen ≡ false) → (reply ≡ Shut → IsDrained s) → PassesEndLast s (served reply s)
+passes_here (Bytes bytes) s open_end drained = record {
+  last = λ h. inl h;
+  for_good = λ h. h;
+  closed_last = λ c. record { ended = c.ended; empty = λ h. let seen = c.ended h in let unseen = open_end bytes refl in absurd (cc) };
 }
-closed_last true End s open_end drained c = record { ended = λ h. refl; empty = c.empty }
-closed_last true (Wrote n) s open_end drained c = record { ended = c.ended; empty = λ h. waiting-dropped s n ∙ (ap (λ (bytes : List ℕ). drop n bytes) (c.empty h) ∙ drop-nil n) }
-closed_last true Shut s open_end drained c = record { ended = λ h. (drained refl refl).ended; empty = λ h. (drained refl refl).empty }
-closed_last _ _ s open_end drained c = c
+passes_here End s open_end drained = record { last = λ h. inl h; for_good = λ h. h; closed_last = λ c. record { ended = λ h. refl; empty = c.empty } }
+passes_here (Wrote n) s open_end drained = record {
+  last = λ h. inl h;
+  for_good = λ h. h;
+  closed_last = λ c. record { ended = c.ended; empty = λ h. waiting-dropped s n ∙ (ap (λ (bytes : List ℕ). drop n bytes) (c.empty h) ∙ drop-nil n) };
+}
+passes_here Shut s open_end drained = record {
+  last = λ h. inr (drained refl);
+  for_good = λ h. refl;
+  closed_last = λ c. record { ended = λ h. (drained refl).ended; empty = λ h. (drained refl).empty };
+}
+passes_here _ s open_end drained = record { last = λ h. inl h; for_good = λ h. h; closed_last = λ c. c }
+
+passes : (e d : Direction) (reply : AnswerValue) (s : Stream) → (e ≡ d → (bytes : List ℕ) → reply ≡ Bytes bytes → s.end_seen ≡ false) → (e ≡ d → reply ≡ Shut → IsDrained s)
+    → PassesEndLast s (if same_way e d then served reply s else s)
+passes Up Up reply s open_end drained = passes_here reply s (open_end refl) (drained refl)
+passes Down Down reply s open_end drained = passes_here reply s (open_end refl) (drained refl)
+passes _ _ reply s open_end drained = record { last = λ h. inl h; for_good = λ h. h; closed_last = λ c. c }
 
 -- the end of input is passed on last, and for good
 pub end_passed_last : (now : ℕ) (p : PairState) (call : Call) (reply : AnswerValue) (q : PairState) → next_call p ≡ Some call → fits p call reply ≡ true
     → q ≡ after now p call reply → (d : Direction) → PassesEndLast (stream_of p d) (stream_of q d)
-end_passed_last now p call reply q next fit e d =
-    let is : stream_of q d ≡ (if same_way (direction_of call) d then served reply (stream_of p d) else stream_of p d) = rw e (stream_after now p d call reply) in
-    record {
-      last = λ h. marked (same_way (direction_of call) d) reply (stream_of p d) (IsDrained (stream_of p d)) (drained_before p d call reply next fit) (rw is at h);
-      for_good = λ h. rw is (stays (same_way (direction_of call) d) reply (stream_of p d) h);
-      closed_last = λ c. rw is (closed_last (same_way (direction_of call) d) reply (stream_of p d) (open_before p d call reply next fit) (drained_before p d call reply next fit)
-          c);
-    }
+end_passed_last now p call reply q next fit e d = rw (e, stream_after now p d call reply) (passes (direction_of call) d reply (stream_of p d)
+    (λ way bytes came. let room = bytes_fit p call bytes next (rw came at fit) in rw way at room.1)
+    (λ way shut. rw way at (shut_fits p call next (rw shut at fit))))
 
 -- ---- what an answer does to the verdict
 
@@ -449,40 +426,18 @@ answers_pass_end_last now p call reply a d = end_passed_last now p call reply (a
 pub failures_are_told : FailuresAreTold
 failures_are_told now p call reply fault a = fails_by_call now p call reply (after now p call reply) a.next refl fault
 
-way_of : (e d : Direction) → e ≡ d → same_way e d ≡ true
-way_of Up Up h = refl
-way_of Up Down h = absurd (cc)
-way_of Down Up h = absurd (cc)
-way_of Down Down h = refl
-
 -- what was seen was seen before, or by this answer
-seen_by : (b : Bool) (reply : AnswerValue) (s : Stream) → (if b then served reply s else s).end_seen ≡ true → (s.end_seen ≡ true) ⊎ ((b ≡ true) × (reply ≡ End))
-seen_by true End s h = inr (refl, refl)
-seen_by _ _ s h = inl h
+seen_here : (d : Direction) (reply : AnswerValue) (s : Stream) → ((served reply s).end_seen ≡ true) ↔ ((s.end_seen ≡ true) ⊎ ((d ≡ d) × (reply ≡ End)))
+seen_here d End s = (λ h. inr (refl, refl), λ h. refl)
+seen_here d _ s = (λ h. inl h, λ h. elim h [ inl seen ↦ seen | inr ends ↦ absurd (cc ends.1) ])
 
-stays_seen : (b : Bool) (reply : AnswerValue) (s : Stream) → s.end_seen ≡ true → (if b then served reply s else s).end_seen ≡ true
-stays_seen true End s h = refl
-stays_seen _ _ s h = h
-
-by_end : (b : Bool) (s : Stream) → b ≡ true → (if b then served End s else s).end_seen ≡ true
-by_end true s h = refl
-by_end false s h = absurd (cc)
-
-named_way : (e d : Direction) (reply : AnswerValue) (S : Type 0) → S ⊎ ((same_way e d ≡ true) × (reply ≡ End)) → S ⊎ ((e ≡ d) × (reply ≡ End))
-named_way e d reply S (inl h) = inl h
-named_way e d reply S (inr h) = inr (same_direction e d h.0, h.1)
-
-seen_again : (p : PairState) (call : Call) (reply : AnswerValue) (d : Direction) → ((stream_of p d).end_seen ≡ true) ⊎ ((direction_of call ≡ d) × (reply ≡ End))
-    → (if same_way (direction_of call) d then served reply (stream_of p d) else stream_of p d).end_seen ≡ true
-seen_again p call reply d (inl h) = stays_seen (same_way (direction_of call) d) reply (stream_of p d) h
-seen_again p call reply d (inr h) = rw h.1 (by_end (same_way (direction_of call) d) (stream_of p d) (way_of (direction_of call) d h.0))
+seen_by : (e d : Direction) (reply : AnswerValue) (s : Stream) → ((if same_way e d then served reply s else s).end_seen ≡ true) ↔ ((s.end_seen ≡ true) ⊎ ((e ≡ d) × (reply ≡ End)))
+seen_by Up Up reply s = seen_here Up reply s
+seen_by Down Down reply s = seen_here Down reply s
+seen_by _ _ reply s = (λ h. inl h, λ h. elim h [ inl seen ↦ seen | inr ends ↦ absurd (cc ends.0) ])
 
 pub only_ends_are_seen : OnlyEndsAreSeen
-only_ends_are_seen now p call reply d =
-    let is : stream_of (after now p call reply) d ≡ (if same_way (direction_of call) d then served reply (stream_of p d) else stream_of p d) = stream_after now p d call reply in (
-      λ h. named_way (direction_of call) d reply _ (seen_by (same_way (direction_of call) d) reply (stream_of p d) (rw is at h)),
-      λ h. rw is (seen_again p call reply d h),
-    )
+only_ends_are_seen now p call reply d = rw (stream_after now p d call reply) (seen_by (direction_of call) d reply (stream_of p d))
 
 -- what a connection keeps
 

@@ -151,43 +151,43 @@ pub data Made : Type 0 where
   Looked : Bool → Made
 
 -- What a system call does to a socket of the type S, only the system knows. So what follows holds for any such relation
-module _ {S : Type 0} where
+module _ {S : Type 0} (did : Made → S → S → Type 0) where
   -- the socket option is set if it changes, and else left alone
-  pub record Switches (did : Made → S → S → Type 0) (was is : Bool) (before after : S) : Type 0 where
+  pub record Switches (was is : Bool) (before after : S) : Type 0 where
     pub on : was ≡ false → is ≡ true → did (SentAtOnce true) before after
     pub off : was ≡ true → is ≡ false → did (SentAtOnce false) before after
     pub kept : is ≡ was → after ≡ before
 
   -- a socket is given this many seconds to wait for its connection, or for a silent peer, and is left alone if none are
   -- given
-  abbrev pub Limits : (Made → S → S → Type 0) → Option ℕ → S → S → Type 0
-  Limits did (Some seconds) before after = did (GivesUpAfter (seconds * 1000)) before after
-  Limits did None before after = after ≡ before
+  abbrev pub Limits : Option ℕ → S → S → Type 0
+  Limits (Some seconds) before after = did (GivesUpAfter (seconds * 1000)) before after
+  Limits None before after = after ≡ before
 
-  abbrev pub Probing : (Made → S → S → Type 0) → Option ℕ → S → S → Type 0
-  Probing did (Some seconds) before after = did (Probes seconds) before after
-  Probing did None before after = after ≡ before
+  abbrev pub Probing : Option ℕ → S → S → Type 0
+  Probing (Some seconds) before after = did (Probes seconds) before after
+  Probing None before after = after ≡ before
 
-  abbrev pub Waits : (Made → S → S → Type 0) → Patience → S → S → Type 0
-  Waits did patience before after = (limited : S) × Limits did patience.connect before limited
-      × Probing did patience.keepalive limited after
+  abbrev pub Waits : Patience → S → S → Type 0
+  Waits patience before after = (limited : S) × Limits patience.connect before limited
+      × Probing patience.keepalive limited after
 
   -- a limit that the socket was given is lifted if the wire comes to know that it is connected, and else left alone
-  pub record Lifts (did : Made → S → S → Type 0) (limit : Option ℕ) (was is : Bool) (before after : S) : Type 0 where
+  pub record Lifts (limit : Option ℕ) (was is : Bool) (before after : S) : Type 0 where
     pub lifted : limit ≢ None → was ≡ false → is ≡ true → did (GivesUpAfter 0) before after
     pub unlimited : limit ≡ None → after ≡ before
     pub kept : is ≡ was → after ≡ before
 
   -- a pending error is a failure; without one the socket has a peer, or the question for it says why not
-  abbrev pub JoinGives : (Made → S → S → Type 0) → Result (Option Error) Error → Given → S → Type 0
-  JoinGives did (Err error) given socket = given ≡ Refused (error_kind error)
-  JoinGives did (Ok (Some error)) given socket = given ≡ Refused (pending_kind (error_kind error))
-  JoinGives did (Ok None) given socket = (named : Result SocketAddr Error) × did (Named named) socket socket × (given ≡ call_gave named)
+  abbrev pub JoinGives : Result (Option Error) Error → Given → S → Type 0
+  JoinGives (Err error) given socket = given ≡ Refused (error_kind error)
+  JoinGives (Ok (Some error)) given socket = given ≡ Refused (pending_kind (error_kind error))
+  JoinGives (Ok None) given socket = (named : Result SocketAddr Error) × did (Named named) socket socket × (given ≡ call_gave named)
 
   -- If the wire reads, a read is one system call, for all that was asked, and gives what it gave. If the wire does not
   -- read, it looks first: if there was a report of something to read, it reads from then on; else it answers "would
   -- block" by itself, without a system call
-  pub record Reads (did : Made → S → S → Type 0) (most : ℕ) (given : Given) (joined was is : Bool) (before after : S) : Type 0 where
+  pub record Reads (most : ℕ) (given : Given) (joined was is : Bool) (before after : S) : Type 0 where
     pub reads : Bool
     pub looked : S
     pub kept : was ≡ true → (reads ≡ true) × (looked ≡ before)
@@ -197,26 +197,26 @@ module _ {S : Type 0} where
     pub goes_on : is ≡ reads_after (Read most) given joined reads
 
   -- a join asks for the pending error, and then for the peer
-  abbrev pub Joins : (Made → S → S → Type 0) → Given → S → S → Type 0
-  Joins did given before after =
-      (pending : Result (Option Error) Error) × did (Pending pending) before after × JoinGives did pending given after
+  abbrev pub Joins : Given → S → S → Type 0
+  Joins given before after =
+      (pending : Result (Option Error) Error) × did (Pending pending) before after × JoinGives pending given after
 
   -- The system calls that a call on the wire asks for. A write and a shutdown are one, for all that was asked, and give
   -- what it gave. After a write the socket may start to wait
-  abbrev pub Asks : (Made → S → S → Type 0) → Asked → Given → Socket → Socket → S → S → Type 0
-  Asks did (Read most) given old new before after = Reads did most given old.tally.joined old.reads new.reads before after
-  Asks did (Write offer) given old new before after =
-      (written : S) × did (Called (Write offer) given) before written × Switches did old.sending.at_once new.sending.at_once written after
-  Asks did Join given old new before after = Joins did given before after
-  Asks did Shut given old new before after = did (Called Shut given) before after
+  abbrev pub Asks : Asked → Given → Socket → Socket → S → S → Type 0
+  Asks (Read most) given old new before after = Reads most given old.tally.joined old.reads new.reads before after
+  Asks (Write offer) given old new before after =
+      (written : S) × did (Called (Write offer) given) before written × Switches old.sending.at_once new.sending.at_once written after
+  Asks Join given old new before after = Joins given before after
+  Asks Shut given old new before after = did (Called Shut given) before after
 
   -- all system calls of a call on the wire: after those that it asks for, the limit may be lifted
-  abbrev pub Makes : (Made → S → S → Type 0) → Asked → Given → Socket → Socket → S → S → Type 0
-  Makes did asked given old new before after =
-      (asked_for : S) × Asks did asked given old new before asked_for
-      × Lifts did old.patience.connect old.tally.joined new.tally.joined asked_for after
+  abbrev pub Makes : Asked → Given → Socket → Socket → S → S → Type 0
+  Makes asked given old new before after =
+      (asked_for : S) × Asks asked given old new before asked_for
+      × Lifts old.patience.connect old.tally.joined new.tally.joined asked_for after
 
   -- all that a call on the wire does
-  abbrev pub IsDone : (Made → S → S → Type 0) → Asked → Given → Wired S → Wired S → Type 0
-  IsDone did asked given old new =
-      IsCalled asked given old.socket new.socket × Makes did asked given old.socket new.socket old.stream new.stream
+  abbrev pub IsDone : Asked → Given → Wired S → Wired S → Type 0
+  IsDone asked given old new =
+      IsCalled asked given old.socket new.socket × Makes asked given old.socket new.socket old.stream new.stream
