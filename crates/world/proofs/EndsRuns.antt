@@ -1,7 +1,7 @@
--- A slot is opened for a fresh connection, and both ends of a connection are closed; so each event has a shape, and keeps
--- what holds of the ends. So after every run: bytes and ends, and no flag down without cover. And of each closed connection:
--- what was sent is a beginning of the preamble and what was given, and all of it where it was done. Nothing more is given
--- for its generation, since its slot has none of that generation any more.
+-- A slot is opened for a fresh connection, and both ends of a connection are closed; so each event has a shape, and
+-- keeps what holds of the ends. So after every run: bytes and ends, and no flag down without cover. And of each closed
+-- connection: what was sent is a beginning of the preamble and what was given, and all of it where it was done. Nothing
+-- more is given for its generation, since its slot has none of that generation any more.
 use Rattle.world.proofs.Prelude.{Bool, List, None, Option, Some, [], ap, append-nil, append_assoc, arith, eqb-true, false, if◌then◌else◌, inl, inr, le_refl, length, ne_eqb, not, option_and_then, option_map, refl, slice_get, slice_set, subst, sym, true, unwrap_or, ℕ, ⊎_elim, ◌&&◌, ◌++◌, ◌+◌, ◌<◌, ◌==◌, ◌∙◌, ◌∷◌, ◌≡◌, ◌≤◌, ◌⊎◌, first_so, second_so, nat_le, waiting_ends, Stream, empty_stream, waiting, EndState, arrival, finish, new_room, opened, KernelState, Registered, end_at, lowest_free, open_both, with_end, same, without_name, Told, Descriptors, Sockets, PairState, fresh, is_live, stream_of, verdict, verdict_of, Fault, Done, EndName, destination, side_number, source, Direction, Down, Up, Side, Client, Target, descriptor, when, CoreLaws, given, given_by, has_generation, BytesAndEndsHold, ClosedHold, DirectionHolds, end_of, preamble, socket_of, grows, run, SlotState, WorkerState, State, opening, unused, acted, change_at, closed_world, connection_at, opened_place, opened_world, opening_of, over_kernel, step, token_of, EdgesHold, one, Doing, Holds, Connection, Act, Change, Arrive, Fin, Reset, Room, Event, Polling, Limits, Past}
 use Rattle.token.specs.declared.name.Name.TheVariants as name
 use Rattle.kernel_model.specs.Ends as model

@@ -1,6 +1,6 @@
--- What each event does to the slots and to the closed connections: it leaves them, it changes one slot and keeps
--- its connection, it opens one, or it closes a connection. And each event of the clock, the kernel's reports, the poller
--- and the workers, but an opening, a call and a closing, leaves the ends as they are, and loses no report that counts.
+-- What each event does to the slots and to the closed connections: it leaves them, it changes one slot and keeps its
+-- connection, it opens one, or it closes a connection. And each event of the clock, the kernel's reports, the poller and
+-- the workers, but an opening, a call and a closing, leaves the ends as they are, and loses no report that counts.
 use Rattle.world.proofs.Prelude.{Bool, List, None, Option, Some, [], ap, arith, drop, eq-eqb, eqb-true, false, if◌then◌else◌, inl, inr, le_refl, length, nat_lt, option_map, refl, slice_get, slice_set, subst, sym, true, ℕ, ◌++◌, ◌+◌, ◌==◌, ◌∙◌, ◌∷◌, ◌≡◌, ◌≤◌, ◌⊎◌, nil_from_length, is_nonempty, KernelState, name_of, has, same, Accepted, Again, Blocked, Starved, Sockets, timed_out, is_live, noted, verdict, Fault, Failed, Live, EndName, Down, Up, Name, Side, Client, Target, given_by, Failure, Named, failure, failure_by, held_connection, SlotState, WorkerState, is_held, State, connection_at, delivered, delivered_at, expired_place, free, is_limited, may_accept, over_kernel, popped, post_at, posted, put_by_poller, put_by_worker, watched_of, with_note, with_place, Doing, Closed, Holds, Idle, Retired, Tries, Holder, Ticket, Connection, Event, Listening, Reported}
 use Rattle.world.specs.Steps.{may_release}
 use Rattle.token.specs.declared.name.Name.TheVariants as name
