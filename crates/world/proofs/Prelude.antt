@@ -1,11 +1,11 @@
 -- What the files of this folder import, passed on once.
-pub use Rattle.std.proofs.Common.{Bool, Err, IfOk, List, None, Ok, Option, Result, Some, [], add-one, ap, append-nil, append_assoc, arith, cond, drop, eq-eqb, eqb-true, false, if◌then◌else◌, inl, inr, is_none, is_some, le_refl, leb-true, length, length-append, lt-ltb, ltb-false, ltb-true, nat_lt, ne_eqb, not, one-add, option_and_then, option_map, refl, replicate, slice_get, slice_set, subst, suc, sym, take-append-drop, true, unwrap_or, zero, ℕ, ⊎_elim, ◌&&◌, ◌++◌, ◌+◌, ◌-◌, ◌<◌, ◌==◌, ◌||◌, ◌∙◌, ◌∷◌, ◌≡◌, ◌≢◌, ◌≤◌, ◌⊎◌}
+pub use Rattle.std.proofs.Common.{Bool, Err, IfOk, List, None, Ok, Option, Result, Some, [], ap, append-nil, append_assoc, arith, cond, drop, eq-eqb, eqb-true, false, if◌then◌else◌, inl, inr, is_none, is_some, le_refl, leb-true, length, length-append, lt-ltb, ltb-false, ltb-true, nat_lt, ne_eqb, not, one-add, option_and_then, option_map, refl, replicate, slice_get, slice_set, subst, suc, sym, take-append-drop, true, unwrap_or, zero, ℕ, ⊎_elim, ◌&&◌, ◌++◌, ◌+◌, ◌-◌, ◌<◌, ◌==◌, ◌||◌, ◌∙◌, ◌∷◌, ◌≡◌, ◌≢◌, ◌≤◌, ◌⊎◌}
 pub use Rattle.std.proofs.Math.Seq.{drop-nil, take-append_seam}
-pub use Rattle.std.proofs.lemmas.Bool.{and_parts, cases_eq, lt-leb, or_cases}
+pub use Rattle.std.proofs.lemmas.Bool.{and_parts, cases_eq, lt-leb}
 pub use Rattle.std.proofs.lemmas.Bool.Decides.{nat_tests}
 pub use Rattle.std.proofs.lemmas.Grind.{common_steps}
 pub use Rattle.std.proofs.lemmas.List.{nil_from_length}
-pub use Rattle.std.proofs.lemmas.Option.{gets, option_and_then_some, slice_get_within}
+pub use Rattle.std.proofs.lemmas.Option.{gets, slice_get_within}
 pub use Rattle.std.specs.Cmp.{first_so, second_so}
 pub use Rattle.std.specs.List.{list_all, list_any, position_or_len}
 pub use Rattle.std.specs.Option.{option_flatten, option_or}
@@ -57,7 +57,7 @@ pub use Rattle.world.specs.LeadLaws.{is_padded}
 pub use Rattle.world.specs.Memory.{free_length, grows}
 pub use Rattle.world.specs.Runs.{run}
 pub use Rattle.world.specs.Slots.{SlotState, WorkerState, is_by_worker, is_held}
-pub use Rattle.world.specs.States.{State, is_entry, numbers_below, opening, resting, unused}
+pub use Rattle.world.specs.States.{State, numbers_below, opening, resting, unused}
 unfoldable pub use Rattle.world.specs.Steps.{may_release, slot_call}
 pub use Rattle.world.specs.Steps.{OpenSlot, acted, after_accept, batched, brings_ticket, call, change_at, claim, claimed, close, closed_world, connection_at, deliver, delivered, delivered_at, doing, expire, expired, expired_place, free, freed, heard, is_limited, is_worn, listen, may_accept, network, noted_slot, opened_place, opened_world, opening_of, over_kernel, polled, pop, popped, post, post_at, posted, put_by_poller, put_by_worker, release, retire, spurious, step, sweep, take, tick, token_of, vanish, watched_of, with_note, with_place, with_ticket, with_worker, worked}
 pub use Rattle.world.specs.Support.{EdgesHold, EndCovered, SupportHolds, has_report, is_covered, of_slot, one, tickets, total, tried, worker_tickets}

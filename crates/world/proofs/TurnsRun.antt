@@ -152,38 +152,65 @@ unheld Nobody false n = absurd (omega arith)
 unheld (By w) some n = absurd (omega arith)
 unheld Free some n = absurd (omega arith)
 
-pub waiting : (st : State) (w : ℕ) (k : WorkerState) (t : Ticket) (p : SlotState) → slice_get st.workers w ≡ Some k → k.doing ≡ Tries t → slice_get st.slots t.slot ≡ Some p
-    → Turns st → Waiting p
-waiting st w k t p there does lies turns =
-    let sv = turns.each t.slot p lies in
-    let least = total_at (worker_tickets t.slot) st.workers w k there in
-    let tries = doing_so t.slot 0 does in
-    let this = one_same t.slot in
-    let parts = unheld p.holder (is_nonempty p.notes) (omega arith) in
-    record { holder = parts.0; some = parts.1; lies = rw (parts.0) at sv.shape }
+pub own_generation : (f : Facts) (p : SlotState) (c : Connection) → place_of c.pair ≡ standing f p.generation → c.pair.generation ≡ p.generation
+own_generation f p c stands = ap (λ (x : Standing). x.generation) stands
 
-claimed_turns : (st : State) (w : ℕ) (k : WorkerState) (t : Ticket) (p : SlotState) → slice_get st.workers w ≡ Some k → k.doing ≡ Tries t → slice_get st.slots t.slot ≡ Some p
-    → Turns st → Turns (claimed st w k t.slot p)
-claimed_turns st w k t p there does lies turns =
-    let s : ℕ = t.slot in
-    let sv = turns.each s p lies in
-    let wait = waiting st w k t p there does lies turns in
-    let r = turned st w (Holds s st.limits.budget) s p.generation there does in
-    let this = one_same s in
-    let had = rw (wait.holder, wait.some) at sv.tickets in
-    let within = right_within (doing st w k (Holds s st.limits.budget)) s p.generation in
-    let holding = rw wait.holder at sv.holding in
-    let closing = rw wait.holder at sv.closing in
-    let gone = rw wait.holder at sv.gone in
-    let none : is_held p.holder ≡ false = rw wait.holder refl in
-    rw none (keep_others s turns lies refl
-    (λ j g apart. let away = one_other s j apart in turned_elsewhere st w (Holds s st.limits.budget) j g there does (omega arith) (omega arith)) (record {
-      entry = sv.entry;
-      notes = sv.notes;
-      counts = record { tickets = omega arith; right = omega arith; holding = rw wait.lies (omega arith); closing = rw wait.lies (omega arith); gone = omega arith };
-      shape = refl;
-      connection = λ c is. record { stands = (sv.connection c is).stands; live = λ h. absurd (cc); rest = λ h n. absurd (cc) };
-    }))
+there_is : {X : Type 0} (o : Option X) → is_some o ≡ true → (x : X) × (o ≡ Some x)
+there_is None h = absurd (cc)
+there_is (Some x) h = (x, refl)
+
+module _ (st : State) (w : ℕ) (k : WorkerState) (t : Ticket) (p : SlotState) (there : slice_get st.workers w ≡ Some k) (does : k.doing ≡ Tries t)
+    (lies : slice_get st.slots t.slot ≡ Some p) (turns : Turns st) where
+  pub waiting : Waiting p
+  waiting =
+      let sv = turns.each t.slot p lies in
+      let least = total_at (worker_tickets t.slot) st.workers w k there in
+      let tries = doing_so t.slot 0 does in
+      let this = one_same t.slot in
+      let parts = unheld p.holder (is_nonempty p.notes) (omega arith) in
+      record { holder = parts.0; some = parts.1; lies = rw (parts.0) at sv.shape }
+
+  claimed_turns : Turns (claimed st w k t.slot p)
+  claimed_turns =
+      let s : ℕ = t.slot in
+      let sv = turns.each s p lies in
+      let wait = waiting in
+      let r = turned st w (Holds s st.limits.budget) s p.generation there does in
+      let this = one_same s in
+      let had = rw (wait.holder, wait.some) at sv.tickets in
+      let within = right_within (doing st w k (Holds s st.limits.budget)) s p.generation in
+      let holding = rw wait.holder at sv.holding in
+      let closing = rw wait.holder at sv.closing in
+      let gone = rw wait.holder at sv.gone in
+      let none : is_held p.holder ≡ false = rw wait.holder refl in
+      rw none (keep_others s turns lies refl
+      (λ j g apart. let away = one_other s j apart in turned_elsewhere st w (Holds s st.limits.budget) j g there does (omega arith) (omega arith)) (record {
+        entry = sv.entry;
+        notes = sv.notes;
+        counts = record { tickets = omega arith; right = omega arith; holding = rw wait.lies (omega arith); closing = rw wait.lies (omega arith); gone = omega arith };
+        shape = refl;
+        connection = λ c is. record { stands = (sv.connection c is).stands; live = λ h. absurd (cc); rest = λ h n. absurd (cc) };
+      }))
+
+  pub names_it : t.generation ≡ p.generation
+  names_it =
+      let s : ℕ = t.slot in
+      let g : ℕ = p.generation in
+      let sv = turns.each s p lies in
+      let ready = total_le (names s g) (of_slot s) st.ready (names_of_slot s g) in
+      let hand = total_le (names s g) (of_slot s) st.hand (names_of_slot s g) in
+      let own = total_le (names s g) (of_slot s) k.hand (names_of_slot s g) in
+      let workers = total_le_at (worker_right s g) (worker_tickets s) st.workers w k (right_is_less s g) there in
+      let tries = doing_so s g does in
+      let this = one_same s in
+      let both = sure ((t.slot == s) && (t.generation == g)) (omega arith) in
+      eqb-true t.generation g (and_parts (t.slot == s) (t.generation == g) both).1
+
+  claims_own : ClaimsByOwnTicket st (Tries t)
+  claims_own =
+      let sv = turns.each t.slot p lies in
+      let has = there_is p.connection waiting.lies in
+      (has.0, rw lies has.1, own_generation (facts st t.slot p.generation) p has.0 (sv.connection has.0 has.1).stands ∙ sym names_it)
 
 -- a slot that a worker holds, with its connection or after that was closed; and the slot's numbers
 pub record Held (f : Facts) (p : SlotState) (has : Bool) : Type 0 where
@@ -224,16 +251,6 @@ held_by {st} {w} h turns =
     let this = one_same h.s in
     let by = by_one h.p.holder (is_some h.p.connection) (omega arith) in
     held_so by.0 sv by.1 by.2
-
-pub closed_by : (st : State) (w : ℕ) (k : WorkerState) (s : ℕ) (p : SlotState) → slice_get st.workers w ≡ Some k → k.doing ≡ Closed s → slice_get st.slots s ≡ Some p → Turns st
-    → Held (facts st s p.generation) p false
-closed_by st w k s p there does lies turns =
-    let sv = turns.each s p lies in
-    let least = total_at (worker_closes s) st.workers w k there in
-    let closes = doing_so s 0 does in
-    let this = one_same s in
-    let by = by_one p.holder (not (is_some p.connection)) (omega arith) in
-    held_so by.0 sv by.1 (unless (is_some p.connection) by.2)
 
 -- a worker keeps the slot that it holds, and changes its notes and the connection's state
 keeps_held : {st next : State} {w : ℕ} (h : Holding st w) (notes : List ℕ) (c : Connection) → Turns st
@@ -281,14 +298,12 @@ call_turns laws st w h r l so turns = keeps_held h h.p.notes l.connection turns 
 expired_stands : (now limit : ℕ) (c : Connection) → Kept (λ (d : Connection). place_of d.pair ≡ place_of c.pair) (expired now limit c)
 expired_stands now limit c = kept_guard _ _ (λ over. refl)
 
-pub own_generation : (f : Facts) (p : SlotState) (c : Connection) → place_of c.pair ≡ standing f p.generation → c.pair.generation ≡ p.generation
-own_generation f p c stands = ap (λ (x : Standing). x.generation) stands
-
 post_turns : {st : State} {w : ℕ} (h : Holding st w) → Turns st → Turns (with_place st h.s (with_note h.p h.c.pair.generation))
 post_turns {st} h turns =
     let sv = turns.each h.s h.p h.lies in
     let own = own_generation (facts st h.s h.p.generation) h.p h.c (sv.connection h.c h.is).stands in
-    keeps_held h (h.p.notes ++ h.c.pair.generation ∷ []) h.c turns (ap (λ (o : Option Connection). slice_set st.slots h.s (record h.p { notes = h.p.notes ++ h.c.pair.generation ∷ []; connection = o })) h.is)
+    keeps_held h (h.p.notes ++ h.c.pair.generation ∷ []) h.c turns
+    (ap (λ (o : Option Connection). slice_set st.slots h.s (record h.p { notes = h.p.notes ++ h.c.pair.generation ∷ []; connection = o })) h.is)
     (λ j g. same_self) (rw own (are_own_more h.p.generation h.p.notes sv.notes)) refl
 
 -- it lets the slot go
@@ -347,20 +362,32 @@ closed_turns {st} {w} h t turns =
       connection = λ d at. absurd (cc);
     })
 
-retired_turns : (st : State) (w : ℕ) (k : WorkerState) (s : ℕ) (p : SlotState) → slice_get st.workers w ≡ Some k → k.doing ≡ Closed s → slice_get st.slots s ≡ Some p → Turns st
-    → Turns (doing (with_place st s (record p { holder = Free })) w k (Retired s))
-retired_turns st w k s p there does lies turns =
-    let sv = turns.each s p lies in
-    let held = closed_by st w k s p there does lies turns in
-    let r = turned st w (Retired s) s p.generation there does in
-    let this = one_same s in
-    keep_others s turns lies refl (λ j g apart. let away = one_other s j apart in turned_elsewhere st w (Retired s) j g there does (omega arith) (omega arith)) (record {
-      entry = sv.entry;
-      notes = sv.notes;
-      counts = omega arith;
-      shape = rw held.some refl;
-      connection = λ c at. absurd (let some : is_some p.connection ≡ true = rw at refl in (cc held.some));
-    })
+-- the slot is retired
+
+module _ (st : State) (w : ℕ) (k : WorkerState) (s : ℕ) (p : SlotState) (there : slice_get st.workers w ≡ Some k) (does : k.doing ≡ Closed s)
+    (lies : slice_get st.slots s ≡ Some p) (turns : Turns st) where
+  pub closed_by : Held (facts st s p.generation) p false
+  closed_by =
+      let sv = turns.each s p lies in
+      let least = total_at (worker_closes s) st.workers w k there in
+      let closes = doing_so s 0 does in
+      let this = one_same s in
+      let by = by_one p.holder (not (is_some p.connection)) (omega arith) in
+      held_so by.0 sv by.1 (unless (is_some p.connection) by.2)
+
+  retired_turns : Turns (doing (with_place st s (record p { holder = Free })) w k (Retired s))
+  retired_turns =
+      let sv = turns.each s p lies in
+      let held = closed_by in
+      let r = turned st w (Retired s) s p.generation there does in
+      let this = one_same s in
+      keep_others s turns lies refl (λ j g apart. let away = one_other s j apart in turned_elsewhere st w (Retired s) j g there does (omega arith) (omega arith)) (record {
+        entry = sv.entry;
+        notes = sv.notes;
+        counts = omega arith;
+        shape = rw held.some refl;
+        connection = λ c at. absurd (let some : is_some p.connection ≡ true = rw at refl in (cc held.some));
+      })
 
 freed_most : (i : ℕ) (slots : List ℕ) (s : ℕ) (p : SlotState) → total (is_number i) (freed slots s p) ≤ total (is_number i) slots + one (s == i)
 freed_most i slots s p = elim (is_worn p.generation) as (λ b. total (is_number i) (if b then slots else slots ++ s ∷ []) ≤ total (is_number i) slots + one (s == i))
@@ -450,32 +477,6 @@ takes_own st (Holds s left) turns = λ p c lies is.
     let sv = turns.each s p lies in
     rw (own_generation (facts st s p.generation) p c (sv.connection c is).stands) sv.notes
 takes_own st _ turns = tt
-
-pub names_it : (st : State) (w : ℕ) (k : WorkerState) (t : Ticket) (p : SlotState) → slice_get st.workers w ≡ Some k → k.doing ≡ Tries t → slice_get st.slots t.slot ≡ Some p → Turns st
-    → t.generation ≡ p.generation
-names_it st w k t p there does lies turns =
-    let s : ℕ = t.slot in
-    let g : ℕ = p.generation in
-    let sv = turns.each s p lies in
-    let ready = total_le (names s g) (of_slot s) st.ready (names_of_slot s g) in
-    let hand = total_le (names s g) (of_slot s) st.hand (names_of_slot s g) in
-    let own = total_le (names s g) (of_slot s) k.hand (names_of_slot s g) in
-    let workers = total_le_at (worker_right s g) (worker_tickets s) st.workers w k (right_is_less s g) there in
-    let tries = doing_so s g does in
-    let this = one_same s in
-    let both = sure ((t.slot == s) && (t.generation == g)) (omega arith) in
-    eqb-true t.generation g (and_parts (t.slot == s) (t.generation == g) both).1
-
-there_is : {X : Type 0} (o : Option X) → is_some o ≡ true → (x : X) × (o ≡ Some x)
-there_is None h = absurd (cc)
-there_is (Some x) h = (x, refl)
-
-claims_own : (st : State) (w : ℕ) (k : WorkerState) (t : Ticket) (p : SlotState) → slice_get st.workers w ≡ Some k → k.doing ≡ Tries t → slice_get st.slots t.slot ≡ Some p → Turns st
-    → ClaimsByOwnTicket st (Tries t)
-claims_own st w k t p there does lies turns =
-    let sv = turns.each t.slot p lies in
-    let has = there_is p.connection (waiting st w k t p there does lies turns).lies in
-    (has.0, rw lies has.1, own_generation (facts st t.slot p.generation) p has.0 (sv.connection has.0 has.1).stands ∙ sym (names_it st w k t p there does lies turns))
 
 tried_own : (st : State) {e : Event} {q : State} → Turns st → Happens st e q → TriedOnOwn st e
 tried_own st turns (Takes w h) = λ k there. takes_own st k.doing turns

@@ -19,6 +19,7 @@ impl World {
     ///
     /// In a world that a run reaches, the event changes the claim word of its slot by the steps of the event's kinds
     /// in order, and no other slot's, and a ticket is made exactly when a step says so (`words`).
+    #[tactic(auto, using(crate::proofs::TurnsWords::words_met))]
     pub fn step(&mut self, event: &Event) -> Result<(), Refusal>
         ensures event { Meets (step self.old event.now) self.old self.new result }
         ensures memory { IsErrOf result Refusal.NoMemory → IsTrue (may_allocate self.old event.now) }
