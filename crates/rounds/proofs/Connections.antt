@@ -27,7 +27,7 @@ use Rattle.dispatch.specs.Acts.{Act, AreMade, Register, Adopt, placing}
 use Rattle.rounds.specs.Openings.{times, slots_in, AreIn, AreOpened, SlotsCounted, OnlyTook, Between, LetGo, Started, Connected, AcceptDone, IsOpened, IsLost, IsSpent, AreLost, Fate, next_in, Opened, Dropped, Spent, Held, DropsFor, OnlyAccepted, OnlyOpened}
 use Rattle.dispatch.specs.Splits.{IsIn}
 use Rattle.rounds.specs.Pollers.{PollerState, Counted, counted_up}
-use Rattle.dispatch.specs.declared.part.Part.{Part}
+use Rattle.dispatch.specs.declared.split.Part.{Part}
 use Rattle.rounds.specs.declared.episodes.Episodes.{Episodes}
 use Rattle.rounds.specs.Drops.{dropped_for}
 use Rattle.rounds.specs.Episodes.{opened_after}
@@ -36,10 +36,10 @@ use Rattle.rounds.specs.Acts.{made_by, ActsMade, opening}
 use Rattle.rounds.proofs.Acts.{at_slot-append, acts_none, acts_one, acts_both, tries_none, tries_both, try_opened, try_held}
 use Rattle.rounds.proofs.Reports.{none_at}
 use Rattle.relay_log.specs.declared.cause.Cause.TheVariants as cause
-use Rattle.dispatch.specs.Fronts.{cause_of}
+use Rattle.dispatch.specs.Told.{cause_of}
 use Rattle.dispatch.specs.declared.front.Unopened.{Unopened}
 use Rattle.dispatch.specs.declared.front.Unopened.TheVariants as unopened
-use Rattle.dispatch.specs.declared.route.Route.{Route}
+use Rattle.dispatch.specs.declared.front.Route.{Route}
 use Rattle.rounds.specs.Leads.{lacks, lead_of, LeadGiven}
 use Rattle.rounds.specs.Rounds.{AcceptEnded, HasLeft}
 

@@ -1,7 +1,7 @@
 -- A poller's table has connections in its own slots alone.
 use Rattle.std.proofs.Common.{◌≡◌, ℕ, List, replicate, slice_index, slice_set, sym, subst, ap, ◌∙◌, arith}
 use Rattle.std.proofs.lemmas.List.{length-replicate, get_or-replicate, get_or_past, get_or-set_other}
-use Rattle.dispatch.specs.declared.part.Part.{Part}
+use Rattle.dispatch.specs.declared.split.Part.{Part}
 use Rattle.dispatch.specs.Splits.{IsIn}
 use Rattle.rounds.specs.Pollers.{AreGenerations, IsOwnTable}
 

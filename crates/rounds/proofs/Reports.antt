@@ -14,7 +14,7 @@ use Rattle.claims.specs.Views.{minted_by}
 use Rattle.claims.specs.Seats.{SeatState, HoldsNothing, Adds}
 use Rattle.ready.specs.declared.ticket.Ticket.{Ticket}
 use Rattle.dispatch.specs.Hands.{HandState}
-use Rattle.dispatch.specs.declared.part.Part.{Part}
+use Rattle.dispatch.specs.declared.split.Part.{Part}
 use Rattle.dispatch.specs.Splits.{IsIn}
 use Rattle.rounds.specs.Pollers.{IsOwnTable, PollerState}
 use Rattle.rounds.specs.Openings.{AreIn}

@@ -15,7 +15,7 @@ use Rattle.dispatch.specs.declared.front.Waiting.TheVariants.{No, Brief, Long}
 use Rattle.rounds.specs.Openings.{times, slots_in, AreIn, AreOpened, SlotsCounted, OnlyTook, AcceptDone, OnlyAccepted}
 use Rattle.dispatch.specs.Outgoing.{outgoing, tickets_out}
 use Rattle.rounds.specs.Pollers.{PollerState, Counted, HasOpenedAll}
-use Rattle.dispatch.specs.declared.part.Part.{Part}
+use Rattle.dispatch.specs.declared.split.Part.{Part}
 use Rattle.relay_log.specs.declared.faults.ServerFault.{ServerFault}
 use Rattle.relay_log.specs.declared.faults.ServerFault.TheVariants.{Worn}
 use Rattle.rounds.specs.Rounds.{RoundDone, RoundKeeps, AcceptEnded, ListenerKept, ListensToOpen, MayWait, MayWaitBriefly, WaitLasted, WaitedAsMay}

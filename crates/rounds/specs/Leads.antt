@@ -6,7 +6,7 @@ use Rattle.std.specs.Net.Socket.{v4_ip, v4_port}
 use Rattle.relay_core.specs.Proxy.{proxy_line}
 use Rattle.relay_log.specs.declared.cause.Cause.{Cause}
 use Rattle.relay_log.specs.declared.cause.Cause.TheVariants as cause
-use Rattle.dispatch.specs.declared.route.Route.{Route}
+use Rattle.dispatch.specs.declared.front.Route.{Route}
 
 -- the line of the PROXY protocol from a client's own address to the one on which it was accepted, if both are given
 abbrev pub line_between : Option SocketAddrV4 → Option SocketAddrV4 → Option (List ℕ)

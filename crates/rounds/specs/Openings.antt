@@ -22,9 +22,9 @@ use Rattle.relay_log.specs.declared.cause.Cause.{Cause}
 use Rattle.relay_log.specs.declared.cause.Cause.TheVariants as cause
 use Rattle.dispatch.specs.declared.front.Unopened.{Unopened}
 use Rattle.dispatch.specs.declared.front.Unopened.TheVariants as unopened
-use Rattle.dispatch.specs.declared.route.Route.{Route}
+use Rattle.dispatch.specs.declared.front.Route.{Route}
 use Rattle.rounds.specs.Leads.{LeadGiven}
-use Rattle.dispatch.specs.declared.part.Part.{Part}
+use Rattle.dispatch.specs.declared.split.Part.{Part}
 use Rattle.rounds.specs.Drops.{dropped_for}
 use Rattle.rounds.specs.Episodes.{opened_after}
 

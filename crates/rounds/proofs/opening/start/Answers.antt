@@ -5,7 +5,7 @@ use Rattle.claims.specs.Seats.{SeatState}
 use Rattle.claims.proofs.Seats.{account_after}
 use Rattle.dispatch.specs.Posts.{IsWorn}
 use Rattle.dispatch.proofs.Holding.{holds_still, holds_behind_post}
-use Rattle.dispatch.proofs.Worn.{worn_still}
+use Rattle.dispatch.proofs.Holding.{worn_still}
 use Rattle.rounds.proofs.Connections.{started_by}
 use Rattle.rounds.proofs.opening.start.Goals as goal
 
