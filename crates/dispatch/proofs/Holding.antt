@@ -1,5 +1,5 @@
--- A seat that holds one slot, after exchanges there.
-use Rattle.std.proofs.Common.{◌≡◌, ℕ, Bool, true, false, List, [], ◌∷◌, refl, sym, subst, ap, ◌∙◌, arith}
+-- A seat that holds one slot, after exchanges there; and one that is worn stays so while it posts nothing more.
+use Rattle.std.proofs.Common.{◌≡◌, ℕ, Bool, true, false, List, [], ◌∷◌, refl, sym, subst, ap, ◌∙◌, arith, suc, map}
 use Rattle.claims.specs.declared.answers.Posted.{Posted}
 use Rattle.claims.specs.declared.answers.Posted.TheVariants as posted
 use Rattle.claims.specs.declared.answers.Released.{Released}
@@ -9,12 +9,15 @@ use Rattle.claims.specs.declared.view.Exchange.{Exchange}
 use Rattle.claims.specs.declared.view.Exchange.TheVariants.{Post, Release}
 use Rattle.claims.specs.Words.{one}
 use Rattle.claims.specs.Views.{account_of, after_all}
-use Rattle.claims.specs.Seats.{SeatState, account_at, Holds, HoldsNot, HoldsNothing, Adds}
+use Rattle.claims.specs.Seats.{SeatState, account_at, Holds, HoldsNot, HoldsNothing, Adds, OnlyAt}
 use Rattle.claims.specs.Calls.{PostChange, ReleaseChange}
 use Rattle.claims.proofs.Seats.{account_after}
-use Rattle.dispatch.specs.Posts.{HoldsOnly}
+use Rattle.dispatch.specs.Posts.{HoldsOnly, IsWorn}
 use mathlib.Core.Logic.{dite}
 use native.Mathlib.Decide.{ℕ_discrete}
+use Rattle.std.specs.Prelude.{sum_by, slice_index_or}
+use Rattle.std.proofs.lemmas.List.Sums.{sum_by-cons}
+use Rattle.claims.proofs.Seats.{posted_of}
 
 module _ (slot : ℕ) (es : List Exchange) (a b : SeatState) (adds : Adds slot es a b) where
   -- they leave it held
@@ -43,10 +46,6 @@ module _ (slot : ℕ) (es : List Exchange) (a b : SeatState) (adds : Adds slot e
   }
 
 -- a release lets the slot go, whatever it answers
-pub released : (slot : ℕ) (a b : SeatState) (r : Released) → ReleaseChange slot a r b → HoldsNot b slot
-released slot a b Wake change = let_go slot (Release true ∷ []) a b change refl
-released slot a b Quiet change = let_go slot (Release false ∷ []) a b change.0 refl
-
 pub released_all : (slot : ℕ) (a b : SeatState) (r : Released) → HoldsOnly slot a → ReleaseChange slot a r b → HoldsNothing b
 released_all slot a b Wake only change = holds_nothing_then slot (Release true ∷ []) a b change only refl
 released_all slot a b Quiet only change = holds_nothing_then slot (Release false ∷ []) a b change.0 only refl
@@ -66,3 +65,36 @@ woke_behind_post slot a b false adds holds quiet =
     let one_more = ap one holds in
     let none = quiet refl in
     omega arith)
+
+-- A seat that is worn
+
+abbrev posts_in : List (List Exchange) → ℕ
+posts_in traces = sum_by posted_of (map account_of traces)
+
+-- two lists of traces with as many posts at each place have as many in all
+posts_alike : (xs ys : List (List Exchange)) → ((i : ℕ) → (account_of (slice_index_or xs i [])).posted ≡ (account_of (slice_index_or ys i [])).posted) → posts_in xs ≡ posts_in ys
+posts_alike [] [] each = refl
+posts_alike [] (y ∷ ys) each =
+    let first : 0 ≡ (account_of y).posted = each 0 in
+    let sum = sum_by-cons posted_of (account_of y) (map account_of ys) in
+    let rest : posts_in [] ≡ posts_in ys = posts_alike [] ys (λ i. each (suc i)) in
+    omega arith
+posts_alike (x ∷ xs) [] each =
+    let first : (account_of x).posted ≡ 0 = each 0 in
+    let sum = sum_by-cons posted_of (account_of x) (map account_of xs) in
+    let rest : posts_in xs ≡ posts_in [] = posts_alike xs [] (λ i. each (suc i)) in
+    omega arith
+posts_alike (x ∷ xs) (y ∷ ys) each =
+    let first : (account_of x).posted ≡ (account_of y).posted = each 0 in
+    let sum = sum_by-cons posted_of (account_of x) (map account_of xs) in
+    let other = sum_by-cons posted_of (account_of y) (map account_of ys) in
+    let rest : posts_in xs ≡ posts_in ys = posts_alike xs ys (λ i. each (suc i)) in
+    omega arith
+
+-- nothing was posted at this slot, and at no other slot anything changed
+pub worn_still : (slot : ℕ) (old new : SeatState) → OnlyAt slot old new → (account_at new slot).posted ≡ (account_at old slot).posted → IsWorn old → IsWorn new
+worn_still slot old new only here worn =
+    posts_alike new.traces old.traces (λ i. dite (ℕ_discrete i slot)
+    (λ same. subst (λ (j : ℕ). (account_at new j).posted ≡ (account_at old j).posted) (sym same) here)
+    (λ other. ap (λ (t : List Exchange). (account_of t).posted) (only.others i other)))
+    ∙ worn

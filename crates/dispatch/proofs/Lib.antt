@@ -1,5 +1,3 @@
 pub mod Outgoing
-pub mod Marks
-pub mod Splits
-pub mod Worn
+pub mod Slots
 pub mod Holding

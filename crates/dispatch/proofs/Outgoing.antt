@@ -9,7 +9,7 @@ use Rattle.ready.specs.declared.ticket.Ticket.{Ticket}
 use Rattle.ready.specs.Steps.{EndState}
 use Rattle.dispatch.specs.declared.shared.Own.{Own}
 use Rattle.dispatch.specs.Hands.{HandState}
-use Rattle.dispatch.specs.Outgoing.{outgoing, Inserted, tickets_out, slots_out}
+use Rattle.dispatch.specs.Outgoing.{outgoing, Inserted, TookNothing, tickets_out, slots_out}
 
 module _ {T : Type 0} where
   put_behind : (puts : List (ℕ × T)) (place : ℕ) (item : T) (left : List T) →
@@ -62,3 +62,6 @@ pub refused_slot : (own : Own) (free : EndState ℕ) (hand : HandState) (item sl
     Inserted slot (slots_out own) (outgoing free.history hand.slots)
 refused_slot own free hand item slot same is kept =
     rw (same, kept, is) (kept_inserts own.free.history slot own.hand.slots)
+
+pub took_both : {a b c : Own} → TookNothing a b → TookNothing b c → TookNothing a c
+took_both one two = record { tickets = two.tickets ∙ one.tickets; slots = two.slots ∙ one.slots }

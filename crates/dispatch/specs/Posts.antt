@@ -1,9 +1,13 @@
--- What turns and openings both do to a seat: they hold one slot, post there, and release it. Part of the promises.
-use Rattle.std.specs.Prelude.{◌≡◌, ◌≢◌, ℕ, ◌^◌}
-use Rattle.claims.specs.Seats.{SeatState, TableId, posts_of, Holds, HoldsNot, HoldsNothing}
+-- A thread's seat: fresh at the start; turns and openings hold one slot, post there, and release it. Part of the promises.
+use Rattle.std.specs.Prelude.{◌≡◌, ◌≢◌, ℕ, ◌^◌, List, length, replicate}
+use Rattle.claims.specs.Seats.{SeatState, TableId, fresh_seat, posts_of, Holds, HoldsNot, HoldsNothing}
 use Rattle.relay_log.specs.declared.faults.ServerFault.{ServerFault}
 use Rattle.relay_log.specs.declared.faults.ServerFault.TheVariants as server_fault
 use Rattle.dispatch.specs.declared.shared.Own.{Own}
+
+-- seats of these claim words that have done nothing yet
+pub record AreFresh (table : TableId) (seats : List SeatState) : Type 0 where
+  pub each : seats ≡ replicate (length seats) (fresh_seat table)
 
 -- the seat has posted 2^56 times, and posts no more
 abbrev pub IsWorn : SeatState → Type 0

@@ -2,7 +2,7 @@
 -- last part has what is left.
 use Rattle.std.specs.Prelude.{ℕ, ◌*◌, ◌+◌, ◌-◌, ◌/◌, ◌<◌, ◌≤◌, min, List, map}
 use Rattle.std.specs.List.{range_with_len}
-use Rattle.dispatch.specs.declared.part.Part.{Part}
+use Rattle.dispatch.specs.declared.split.Part.{Part}
 
 -- this slot is one of a poller's
 pub record IsIn (part : Part) (slot : ℕ) : Type 0 where

@@ -3,12 +3,11 @@ ghost use Rattle.std.specs.IoError.{error_kind};
 ghost use Rattle.std.specs.declared.io.ErrorKind.TheVariants.{Interrupted};
 
 use crate::limits::MAX_BATCH;
-use crate::route::Route;
 use engine::Wire;
 use log::Log;
 use relay_log::Cause;
 use std::io;
-use std::net::SocketAddr;
+use std::net::{SocketAddr, SocketAddrV4};
 use thiserror::Error;
 use token::Token;
 
@@ -48,7 +47,7 @@ pub enum Unopened {
 
 impl From<Unopened> for Cause {
     ghost use Rattle.std.specs.Prelude.{◌≡◌};
-    ghost use Rattle.dispatch.specs.Fronts.{cause_of};
+    ghost use Rattle.dispatch.specs.Told.{cause_of};
 
     ghost from_gives = { λ unopened cause. cause ≡ cause_of unopened };
 
@@ -58,6 +57,23 @@ impl From<Unopened> for Cause {
             Unopened::Register => Cause::Register,
         }
     }
+}
+
+/// The two addresses of a client's connection. One that is not known, not of IPv4, or not asked for, is None.
+#[derive(Clone, Copy)]
+pub struct Route {
+    /// The client's own address.
+    pub client: Option<SocketAddrV4>,
+    /// The address on which the client was accepted.
+    pub accepted: Option<SocketAddrV4>,
+}
+
+impl Route {
+    /// Neither address is given.
+    pub const UNTOLD: Route = Route {
+        client: None,
+        accepted: None,
+    };
 }
 
 /// A connection to the target that was started, and the addresses of the client's connection.
@@ -83,7 +99,7 @@ pub enum Waiting {
 /// Where connections and reports come from: the system's sockets, or an in-memory fake.
 pub trait Front {
     ghost use Rattle.dispatch.specs.declared.front.Unopened.{Unopened};
-    ghost use Rattle.dispatch.specs.declared.route.Route.{Route};
+    ghost use Rattle.dispatch.specs.declared.front.Route.{Route};
 
     // The numbers that the last wait for reports gave.
     ghost reported: { Self → List ℕ };

@@ -1,10 +1,13 @@
+//! What a thread has in hand, and putting it into the queues, until a queue refuses it.
 ghost use Rattle.std.specs.Prelude.{◌≡◌, ◌+◌, ◌<◌, ◌≤◌, ◌↔◌, [], ◌∷◌, ◌++◌, length, drop, slice_get, IsTrue, IsSome, IfOk};
-ghost use Rattle.dispatch.specs.Hands.{empty_hand, ticket_room, HasRoom};
+ghost use Rattle.dispatch.specs.Hands.{empty_hand, ticket_room, HasRoom, Shrank};
+ghost use Rattle.dispatch.specs.Outgoing.{outgoing, PutAll};
 
 use circular_buffer::HeapCircularBuffer;
-use ready::Ticket;
+use ready::{FreeQueue, Full, ReadyQueue, Ticket};
 use std::alloc::{AllocError, Global};
 use std::marker::Model;
+use std::sync::Wait;
 
 /// What a thread has put into no queue yet, oldest first: tickets that it keeps or that a queue refused, and free
 /// slots.
@@ -120,5 +123,43 @@ impl Hand {
         ensures left { self.new ≡ record self.old { slots = drop 1 self.old.slots } }
     {
         self.slots.pop_front()
+    }
+}
+
+/// Puts the tickets in hand, oldest first, until one is refused. That one remains the oldest.
+pub fn put_tickets<R: Wait>(rt: &R, ready: &mut ReadyQueue, hand: &mut Hand)
+    ensures tickets { outgoing ready.new.history hand.new.tickets ≡ outgoing ready.old.history hand.old.tickets }
+    ensures took { ready.new.history.taken ≡ ready.old.history.taken }
+    ensures all { PutAll ready.new hand.new.tickets }
+    ensures slots { hand.new.slots ≡ hand.old.slots }
+    ensures shrank { Shrank hand.old hand.new }
+{
+    for _ticket in 0..hand.tickets() {
+        let Some(ticket) = hand.take_ticket() else {
+            return;
+        };
+        if let Err(Full(ticket)) = ready.put(rt, ticket) {
+            hand.return_ticket(ticket);
+            return;
+        }
+    }
+}
+
+/// Gives back the slots in hand, oldest first, until one is refused. That one remains the oldest.
+pub fn give_slots<R: Wait>(rt: &R, free: &mut FreeQueue, hand: &mut Hand)
+    ensures slots { outgoing free.new.history hand.new.slots ≡ outgoing free.old.history hand.old.slots }
+    ensures took { free.new.history.taken ≡ free.old.history.taken }
+    ensures all { PutAll free.new hand.new.slots }
+    ensures tickets { hand.new.tickets ≡ hand.old.tickets }
+    ensures shrank { Shrank hand.old hand.new }
+{
+    for _slot in 0..hand.slots() {
+        let Some(slot) = hand.take_slot() else {
+            return;
+        };
+        if let Err(Full(slot)) = free.give(rt, slot) {
+            hand.return_slot(slot);
+            return;
+        }
     }
 }

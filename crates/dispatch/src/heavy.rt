@@ -34,7 +34,7 @@ impl HeavyMarks {
 
     /// Whether the poller's own thread runs this slot's ticket. If the ticket goes to the workers, one of the slot's
     /// marks is used up.
-    #[tactic(auto, using(crate::proofs::Marks::looked_at_light))]
+    #[tactic(auto, using(crate::proofs::Slots::looked_at_light))]
     pub fn is_light(&mut self, slot: usize) -> bool
         ensures light { IsTrue result ↔ slice_index self.old slot ≡ 0 }
         ensures marks { self.new ≡ looked_at slot self.old }

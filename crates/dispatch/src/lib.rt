@@ -17,37 +17,25 @@
 //! # Inside
 //!
 //! The statistics count a turn and an end by the pair's own counts and verdict (`moved_by`, `ended_by` of
-//! `specs/Counted.antt`). The clause of each call that counts says what it counts, and at which slot, over any
+//! `specs/Told.antt`). The clause of each call that counts says what it counts, and at which slot, over any
 //! [`Counting`].
 #![tactic(auto)]
 
 mod acts;
-mod clock;
 mod front;
-mod fullness;
-mod gate;
 mod hand;
 mod heavy;
+mod lent;
 mod limits;
-mod part;
-mod parts;
-mod putting;
-mod route;
 mod shared;
 mod split;
 
 pub use acts::{Acts, Moves, Places};
-pub use clock::{Clock, Timing};
-pub use front::{Front, Opened, Settle, Unopened, Waiting};
-pub use fullness::Fullness;
-pub use gate::{Gate, OpenGate};
-pub use hand::Hand;
+pub use front::{Front, Opened, Route, Settle, Unopened, Waiting};
+pub use hand::{Hand, give_slots, put_tickets};
 pub use heavy::HeavyMarks;
+pub use lent::{Clock, Gate, OpenGate, Timing};
 pub use limits::{FIRST_LIGHT, LISTENER, MAX_BATCH, MAX_OWN_TURNS, OWN_BUDGET, WAKER};
-pub use part::Part;
-pub use parts::Parts;
-pub use putting::{give_slots, put_tickets};
 pub use relay_log::{ClientsAt, ServerFault};
-pub use route::Route;
-pub use shared::{Counting, Own, Shared};
-pub use split::Split;
+pub use shared::{Counting, Fullness, Own, Parts, Shared};
+pub use split::{Part, Split};

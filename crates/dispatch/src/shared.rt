@@ -1,16 +1,22 @@
-ghost use Rattle.std.specs.Prelude.{◌≡◌, ◌≤◌};
-ghost use Rattle.dispatch.specs.Counted.{ended_by, moved_by};
+//! What the threads of a server share, what each of them owns, and what they are made from.
+ghost use Rattle.std.specs.Prelude.{◌≡◌, ◌≤◌, IfOk, IfSome};
+ghost use Rattle.claims.specs.Seats.{fresh_seat};
+ghost use Rattle.dispatch.specs.Hands.{empty_hand};
+ghost use Rattle.dispatch.specs.Posts.{AreFresh};
+ghost use Rattle.dispatch.specs.Told.{ended_by, moved_by};
 
 use crate::acts::Places;
 use crate::front::Front;
-use crate::fullness::Fullness;
 use crate::hand::Hand;
 use claims::{ClaimSeat, Claims};
 use ready::{FreeQueue, ReadyQueue};
 use relay_core::{MAX_READ, Pair};
 use relay_log::ClientsAt;
 use statistics::{Event, Statistics};
+use std::alloc::{AllocError, Global};
 use std::sync::Arc;
+use std::sync::atomic::AtomicUsize;
+use std::sync::atomic::Ordering::SeqCst;
 
 /// What all threads of a server share.
 #[derive(Drop)]
@@ -34,6 +40,33 @@ pub struct Shared<F: Front> {
     pub ghost sized: { places ≡ claims.words },
     pub ghost least_budget: { 1 ≤ budget },
     pub ghost most_budget: { budget ≤ 1024 },
+}
+
+/// How many of a server's pollers found all their slots taken while a client waited.
+#[derive(Drop)]
+pub struct Fullness {
+    pollers: usize,
+    full: AtomicUsize,
+}
+
+impl Fullness {
+    /// None of this many pollers.
+    pub fn new(pollers: usize) -> Fullness {
+        Fullness {
+            pollers,
+            full: AtomicUsize::new(0),
+        }
+    }
+
+    /// One poller more. Returns whether it was the last, so that all are full.
+    pub fn enter(&self) -> bool {
+        self.full.fetch_add(1, SeqCst).saturating_add(1) == self.pollers
+    }
+
+    /// One poller less.
+    pub fn leave(&self) {
+        self.full.fetch_sub(1, SeqCst);
+    }
 }
 
 /// A front of a server whose threads count.
@@ -130,4 +163,45 @@ pub struct Own {
     pub hand: Hand,
     /// What its turns read into.
     pub buffer: Box<[u8; MAX_READ]>,
+}
+
+/// What the threads of a server are made from: for each of them a seat and an end of the queue of tickets.
+#[derive(Drop)]
+pub struct Parts {
+    pub seats: Vec<ClaimSeat>,
+    pub ready: Vec<ReadyQueue>,
+}
+
+impl Parts {
+    /// What the next thread owns, with a hand of this capacity and this end of a queue of free slots. None if the
+    /// parts are used up.
+    pub fn next_own<F: Front>(
+        &mut self,
+        alloc: Global,
+        shared: &Shared<F>,
+        capacity: usize,
+        free: FreeQueue,
+    ) -> Result<Option<Own>, AllocError>
+        requires { AreFresh shared.now.claims self.old.seats.items }
+        ensures left { AreFresh shared.now.claims self.new.seats.items }
+        ensures next { IfOk result (λ next. IfSome next (λ own. own.seat ≡ fresh_seat shared.now.claims)) }
+        ensures hand { IfOk result (λ next. IfSome next (λ own. own.hand ≡ empty_hand capacity)) }
+        ensures free { IfOk result (λ next. IfSome next (λ own. own.free ≡ free)) }
+    {
+        let hand = Hand::new(alloc, capacity)?;
+        let buffer = Box::new(alloc, [0; MAX_READ])?;
+        let Some(seat) = self.seats.pop() else {
+            return Ok(None);
+        };
+        let Some(ready) = self.ready.pop() else {
+            return Ok(None);
+        };
+        Ok(Some(Own {
+            seat,
+            ready,
+            free,
+            hand,
+            buffer,
+        }))
+    }
 }

@@ -1,8 +1,23 @@
-//! How the slots are dealt to the pollers.
-ghost use Rattle.std.specs.Prelude.{◌≡◌, ◌+◌, ◌*◌, ◌<◌, ◌≤◌};
+//! How the slots are dealt to the pollers, and the slots of one poller.
+ghost use Rattle.std.specs.Prelude.{◌≡◌, ◌+◌, ◌*◌, ◌<◌, ◌≤◌, ◌↔◌, IsTrue};
 ghost use Rattle.dispatch.specs.Splits.{part_of, parts_of, IsIn};
 
-use crate::part::Part;
+/// The slots of one poller: `slots` of them, from `first` on. It alone opens connections there and delivers their
+/// reports.
+#[derive(Clone, Copy)]
+pub struct Part {
+    pub first: usize,
+    pub slots: usize,
+}
+
+impl Part {
+    /// Whether this slot is one of them.
+    pub fn has(&self, slot: usize) -> bool
+        ensures { IsTrue result ↔ IsIn self.now slot }
+    {
+        slot >= self.first && slot - self.first < self.slots
+    }
+}
 
 /// The slots of a server, dealt to its pollers in parts of one size, one after the other. The last part may be
 /// smaller.
@@ -18,7 +33,7 @@ pub struct Split {
 
 impl Split {
     /// A part for each of this many pollers: as many parts as they are, or fewer if they are many for the slots.
-    #[tactic(auto, using(crate::proofs::Splits::parts_of_size, crate::proofs::Splits::parts_le))]
+    #[tactic(auto, using(crate::proofs::Slots::parts_of_size, crate::proofs::Slots::parts_le))]
     pub fn new(slots: usize, pollers: usize) -> Split
         requires slots { (1 ≤ slots) × (slots ≤ 4096) }
         requires pollers { (1 ≤ pollers) × (pollers ≤ 16) }

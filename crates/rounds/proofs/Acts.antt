@@ -17,7 +17,7 @@ use Rattle.rounds.specs.Acts.{Act, exchanges_at, made_by, due_of, ActsMade, IsPo
 use Rattle.std.proofs.lemmas.Bool.Decides.{nat_tests}
 use Rattle.relay_core.specs.Idle.{is_past}
 use Rattle.dispatch.specs.Hands.{HandState}
-use Rattle.dispatch.specs.declared.part.Part.{Part}
+use Rattle.dispatch.specs.declared.split.Part.{Part}
 use Rattle.dispatch.specs.Splits.{IsIn}
 use Rattle.rounds.specs.Pollers.{IsOwnTable, PollerState, AreGenerations}
 use Rattle.rounds.specs.Openings.{AreIn}

@@ -24,15 +24,15 @@ use Rattle.dispatch.specs.Acts.{Act, AreMade, Register, Adopt, placing}
 use Rattle.rounds.specs.Openings.{times, slots_in, AreIn, AreOpened, OnlyTook, Between, LetGo, Started, Connected, AcceptDone, IsOpened, IsLost, IsSpent, AreLost, Fate, next_in, Opened, Held, DropsFor, Placed, lacks, lead_of}
 use Rattle.dispatch.specs.Splits.{IsIn}
 use Rattle.rounds.specs.Pollers.{PollerState, Counted, counted_up, HasOpenedAll}
-use Rattle.dispatch.specs.declared.part.Part.{Part}
+use Rattle.dispatch.specs.declared.split.Part.{Part}
 use Rattle.rounds.specs.Episodes.{opened_after}
 use Rattle.relay_log.specs.declared.cause.Cause.{Cause}
 use Rattle.rounds.proofs.Acts.{at_slot-append, acts_none, acts_one, acts_both, tries_none, tries_both, try_opened, try_held, none_at, posted_none, no_sweep}
 use Rattle.relay_log.specs.declared.cause.Cause.TheVariants as cause
-use Rattle.dispatch.specs.Fronts.{cause_of}
+use Rattle.dispatch.specs.Told.{cause_of}
 use Rattle.dispatch.specs.declared.front.Unopened.{Unopened}
 use Rattle.dispatch.specs.declared.front.Unopened.TheVariants as unopened
-use Rattle.dispatch.specs.declared.route.Route.{Route}
+use Rattle.dispatch.specs.declared.front.Route.{Route}
 use Rattle.rounds.specs.Rounds.{AcceptEnded, HasLeft, RoundDone, RoundKeeps, ListenerKept, ListensToOpen, MayWait, MayWaitBriefly, WaitLasted, WaitedAsMay}
 use Rattle.dispatch.specs.declared.front.Waiting.{Waiting}
 use Rattle.dispatch.specs.declared.front.Waiting.TheVariants.{No, Brief, Long}

@@ -20,8 +20,8 @@ use Rattle.relay_log.specs.declared.cause.Cause.{Cause}
 use Rattle.relay_log.specs.declared.cause.Cause.TheVariants as cause
 use Rattle.dispatch.specs.declared.front.Unopened.{Unopened}
 use Rattle.dispatch.specs.declared.front.Unopened.TheVariants as unopened
-use Rattle.dispatch.specs.declared.route.Route.{Route}
-use Rattle.dispatch.specs.declared.part.Part.{Part}
+use Rattle.dispatch.specs.declared.front.Route.{Route}
+use Rattle.dispatch.specs.declared.split.Part.{Part}
 use Rattle.rounds.specs.Acts.{Act, made_by, opening, ActsMade, AreTries, at_slot}
 use Rattle.rounds.specs.Episodes.{dropped_for, opened_after}
 use Rattle.std.specs.declared.net.socket_addr.SocketAddrV4.{SocketAddrV4}

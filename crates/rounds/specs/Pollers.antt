@@ -2,7 +2,7 @@
 use Rattle.std.specs.Prelude.{◌≡◌, ◌⊎◌, ℕ, ◌+◌, ◌≤◌, min, Bool, List, All, slice_index}
 use Rattle.rounds.specs.declared.episodes.Episodes.{Episodes}
 use Rattle.rounds.specs.declared.opening.Opening.{Opening}
-use Rattle.dispatch.specs.declared.part.Part.{Part}
+use Rattle.dispatch.specs.declared.split.Part.{Part}
 use Rattle.token.specs.Names.{last_generation}
 use Rattle.dispatch.specs.Splits.{IsIn}
 

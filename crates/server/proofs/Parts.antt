@@ -5,7 +5,7 @@ use Rattle.std.proofs.lemmas.List.FromFn.{map-range_with_len_more}
 use Rattle.std.proofs.lemmas.List.{length-replicate, length-reverse, map-append, nil_from_length, reverse-append, reverse-reverse}
 use Rattle.rounds.specs.declared.opening.Opening.{Opening}
 use Rattle.claims.specs.Seats.{TableId, SeatState, fresh_seat}
-use Rattle.dispatch.specs.Parts.{AreFresh}
+use Rattle.dispatch.specs.Posts.{AreFresh}
 use Rattle.rounds.specs.Pollers.{PollerState}
 use Rattle.server.specs.Begins.{HasBegun}
 use Rattle.std.proofs.lemmas.List.Elements.{All-nil, All-push}

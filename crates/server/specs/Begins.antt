@@ -2,7 +2,7 @@
 use Rattle.std.specs.Prelude.{◌≡◌, ℕ, ◌+◌, Bool, true, false, List, [], ◌∷◌, All, map, replicate}
 use Rattle.claims.specs.Seats.{TableId, fresh_seat}
 use Rattle.ready.specs.Steps.{EndState, opened, unused}
-use Rattle.dispatch.specs.declared.parts.Parts.{Parts}
+use Rattle.dispatch.specs.declared.shared.Parts.{Parts}
 use Rattle.dispatch.specs.declared.split.Split.{Split}
 use Rattle.dispatch.specs.Splits.{each_part, parts_of}
 use Rattle.rounds.specs.declared.opening.Opening.{Opening}

@@ -17,7 +17,7 @@ use Rattle.readiness.specs.Words.{WordName, word_of}
 use Rattle.settings.specs.Addresses.{SocketAddress}
 use Rattle.dispatch.specs.declared.front.Waiting.{Waiting}
 use Rattle.dispatch.specs.declared.front.Waiting.TheVariants as waiting
-use Rattle.dispatch.specs.declared.route.Route.{Route}
+use Rattle.dispatch.specs.declared.front.Route.{Route}
 use Rattle.sockets.specs.declared.forwarding.Forwarding.{Forwarding}
 use Rattle.sockets.specs.Wires.{Made, NamedHere}
 use Rattle.mio.specs.declared.event.event.Event.{Event}

@@ -3,7 +3,7 @@ ghost use Rattle.std.specs.Prelude.{◌≡◌, ◌-◌, ◌∷◌, All, length, 
 ghost use Rattle.std.specs.Arc.{arc_value};
 ghost use Rattle.std.specs.List.{range_with_len};
 ghost use Rattle.claims.specs.Seats.{fresh_seat};
-ghost use Rattle.dispatch.specs.Parts.{AreFresh};
+ghost use Rattle.dispatch.specs.Posts.{AreFresh};
 ghost use Rattle.threads.specs.Divided.{numbered, IsEndOf, AreEndsFrom, AreLeft, HasOneOfEach};
 
 use crate::polling::PollerThread;

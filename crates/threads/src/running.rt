@@ -1,6 +1,6 @@
 //! A server's threads, from the first to the last.
 ghost use Rattle.std.specs.Prelude.{◌≡◌};
-ghost use Rattle.dispatch.specs.Parts.{AreFresh};
+ghost use Rattle.dispatch.specs.Posts.{AreFresh};
 
 use crate::context::Context;
 use crate::dividing::{Rest, ServerThreads, divide};

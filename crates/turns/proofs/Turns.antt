@@ -1,19 +1,15 @@
 -- The end of a turn, after the steps that took the notes and ran the connection; a turn of a poller's own; and the
 -- tickets in hand of which some were looked at: each of those is put, or after the others in hand.
-use Rattle.std.proofs.Common.{◌≡◌, ◌⊎◌, ◌+◌, ◌↔◌, ◌<◌, ◌≤◌, ℕ, List, [], ◌∷◌, length, drop, slice_get, Bool, true, false, IsTrue, Option, Some, None, Result, Ok, Err, IfErr, IfOk, IfSome, IsErrAnd, inl, inr, refl, sym, ap, subst, ◌∙◌, arith, suc, ◌++◌, append_assoc, zero, nat_lt}
-use Rattle.std.proofs.lemmas.Option.{none-some, same_Some}
-use denote.Enum.Bare.{sameb}
-use Rattle.turns.specs.contracts.worker.Worked.{the_type}
+use Rattle.std.proofs.Common.{◌≡◌, ◌⊎◌, ◌+◌, ◌↔◌, ◌<◌, ◌≤◌, ℕ, List, [], ◌∷◌, length, drop, slice_get, Bool, true, false, IsTrue, Option, Some, None, Result, Ok, Err, IfOk, IfSome, IsErrAnd, inl, inr, refl, sym, ap, subst, ◌∙◌, arith, suc, ◌++◌, append_assoc, zero, nat_lt}
+use Rattle.std.proofs.lemmas.Option.{IfSome_then, none-some, same_Some}
 use Rattle.claims.specs.declared.view.Account.{Account}
 use Rattle.claims.specs.declared.view.Exchange.{Exchange}
 use Rattle.claims.specs.declared.view.Exchange.TheVariants.{Busy, Held, Take, Release, Retire, Post}
 use Rattle.claims.specs.declared.answers.Posted.{Posted}
 use Rattle.claims.specs.declared.answers.Posted.TheVariants as posted
 use Rattle.claims.specs.Calls.{PostChange}
-use Rattle.claims.specs.declared.answers.Released.{Released}
-use Rattle.claims.specs.declared.answers.Released.TheVariants as released
-use Rattle.claims.specs.contracts.answers.Released.{the_type as released_type}
 use Rattle.dispatch.proofs.Holding.{holds_still, holds_from, holds_behind_post, woke_behind_post}
+use Rattle.dispatch.proofs.Outgoing.{took_both}
 use Rattle.claims.specs.Views.{after_all, minted_by}
 use Rattle.claims.specs.Seats.{TableId, SeatState, account_at, Holds, HoldsNothing, OnlyAt, Adds}
 use Rattle.claims.proofs.Seats.{adds_none, adds_both, account_after, minted_both, holds_nothing_again, only_at_post}
@@ -30,322 +26,338 @@ use Rattle.token.specs.Names.{last_generation}
 use Rattle.dispatch.specs.Acts.{Act, AreMade, leaving, giving}
 use Rattle.dispatch.specs.Acts as act
 use Rattle.turns.specs.Turns.{WasHeld, ActsLeft, TurnInOrder, OwnTurnInOrder, program, AtWork, TicketsKept, SlotsKept, SlotGiven, TurnDone, ClaimedTurn, TurnEnd, LeftSlot, TurnMade, OwnTurn, NoOwnTurn, marks_after}
-use Rattle.std.specs.Prelude.{Some}
 use Rattle.std.proofs.lemmas.List.{append-nil}
-use Rattle.ready.specs.declared.history.History.{History}
 use Rattle.ready.specs.Steps.{EndState}
 use Rattle.dispatch.specs.Heavy.{looked_at}
 use Rattle.turns.specs.Shares.{AreShared, IsLight, OneShared, Passed, Stays}
 
--- the same tickets were to be put before
+-- the same was to be put, and nothing was taken
+pub record Still (a b : Own) : Type 0 where
+  pub tickets : tickets_out b ≡ tickets_out a
+  pub slots : slots_out b ≡ slots_out a
+  pub took : TookNothing a b
+
+pub still : {a b : Own} → b.ready ≡ a.ready → b.free ≡ a.free → b.hand ≡ a.hand → Still a b
+still ready free hand = record { tickets = rw (ready, hand); slots = rw (free, hand); took = record { tickets = rw ready; slots = rw free } }
+
+-- all in hand was put that the queues took
+pub hand_put : (own : Own) (ready : EndState Ticket) (free : EndState ℕ) (mid hand : HandState) → outgoing ready.history mid.tickets ≡ tickets_out own
+    → mid.slots ≡ own.hand.slots → ready.history.taken ≡ own.ready.history.taken → outgoing free.history hand.slots ≡ outgoing own.free.history mid.slots
+    → hand.tickets ≡ mid.tickets → free.history.taken ≡ own.free.history.taken → Still own (record own { ready = ready; free = free; hand = hand })
+hand_put own ready free mid hand put slots took given tickets gave = record {
+  tickets = rw tickets put;
+  slots = given ∙ rw slots;
+  took = record { tickets = took; slots = gave };
+}
+
 tickets_after : (t : Ticket) (minted : ℕ) (a b c : Own) → tickets_out b ≡ tickets_out a → TicketsKept t minted b c → TicketsKept t minted a c
 tickets_after t zero a b c same kept = kept ∙ same
-tickets_after t (suc n) a b c same put = record { kept = put.kept; tickets = subst (λ (ts : List Ticket). Inserted t ts (tickets_out c)) same put.tickets }
+tickets_after t (suc n) a b c same put = record { kept = put.kept; tickets = rw same at put.tickets }
 
-pub slots_after : (t : Ticket) (r : Result Worked ServerFault) (a b c : Own) → slots_out b ≡ slots_out a → SlotsKept t r b c → SlotsKept t r a c
-slots_after t (Ok worked.Busy) a b c same kept = kept ∙ same
-slots_after t (Ok worked.Gone) a b c same kept = kept ∙ same
+slots_after : (t : Ticket) (r : Result Worked ServerFault) (a b c : Own) → slots_out b ≡ slots_out a → SlotsKept t r b c → SlotsKept t r a c
 slots_after t (Ok worked.Ended) a b c same kept = record {
   kept = kept.kept;
-  slots = λ less. subst (λ (slots : List ℕ). Inserted t.slot slots (slots_out c)) same (kept.slots less);
+  slots = λ less. rw same at (kept.slots less);
   last = λ last. kept.last last ∙ same;
 }
-slots_after t (Ok worked.Again) a b c same kept = kept ∙ same
-slots_after t (Ok worked.Quiet) a b c same kept = kept ∙ same
-slots_after t (Err fault) a b c same kept = kept ∙ same
+slots_after t _ a b c same kept = kept ∙ same
 
 -- some exchanges that made no ticket came before
-pub done_after : (t : Ticket) (es fs : List Exchange) (r : Result Worked ServerFault) (a b c : Own) → Adds t.slot es a.seat b.seat → minted_by es ≡ 0
-    → tickets_out b ≡ tickets_out a → slots_out b ≡ slots_out a
-    → TookNothing a b → TurnDone t fs r b c → TurnDone t (es ++ fs) r a c
-done_after t es fs r a b c adds none tickets slots took done = record {
-  seat = adds_both t.slot es fs a.seat b.seat c.seat adds done.seat;
-  tickets = subst (λ (n : ℕ). TicketsKept t n a c) (let both = minted_both es fs in omega arith) (tickets_after t (minted_by fs) a b c tickets done.tickets);
-  slots = slots_after t r a b c slots done.slots;
-  took = record { tickets = done.took.tickets ∙ took.tickets; slots = done.took.slots ∙ took.slots };
-}
+done_after : {t : Ticket} {fs : List Exchange} {r : Result Worked ServerFault} {a b c : Own} (es : List Exchange) → Adds t.slot es a.seat b.seat → minted_by es ≡ 0
+    → Still a b → TurnDone t fs r b c → TurnDone t (es ++ fs) r a c
+done_after {t} {fs} {r} {a} {b} {c} es adds none same done =
+    let minted : minted_by (es ++ fs) ≡ minted_by fs = omega (arith, minted_both es fs) in
+    record {
+      seat = adds_both t.slot es fs a.seat b.seat c.seat adds done.seat;
+      tickets = rw minted (tickets_after t (minted_by fs) a b c same.tickets done.tickets);
+      slots = slots_after t r a b c same.slots done.slots;
+      took = took_both same.took done.took;
+    }
 
 take_first : (r : Result Worked ServerFault) (notes : ℕ) (woke : Bool) → WasHeld r → Take notes ∷ drop 2 (program r 0 0 woke) ≡ drop 1 (program r 0 notes woke)
 take_first (Ok worked.Busy) notes woke held = absurd held
-take_first (Ok worked.Gone) notes woke held = refl
-take_first (Ok worked.Ended) notes woke held = refl
-take_first (Ok worked.Again) notes woke held = refl
-take_first (Ok worked.Quiet) notes woke held = refl
-take_first (Err fault) notes woke held = refl
+take_first _ notes woke held = refl
 
 claim_first : (r : Result Worked ServerFault) (found notes : ℕ) (woke : Bool) → WasHeld r → Held found ∷ drop 1 (program r 0 notes woke) ≡ program r found notes woke
 claim_first (Ok worked.Busy) found notes woke held = absurd held
-claim_first (Ok worked.Gone) found notes woke held = refl
-claim_first (Ok worked.Ended) found notes woke held = refl
-claim_first (Ok worked.Again) found notes woke held = refl
-claim_first (Ok worked.Quiet) found notes woke held = refl
-claim_first (Err fault) found notes woke held = refl
+claim_first _ found notes woke held = refl
 
 -- The acts of a turn that come before those that are left
 
 abbrev pub HasPlayed : Result Worked ServerFault → Type 0
 HasPlayed (Ok worked.Busy) = ⊥
 HasPlayed (Ok worked.Gone) = ⊥
-HasPlayed (Ok worked.Ended) = Unit {0}
-HasPlayed (Ok worked.Again) = Unit {0}
-HasPlayed (Ok worked.Quiet) = Unit {0}
-HasPlayed (Err fault) = Unit {0}
+HasPlayed _ = Unit {0}
 
 pub has_played : (r : Result Worked ServerFault) → IfOk r (λ w. w ≡ worked.Again) → HasPlayed r
 has_played (Ok worked.Busy) is = cc
 has_played (Ok worked.Gone) is = cc
-has_played (Ok worked.Ended) is = tt
-has_played (Ok worked.Again) is = tt
-has_played (Ok worked.Quiet) is = tt
-has_played (Err fault) is = tt
+has_played _ is = tt
 
 module _ {S : Type 0} (made : Act → ℕ → S → S → Type 0) where
   notes_first : (t : Ticket) (r : Result Worked ServerFault) (woke : Bool) (a b c : S) → HasPlayed r → made act.TakeNotes t.slot a b → ActsLeft made t r 3 false woke b c
       → ActsLeft made t r 2 false woke a c
   notes_first t (Ok worked.Busy) woke a b c played first left = absurd played
   notes_first t (Ok worked.Gone) woke a b c played first left = absurd played
-  notes_first t (Ok worked.Ended) woke a b c played first left = (b, first, left)
-  notes_first t (Ok worked.Again) woke a b c played first left = (b, first, left)
-  notes_first t (Ok worked.Quiet) woke a b c played first left = (b, first, left)
-  notes_first t (Err fault) woke a b c played first left = (b, first, left)
+  notes_first t _ woke a b c played first left = (b, first, left)
 
   out_first : (t : Ticket) (r : Result Worked ServerFault) (woke : Bool) (a b c : S) → WasHeld r → made act.TakeOut t.slot a b → ActsLeft made t r 2 false woke b c
       → ActsLeft made t r 1 false woke a c
   out_first t (Ok worked.Busy) woke a b c held first left = absurd held
-  out_first t (Ok worked.Gone) woke a b c held first left = (b, first, left)
-  out_first t (Ok worked.Ended) woke a b c held first left = (b, first, left)
-  out_first t (Ok worked.Again) woke a b c held first left = (b, first, left)
-  out_first t (Ok worked.Quiet) woke a b c held first left = (b, first, left)
-  out_first t (Err fault) woke a b c held first left = (b, first, left)
+  out_first t _ woke a b c held first left = (b, first, left)
 
   claimed_first : (t : Ticket) (r : Result Worked ServerFault) (other woke : Bool) (a b c : S) → made act.Claim t.slot a b → ActsLeft made t r 1 other woke b c
       → ActsLeft made t r 0 other woke a c
   claimed_first t (Ok worked.Busy) other woke a b c first left = (b, first, left)
-  claimed_first t (Ok worked.Gone) other woke a b c first left = (b, first, left)
-  claimed_first t (Ok worked.Ended) other woke a b c first left = (b, first, left)
-  claimed_first t (Ok worked.Again) other woke a b c first left = (b, first, left)
-  claimed_first t (Ok worked.Quiet) other woke a b c first left = (b, first, left)
-  claimed_first t (Err fault) other woke a b c first left = (b, first, left)
+  claimed_first t _ other woke a b c first left = (b, first, left)
 
-  -- the connection was taken out, and was the ticket's own; or another one was put in again; or the place was empty
-
+  -- the ticket's own connection was taken out
   pub own_out : {s t : Ticket} {r : Result Worked ServerFault} {old new : Own} (a b c : S) → s ≡ t → made act.TakeOut t.slot a b
       → (turn : ClaimedTurn s r old new) × ActsLeft made s r 2 false turn.woke b c
       → (turn : ClaimedTurn t r old new) × (other : Bool) × ActsLeft made t r 1 other turn.woke a c
-  own_out {s} {t} {r} {old} {new} a b c same first whole =
-      let own = subst (λ (u : Ticket). (turn : ClaimedTurn u r old new) × ActsLeft made u r 2 false turn.woke b c) same whole in
-      (own.0, false, out_first t r own.0.woke a b c own.0.held first own.1)
-
-  pub none_out : (t : Ticket) (old new : Own) (a b c : S) → made act.TakeOut t.slot a b
-      → (turn : ClaimedTurn t (Ok worked.Gone) old new) × AreMade made t.slot (act.Discard ∷ leaving turn.woke) b c
-      → (turn : ClaimedTurn t (Ok worked.Gone) old new) × (other : Bool) × ActsLeft made t (Ok worked.Gone) 1 other turn.woke a c
-  none_out t old new a b c first whole = (whole.0, false, (b, first, whole.1))
-
-  pub other_out : (s t : Ticket) (old new : Own) (a b c d : S) → s ≡ t → made act.TakeOut t.slot a b → made act.PutIn s.slot b c
-      → (turn : ClaimedTurn t (Ok worked.Gone) old new) × AreMade made t.slot (act.Discard ∷ leaving turn.woke) c d
-      → (turn : ClaimedTurn t (Ok worked.Gone) old new) × (other : Bool) × ActsLeft made t (Ok worked.Gone) 1 other turn.woke a d
-  other_out s t old new a b c d same first then whole = (whole.0, true, (b, first, (c, subst (λ (u : Ticket). made act.PutIn u.slot b c) same then, whole.1)))
+  own_out {t = t} {r = r} a b c same first whole = let own = rw same at whole in (own.0, false, out_first t r own.0.woke a b c own.0.held first own.1)
 
   -- without one, the notes were thrown away, and the slot was released
-  pub given_up : (t : Ticket) (notes : ℕ) (a b c : Own) (from mid to : S) → Adds t.slot (Take notes ∷ []) a.seat b.seat → tickets_out b ≡ tickets_out a
-      → slots_out b ≡ slots_out a → TookNothing a b → made act.Discard t.slot from mid → (left : LeftSlot t b c) × AreMade made t.slot (leaving left.woke) mid to
+  pub given_up : (t : Ticket) (notes : ℕ) {a b c : Own} (from mid to : S) → Adds t.slot (Take notes ∷ []) a.seat b.seat → Still a b → made act.Discard t.slot from mid
+      → (left : LeftSlot t b c) × AreMade made t.slot (leaving left.woke) mid to
       → (turn : ClaimedTurn t (Ok worked.Gone) a c) × AreMade made t.slot (act.Discard ∷ leaving turn.woke) from to
-  given_up t notes a b c from mid to adds tickets slots took first whole =
-      let left = whole.0 in
+  given_up t notes {b = b} {c = c} from mid to adds same first (left, then) =
       let done : TurnDone t (Release left.woke ∷ []) (Ok worked.Gone) b c =
-      record { seat = left.done.seat; tickets = left.done.tickets; slots = left.done.slots; took = left.done.took } in (
-        record {
-          noted = notes;
-          woke = left.woke;
-          held = tt;
-          done = done_after t (Take notes ∷ []) (Release left.woke ∷ []) (Ok worked.Gone) a b c adds refl tickets slots took done;
-        },
-        (mid, first, whole.1),
-      )
+      record { seat = left.done.seat; tickets = left.done.tickets; slots = left.done.slots; took = left.done.took } in
+      (record { noted = notes; woke = left.woke; held = tt; done = done_after (Take notes ∷ []) adds refl same done }, (mid, first, then))
 
   -- the release woke, and the ticket was put; or it did not
 
-  pub left_put : (t : Ticket) (a d e : Own) (s : SeatState) (from mid last to : S) → e ≡ d → to ≡ last → Adds t.slot (Release true ∷ []) a.seat s → d.seat ≡ s
+  pub left_put : (t : Ticket) {a d e : Own} {s : SeatState} (from mid last to : S) → e ≡ d → to ≡ last → Adds t.slot (Release true ∷ []) a.seat s → d.seat ≡ s
       → KeepsTicket t d.ready.history d.hand → Inserted t (tickets_out a) (tickets_out d) → d.ready.history.taken ≡ a.ready.history.taken → d.free ≡ a.free
       → d.hand.slots ≡ a.hand.slots → made act.Release t.slot from mid → made act.PutTicket t.slot mid last
       → (left : LeftSlot t a e) × AreMade made t.slot (leaving left.woke) from to
-  left_put t a d e s from mid last to e_is to_is adds seat kept inserted taken free slots first then =
-      subst (λ (o : Own). (left : LeftSlot t a o) × AreMade made t.slot (leaving left.woke) from to) (sym e_is)
-      (subst (λ (x : S). (left : LeftSlot t a d) × AreMade made t.slot (leaving left.woke) from x) (sym to_is) (
-        record {
-          woke = true;
-          quiet = λ is. absurd (false≢true (sym is));
-          done = record {
-            seat = subst (λ (q : SeatState). Adds t.slot (Release true ∷ []) a.seat q) (sym seat) adds;
-            tickets = record { kept = kept; tickets = inserted };
-            slots = ap (λ (q : EndState ℕ). outgoing q.history d.hand.slots) free ∙ ap (λ (xs : List ℕ). outgoing a.free.history xs) slots;
-            took = record { tickets = taken; slots = ap (λ (q : EndState ℕ). q.history.taken) free };
-          };
-        },
-        (mid, first, (last, then, refl)),
-      ))
+  left_put t from mid last to e_is to_is adds seat kept inserted taken free slots first then = rw (e_is, to_is) (
+    record {
+      woke = true;
+      quiet = λ is. absurd (false≢true (sym is));
+      done = record {
+        seat = rw seat adds;
+        tickets = record { kept = kept; tickets = inserted };
+        slots = rw (free, slots);
+        took = record { tickets = taken; slots = rw free };
+      };
+    },
+    (mid, first, (last, then, refl)),
+  )
 
-  pub left_quiet : (t : Ticket) (a e : Own) (s : SeatState) (from mid to : S) → e ≡ record a { seat = s } → to ≡ mid → Adds t.slot (Release false ∷ []) a.seat s
+  pub left_quiet : (t : Ticket) {a e : Own} {s : SeatState} (from mid to : S) → e ≡ record a { seat = s } → to ≡ mid → Adds t.slot (Release false ∷ []) a.seat s
       → (account_at a.seat t.slot).known ≡ 0 → made act.Release t.slot from mid → (left : LeftSlot t a e) × AreMade made t.slot (leaving left.woke) from to
-  left_quiet t a e s from mid to e_is to_is adds known first =
-      subst (λ (o : Own). (left : LeftSlot t a o) × AreMade made t.slot (leaving left.woke) from to) (sym e_is)
-      (subst (λ (x : S). (left : LeftSlot t a (record a { seat = s })) × AreMade made t.slot (leaving left.woke) from x) (sym to_is) (
-        record {
-          woke = false;
-          quiet = λ is. known;
-          done = record { seat = adds; tickets = refl; slots = refl; took = record { tickets = refl; slots = refl } };
-        },
-        (mid, first, refl),
-      ))
+  left_quiet t from mid to e_is to_is adds known first = rw (e_is, to_is) (
+    record {
+      woke = false;
+      quiet = λ is. known;
+      done = record { seat = adds; tickets = refl; slots = refl; took = record { tickets = refl; slots = refl } };
+    },
+    (mid, first, refl),
+  )
 
   -- the connection was put in before the slot was left
+
+  put_before : (t : Ticket) (r : Result Worked ServerFault) {old new : Own} (a b c : S) → IfOk r (λ w. w ≡ worked.Again) → made act.PutIn t.slot a b
+      → (turn : TurnEnd t r old new) × ActsLeft made t r 4 false turn.woke b c → (turn : TurnEnd t r old new) × ActsLeft made t r 3 false turn.woke a c
+  put_before t (Ok worked.Again) a b c is first own = (own.0, (b, first, own.1))
+  put_before t (Err fault) a b c is first own = (own.0, (b, first, own.1))
+  put_before t _ a b c is first own = absurd (cc)
+
   pub put_first : {s t : Ticket} {r : Result Worked ServerFault} {old new : Own} (a b c : S) → s ≡ t → IfOk r (λ w. w ≡ worked.Again) → made act.PutIn t.slot a b
       → (turn : TurnEnd s r old new) × ActsLeft made s r 4 false turn.woke b c → (turn : TurnEnd t r old new) × ActsLeft made t r 3 false turn.woke a c
-  put_first {s} {t} {r} {old} {new} a b c same is first whole =
-      by_answer r is (subst (λ (u : Ticket). (turn : TurnEnd u r old new) × ActsLeft made u r 4 false turn.woke b c) same whole)
-    where
-      by_answer : (q : Result Worked ServerFault) → IfOk q (λ w. w ≡ worked.Again) → (turn : TurnEnd t q old new) × ActsLeft made t q 4 false turn.woke b c
-          → (turn : TurnEnd t q old new) × ActsLeft made t q 3 false turn.woke a c
-      by_answer (Ok worked.Busy) is own = absurd (cc)
-      by_answer (Ok worked.Gone) is own = absurd (cc)
-      by_answer (Ok worked.Ended) is own = absurd (cc)
-      by_answer (Ok worked.Again) is own = (own.0, (b, first, own.1))
-      by_answer (Ok worked.Quiet) is own = absurd (cc)
-      by_answer (Err fault) is own = (own.0, (b, first, own.1))
+  put_first {t = t} {r = r} a b c same is first whole = put_before t r a b c is first (rw same at whole)
 
   pub quiet_put : {s t : Ticket} {old new : Own} (a b c : S) → s ≡ t → made act.PutIn t.slot a b
       → (left : LeftSlot s old new) × AreMade made s.slot (leaving left.woke) b c
       → (turn : TurnEnd t (Ok worked.Quiet) old new) × ActsLeft made t (Ok worked.Quiet) 4 false turn.woke a c
-  quiet_put {s} {t} {old} {new} a b c same first whole =
+  quiet_put {t = t} {old = old} {new = new} a b c same first whole =
       let own = subst (λ (u : Ticket). (left : LeftSlot u old new) × AreMade made u.slot (leaving left.woke) b c) same whole in
       (record { woke = own.0.woke; held = tt; done = own.0.done }, (b, first, own.1))
 
   pub settled_first : {s t : Ticket} {old new : Own} (a b c : S) → s ≡ t → made act.Settle t.slot a b
       → (turn : TurnEnd s (Ok worked.Quiet) old new) × ActsLeft made s (Ok worked.Quiet) 4 false turn.woke b c
       → (turn : TurnEnd t (Ok worked.Quiet) old new) × ActsLeft made t (Ok worked.Quiet) 3 false turn.woke a c
-  settled_first {s} {t} {old} {new} a b c same first whole =
+  settled_first {old = old} {new = new} a b c same first whole =
       let own = subst (λ (u : Ticket). (turn : TurnEnd u (Ok worked.Quiet) old new) × ActsLeft made u (Ok worked.Quiet) 4 false turn.woke b c) same whole in
       (own.0, (b, first, own.1))
 
--- the notes were taken, and then the turn came to its end
-pub played_then : {S : Type 0} (made : Act → ℕ → S → S → Type 0) (from mid to : S) {a b c : Own} {s t : Ticket} {r : Result Worked ServerFault} {notes : ℕ}
-    → (end : TurnEnd s r b c) × ActsLeft made s r 3 false end.woke mid to
-    → s ≡ t → HasPlayed r → made act.TakeNotes t.slot from mid → Adds t.slot (Take notes ∷ []) a.seat b.seat → tickets_out b ≡ tickets_out a → slots_out b ≡ slots_out a
-    → TookNothing a b → (turn : ClaimedTurn t r a c) × ActsLeft made t r 2 false turn.woke from to
-played_then {S} made from mid to {a} {b} {c} {s} {t} {r} {notes} whole same played first adds tickets slots took =
-    let own = subst (λ (u : Ticket). (end : TurnEnd u r b c) × ActsLeft made u r 3 false end.woke mid to) same whole in (
-      record {
-        noted = notes;
-        woke = own.0.woke;
-        held = own.0.held;
-        done = subst (λ (es : List Exchange). TurnDone t es r a c) (take_first r notes own.0.woke own.0.held)
-            (done_after t (Take notes ∷ []) (drop 2 (program r 0 0 own.0.woke)) r a b c adds refl tickets slots took own.0.done);
-      },
-      notes_first made t r own.0.woke from mid to played first own.1,
-    )
+  -- the notes were taken, and then the turn came to its end
+  pub played_then : (from mid to : S) {a b c : Own} {s t : Ticket} {r : Result Worked ServerFault} {notes : ℕ}
+      → (end : TurnEnd s r b c) × ActsLeft made s r 3 false end.woke mid to
+      → s ≡ t → HasPlayed r → made act.TakeNotes t.slot from mid → Adds t.slot (Take notes ∷ []) a.seat b.seat → Still a b
+      → (turn : ClaimedTurn t r a c) × ActsLeft made t r 2 false turn.woke from to
+  played_then from mid to {t = t} {r = r} {notes = notes} whole is played first adds same =
+      let own = rw is at whole in (
+        record {
+          noted = notes;
+          woke = own.0.woke;
+          held = own.0.held;
+          done = rw (take_first r notes own.0.woke own.0.held) at (done_after (Take notes ∷ []) adds refl same own.0.done);
+        },
+        notes_first t r own.0.woke from mid to played first own.1,
+      )
 
--- the slot was claimed, and then the turn went on
-pub claimed_then : {S : Type 0} (made : Act → ℕ → S → S → Type 0) (from mid to : S) (words : ℕ) (t : Ticket) (r : Result Worked ServerFault) (found : ℕ) (a b c : Own)
-    → t.slot < words → made act.Claim t.slot from mid → Adds t.slot (Held found ∷ []) a.seat b.seat → tickets_out b ≡ tickets_out a → slots_out b ≡ slots_out a
-    → TookNothing a b → (claimed : ClaimedTurn t r b c) × (other : Bool) × ActsLeft made t r 1 other claimed.woke mid to → TurnInOrder made words t r a c from to
-claimed_then made from mid to words t r found a b c within first adds tickets slots took whole =
-    let claimed = whole.0 in (
-      record {
-        exchanges = Held found ∷ drop 1 (program r 0 claimed.noted claimed.woke);
-        are = record {
-          found = found;
-          noted = claimed.noted;
-          woke = claimed.woke;
-          inside = λ lt. claim_first r found claimed.noted claimed.woke claimed.held;
-          outside = λ past. absurd (omega arith);
-        };
-        done = done_after t (Held found ∷ []) (drop 1 (program r 0 claimed.noted claimed.woke)) r a b c adds refl tickets slots took claimed.done;
+  -- the slot was claimed, and then the turn went on
+  pub claimed_then : (from mid to : S) {words : ℕ} {t : Ticket} (r : Result Worked ServerFault) {found : ℕ} {a b c : Own} → t.slot < words → made act.Claim t.slot from mid
+      → Adds t.slot (Held found ∷ []) a.seat b.seat → Still a b
+      → (claimed : ClaimedTurn t r b c) × (other : Bool) × ActsLeft made t r 1 other claimed.woke mid to → TurnInOrder made words t r a c from to
+  claimed_then from mid to {t = t} r {found = found} within first adds same (claimed, other, then) = (
+    record {
+      exchanges = Held found ∷ drop 1 (program r 0 claimed.noted claimed.woke);
+      are = record {
+        found = found;
+        noted = claimed.noted;
+        woke = claimed.woke;
+        inside = λ lt. claim_first r found claimed.noted claimed.woke claimed.held;
         outside = λ past. absurd (omega arith);
-      },
-      λ lt. (whole.1, claimed_first made t r whole.1 claimed.woke from mid to first whole.2),
-      λ past. absurd (omega arith),
-    )
+      };
+      done = done_after (Held found ∷ []) adds refl same claimed.done;
+      outside = λ past. absurd (omega arith);
+    },
+    λ lt. (other, claimed_first t r other claimed.woke from mid to first then),
+    λ past. absurd (omega arith),
+  )
 
--- the slot was held by another
-pub busy_made : {S : Type 0} (made : Act → ℕ → S → S → Type 0) (from to : S) (words : ℕ) (t : Ticket) (a b : Own) → t.slot < words → made act.Claim t.slot from to
-    → Adds t.slot (Busy ∷ []) a.seat b.seat → tickets_out b ≡ tickets_out a → slots_out b ≡ slots_out a
-    → TookNothing a b → TurnInOrder made words t (Ok worked.Busy) a b from to
-busy_made made from to words t a b within first adds tickets slots took = (
-  record {
-    exchanges = Busy ∷ [];
-    are = record { found = 0; noted = 0; woke = false; inside = λ lt. refl; outside = λ past. absurd (omega arith) };
-    done = record { seat = adds; tickets = tickets; slots = slots; took = took };
-    outside = λ past. absurd (omega arith);
-  },
-  λ lt. (false, (to, first, refl)),
-  λ past. absurd (omega arith),
-)
+  -- the slot was held by another
+  pub busy_made : (from to : S) {words : ℕ} {t : Ticket} {a b : Own} → t.slot < words → made act.Claim t.slot from to → Adds t.slot (Busy ∷ []) a.seat b.seat → Still a b
+      → TurnInOrder made words t (Ok worked.Busy) a b from to
+  busy_made from to within first adds same = (
+    record {
+      exchanges = Busy ∷ [];
+      are = record { found = 0; noted = 0; woke = false; inside = λ lt. refl; outside = λ past. absurd (omega arith) };
+      done = record { seat = adds; tickets = same.tickets; slots = same.slots; took = same.took };
+      outside = λ past. absurd (omega arith);
+    },
+    λ lt. (false, (to, first, refl)),
+    λ past. absurd (omega arith),
+  )
 
--- the claim words lack the slot
-pub none_made : {S : Type 0} (made : Act → ℕ → S → S → Type 0) (from : S) (words : ℕ) (t : Ticket) (a : Own) → words ≤ t.slot
-    → TurnInOrder made words t (Ok worked.Gone) a a from from
-none_made made from words t a past = (
-  record {
-    exchanges = [];
-    are = record { found = 0; noted = 0; woke = false; inside = λ lt. absurd (omega arith); outside = λ gone. (refl, refl) };
-    done = record { seat = adds_none t.slot a.seat; tickets = refl; slots = refl; took = record { tickets = refl; slots = refl } };
-    outside = λ gone. refl;
-  },
-  λ lt. absurd (omega arith),
-  λ gone. refl,
-)
+  -- the claim words lack the slot
+  pub none_made : (from : S) {words : ℕ} {t : Ticket} {a : Own} → words ≤ t.slot → TurnInOrder made words t (Ok worked.Gone) a a from from
+  none_made from {t = t} {a = a} past = (
+    record {
+      exchanges = [];
+      are = record { found = 0; noted = 0; woke = false; inside = λ lt. absurd (omega arith); outside = λ gone. (refl, refl) };
+      done = record { seat = adds_none t.slot a.seat; tickets = refl; slots = refl; took = record { tickets = refl; slots = refl } };
+      outside = λ gone. refl;
+    },
+    λ lt. absurd (omega arith),
+    λ gone. refl,
+  )
 
--- nothing but what is in hand was put before the turn
-pub made_after : {S : Type 0} (made : Act → ℕ → S → S → Type 0) (from to : S) (words : ℕ) (t : Ticket) (r : Result Worked ServerFault) (a b c : Own) → b.seat ≡ a.seat
-    → tickets_out b ≡ tickets_out a → slots_out b ≡ slots_out a → TookNothing a b → TurnInOrder made words t r b c from to → TurnInOrder made words t r a c from to
-made_after made from to words t r a b c same tickets slots took whole =
-    let turn = whole.0 in (
-      record {
-        exchanges = turn.exchanges;
-        are = turn.are;
-        done = record {
-          seat = subst (λ (s : SeatState). Adds t.slot turn.exchanges s c.seat) same turn.done.seat;
-          tickets = tickets_after t (minted_by turn.exchanges) a b c tickets turn.done.tickets;
-          slots = slots_after t r a b c slots turn.done.slots;
-          took = record { tickets = turn.done.took.tickets ∙ took.tickets; slots = turn.done.took.slots ∙ took.slots };
-        };
-        outside = λ past. turn.outside past ∙ same;
-      },
-      whole.1,
-      whole.2,
-    )
+  -- nothing but what is in hand was put before the turn
+  pub made_after : (from to : S) {words : ℕ} {t : Ticket} (r : Result Worked ServerFault) {a b c : Own} → b.seat ≡ a.seat → Still a b → TurnInOrder made words t r b c from to
+      → TurnInOrder made words t r a c from to
+  made_after from to {t = t} r {a} {b} {c} seat same (turn, inside, outside) = (
+    record {
+      exchanges = turn.exchanges;
+      are = turn.are;
+      done = record {
+        seat = rw seat at turn.done.seat;
+        tickets = tickets_after t (minted_by turn.exchanges) a b c same.tickets turn.done.tickets;
+        slots = slots_after t r a b c same.slots turn.done.slots;
+        took = took_both same.took turn.done.took;
+      };
+      outside = λ past. turn.outside past ∙ seat;
+    },
+    inside,
+    outside,
+  )
+
+  -- the connection was closed, and the slot retired and given back
+  pub end_of : (from over past to : S) (t : Ticket) (a b : Own) → made act.Close t.slot from over → made act.Retire t.slot over past
+      → AreMade made t.slot (giving (nat_lt t.generation last_generation)) past to → Adds t.slot (Retire ∷ []) a.seat b.seat → SlotGiven t a b
+      → b.free.history.taken ≡ a.free.history.taken → b.ready ≡ a.ready → b.hand.tickets ≡ a.hand.tickets
+      → (turn : TurnEnd t (Ok worked.Ended) a b) × ActsLeft made t (Ok worked.Ended) 3 false turn.woke from to
+  end_of from over past to t a b closed retired gives adds given took ready tickets = (
+    record {
+      woke = false;
+      held = tt;
+      done = record { seat = adds; tickets = rw (ready, tickets); slots = given; took = record { tickets = rw ready; slots = took } };
+    },
+    (over, closed, (past, retired, gives)),
+  )
+
+  -- the release of who has just posted makes the ticket
+  due_again : (from mid to : S) (t : Ticket) {a b c : Own} → made act.Post t.slot from mid → Adds t.slot (Post false ∷ []) a.seat b.seat → Holds a.seat t.slot → Still a b
+      → (left : LeftSlot t b c) × AreMade made t.slot (leaving left.woke) mid to
+      → (turn : TurnEnd t (Ok worked.Again) a c) × ActsLeft made t (Ok worked.Again) 4 false turn.woke from to
+  due_again from mid to t {a} {b} posted adds holds same (left, then) =
+      let due = woke_behind_post t.slot a.seat b.seat left.woke adds holds left.quiet in
+      let woken = rw due at (done_after (Post false ∷ []) adds refl same left.done) in (
+        record { woke = true; held = tt; done = record { seat = woken.seat; tickets = woken.tickets; slots = woken.slots; took = woken.took } },
+        (mid, posted, rw due at then),
+      )
+
+  pub posted_again : (from mid to : S) (t : Ticket) (r : Posted) {a b c : Own} → (r ≡ posted.Wake) ⊎ (r ≡ posted.Quiet)
+      → made act.Post t.slot from mid → PostChange t.slot a.seat r b.seat → Holds a.seat t.slot → Still a b
+      → (left : LeftSlot t b c) × AreMade made t.slot (leaving left.woke) mid to
+      → (turn : TurnEnd t (Ok worked.Again) a c) × ActsLeft made t (Ok worked.Again) 4 false turn.woke from to
+  posted_again from mid to t posted.Wake is first change holds same left = absurd (false≢true (sym change.1 ∙ holds))
+  posted_again from mid to t posted.Quiet is first change holds same left = due_again from mid to t first change holds same left
+  posted_again from mid to t posted.Worn (inl is) first change holds same left = absurd (cc)
+  posted_again from mid to t posted.Worn (inr is) first change holds same left = absurd (cc)
+
+  -- the seat was worn, and the slot was only released
+  pub left_worn : (from mid to : S) (t : Ticket) (fault : ServerFault) {a b c : Own} → made act.Post t.slot from mid → b.seat ≡ a.seat → Still a b
+      → (left : LeftSlot t b c) × AreMade made t.slot (leaving left.woke) mid to
+      → (turn : TurnEnd t (Err fault) a c) × ActsLeft made t (Err fault) 4 false turn.woke from to
+  left_worn from mid to t fault {a} {b} {c} first seat same (left, then) = (
+    record {
+      woke = left.woke;
+      held = tt;
+      done = record {
+        seat = rw seat at left.done.seat;
+        tickets = tickets_after t (minted_by (Release left.woke ∷ [])) a b c same.tickets left.done.tickets;
+        slots = left.done.slots ∙ same.slots;
+        took = took_both same.took left.done.took;
+      };
+    },
+    (mid, first, then),
+  )
+
+  -- a ticket was taken out of the hand before its turn
+  pub own_made : (from to : S) (words : ℕ) (t : Ticket) (r : Result Worked ServerFault) (old new : Own) (hand : HandState)
+      → hand ≡ record old.hand { tickets = drop 1 old.hand.tickets } → TurnInOrder made words t r (record old { hand = hand }) new from to
+      → TurnInOrder made words t r (without_first old) new from to
+  own_made from to words t r old new hand is whole = rw is at whole
+
+  -- what its order is, beside
+  without_order : (words : ℕ) (t : Ticket) (r : Result (Option Worked) ServerFault) (old new : Own) (from to : S)
+      → OwnTurnInOrder made words t r old new from to → OwnTurn words t r old new
+  without_order words t (Ok None) old new from to whole = whole.0
+  without_order words t (Ok (Some w)) old new from to whole = whole.0
+  without_order words t (Err fault) old new from to whole = whole.0
+
+  pub without_orders : (words : ℕ) (o : Option Ticket) (r : Result (Option Worked) ServerFault) (old new : Own) (from to : S)
+      → IfSome o (λ t. OwnTurnInOrder made words t r old new from to) → IfSome o (λ t. OwnTurn words t r old new)
+  without_orders words o r old new from to whole = IfSome_then o whole (λ t. without_order words t r old new from to)
 
 program_lets_go : (r : Result Worked ServerFault) (found noted : ℕ) (woke : Bool) (a : Account) → a.holds ≡ false → (after_all (program r found noted woke) a).holds ≡ false
 program_lets_go (Ok worked.Busy) found noted woke a none = none
-program_lets_go (Ok worked.Gone) found noted woke a none = refl
-program_lets_go (Ok worked.Ended) found noted woke a none = refl
-program_lets_go (Ok worked.Again) found noted woke a none = refl
-program_lets_go (Ok worked.Quiet) found noted woke a none = refl
-program_lets_go (Err fault) found noted woke a none = refl
+program_lets_go _ found noted woke a none = refl
 
 -- a turn ends with no slot held
-pub made_idle : (words : ℕ) (t : Ticket) (r : Result Worked ServerFault) (a b : Own) → TurnMade words t r a b → HoldsNothing a.seat → HoldsNothing b.seat
-made_idle words t r a b made nothing = by_test (nat_lt t.slot words) refl
+pub made_idle : {words : ℕ} {t : Ticket} {r : Result Worked ServerFault} {a b : Own} → TurnMade words t r a b → HoldsNothing a.seat → HoldsNothing b.seat
+made_idle {words} {t} {r} {a} {b} made nothing = by_test (nat_lt t.slot words) refl
   where
     by_test : (within : Bool) → nat_lt t.slot words ≡ within → HoldsNothing b.seat
     by_test true is = holds_nothing_again nothing made.done.seat.only (
         ap (λ (x : Account). x.holds) (account_after t.slot made.exchanges a.seat b.seat made.done.seat)
-        ∙ ap (λ (es : List Exchange). (after_all es (account_at a.seat t.slot)).holds) (made.are.inside (ltb-true t.slot words is))
-        ∙ program_lets_go r made.are.found made.are.noted made.are.woke (account_at a.seat t.slot) (nothing.nowhere t.slot))
-    by_test false is = subst (λ (s : SeatState). HoldsNothing s) (sym (made.outside (ltb-false t.slot words is))) nothing
+        ∙ rw (made.are.inside (ltb-true t.slot words is))
+        (program_lets_go r made.are.found made.are.noted made.are.woke (account_at a.seat t.slot) (nothing.nowhere t.slot)))
+    by_test false is = rw (made.outside (ltb-false t.slot words is)) nothing
 
 -- what the exit of a `?` returns
 pub err_is : {T E : Type 0} (r : Result T E) (e : E) → IsErrAnd r (λ y. y ≡ e) → r ≡ Err e
 err_is (Ok x) e is = absurd is
-err_is (Err y) e is = ap (λ x. Err x) is
-
-pub passed_up : {T E : Type 0} (r : Result T E) (e : E) (P : E → Type 0) → IsErrAnd r (λ y. y ≡ e) → P e → IfErr r P
-passed_up (Ok x) e P is p = tt
-passed_up (Err y) e P is p = subst P (sym is) p
+err_is (Err y) e is = rw is
 
 -- answers that differ
-pub err_not_ok : {T E : Type 0} (r : Result T E) (e : E) (x : T) → r ≡ Err e → r ≡ Ok x → ⊥
-err_not_ok r e x is other = cc
+pub err_not_ok : {T E : Type 0} {r : Result T E} {e : E} {x : T} → r ≡ Err e → r ≡ Ok x → ⊥
+err_not_ok is other = cc
 
 pub some_not_none : (w : Worked) → ◌≡◌ {A = Result (Option Worked) ServerFault} (Ok (Some w)) (Ok None) → ⊥
 some_not_none w is = cc
@@ -358,12 +370,6 @@ same_answer v w is = cc
 pub of_any : {T : Type 0} (o : Option T) (P : T → Type 0) → ((x : T) → P x) → IfSome o P
 of_any (Some x) P all = all x
 of_any None P all = tt
-
-pub of_first : {T : Type 0} (o : Option T) (x : T) (P : T → Type 0) → o ≡ Some x → P x → IfSome o P
-of_first {T} o x P is p = subst (λ (q : Option T). IfSome q P) (sym is) p
-
-pub of_none : {T : Type 0} (o : Option T) (P : T → Type 0) → o ≡ None → IfSome o P
-of_none {T} o P is = subst (λ (q : Option T). IfSome q P) (sym is) tt
 
 pub empty_is : (ts : List Ticket) → slice_get ts 0 ≡ None → ts ≡ []
 empty_is [] is = refl
@@ -378,167 +384,50 @@ pub no_room : (room : Bool) (slots capacity : ℕ) → (IsTrue room ↔ (slots <
 no_room room slots capacity is not = grind arith
 
 -- the turn was made, so there were a ticket and room
-pub ran : (own : Own) (t : Ticket) (room : Bool) → slice_get own.hand.tickets 0 ≡ Some t → (IsTrue room ↔ (length own.hand.slots < own.hand.capacity)) → room ≡ true → NoOwnTurn own
-    → ⊥
-ran own t room first is fits (inl empty) = none-some t (subst (λ (ts : List Ticket). slice_get ts 0 ≡ Some t) empty first)
-ran own t room first is fits (inr full) = let below = is.0 fits in omega arith
+pub ran : (own : Own) {t : Ticket} {room : Bool} → slice_get own.hand.tickets 0 ≡ Some t → (IsTrue room ↔ (length own.hand.slots < own.hand.capacity)) → room ≡ true
+    → NoOwnTurn own → ⊥
+ran own {t = t} first is fits (inl empty) = none-some t (rw empty at first)
+ran own first is fits (inr full) = let below = is.0 fits in omega arith
 
 -- the heavy marks
 pub marks_none : (o : Option Ticket) (heavy : List ℕ) → heavy ≡ marks_after o (Ok None) heavy
 marks_none (Some t) heavy = refl
 marks_none None heavy = refl
 
-pub marks_fault : (o : Option Ticket) (t : Ticket) (r : Result (Option Worked) ServerFault) (fault : ServerFault) (heavy : List ℕ)
-    → o ≡ Some t → r ≡ Err fault → heavy ≡ marks_after o r heavy
-marks_fault o t r fault heavy first is =
-    subst (λ (p : Option Ticket). heavy ≡ marks_after p r heavy) (sym first) (subst (λ (q : Result (Option Worked) ServerFault). heavy ≡ marks_after (Some t) q heavy) (sym is)
-    refl)
-
-pub own_made : {S : Type 0} (made : Act → ℕ → S → S → Type 0) (from to : S) (words : ℕ) (t : Ticket) (r : Result Worked ServerFault) (old new : Own) (hand : HandState)
-    → hand ≡ record old.hand { tickets = drop 1 old.hand.tickets } → TurnInOrder made words t r (record old { hand = hand }) new from to
-    → TurnInOrder made words t r (without_first old) new from to
-own_made made from to words t r old new hand is whole = subst (λ (h : HandState). TurnInOrder made words t r (record old { hand = h }) new from to) is whole
-
--- what its order is, beside
-pub without_order : {S : Type 0} (made : Act → ℕ → S → S → Type 0) (words : ℕ) (t : Ticket) (r : Result (Option Worked) ServerFault) (old new : Own) (from to : S)
-    → OwnTurnInOrder made words t r old new from to → OwnTurn words t r old new
-without_order made words t (Ok None) old new from to whole = whole.0
-without_order made words t (Ok (Some w)) old new from to whole = whole.0
-without_order made words t (Err fault) old new from to whole = whole.0
-
-pub without_orders : {S : Type 0} (made : Act → ℕ → S → S → Type 0) (words : ℕ) (o : Option Ticket) (r : Result (Option Worked) ServerFault) (old new : Own) (from to : S)
-    → IfSome o (λ t. OwnTurnInOrder made words t r old new from to) → IfSome o (λ t. OwnTurn words t r old new)
-without_orders made words (Some t) r old new from to whole = without_order made words t r old new from to whole
-without_orders made words None r old new from to whole = tt
-
--- the test whether the connection has ended
-pub ended_is : (w : Worked) (is_ended : Bool) → is_ended ≡ sameb the_type w worked.Ended → is_ended ≡ true → w ≡ worked.Ended
-ended_is worked.Busy b test is = absurd (cc)
-ended_is worked.Gone b test is = absurd (cc)
-ended_is worked.Ended b test is = refl
-ended_is worked.Again b test is = absurd (cc)
-ended_is worked.Quiet b test is = absurd (cc)
-
-pub not_ended : (w : Worked) (is_ended : Bool) → is_ended ≡ sameb the_type w worked.Ended → is_ended ≡ false
-    → ◌≡◌ {A = Result Worked ServerFault} (Ok w) (Ok worked.Ended) → ⊥
-not_ended w b test is same =
-    let ended : w ≡ worked.Ended = cc in
-    let tested : b ≡ true = test ∙ ap (λ (v : Worked). sameb the_type v worked.Ended) ended in
-    cc
-
--- the test whether a release woke
-pub wake_is : (r : Released) (wakes : Bool) → wakes ≡ sameb released_type r released.Wake → wakes ≡ true → r ≡ released.Wake
-wake_is released.Wake b test is = refl
-wake_is released.Quiet b test is = absurd (cc)
-
-pub quiet_is : (r : Released) (wakes : Bool) → wakes ≡ sameb released_type r released.Wake → wakes ≡ false → r ≡ released.Quiet
-quiet_is released.Wake b test is = absurd (cc)
-quiet_is released.Quiet b test is = refl
-
 -- the slot stays held, and is worked on still
-pub still_working : (claims : TableId) (slot : ℕ) (es : List Exchange) (a b : Own) → AtWork claims slot a → Adds slot es a.seat b.seat
+pub still_working : {claims : TableId} {slot : ℕ} {a b : Own} (es : List Exchange) → AtWork claims slot a → Adds slot es a.seat b.seat
     → (after_all es (account_at a.seat slot)).holds ≡ (account_at a.seat slot).holds → b.hand ≡ a.hand → AtWork claims slot b
-still_working claims slot es a b work adds same hand = record {
+still_working {slot = slot} {a = a} {b = b} es work adds same hand = record {
   same = adds.only.table ∙ work.same;
   inside = work.inside;
   holder = holds_still slot es a.seat b.seat adds work.holder same;
-  room = subst (λ (h : HandState). HasRoom h) (sym hand) work.room;
+  room = rw hand work.room;
 }
 
 -- the slot of a seat that held nothing was claimed
-pub work_begins : (claims : TableId) (slot found : ℕ) (a b : Own) → a.seat.table ≡ claims → HoldsNothing a.seat → HasRoom a.hand → slot < claims.words
+pub work_begins : (a : Own) {claims : TableId} {slot found : ℕ} {b : Own} → a.seat.table ≡ claims → HoldsNothing a.seat → HasRoom a.hand → slot < claims.words
     → Adds slot (Held found ∷ []) a.seat b.seat → b.hand ≡ a.hand → AtWork claims slot b
-work_begins claims slot found a b same nothing room inside adds hand = record {
+work_begins a {slot = slot} {found = found} {b = b} same nothing room inside adds hand = record {
   same = adds.only.table ∙ same;
   inside = inside;
   holder = holds_from slot (Held found ∷ []) a.seat b.seat adds nothing refl;
-  room = subst (λ (h : HandState). HasRoom h) (sym hand) room;
+  room = rw hand room;
 }
 
--- the connection was closed, and the slot retired and given back
-pub end_of : {S : Type 0} (made : Act → ℕ → S → S → Type 0) (from over past to : S) (t : Ticket) (a b : Own) → made act.Close t.slot from over → made act.Retire t.slot over past
-    → AreMade made t.slot (giving (nat_lt t.generation last_generation)) past to
-    → Adds t.slot (Retire ∷ []) a.seat b.seat → SlotGiven t a b → b.free.history.taken ≡ a.free.history.taken → b.ready ≡ a.ready
-    → b.hand.tickets ≡ a.hand.tickets → (turn : TurnEnd t (Ok worked.Ended) a b) × ActsLeft made t (Ok worked.Ended) 3 false turn.woke from to
-end_of made from over past to t a b closed retired gives adds given took ready tickets = (
-  record {
-    woke = false;
-    held = tt;
-    done = record {
-      seat = adds;
-      tickets = ap (λ (q : EndState Ticket). outgoing q.history b.hand.tickets) ready ∙ ap (λ (ts : List Ticket). outgoing a.ready.history ts) tickets;
-      slots = given;
-      took = record { tickets = ap (λ (q : EndState Ticket). q.history.taken) ready; slots = took };
-    };
-  },
-  (over, closed, (past, retired, gives)),
-)
-
 -- so it is after a post
-pub still_posting : (claims : TableId) (slot : ℕ) (r : Posted) (a b : Own) → AtWork claims slot a → PostChange slot a.seat r b.seat → b.hand ≡ a.hand → AtWork claims slot b
-still_posting claims slot r a b work change hand = record {
+pub still_posting : {claims : TableId} {slot : ℕ} {a b : Own} (r : Posted) → AtWork claims slot a → PostChange slot a.seat r b.seat → b.hand ≡ a.hand → AtWork claims slot b
+still_posting {slot = slot} {a = a} {b = b} r work change hand = record {
   same = (only_at_post slot a.seat b.seat r change).table ∙ work.same;
   inside = work.inside;
   holder = holds_behind_post slot r a.seat b.seat work.holder change;
-  room = subst (λ (h : HandState). HasRoom h) (sym hand) work.room;
+  room = rw hand work.room;
 }
 
--- the release of who has just posted makes the ticket
-due_again : {S : Type 0} (made : Act → ℕ → S → S → Type 0) (from mid to : S) (t : Ticket) (a b c : Own) → made act.Post t.slot from mid
-    → Adds t.slot (Post false ∷ []) a.seat b.seat → Holds a.seat t.slot → tickets_out b ≡ tickets_out a → slots_out b ≡ slots_out a
-    → TookNothing a b → (left : LeftSlot t b c) × AreMade made t.slot (leaving left.woke) mid to
-    → (turn : TurnEnd t (Ok worked.Again) a c) × ActsLeft made t (Ok worked.Again) 4 false turn.woke from to
-due_again made from mid to t a b c posted adds holds tickets slots took whole =
-    let left = whole.0 in
-    let due = woke_behind_post t.slot a.seat b.seat left.woke adds holds left.quiet in
-    let done = done_after t (Post false ∷ []) (Release left.woke ∷ []) (Ok worked.Quiet) a b c adds refl tickets slots took left.done in
-    let woken : TurnDone t (Post false ∷ Release true ∷ []) (Ok worked.Quiet) a c = subst (λ (w : Bool). TurnDone t (Post false ∷ Release w ∷ []) (Ok worked.Quiet) a c) due done in (
-      record { woke = true; held = tt; done = record { seat = woken.seat; tickets = woken.tickets; slots = woken.slots; took = woken.took } },
-      (mid, posted, subst (λ (w : Bool). AreMade made t.slot (leaving w) mid to) due whole.1),
-    )
-
-pub posted_again : {S : Type 0} (made : Act → ℕ → S → S → Type 0) (from mid to : S) (t : Ticket) (r : Posted) (a b c : Own) → (r ≡ posted.Wake) ⊎ (r ≡ posted.Quiet)
-    → made act.Post t.slot from mid → PostChange t.slot a.seat r b.seat → Holds a.seat t.slot
-    → tickets_out b ≡ tickets_out a → slots_out b ≡ slots_out a → TookNothing a b
-    → (left : LeftSlot t b c) × AreMade made t.slot (leaving left.woke) mid to
-    → (turn : TurnEnd t (Ok worked.Again) a c) × ActsLeft made t (Ok worked.Again) 4 false turn.woke from to
-posted_again made from mid to t posted.Wake a b c is first change holds tickets slots took left = absurd (false≢true (sym change.1 ∙ holds))
-posted_again made from mid to t posted.Quiet a b c is first change holds tickets slots took left = due_again made from mid to t a b c first change holds tickets slots took left
-posted_again made from mid to t posted.Worn a b c (inl is) first change holds tickets slots took left = absurd (cc)
-posted_again made from mid to t posted.Worn a b c (inr is) first change holds tickets slots took left = absurd (cc)
-
--- the seat was worn, and the slot was only released
-pub left_worn : {S : Type 0} (made : Act → ℕ → S → S → Type 0) (from mid to : S) (t : Ticket) (fault : ServerFault) (a b c : Own) → made act.Post t.slot from mid
-    → b.seat ≡ a.seat → tickets_out b ≡ tickets_out a → slots_out b ≡ slots_out a → TookNothing a b
-    → (left : LeftSlot t b c) × AreMade made t.slot (leaving left.woke) mid to
-    → (turn : TurnEnd t (Err fault) a c) × ActsLeft made t (Err fault) 4 false turn.woke from to
-left_worn made from mid to t fault a b c first same tickets slots took whole =
-    let left = whole.0 in (
-      record {
-        woke = left.woke;
-        held = tt;
-        done = record {
-          seat = subst (λ (s : SeatState). Adds t.slot (Release left.woke ∷ []) s c.seat) same left.done.seat;
-          tickets = tickets_after t (minted_by (Release left.woke ∷ [])) a b c tickets left.done.tickets;
-          slots = left.done.slots ∙ slots;
-          took = record { tickets = left.done.took.tickets ∙ took.tickets; slots = left.done.took.slots ∙ took.slots };
-        };
-      },
-      (mid, first, whole.1),
-    )
-
 -- while its connection is played the slot stays held
-pub still_at_work : (claims : TableId) (s t : Ticket) (a b : Own) → s ≡ t → AtWork claims t.slot a → HoldsOnly t.slot b.seat → OnlyAt t.slot a.seat b.seat → b.hand ≡ a.hand
+pub still_at_work : {claims : TableId} {s t : Ticket} {a b : Own} → s ≡ t → AtWork claims t.slot a → HoldsOnly t.slot b.seat → OnlyAt t.slot a.seat b.seat → b.hand ≡ a.hand
     → AtWork claims s.slot b
-still_at_work claims s t a b same work holder only hand = subst (λ (u : Ticket). AtWork claims u.slot b) (sym same) (record {
-  same = only.table ∙ work.same;
-  inside = work.inside;
-  holder = holder;
-  room = subst (λ (h : HandState). HasRoom h) (sym hand) work.room;
-})
-
-pub same_either : {A : Type 0} (x y a b : A) → x ≡ y → (x ≡ a) ⊎ (x ≡ b) → (y ≡ a) ⊎ (y ≡ b)
-same_either x y a b same is = subst (λ z. (z ≡ a) ⊎ (z ≡ b)) same is
+still_at_work same work holder only hand =
+    rw same (record { same = only.table ∙ work.same; inside = work.inside; holder = holder; room = rw hand work.room })
 
 -- This many of these were looked at, and this many have stayed. Whatever becomes of the rest, it is what becomes of all
 pub record SharedSoFar (all : List Ticket) (marks : List ℕ) (queue : EndState Ticket) (done stayed : ℕ) (hand : List Ticket) (heavy : List ℕ) (now : EndState Ticket) : Type 0 where
@@ -559,20 +448,15 @@ pub record OneMoved (stayed : ℕ) (heavy : List ℕ) (t : Ticket) (old : Own) (
 module _ (stayed : ℕ) (heavy : List ℕ) (t : Ticket) (old new : Own) (left : HandState) (then : ℕ) where
   pub kept_moves : (kept : Own) → IsLight heavy t → then ≡ stayed + 1 → new ≡ kept → kept.hand ≡ record left { tickets = left.tickets ++ t ∷ [] }
       → kept.ready ≡ old.ready → kept.seat ≡ old.seat → kept.free ≡ old.free → OneMoved stayed heavy t old left then new
-  kept_moves kept light more is hand ready seat free = subst (λ (o : Own). OneMoved stayed heavy t old left then o) (sym is) (record {
-    behind = t ∷ [];
-    one = inl (light, omega arith, refl, ready);
-    hand = hand;
-    seat = seat;
-    free = free;
-  })
+  kept_moves kept light more is hand ready seat free =
+      rw is (record { behind = t ∷ []; one = inl (light, omega arith, refl, ready); hand = hand; seat = seat; free = free })
 
   passed_of : (o : Own) → (Stays stayed heavy t → ⊥) → then ≡ stayed → Passed t (record old { hand = left }) o
       → o.seat ≡ old.seat → o.free ≡ old.free → OneMoved stayed heavy t old left then o
   passed_of o goes still (inl put) seat free = record {
     behind = [];
     one = inr (goes, still, inl (put.0, refl));
-    hand = put.1 ∙ ap (λ (ts : List Ticket). record left { tickets = ts }) (sym (append-nil left.tickets));
+    hand = rw append-nil put.1;
     seat = seat;
     free = free;
   }
@@ -586,8 +470,7 @@ module _ (stayed : ℕ) (heavy : List ℕ) (t : Ticket) (old new : Own) (left : 
 
   pub passed_moves : (o : Own) → (Stays stayed heavy t → ⊥) → then ≡ stayed → new ≡ o → Passed t (record old { hand = left }) o
       → o.seat ≡ old.seat → o.free ≡ old.free → OneMoved stayed heavy t old left then new
-  passed_moves o goes still is passed seat free =
-      subst (λ (p : Own). OneMoved stayed heavy t old left then p) (sym is) (passed_of o goes still passed seat free)
+  passed_moves o goes still is passed seat free = rw is (passed_of o goes still passed seat free)
 
 module _ (all : List Ticket) (marks : List ℕ) (queue : EndState Ticket) (done stayed : ℕ) (heavy : List ℕ) (now : EndState Ticket) (t : Ticket)
     (then : ℕ) (behind : List Ticket) (next : EndState Ticket) (one : OneShared stayed heavy t now then behind next) where
@@ -598,11 +481,9 @@ module _ (all : List Ticket) (marks : List ℕ) (queue : EndState Ticket) (done 
   one_more rest kept left is count whole = record {
     rest = rest;
     kept = kept ++ behind;
-    is = ap (λ (ts : List Ticket). ts ++ behind) is ∙ append_assoc rest kept behind;
+    is = rw is (append_assoc rest kept behind);
     left = omega arith;
-    whole = λ last left end given.
-        subst (λ (ts : List Ticket). AreShared 0 marks all queue ts left end) (sym (append_assoc kept behind last))
-        (whole (behind ++ last) left end (then, behind, next, last, one, refl, given));
+    whole = λ last left end given. rw append_assoc (whole (behind ++ last) left end (then, behind, next, last, one, refl, given));
   }
 
   one_of : (rest kept hand left : List Ticket) → hand ≡ rest ++ kept → slice_get hand 0 ≡ Some t → left ≡ drop 1 hand → length rest + done ≡ length all → done < length all
@@ -610,10 +491,8 @@ module _ (all : List Ticket) (marks : List ℕ) (queue : EndState Ticket) (done 
       → SharedSoFar all marks queue (done + 1) then (left ++ behind) (looked_at t.slot heavy) next
   one_of [] kept hand left is first taken count more whole = absurd (omega arith)
   one_of (x ∷ rest) kept hand left is first taken count more whole =
-      let same : x ≡ t = same_Some x t (ap (λ (ts : List Ticket). slice_get ts 0) (sym is) ∙ first) in
-      one_more rest kept left (taken ∙ ap (λ (ts : List Ticket). drop 1 ts) is) count
-      (subst (λ (y : Ticket). (last : List Ticket) (left : List ℕ) (end : EndState Ticket) → AreShared stayed heavy (y ∷ rest) now last left end
-      → AreShared 0 marks all queue (kept ++ last) left end) same whole)
+      let same : x ≡ t = same_Some x t (rw is at first) in
+      one_more rest kept left (taken ∙ rw is) count (rw same at whole)
 
 pub shared_more : (all : List Ticket) (marks : List ℕ) (queue : EndState Ticket) (done stayed : ℕ) (heavy less : List ℕ) (t : Ticket) (old new : Own) (left : HandState) (then : ℕ)
     → SharedSoFar all marks queue done stayed old.hand.tickets heavy old.ready → done < length all
@@ -621,17 +500,15 @@ pub shared_more : (all : List Ticket) (marks : List ℕ) (queue : EndState Ticke
     → OneMoved stayed heavy t old left then new
     → SharedSoFar all marks queue (done + 1) then new.hand.tickets less new.ready
 shared_more all marks queue done stayed heavy less t old new left then so_far more first taken looked moved =
-    subst (λ (h : List ℕ). SharedSoFar all marks queue (done + 1) then new.hand.tickets h new.ready) (sym looked)
-    (subst (λ (ts : List Ticket). SharedSoFar all marks queue (done + 1) then ts (looked_at t.slot heavy) new.ready) (sym (ap (λ (h : HandState). h.tickets) moved.hand))
-    (one_of all marks queue done stayed heavy old.ready t then moved.behind new.ready moved.one
-    so_far.rest so_far.kept old.hand.tickets left.tickets so_far.is first taken so_far.left more so_far.whole))
+    rw (looked, moved.hand) (one_of all marks queue done stayed heavy old.ready t then moved.behind new.ready moved.one
+    so_far.rest so_far.kept old.hand.tickets left.tickets so_far.is first taken so_far.left more so_far.whole)
 
 -- nothing was taken out of the queue
 pub took_none : (stayed : ℕ) (heavy : List ℕ) (t : Ticket) (old : EndState Ticket) (then : ℕ) (behind : List Ticket) (new : EndState Ticket)
     → OneShared stayed heavy t old then behind new → new.history.taken ≡ old.history.taken
-took_none stayed heavy t old then behind new (inl stays) = ap (λ (q : EndState Ticket). q.history.taken) stays.3
-took_none stayed heavy t old then behind new (inr (goes, still, inl put)) = ap (λ (h : History Ticket). h.taken) put.0.put.put
-took_none stayed heavy t old then behind new (inr (goes, still, inr refused)) = ap (λ (q : EndState Ticket). q.history.taken) refused.0.same
+took_none stayed heavy t old then behind new (inl stays) = rw stays.3
+took_none stayed heavy t old then behind new (inr (goes, still, inl put)) = rw put.0.put.put
+took_none stayed heavy t old then behind new (inr (goes, still, inr refused)) = rw refused.0.same
 
 -- nothing is left to look at
 all_of : (all : List Ticket) (marks : List ℕ) (queue : EndState Ticket) (done stayed : ℕ) (hand : List Ticket) (heavy : List ℕ) (now : EndState Ticket) (rest kept : List Ticket)
@@ -639,7 +516,7 @@ all_of : (all : List Ticket) (marks : List ℕ) (queue : EndState Ticket) (done 
     → ((last : List Ticket) (left : List ℕ) (end : EndState Ticket) → AreShared stayed heavy rest now last left end → AreShared 0 marks all queue (kept ++ last) left end)
     → length all ≤ done → AreShared 0 marks all queue hand heavy now
 all_of all marks queue done stayed hand heavy now [] kept is count whole none =
-    subst (λ (ts : List Ticket). AreShared 0 marks all queue ts heavy now) (append-nil kept ∙ sym is) (whole [] heavy now (refl, refl, refl))
+    rw is (rw append-nil at (whole [] heavy now (refl, refl, refl)))
 all_of all marks queue done stayed hand heavy now (x ∷ rest) kept is count whole none = absurd (omega arith)
 
 pub shared_all : (all : List Ticket) (marks : List ℕ) (queue : EndState Ticket) (done stayed : ℕ) (hand : List Ticket) (heavy : List ℕ) (now : EndState Ticket)

@@ -102,7 +102,7 @@ pub fn worker_turn_with<F: Front, A: Moves<F>, G: Gate, C: Clock, R: Wait + Log>
         moment: timing.moment(),
     };
     let worked = turn_of(rt, acts, shared, own, gate, ticket, terms)?;
-    if worked == Worked::Ended {
+    if let Worked::Ended = worked {
         wake_poller(shared, own, ticket);
     }
     Ok(worked)
@@ -352,8 +352,9 @@ fn leave<F: Front, A: Acts, R: Wait>(
     ensures left { (left : LeftSlot ticket own.old own.new)
         × AreMade A.made ticket.slot (leaving left.woke) acts.old acts.new }
 {
-    if acts.release(&shared.claims, &mut own.seat, ticket.slot) == Released::Wake {
-        put_ticket(rt, acts, own, ticket);
+    match acts.release(&shared.claims, &mut own.seat, ticket.slot) {
+        Released::Wake => put_ticket(rt, acts, own, ticket),
+        Released::Quiet => {}
     }
     back.spend();
 }

@@ -1,8 +1,7 @@
 use Rattle.std.proofs.Common.{refl, ap}
 use Rattle.claims.specs.declared.view.Account.{Account}
 use Rattle.claims.proofs.Seats.{account_after}
-use Rattle.dispatch.proofs.Holding.{holds_still, holds_behind_post}
-use Rattle.dispatch.proofs.Worn.{worn_still}
+use Rattle.dispatch.proofs.Holding.{holds_still, holds_behind_post, worn_still}
 use Rattle.rounds.proofs.Rounds.{started_by}
 use Rattle.rounds.proofs.opening.start.Goals as goal
 

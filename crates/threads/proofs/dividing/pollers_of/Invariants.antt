@@ -1,7 +1,7 @@
 use Rattle.std.proofs.Common.{◌≡◌, ◌+◌, ◌≤◌, ◌++◌, map, length, All}
 use Rattle.std.specs.Prelude.{vec_len, vec_capacity}
 use Rattle.std.specs.Arc.{arc_value}
-use Rattle.dispatch.specs.Parts.{AreFresh}
+use Rattle.dispatch.specs.Posts.{AreFresh}
 use Rattle.threads.specs.Divided.{numbered, IsEndOf, AreLeft}
 use Rattle.threads.proofs.dividing.pollers_of.Given as goal
 

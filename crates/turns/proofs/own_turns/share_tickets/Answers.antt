@@ -1,5 +1,4 @@
-use Rattle.std.proofs.Common.{rules, arith, ap, sym, subst, ◌∙◌, refl}
-use Rattle.claims.specs.Seats.{SeatState, HoldsNothing}
+use Rattle.std.proofs.Common.{rules, arith, ap, sym, ◌∙◌, refl}
 use Rattle.dispatch.specs.Hands.{HandState}
 use Rattle.std.proofs.lemmas.Bool.{false≢true}
 use Rattle.turns.specs.Shares.{Stays}
@@ -30,7 +29,7 @@ loop-ticket-preserved g c =
       free = moved.free ∙ c.loop-ticket.invariant.free;
       slots = ap (λ (h : HandState). h.slots) moved.hand ∙ ap (λ (h : HandState). h.slots) c.take_ticket.ensures.left ∙ c.loop-ticket.invariant.slots;
       capacity = ap (λ (h : HandState). h.capacity) moved.hand ∙ ap (λ (h : HandState). h.capacity) c.take_ticket.ensures.left ∙ c.loop-ticket.invariant.capacity;
-      idle = subst (λ (s : SeatState). HoldsNothing s) (sym moved.seat) c.loop-ticket.invariant.idle;
+      idle = rw moved.seat c.loop-ticket.invariant.idle;
     }
 
 pub returns : goal.returns

@@ -1,33 +1,30 @@
 use Rattle.std.proofs.Common.{refl, sym}
-use Rattle.turns.proofs.Turns.{has_played, played_then, same_either, still_at_work}
+use Rattle.turns.proofs.Turns.{has_played, played_then, still, still_at_work}
 use Rattle.turns.proofs.worker.run.Goals as goal
 
 pub returns-in-Done-clause-done : goal.returns-in-Done-clause-done
-returns-in-Done-clause-done g c = played_then g.A.Acts.made c.args.acts.now c.play.new.acts _ c.end.ensures.done c.play.ensures.ticket tt c.play.ensures.made
-    c.play.ensures.played.1 refl refl (record { tickets = refl; slots = refl })
+returns-in-Done-clause-done g c =
+    played_then g.A.Acts.made _ _ _ c.end.ensures.done c.play.ensures.ticket tt c.play.ensures.made c.play.ensures.played.1 (still refl refl refl)
 
 pub returns-in-Again-clause-done : goal.returns-in-Again-clause-done
-returns-in-Again-clause-done g c = played_then g.A.Acts.made c.args.acts.now c.play.new.acts _ c.again.ensures.done c.play.ensures.ticket (has_played c.again.result
-    c.again.ensures.answer) c.play.ensures.made c.play.ensures.played.1 refl refl (record { tickets = refl; slots = refl })
+returns-in-Again-clause-done g c = played_then g.A.Acts.made _ _ _ c.again.ensures.done c.play.ensures.ticket (has_played c.again.result c.again.ensures.answer)
+    c.play.ensures.made c.play.ensures.played.1 (still refl refl refl)
 
 pub returns-in-Quiet-clause-done : goal.returns-in-Quiet-clause-done
-returns-in-Quiet-clause-done g c = played_then g.A.Acts.made c.args.acts.now c.play.new.acts _ c.rest.ensures.done c.play.ensures.ticket tt c.play.ensures.made
-    c.play.ensures.played.1 refl refl (record { tickets = refl; slots = refl })
+returns-in-Quiet-clause-done g c =
+    played_then g.A.Acts.made _ _ _ c.rest.ensures.done c.play.ensures.ticket tt c.play.ensures.made c.play.ensures.played.1 (still refl refl refl)
 
 pub end-requires-clause-work : goal.end-requires-clause-work
-end-requires-clause-work g c = still_at_work c.args.shared.now.claims c.play.new.visit.ticket c.args.visit.ticket c.args.own.now _ c.play.ensures.ticket c.requires.work
-    c.play.ensures.holder c.play.ensures.played.1.only refl
+end-requires-clause-work g c = still_at_work c.play.ensures.ticket c.requires.work c.play.ensures.holder c.play.ensures.played.1.only refl
 
 pub again-requires-clause-work : goal.again-requires-clause-work
-again-requires-clause-work g c = still_at_work c.args.shared.now.claims c.play.new.visit.ticket c.args.visit.ticket c.args.own.now _ c.play.ensures.ticket c.requires.work
-    c.play.ensures.holder c.play.ensures.played.1.only refl
+again-requires-clause-work g c = still_at_work c.play.ensures.ticket c.requires.work c.play.ensures.holder c.play.ensures.played.1.only refl
 
 pub rest-requires-clause-work : goal.rest-requires-clause-work
-rest-requires-clause-work g c = still_at_work c.args.shared.now.claims c.play.new.visit.ticket c.args.visit.ticket c.args.own.now _ c.play.ensures.ticket c.requires.work
-    c.play.ensures.holder c.play.ensures.played.1.only refl
+rest-requires-clause-work g c = still_at_work c.play.ensures.ticket c.requires.work c.play.ensures.holder c.play.ensures.played.1.only refl
 
 pub end-requires-clause-over : goal.end-requires-clause-over
-end-requires-clause-over g c = same_either c.play.result _ _ _ c.play.ensures.outcome c.in-Done.is
+end-requires-clause-over g c = rw c.play.ensures.outcome at c.in-Done.is
 
 pub rest-requires-clause-quiet : goal.rest-requires-clause-quiet
 rest-requires-clause-quiet g c = sym c.in-Quiet.ensures.outcome

@@ -1,5 +1,7 @@
--- How many parts the slots are dealt in.
-use Rattle.std.proofs.Common.{◌≡◌, ℕ, ◌+◌, ◌*◌, ◌-◌, ◌/◌, ◌<◌, ◌≤◌, arith}
+-- How many parts the slots are dealt in; and a slot's heavy marks.
+use Rattle.std.proofs.Common.{◌≡◌, ℕ, ◌-◌, List, slice_index, slice_set, sym, ap, ◌∙◌, arith, ◌+◌, ◌*◌, ◌/◌, ◌<◌, ◌≤◌}
+use Rattle.std.proofs.lemmas.List.{set-get_or}
+use Rattle.dispatch.specs.Heavy.{looked_at}
 use Rattle.std.proofs.Math.Nat.{div-mul-le_self, lt-div-mul-add, div-lt_iff_lt-mul}
 use Rattle.dispatch.specs.Splits.{parts_of}
 
@@ -23,3 +25,9 @@ parts_of_size slots pollers some square =
     let most : (slots - 1) / (q + 1) < pollers = below slots pollers some in
     let least : ((slots - 1) / (q + 1) < pollers - 1) → ⊥ = λ less. (let few : slots - 1 < (pollers - 1) * (q + 1) = (div-lt_iff_lt-mul (omega arith)).0 less in grind arith) in
     grind arith
+
+-- a look at a ticket of a slot without a mark takes none away
+pub looked_at_light : (heavy : List ℕ) (slot : ℕ) → slice_index heavy slot ≡ 0 → heavy ≡ looked_at slot heavy
+looked_at_light heavy slot light =
+    let none : slice_index heavy slot - 1 ≡ slice_index heavy slot = omega arith in
+    sym (ap (λ (n : ℕ). slice_set heavy slot n) none ∙ set-get_or heavy slot 0)
