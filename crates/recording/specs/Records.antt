@@ -28,8 +28,6 @@ use Rattle.records.specs.declared.act.Record.{Record}
 use Rattle.token.specs.declared.side.Side.{Side}
 use Rattle.token.specs.declared.side.Side.TheVariants.{Client, Target}
 use Rattle.records.specs.declared.act.Act.TheVariants.{Poller, Wire}
-use Rattle.std.specs.Borrow.{Lends, MutBor, Fml, RattleType}
-use Rattle.recording.specs.contracts.recorder.Inner.{the_row}
 
 -- the classes of `dispatch`, which a poller goes by: a signal, a connection that was given up before it was accepted,
 -- or a network error that the new socket had pending; that none waits; anything else
@@ -161,9 +159,3 @@ SettledAt did name Target old new = RecordsAtOnce did (Wire name made.Settle) ol
 abbrev pub Settled : {S : Type 0} → (Step → S → S → Type 0) → Option EndName → S → S → Type 0
 Settled did None old new = new ≡ old
 Settled did (Some name) old new = SettledAt did name name.side old new
-
--- What a wrapped part is once a borrow of it has ended.
-
--- what is now in its place
-abbrev pub LendsInner : (T : RattleType) → MutBor T.Denot → MutBor T.Denot → Fml
-LendsInner T inner lent = Lends (the_row T) T inner lent (λ part. part)

@@ -1,7 +1,8 @@
 // What a thread records by. Only here is a record made, and a wrapped part reached.
 ghost use Rattle.std.specs.Prelude.{◌≡◌, None, false, [], ◌∷◌};
 ghost use Rattle.std.specs.Borrow.{sem};
-ghost use Rattle.recording.specs.Records.{LendsInner, drops, dropped, reports, Step, Began, Ended, AtOnce, Put, Another, Ends, RecordsAtOnce};
+ghost use Rattle.recording.specs.Lending.{LendsInner};
+ghost use Rattle.recording.specs.Records.{drops, dropped, reports, Step, Began, Ended, AtOnce, Put, Another, Ends, RecordsAtOnce};
 
 use engine::Wire;
 use records::{Act, Made, Polling, Record};
