@@ -1,7 +1,6 @@
 // Makes the steps of the server's threads.
-use crate::clock::ScriptClock;
+use crate::context::{ScriptClock, TurnGate};
 use crate::front::KernelFront;
-use crate::gate::TurnGate;
 use crate::outside::OutsideCell;
 use crate::sizes::Sizes;
 use dispatch::Timing;

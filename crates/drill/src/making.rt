@@ -3,7 +3,7 @@ ghost use Rattle.std.specs.Prelude.{◌≤◌, ◌≡◌, length};
 ghost use Rattle.token.specs.Names.{last_generation};
 ghost use Rattle.drill.specs.Sizes.{IsServerSize};
 
-use crate::clock::ScriptClock;
+use crate::context::ScriptClock;
 use crate::driver::{Driver, ThreadCell};
 use crate::front::KernelFront;
 use crate::outside::{Outside, OutsideCell};

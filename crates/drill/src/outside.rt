@@ -3,12 +3,11 @@
 ghost use Rattle.drill.specs.Sizes.{IsServerSize};
 
 use crate::checks::Checks;
-use crate::clock::ScriptClock;
+use crate::context::ScriptClock;
 use crate::machine::{Machine, at_first};
-use crate::plan::Plan;
 use crate::poller_model::PollerModel;
 use crate::sizes::Sizes;
-use crate::step::Outer;
+use crate::step::{Outer, Plan};
 use crate::turn::Turn;
 use kernel_model::MAX_BACKLOG;
 use log::Level;

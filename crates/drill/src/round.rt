@@ -1,7 +1,6 @@
 // What the calls of a poller's round get, and to which events the round amounts.
 use crate::outside::Outside;
-use crate::plan::Plan;
-use crate::step::{Opening, Planned, Point, Polled};
+use crate::step::{Opening, Plan, Planned, Point, Polled};
 use dispatch::{Clock, Part, Unopened};
 use kernel_model::{Accepting, MAX_POLLED};
 use log::Level;

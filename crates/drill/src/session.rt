@@ -1,11 +1,15 @@
-// Runs the scripts of the input, one after the other.
+// Runs the scripts of the input, one after the other: makes the server's step of each line, compares the server with the
+// machines after it, and counts what was run.
+use crate::context::Logger;
 use crate::driver::Driver;
-use crate::line::{Outcome, run_line};
-use crate::logger::Logger;
+use crate::machine::Machine;
 use crate::making::driver_of;
+use crate::outside::Outside;
+use crate::reading::read_step;
 use crate::sizes::read_sizes;
-use crate::totals::Totals;
-use log::{Level, Logged};
+use crate::step::{Planned, Point, Step};
+use log::{Level, Log, Logged};
+use script_text::{Counts, Page};
 use std::io::{self, ErrorKind};
 use std::sync::Wait;
 
@@ -99,4 +103,148 @@ fn run_on<R: Wait + AllocGlobal + Print>(
         outside: &driver.outside,
     };
     run_line(&Logged::new(rt, Level::Debug, logger), driver, line)
+}
+
+/// The outcome of a line.
+#[derive(Clone, Copy)]
+enum Outcome {
+    /// Nothing is compared after this line.
+    Nothing,
+    /// The server and the machines agree after it.
+    Agreed,
+    /// They differ after it.
+    Differs,
+    /// The line is no step, or its script has no header.
+    Malformed,
+}
+
+/// Runs one line of a script.
+fn run_line<R: Wait + Log + Print>(rt: &R, driver: &Driver, line: &str) -> io::Result<Outcome> {
+    if line.starts_with("world ") {
+        driver.begin(rt);
+        return Ok(Outcome::Nothing);
+    }
+    match read_step(driver.alloc, line) {
+        Some(step) => run(rt, driver, step),
+        None => Ok(Outcome::Malformed),
+    }
+}
+
+fn run<R: Wait + Log + Print>(rt: &R, driver: &Driver, step: Step) -> io::Result<Outcome> {
+    match step {
+        Step::Outside(outer) => driver.outside.with((), |outside| outside.happen(outer)),
+        Step::Round(poller) => driver.round(rt, poller),
+        Step::Turn(number) => driver.turn(rt, number),
+        Step::Machine(slot, event) => driver
+            .outside
+            .with((), |outside| outside.record(slot, event)),
+        Step::Stop => driver.stop(),
+        Step::Show => return show_all(rt, driver),
+        Step::Later(point, planned) => return plan(driver, point, planned),
+    }
+    compare_all(rt, driver)
+}
+
+fn show_all<R: Print>(rt: &R, driver: &Driver) -> io::Result<Outcome> {
+    driver
+        .outside
+        .with(Ok(Outcome::Nothing), |outside| show(rt, outside))
+}
+
+fn plan(driver: &Driver, point: Point, planned: Planned) -> io::Result<Outcome> {
+    driver
+        .outside
+        .with(Ok(()), |outside| outside.plan.add(point, planned))?;
+    Ok(Outcome::Nothing)
+}
+
+fn compare_all<R: Wait + Print>(rt: &R, driver: &Driver) -> io::Result<Outcome> {
+    driver
+        .outside
+        .with(Ok(Outcome::Nothing), |outside| agree(rt, outside))
+}
+
+/// Prints the script and the report of each slot's machine, and then the log.
+fn show<R: Print>(rt: &R, outside: &Outside) -> io::Result<Outcome> {
+    for (slot, machine) in outside.machines.iter().enumerate() {
+        println!(rt; "slot {slot}")?;
+        print_machine(rt, machine)?;
+    }
+    let log = outside.checks.text.as_str();
+    print!(rt; "log\n{log}end\n")?;
+    Ok(Outcome::Nothing)
+}
+
+fn print_machine<R: Print>(rt: &R, machine: &Machine) -> io::Result<()> {
+    let script = machine.script()?;
+    let report = script_text::print(machine.alloc, machine.world())?;
+    print!(rt; "script\n{script}report\n{report}end\n")
+}
+
+/// Prints the first difference, if there is one, and the script and the report of each machine that refused an event.
+fn agree<R: Print>(rt: &R, outside: &mut Outside) -> io::Result<Outcome> {
+    outside.check();
+    let Some(wrong) = &outside.checks.wrong else {
+        return Ok(Outcome::Agreed);
+    };
+    println!(rt; "differs: {wrong}")?;
+    for model in &outside.pollers {
+        print_wrong(rt, &model.machine)?;
+    }
+    for machine in &outside.machines {
+        print_wrong(rt, machine)?;
+    }
+    Ok(Outcome::Differs)
+}
+
+fn print_wrong<R: Print>(rt: &R, machine: &Machine) -> io::Result<()> {
+    if machine.is_wrong() {
+        print_machine(rt, machine)?;
+    }
+    Ok(())
+}
+
+/// How many scripts and steps were run, and how many events of each kind they made.
+#[derive(Clone, Copy)]
+struct Totals {
+    scripts: u64,
+    steps: u64,
+    counts: Counts,
+}
+
+impl Totals {
+    /// Nothing was run.
+    const NONE: Totals = Totals {
+        scripts: 0,
+        steps: 0,
+        counts: Counts::NONE,
+    };
+
+    /// Adds a script that was run.
+    fn add(&mut self, driver: &Option<Driver>) {
+        if let Some(driver) = driver {
+            self.scripts = self.scripts.saturating_add(1);
+            driver
+                .outside
+                .with((), |outside| count(&mut self.counts, outside));
+        }
+    }
+
+    /// Prints a line for each kind of event, and one for the scripts and the steps.
+    fn print<R: Print + AllocGlobal>(&self, rt: &R) -> io::Result<()> {
+        let mut page = Page::new(rt.alloc());
+        self.counts.put_lines(&mut page);
+        let (lines, scripts, steps) = (page.finish()?, self.scripts, self.steps);
+        println!(rt; "{lines}{scripts} scripts, {steps} steps")
+    }
+}
+
+/// Counts the events of a script.
+fn count(counts: &mut Counts, outside: &Outside) {
+    for model in &outside.pollers {
+        model.machine.count(counts);
+    }
+    for machine in &outside.machines {
+        machine.count(counts);
+    }
 }
