@@ -12,7 +12,8 @@ import time
 
 from loopback import Relay, echo, port_of, target, unheard, until
 from shared import (
-    answers_soon, asked, at_once, drops_in, few, having, is_closed_soon, leave_one_descriptor, left_out, reset, served, too_few,
+    answers_soon, ask_once, asked, at_once, drops_in, few, having, is_closed_soon, leave_one_descriptor, left_out, reset, served,
+    too_few,
 )
 
 
@@ -44,8 +45,7 @@ def needs_descriptors_for_one_connection():
             for inherited in (), (file.fileno(),):
                 needed = 8 + recorded + len(inherited)
                 how = {"recorded": recorded, "inherited": inherited, "log": "off"}
-                with Relay(target(echo), descriptors=needed, **how).connect() as client:
-                    assert asked(client)
+                ask_once(Relay(target(echo), descriptors=needed, **how))
                 assert Relay(descriptors=needed - 1, **how).ended(1) == [too_few(needed - 1, needed)]
 
 

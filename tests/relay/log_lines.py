@@ -10,8 +10,8 @@ import time
 
 from loopback import WAIT, Relay, echo, in_thread, port_of, read_all, send_and_shut, target, unanswered, unheard
 from shared import (
-    answer_and_read, asked, at_once, drops_in, having, is_closed_soon, leave_one_descriptor, name_of, numbers_in, reset, served,
-    told,
+    answer_and_read, ask_once, asked, at_once, drops_in, having, is_closed_soon, leave_one_descriptor, name_of, numbers_in, reset,
+    served, told,
 )
 
 
@@ -34,8 +34,7 @@ def marks_its_lines_for_the_journal():
             variables = {"JOURNAL_STREAM": how.format(found.st_dev, found.st_ino)}
             taken = Relay(target(echo), errors=errors, log="debug", idle=1, stop_after=1, variables=variables)
             Relay(1, errors=errors, listen=f"127.0.0.1:{taken.port}", variables=variables).process.wait(WAIT)
-            with taken.connect() as client:
-                assert asked(client)
+            ask_once(taken)
             assert taken.process.wait(WAIT) == 0
             errors.seek(0)
             lines = [re.fullmatch(r"(<\d>|)\[(.{5}) relayd\] .*\n", line) for line in errors if not line.startswith("relayd: ")]
@@ -188,8 +187,7 @@ def writes_each_log_line_at_once_and_goes_on_without_its_log():
     relay = Relay(target(echo), errors=end, slots=2, log="debug")
     end.close()
     errors.settimeout(WAIT)
-    with relay.connect() as client:
-        assert asked(client)
+    ask_once(relay)
     packets = [errors.recv(4096) for _ in range(4)]
     words = [re.fullmatch(rb"\[\w+ +relayd\] (\w+) .+\n", packet)[1] for packet in packets]
     assert words == [b"relayd", b"peer", b"open", b"done"]
@@ -207,8 +205,7 @@ def serves_on_when_nobody_reads_its_log():
 
     def serve_some():
         for _ in range(5_000):
-            with relay.connect() as client:
-                assert asked(client)
+            ask_once(relay)
 
     at_once(*[serve_some] * 4)
     # Somebody reads again: each connection has its two lines, but for those that were counted as left out.
@@ -247,8 +244,7 @@ def tells_its_last_lines_to_a_late_reader():
     # It ends soon after its last connection, and then waits, but not for a reader that never comes.
     for is_late in True, False:
         relay, log = unread(target(echo), stop_after=1)
-        with relay.connect() as client:
-            assert asked(client, b"one")
+        ask_once(relay, b"one")
         with log:
             time.sleep(0.4)
             assert not is_late or log.read().endswith("] done s=0 g=1 up=3 down=3\n")

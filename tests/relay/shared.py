@@ -37,6 +37,12 @@ def asked(client, data=b"?"):
     return client.recv(len(data)) == data
 
 
+def ask_once(relay, data=b"?"):
+    """Has a client come that reads what it sends, and go."""
+    with relay.connect() as client:
+        assert asked(client, data)
+
+
 def served(relay, many):
     """This many clients, each of which has had an answer."""
     clients = [relay.connect() for _ in range(many)]
@@ -115,8 +121,7 @@ def move_much(relay, *clients):
 def told(*options, **settings):
     """The log of a relay that serves one connection of three bytes."""
     relay = Relay(target(echo), options=options, stop_after=1, **settings)
-    with relay.connect() as client:
-        assert asked(client, b"one")
+    ask_once(relay, b"one")
     return relay.ended()
 
 

@@ -18,7 +18,8 @@ from loopback import (
     TESTS, WAIT, Relay, allowed, echo, in_thread, port_of, read_all, send_and_shut, settings_file, start, target, until,
 )
 from shared import (
-    OWN, answer_and_read, asked, at_once, few, having, is_open, is_silent, left_out, line_of, move_much, served, unused_port,
+    OWN, answer_and_read, ask_once, asked, at_once, few, having, is_open, is_silent, left_out, line_of, move_much, served,
+    unused_port,
 )
 
 
@@ -58,8 +59,7 @@ def ends_soon_behind_its_last():
 def gives_up_its_port(relay, clients):
     """Clients are refused and another relay listens there, while these go on, each of which echoes. Answers the log."""
     assert until(lambda: not is_open(relay.port))
-    with Relay(target(echo), listen=f"127.0.0.1:{relay.port}", log="off").connect() as client:
-        assert asked(client)
+    ask_once(Relay(target(echo), listen=f"127.0.0.1:{relay.port}", log="off"))
     for client in clients:
         assert asked(client) and relay.process.poll() is None
         client.close()
@@ -325,8 +325,7 @@ def listens_on_its_address_alone():
     taken = f"127.0.0.1:{relay.port}"
     cause = f"[ERROR relayd] listen: {taken}: Address already in use (os error 98)"
     assert Relay(1, listen=taken).ended(1) == [cause, "relayd: listen: failed"]
-    with relay.connect() as client:
-        assert asked(client)
+    ask_once(relay)
 
 
 def stops_as_the_first_process():

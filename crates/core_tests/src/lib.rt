@@ -6,15 +6,7 @@
 #![tactic(auto)]
 
 #[cfg(test)]
-mod arms;
-#[cfg(test)]
-mod counts;
-#[cfg(test)]
 mod messages;
-#[cfg(test)]
-mod numbers;
-#[cfg(test)]
-mod passing;
 #[cfg(test)]
 mod queues;
 #[cfg(test)]
@@ -22,10 +14,37 @@ mod record_lines;
 #[cfg(test)]
 mod replays;
 #[cfg(test)]
-mod reports;
-#[cfg(test)]
 mod session;
 #[cfg(test)]
-mod threads;
+mod values;
 #[cfg(test)]
 mod words;
+
+#[cfg(test)]
+use std::alloc::AllocError;
+#[cfg(test)]
+use std::process::Abort;
+#[cfg(test)]
+use std::test::Fail;
+
+// What a test answers by what its helpers found. The helpers promise nothing and answer plain values, so that only
+// its run shows what a test asserts, and a test is cheap to prove.
+
+/// Passes if all goes well. Where memory ran out, the test fails by that.
+#[cfg(test)]
+fn all_well(is_well: Result<bool, AllocError>) -> Result<(), Fail> {
+    match is_well {
+        Ok(true) => Ok(()),
+        Ok(false) => Err(Fail::from("something goes otherwise")),
+        Err(error) => Err(Fail::from(error)),
+    }
+}
+
+/// Passes if no row goes otherwise.
+#[cfg(test)]
+fn no_row(rt: &impl Abort, wrong: Result<Option<usize>, AllocError>) -> Result<(), Fail> {
+    if let Ok(Some(row)) = wrong {
+        panic!(rt; "row {row} goes otherwise");
+    }
+    all_well(wrong.map(|_| true))
+}

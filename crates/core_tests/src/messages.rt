@@ -1,5 +1,5 @@
 // Texts of messages that are made for no log, the line in which one is printed, and one that is off.
-use crate::passing::all_well;
+use crate::all_well;
 use log::sink::Discard;
 use log::{Level, Logged};
 use log_queue::LogLine;

@@ -1,5 +1,5 @@
 // Many threads at one queue.
-use crate::passing::all_well;
+use crate::all_well;
 use ready::{ReadyQueue, Ticket};
 use std::alloc::AllocError;
 use std::sync::Wait;

@@ -1,5 +1,5 @@
 // Every form of a line is read and printed as it was, and a line that is cut or spoilt at any word is refused.
-use crate::passing::no_row;
+use crate::no_row;
 use records::{MAX_RECORD, read_line};
 use std::alloc::{AllocError, Global};
 use std::test::Fail;

@@ -5,36 +5,29 @@
 //! records the events to which each step amounts: for each slot and for each poller's listener there is a machine
 //! that makes these events at once. What the server does, act by act, must be what the machines do.
 //!
-//! `session.rt` runs the scripts and `line.rt` one line of them. `reading.rt` reads their steps (`step.rt`, `sizes.rt`
-//! for the header), `making.rt` makes the server, and `driver.rt` makes its threads' steps.
+//! `session.rt` runs the scripts. `reading.rt` reads their steps (`step.rt`, `sizes.rt` for the header), `making.rt`
+//! makes the server, and `driver.rt` makes its threads' steps.
 //!
 //! `outside.rt` has what the server's calls reach in place of a system: a `machine.rt` for each slot, whose modelled
 //! kernel gives the replies to the calls there; for each poller a machine of its listener, and its expected state
-//! (`poller_model.rt`); and what later calls get (`plan.rt`). `front.rt` is a poller's front, `wire.rt` one end of a
-//! connection, `gate.rt` the gate of turns, `clock.rt` the clock, and `logger.rt` the log. `round.rt` says to which
-//! events a poller's round amounts, `calls.rt` the calls of a turn, `turn.rt` what must hold of turns, and `checks.rt`
-//! what must be logged.
+//! (`poller_model.rt`); and what later calls get. `front.rt` is a poller's front, `wire.rt` one end of a connection with
+//! the calls of a turn, and `context.rt` has the gate of turns, the clock and the log. `round.rt` says to which events a
+//! poller's round amounts, `turn.rt` what must hold of turns, and `checks.rt` what must be logged.
 #![tactic(auto)]
 
-mod calls;
 mod checks;
-mod clock;
+mod context;
 mod driver;
 mod front;
-mod gate;
-mod line;
-mod logger;
 mod machine;
 mod making;
 mod outside;
-mod plan;
 mod poller_model;
 mod reading;
 mod round;
 mod session;
 mod sizes;
 mod step;
-mod totals;
 mod turn;
 mod wire;
 

@@ -3,12 +3,11 @@
 ghost use Rattle.drill.specs.Sizes.{IsServerSize};
 
 use crate::checks::Checks;
-use crate::clock::ScriptClock;
+use crate::context::ScriptClock;
 use crate::machine::{Machine, at_first};
-use crate::plan::Plan;
 use crate::poller_model::PollerModel;
 use crate::sizes::Sizes;
-use crate::step::Outer;
+use crate::step::{Outer, Plan};
 use crate::turn::Turn;
 use kernel_model::MAX_BACKLOG;
 use log::Level;
@@ -110,19 +109,19 @@ impl Outside {
 
     /// Makes an event to which a step of the server amounts, in this slot's machine.
     pub fn record(&mut self, slot: usize, event: Event) {
-        let made = match self.machines.get_mut(slot) {
-            Some(machine) => machine.put(event),
-            None => false,
-        };
+        let made = self
+            .machines
+            .get_mut(slot)
+            .map_or(false, |machine| machine.put(event));
         self.must(made);
     }
 
     /// Makes an event to which a step of the server amounts, in the machine of this poller's listener.
     pub fn record_at_poller(&mut self, poller: usize, event: Event) {
-        let made = match self.pollers.get_mut(poller) {
-            Some(model) => model.machine.put(event),
-            None => false,
-        };
+        let made = self
+            .pollers
+            .get_mut(poller)
+            .map_or(false, |model| model.machine.put(event));
         self.must(made);
     }
 

@@ -4,7 +4,7 @@ ghost use Rattle.std.specs.Prelude.{◌<◌};
 ghost use Rattle.dispatch.specs.Splits.{parts_of};
 ghost use Rattle.drill.specs.Sizes.{IsServerSize};
 
-use crate::clock::START;
+use crate::context::START;
 use crate::machine::Machine;
 use crate::sizes::Sizes;
 use dispatch::Part;

@@ -1,26 +1,48 @@
-// Runs the scripts of the input, one after the other.
+// Runs the scripts of the input, one after the other: makes the server's step of each line, compares the server with the
+// machines after it, and counts what was run.
+use crate::context::Logger;
 use crate::driver::Driver;
-use crate::line::{Outcome, run_line};
-use crate::logger::Logger;
+use crate::machine::Machine;
 use crate::making::driver_of;
+use crate::outside::Outside;
+use crate::reading::read_step;
 use crate::sizes::read_sizes;
-use crate::totals::Totals;
-use log::{Level, Logged};
+use crate::step::Step;
+use log::{Level, Log, Logged};
+use script_text::{Counts, Page};
 use std::io::{self, ErrorKind};
 use std::sync::Wait;
 
-/// The counts of what was run, and the server of the script in progress.
+/// The outcome of a line.
+#[derive(Clone, Copy)]
+enum Outcome {
+    /// Nothing is compared after this line.
+    Nothing,
+    /// The server and the machines agree after it.
+    Agreed,
+    /// They differ after it.
+    Differs,
+    /// The line is no step, or its script has no header.
+    Malformed,
+}
+
+/// The server of the script in progress, how many scripts and steps were run, and how many events of each kind they
+/// made.
 #[derive(Drop)]
 struct Session {
-    totals: Totals,
     driver: Option<Driver>,
+    scripts: u64,
+    steps: u64,
+    counts: Counts,
 }
 
 /// Runs all scripts, and prints how much was run. Returns whether the server and the machines agreed throughout.
 pub fn run_all<R: Wait + AllocGlobal + Print>(rt: &R, text: &str) -> io::Result<bool> {
     let mut session = Session {
-        totals: Totals::NONE,
         driver: None,
+        scripts: 0,
+        steps: 0,
+        counts: Counts::NONE,
     };
     session.run(rt, text)
 }
@@ -29,22 +51,18 @@ impl Session {
     fn run<R: Wait + AllocGlobal + Print>(&mut self, rt: &R, text: &str) -> io::Result<bool> {
         for (index, line) in text.lines().enumerate() {
             if line.starts_with("world ") {
-                self.begin(rt, line)?;
+                self.add();
+                self.driver = begin(rt, line)?;
             }
             if let Some(fault) = self.run_next(rt, line.trim_end())? {
-                return stop(rt, index, fault, line);
+                let number = (index as u64).saturating_add(1);
+                println!(rt; "line {number}: {fault}: {line}")?;
+                return Ok(false);
             }
         }
-        self.totals.add(&self.driver);
-        self.totals.print(rt)?;
+        self.add();
+        self.print(rt)?;
         Ok(true)
-    }
-
-    /// Begins the script of this header.
-    fn begin<R: Wait + AllocGlobal>(&mut self, rt: &R, header: &str) -> io::Result<()> {
-        self.totals.add(&self.driver);
-        self.driver = begin(rt, header)?;
-        Ok(())
     }
 
     /// Runs a line. Returns why no more lines are run after it, or None if they are.
@@ -53,22 +71,42 @@ impl Session {
         rt: &R,
         line: &str,
     ) -> io::Result<Option<&'static str>> {
-        match run_on(rt, &self.driver, line)? {
+        match run_line(rt, &self.driver, line)? {
             Outcome::Nothing => return Ok(None),
             Outcome::Agreed => {}
             Outcome::Differs => return Ok(Some("they differ after")),
             Outcome::Malformed => return Ok(Some("malformed")),
         }
-        self.totals.steps = self.totals.steps.saturating_add(1);
+        self.steps = self.steps.saturating_add(1);
         Ok(None)
+    }
+
+    /// Adds the script that was run, if there is one.
+    fn add(&mut self) {
+        if let Some(driver) = &self.driver {
+            self.scripts = self.scripts.saturating_add(1);
+            let counts = &mut self.counts;
+            driver.outside.with((), |outside| count(counts, outside));
+        }
+    }
+
+    /// Prints a line for each kind of event, and one for the scripts and the steps.
+    fn print<R: Print + AllocGlobal>(&self, rt: &R) -> io::Result<()> {
+        let mut page = Page::new(rt.alloc());
+        self.counts.put_lines(&mut page);
+        let (lines, scripts, steps) = (page.finish()?, self.scripts, self.steps);
+        println!(rt; "{lines}{scripts} scripts, {steps} steps")
     }
 }
 
-/// Prints the line after which no more lines are run, and why. Returns false.
-fn stop<R: Print>(rt: &R, index: usize, fault: &str, line: &str) -> io::Result<bool> {
-    let number = (index as u64).saturating_add(1);
-    println!(rt; "line {number}: {fault}: {line}")?;
-    Ok(false)
+/// Counts the events of a script.
+fn count(counts: &mut Counts, outside: &Outside) {
+    for model in &outside.pollers {
+        model.machine.count(counts);
+    }
+    for machine in &outside.machines {
+        machine.count(counts);
+    }
 }
 
 /// Makes the server of the script that begins with this header. None if it is no header.
@@ -83,7 +121,7 @@ fn begin<R: Wait + AllocGlobal>(rt: &R, header: &str) -> io::Result<Option<Drive
 }
 
 /// Runs a line of a script on its server.
-fn run_on<R: Wait + AllocGlobal + Print>(
+fn run_line<R: Wait + AllocGlobal + Print>(
     rt: &R,
     driver: &Option<Driver>,
     line: &str,
@@ -98,5 +136,70 @@ fn run_on<R: Wait + AllocGlobal + Print>(
         alloc: rt.alloc(),
         outside: &driver.outside,
     };
-    run_line(&Logged::new(rt, Level::Debug, logger), driver, line)
+    make(&Logged::new(rt, Level::Debug, logger), driver, line)
+}
+
+/// Makes the step of a line, and compares the server with the machines after it.
+fn make<R: Wait + Log + Print>(rt: &R, driver: &Driver, line: &str) -> io::Result<Outcome> {
+    if line.starts_with("world ") {
+        driver.begin(rt);
+        return Ok(Outcome::Nothing);
+    }
+    let Some(step) = read_step(driver.alloc, line) else {
+        return Ok(Outcome::Malformed);
+    };
+    let outside = &driver.outside;
+    match step {
+        Step::Outside(outer) => outside.with((), |outside| outside.happen(outer)),
+        Step::Round(poller) => driver.round(rt, poller),
+        Step::Turn(number) => driver.turn(rt, number),
+        Step::Machine(slot, event) => outside.with((), |outside| outside.record(slot, event)),
+        Step::Stop => driver.stop(),
+        Step::Show => return outside.with(Ok(Outcome::Nothing), |outside| show(rt, outside)),
+        Step::Later(point, planned) => {
+            outside.with(Ok(()), |outside| outside.plan.add(point, planned))?;
+            return Ok(Outcome::Nothing);
+        }
+    }
+    outside.with(Ok(Outcome::Nothing), |outside| agree(rt, outside))
+}
+
+/// Prints the script and the report of each slot's machine, and then the log.
+fn show<R: Print>(rt: &R, outside: &Outside) -> io::Result<Outcome> {
+    for (slot, machine) in outside.machines.iter().enumerate() {
+        println!(rt; "slot {slot}")?;
+        print_machine(rt, machine)?;
+    }
+    let log = outside.checks.text.as_str();
+    print!(rt; "log\n{log}end\n")?;
+    Ok(Outcome::Nothing)
+}
+
+fn print_machine<R: Print>(rt: &R, machine: &Machine) -> io::Result<()> {
+    let script = machine.script()?;
+    let report = script_text::print(machine.alloc, machine.world())?;
+    print!(rt; "script\n{script}report\n{report}end\n")
+}
+
+/// Prints the first difference, if there is one, and the script and the report of each machine that refused an event.
+fn agree<R: Print>(rt: &R, outside: &mut Outside) -> io::Result<Outcome> {
+    outside.check();
+    let Some(wrong) = &outside.checks.wrong else {
+        return Ok(Outcome::Agreed);
+    };
+    println!(rt; "differs: {wrong}")?;
+    for model in &outside.pollers {
+        print_wrong(rt, &model.machine)?;
+    }
+    for machine in &outside.machines {
+        print_wrong(rt, machine)?;
+    }
+    Ok(Outcome::Differs)
+}
+
+fn print_wrong<R: Print>(rt: &R, machine: &Machine) -> io::Result<()> {
+    if machine.is_wrong() {
+        print_machine(rt, machine)?;
+    }
+    Ok(())
 }

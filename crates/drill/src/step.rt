@@ -1,5 +1,8 @@
 // The steps of a script, and what may be planned for a later point.
+use dispatch::Unopened;
 use kernel_model::Accepting;
+use std::alloc::{AllocError, Global};
+use std::collections::VecDeque;
 use token::Kind;
 use world::Event;
 
@@ -14,7 +17,7 @@ pub enum Step {
     Turn(usize),
     /// What the server gets at one of the next such points, or what happens there.
     Later(Point, Planned),
-    /// An event of this slot's machine alone.
+    /// An event of this slot's machine alone, which has to be noticed if the machine refuses it.
     Machine(usize, Event),
     /// No more connections may be opened.
     Stop,
@@ -50,7 +53,8 @@ pub enum Planned {
     Call(Wanted),
     /// `Accepted` and `Blocked` mean what the kernel has.
     Accept(Accepting),
-    Open(Opening),
+    /// Why a connection that was accepted cannot be opened, or None if it is opened.
+    Open(Option<Unopened>),
     Poll(Polled),
 }
 
@@ -69,17 +73,6 @@ pub enum Wanted {
     Failed(Kind),
 }
 
-/// The outcome of opening a connection that was accepted.
-#[derive(Clone, Copy)]
-pub enum Opening {
-    /// It is opened.
-    Plain,
-    /// The target cannot be connected to.
-    Connect,
-    /// An end cannot be registered.
-    Register,
-}
-
 /// How a poll gives the names that are queued.
 #[derive(Clone, Copy)]
 pub enum Polled {
@@ -91,4 +84,40 @@ pub enum Polled {
     Backwards,
     /// It fails, which is a fault of the poller's thread.
     Failed,
+}
+
+/// What the server gets at later points. Each kind of point gets what is planned for it, in order. If nothing is, it
+/// gets what the kernel has.
+#[derive(Drop)]
+pub struct Plan {
+    planned: VecDeque<(Point, Planned)>,
+}
+
+impl Plan {
+    pub fn new(alloc: Global) -> Plan {
+        Plan {
+            planned: VecDeque::new(alloc),
+        }
+    }
+
+    /// Plans what the server gets at a later point.
+    pub fn add(&mut self, point: Point, planned: Planned) -> Result<(), AllocError> {
+        self.planned.push_back((point, planned))?;
+        Ok(())
+    }
+
+    /// Removes what is planned next for a kind of point.
+    pub fn next(&mut self, point: Point) -> Option<Planned> {
+        let index = self.planned.iter().position(|(at, _)| *at == point)?;
+        let (_, planned) = self.planned.remove(index)?;
+        Some(planned)
+    }
+
+    /// Removes the event that is planned next for a kind of point.
+    pub fn next_event(&mut self, point: Point) -> Option<Outer> {
+        match self.next(point)? {
+            Planned::Event(outer) => Some(outer),
+            _ => None,
+        }
+    }
 }

@@ -1,16 +1,18 @@
-// A wire over an end of the modelled kernel of its slot's machine.
+// A wire over an end of the modelled kernel of its slot's machine, and the calls that it makes there in a turn.
 ghost use Rattle.std.specs.Prelude.{◌≡◌};
 ghost use Rattle.engine.specs.Classes.{class_by, counted};
 
-use crate::calls::Asked;
-use crate::outside::OutsideCell;
+use crate::outside::{Outside, OutsideCell};
 use crate::round::peer_of;
+use crate::step::{Planned, Point, Wanted};
 use dispatch::Settle;
-use engine::{Tally, Wire};
+use engine::{Tally, Wire, error_of};
+use kernel_model::{End, MAX_POLLED, Reply};
 use relay_core::{Call, CallKind};
 use std::io::{self, ErrorKind};
 use std::net::SocketAddr;
-use token::{Side, Token};
+use token::{Kind, Side, Token};
+use world::Act;
 
 /// A wire over an end of the modelled kernel. Dropping the wire closes the end.
 pub struct EndWire {
@@ -150,4 +152,164 @@ fn call_of(kind: CallKind, side: Side, most: usize) -> Call {
         CallKind::Join => Call::Join(side),
         CallKind::Shut => Call::Shut(side),
     }
+}
+
+/// A call on an end.
+#[derive(Clone, Copy)]
+struct Asked<'a> {
+    slot: usize,
+    call: Call,
+    /// What a write offers. For any other call it is empty.
+    offer: &'a [u8],
+    /// Whether the end is known to be connected.
+    joined: bool,
+}
+
+impl Outside {
+    /// Makes a call, after the events that are planned before it. It must be the one that the connection in the slot's
+    /// machine makes next, with the same bytes, in the slot's turn. Returns how many bytes it moved. A read puts its
+    /// bytes at the front of the buffer.
+    fn call(&mut self, asked: Asked<'_>, buffer: &mut [u8]) -> Result<usize, ErrorKind> {
+        let wanted = self.next_wanted();
+        let Some(reply) = self.reply(asked, wanted, buffer) else {
+            self.checks
+                .fail("a call that is not the next one of a turn");
+            return Err(ErrorKind::Other);
+        };
+        self.count_call();
+        self.act(Act::Call(reply));
+        if !self.has_sent(asked, reply) {
+            self.checks.fail("bytes that are not those of the machine");
+        }
+        given(reply, wanted)
+    }
+
+    /// Makes the events that are planned before the next call of a turn, and returns what that call gets.
+    fn next_wanted(&mut self) -> Wanted {
+        for _event in 0..MAX_POLLED {
+            match self.plan.next(Point::Call) {
+                Some(Planned::Event(outer)) => self.happen(outer),
+                Some(Planned::Call(wanted)) => return wanted,
+                _ => return Wanted::Plain,
+            }
+        }
+        Wanted::Plain
+    }
+
+    /// The reply to a call: the planned one, if the call may get that, and else the kernel's own. None if the call is
+    /// not the next one of a turn.
+    fn reply(&self, asked: Asked<'_>, wanted: Wanted, buffer: &mut [u8]) -> Option<Reply> {
+        let turn = self.turn?;
+        let machine = self.machines.get(asked.slot)?;
+        if !turn.calling || turn.slot != asked.slot || machine.next_call()? != asked.call {
+            return None;
+        }
+        Some(answer(machine.end(asked.call.side())?, asked, wanted, buffer))
+    }
+
+    /// Whether the machine's end took the bytes that a write with this reply took.
+    fn has_sent(&self, asked: Asked<'_>, reply: Reply) -> bool {
+        let Reply::Wrote(count, _) = reply else {
+            return true;
+        };
+        let Some(machine) = self.machines.get(asked.slot) else {
+            return false;
+        };
+        match machine.end(asked.call.side()) {
+            Some(end) => end_with(end.taken(), asked.offer, count),
+            None => false,
+        }
+    }
+}
+
+/// Whether some bytes end with the first of others, this many.
+fn end_with(taken: &[u8], offer: &[u8], count: usize) -> bool {
+    let count = count.min(offer.len()).min(taken.len());
+    taken[taken.len() - count..] == offer[..count]
+}
+
+/// The reply to a call on an end. A read puts its bytes at the front of the buffer.
+fn answer(end: &End, asked: Asked<'_>, wanted: Wanted, buffer: &mut [u8]) -> Reply {
+    let reply = reply_of(wanted, own_reply(end, asked, wanted), asked);
+    if let Reply::Bytes(count) = reply {
+        if let Some(bytes) = end.bytes_read(buffer.len(), count) {
+            fill(buffer, bytes);
+        }
+    }
+    reply
+}
+
+/// The kernel's own reply to a call.
+fn own_reply(end: &End, asked: Asked<'_>, wanted: Wanted) -> Reply {
+    match asked.call {
+        Call::Read(_, most) => read_of(end, most, wanted),
+        Call::Write(_) if end.has_err() => Reply::Failed(Kind::Pipe),
+        Call::Write(_) if end.has_room() => wrote(asked.offer.len(), wanted),
+        Call::Join(_) if end.has_err() => Reply::Failed(Kind::Refused),
+        Call::Join(_) if end.has_room() => Reply::Joined,
+        Call::Write(_) | Call::Join(_) => Reply::Blocked,
+        Call::Shut(_) => Reply::Shut,
+    }
+}
+
+fn read_of(end: &End, most: usize, wanted: Wanted) -> Reply {
+    let count = limited(end.unread().len().min(most), wanted);
+    if count > 0 {
+        Reply::Bytes(count)
+    } else if end.has_err() {
+        Reply::Failed(Kind::Reset)
+    } else if end.has_fin() {
+        Reply::End
+    } else {
+        Reply::Blocked
+    }
+}
+
+fn wrote(most: usize, wanted: Wanted) -> Reply {
+    Reply::Wrote(limited(most, wanted), matches!(wanted, Wanted::Full(_)))
+}
+
+/// The count, or the wanted limit of it, if that is less. The limit is at least 1.
+fn limited(count: usize, wanted: Wanted) -> usize {
+    match wanted {
+        Wanted::Short(most) | Wanted::Full(most) => count.min(most.max(1)),
+        _ => count,
+    }
+}
+
+/// The reply to a call: the planned one, if the call may get that, and else the kernel's own.
+fn reply_of(wanted: Wanted, own: Reply, asked: Asked<'_>) -> Reply {
+    match wanted {
+        Wanted::Interrupted => Reply::Interrupted,
+        // Before a connect has completed this error means that the call has to wait.
+        Wanted::Failed(Kind::NotConnected) if waits_for_connect(asked) => own,
+        Wanted::Failed(Kind::Zero) if !matches!(asked.call, Call::Write(_)) => own,
+        Wanted::Failed(kind) => Reply::Failed(kind),
+        _ => own,
+    }
+}
+
+/// Whether a call is made before the connect has completed.
+fn waits_for_connect(asked: Asked<'_>) -> bool {
+    !asked.joined && !matches!(asked.call, Call::Shut(_))
+}
+
+/// What the caller gets for a reply.
+fn given(reply: Reply, wanted: Wanted) -> Result<usize, ErrorKind> {
+    match reply {
+        Reply::Bytes(count) | Reply::Wrote(count, _) => Ok(count),
+        Reply::End | Reply::Joined | Reply::Shut | Reply::Failed(Kind::Zero) => Ok(0),
+        Reply::Blocked => Err(match wanted {
+            Wanted::Failed(Kind::NotConnected) => ErrorKind::NotConnected,
+            _ => ErrorKind::WouldBlock,
+        }),
+        Reply::Interrupted => Err(ErrorKind::Interrupted),
+        Reply::Failed(kind) => Err(error_of(kind)),
+    }
+}
+
+/// Copies bytes to the front of a buffer.
+fn fill(buffer: &mut [u8], bytes: &[u8]) {
+    let count = bytes.len().min(buffer.len());
+    buffer[..count].copy_from_slice(&bytes[..count]);
 }

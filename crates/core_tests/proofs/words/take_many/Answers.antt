@@ -2,7 +2,7 @@ use Rattle.std.proofs.Common.{◌∙◌, ap, [], ◌∷◌}
 use Rattle.claims.specs.declared.view.Account.{Account}
 use Rattle.claims.specs.declared.view.Exchange.TheVariants.{Take}
 use Rattle.claims.proofs.Seats.{account_after}
-use Rattle.core_tests.proofs.threads.take_many.Goals as goal
+use Rattle.core_tests.proofs.words.take_many.Goals as goal
 
 pub loop-preserved : goal.loop-preserved
 loop-preserved c = (

@@ -1,0 +1,181 @@
+// What no row, no report and no clause shows of single values: what a refused change and an error leave of an end's
+// arms; what is counted at each slot, summed; numbers of ends at the edges of their parts; what a look answers; and what
+// only the system sees of a wire.
+use crate::all_well;
+use kernel_model::{End, Reply};
+use readiness::{Attention, Reports, Told};
+use relay_core::Verdict;
+use statistics::{Counts, Event, Memory, Statistics};
+use std::alloc::{AllocError, Global};
+use std::cell::Cell;
+use std::test::Fail;
+use token::{Name, Side, Token, TokenFault, next_gen, unpack};
+
+/// Whether an arrival that is refused leaves both arms, and an error neither. A read and a write would have blocked
+/// before.
+fn an_error_alone_clears(alloc: Global) -> Result<bool, AllocError> {
+    let mut end = End::new(alloc, Side::Target);
+    let blocked = end.read(4, Reply::Blocked).is_ok() && end.write(b"a", Reply::Blocked).is_ok();
+    let _refused = end.arrive(b"");
+    let armed = end.is_read_armed() && end.is_write_armed();
+    let _told = end.reset();
+    Ok(blocked && armed && !end.is_read_armed() && !end.is_write_armed())
+}
+
+// refuses refused_arrival_clears_the_arm: a refused arrival clears the arm for reads
+// refuses reset_leaves_an_arm: an error leaves the arm for writes
+#[test]
+fn an_error_clears_both_arms(rt: HostRuntime) -> Result<(), Fail> {
+    all_well(an_error_alone_clears(rt.alloc()))
+}
+
+/// Two connections, of which the second is open. The first sent more bytes than 32 bits count.
+static EVENTS: [Event; 5] = [
+    Event::Opened,
+    Event::Moved { up: 3, down: 5 },
+    Event::Ended {
+        verdict: Verdict::Done,
+        up: 4_294_967_296,
+        down: 7,
+    },
+    Event::Opened,
+    Event::Moved { up: 1, down: 2 },
+];
+
+/// Whether the sums of two slots are twice these.
+fn are_summed(alloc: Global) -> Result<bool, AllocError> {
+    let statistics = Statistics::new(alloc, 2)?;
+    for slot in 0..2 {
+        for event in EVENTS {
+            statistics.count(slot, event);
+        }
+    }
+    let sums = statistics.totals();
+    Ok(
+        (sums.slots, sums.live, sums.sums.done) == (2, 2, 2)
+            && (sums.sums.up, sums.sums.down) == (8_589_934_594, 18)
+            && are_settled(alloc)?,
+    )
+}
+
+/// A place that changes between the first three times that it is read.
+#[derive(Drop)]
+struct Changing(Cell<u64>);
+
+impl Memory for Changing {
+    ghost did = { λ _ _. Unit {0} };
+
+    fn load(&self) -> Counts {
+        let times = self.0.get().saturating_add(1).min(3);
+        self.0.set(times);
+        let mut counts = Counts::NONE;
+        counts.done = times;
+        counts
+    }
+
+    fn store(&self, _counts: Counts) {}
+}
+
+/// Whether the sums are those of two looks that agree.
+fn are_settled(alloc: Global) -> Result<bool, AllocError> {
+    let mut places = Vec::new(alloc);
+    places.push(Changing(Cell::new(0)))?;
+    Ok(Statistics::over(places).totals().sums.done == 3)
+}
+
+// refuses counts_of_32_bits: a count goes round at 2^32
+// refuses last_slot_is_not_summed: the last slot's counts are not in the sums
+// refuses two_slots_in_one_place: two slots are counted in one place
+// refuses changing_place_is_read_once: a place that changes meanwhile is not read again
+#[test]
+fn statistics_of_each_slot(rt: HostRuntime) -> Result<(), Fail> {
+    all_well(are_summed(rt.alloc()))
+}
+
+const LAST: u64 = 140_737_488_355_327;
+
+/// The slot, the side and the generation of an end, and its number.
+static ENDS: [(usize, Side, u64, u64); 3] = [
+    (32_767, Side::Target, LAST, 9_223_372_036_854_775_807),
+    (0, Side::Client, 1, 65_536),
+    (3, Side::Target, 2, 131_079),
+];
+
+/// A slot and a generation that no end has.
+static FAULTS: [(usize, u64, TokenFault); 3] = [
+    (32_768, 1, TokenFault::SlotRange),
+    (0, 0, TokenFault::GenRange),
+    (32_768, 0, TokenFault::SlotRange),
+];
+
+/// Whether an end has this number, and the number is of that end.
+fn is_number(slot: usize, side: Side, generation: u64, number: u64) -> bool {
+    match Token::pack(slot, side, generation) {
+        Ok(token) => token.value() == number && unpack(number) == Some(Name::End(token)),
+        Err(_) => false,
+    }
+}
+
+fn are_numbers() -> bool {
+    let mut all = true;
+    for (slot, side, generation, number) in ENDS {
+        all = all && is_number(slot, side, generation, number);
+    }
+    all
+}
+
+fn are_refused() -> bool {
+    let mut all = next_gen(LAST).is_none();
+    for (slot, generation, fault) in FAULTS {
+        all = all && Token::pack(slot, Side::Client, generation) == Err(fault);
+    }
+    all && unpack(2).is_none() && unpack(9_223_372_036_854_775_808).is_none()
+}
+
+// refuses next_gen_goes_round: the generation after the last one is the first
+// refuses pack_looks_at_generation_first: a bad generation is reported before a bad slot
+// refuses unpack_ignores_side: each end that a number names is the client's
+// refuses value_with_narrow_slot: the numbers of two slots' ends overlap
+#[test]
+fn numbers(_rt: HostRuntime) -> Result<(), Fail> {
+    all_well(Ok(are_numbers() && are_refused()))
+}
+
+/// What two looks find.
+fn looks(reports: &Reports, slot: usize, side: Side) -> Result<[bool; 2], AllocError> {
+    match Told::new(reports, slot, side)? {
+        Some(told) => Ok([told.take(), told.take()]),
+        None => Ok([true, true]),
+    }
+}
+
+/// Whether what is reported of the target's end of slot 1,024 is found there once, and nowhere else.
+fn is_taken_once(alloc: Global) -> Result<bool, AllocError> {
+    let reports = Reports::new(alloc, 1_025)?;
+    let before = looks(&reports, 1_024, Side::Target)?;
+    let _heard = reports.tell(1_024, Side::Target);
+    Ok(
+        before == [false, false]
+            && looks(&reports, 1_024, Side::Client)? == [false, false]
+            && looks(&reports, 0, Side::Target)? == [false, false]
+            && looks(&reports, 1_024, Side::Target)? == [true, false]
+            && reads_at_first_and_after_a_failure(),
+    )
+}
+
+/// Whether a wire reads that is new, and one whose call failed.
+fn reads_at_first_and_after_a_failure() -> bool {
+    let mut attention = Attention::new();
+    let at_first = attention.reads();
+    attention.rest();
+    attention.wake();
+    at_first && attention.reads()
+}
+
+// refuses bits_begin_down: a new wire does not read until a report reaches it
+// refuses failed_call_wakes_nothing: a failed call does not make a wire read again
+// refuses words_by_slot_modulo_1024: reports of slots that differ by 1,024 are kept in one word
+#[test]
+fn what_is_told_is_taken_once_and_there_alone(rt: HostRuntime) -> Result<(), Fail> {
+    all_well(is_taken_once(rt.alloc()))
+}

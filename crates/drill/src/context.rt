@@ -1,0 +1,86 @@
+// What the server's threads are passed in place of a system's: a clock, a gate and a logger.
+use crate::outside::OutsideCell;
+use dispatch::{Clock, Gate};
+use log::kv::Source;
+use log::span::Spans;
+use log::{Log, Metadata, Record};
+use std::alloc::Global;
+use std::cell::Cell;
+use std::fmt::Display;
+
+/// The second at which the server begins. It is second 0 of the machines.
+pub const START: u64 = 1_000;
+
+/// A clock in memory, which only steps of the script advance.
+#[derive(Drop)]
+pub struct ScriptClock {
+    second: Cell<u64>,
+}
+
+impl ScriptClock {
+    pub fn new() -> ScriptClock {
+        ScriptClock {
+            second: Cell::new(START),
+        }
+    }
+
+    /// Advances by this many seconds. Returns false, and does nothing, if the second would be over 2^64 - 1.
+    pub fn advance(&self, seconds: u64) -> bool {
+        match self.second.get().checked_add(seconds) {
+            Some(second) => {
+                self.second.set(second);
+                true
+            }
+            None => false,
+        }
+    }
+}
+
+impl Clock for ScriptClock {
+    fn second(&self) -> u64 {
+        self.second.get()
+    }
+}
+
+/// Has each turn noted, as it begins and once it has made its last call.
+#[derive(Drop)]
+pub struct TurnGate<'a> {
+    pub outside: &'a OutsideCell,
+}
+
+impl Gate for TurnGate<'_> {
+    fn before_turn(&self, slot: usize) {
+        self.outside.with((), |outside| outside.begin_turn(slot));
+    }
+
+    fn after_turn(&self, _slot: usize) {
+        self.outside.with((), |outside| outside.end_calls());
+    }
+}
+
+/// A logger that has each line compared with what is expected.
+#[derive(Drop)]
+pub struct Logger<'a> {
+    pub alloc: Global,
+    pub outside: &'a OutsideCell,
+}
+
+impl Log for Logger<'_> {
+    fn enabled(&self, _metadata: &Metadata<'_>) -> bool {
+        true
+    }
+
+    fn log<D: Display, K: Source, S: Spans>(&self, record: &Record<'_, D, K, S>) {
+        let (text, level) = (record.args(), record.level());
+        if let Ok(message) = format!(in self.alloc; "{text}") {
+            self.outside
+                .with((), |outside| outside.log(level, message.as_str()));
+        }
+    }
+
+    fn flush(&self) {}
+
+    fn target(&self) -> &str {
+        ""
+    }
+}
