@@ -157,7 +157,7 @@ pub struct Own {
     pub seat: ClaimSeat,
     /// Its end of the queue of tickets.
     pub ready: ReadyQueue,
-    /// Its end of the queue of free slots.
+    /// Its end of a queue of free slots: a poller's own, and for a worker that of the poller to which its turn gives.
     pub free: FreeQueue,
     /// What it has put into no queue yet.
     pub hand: Hand,

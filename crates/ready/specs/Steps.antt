@@ -40,7 +40,7 @@ module _ {T : Type 0} where
     pub mine : get_elem? views end_number ≡ some history
     pub rule : QueueRule items views
 
-  -- at one moment of the call the queue held this many items
+  -- some lawful state with this history held this many items
   pub record HeldOnce (count : ℕ) (history : History T) : Type 0 where
     pub items : List T
     pub held : length items ≡ count

@@ -12,8 +12,8 @@
 //! 3. The queue holds the items of the other places, in order.
 //! 4. The places that one end puts are in ascending order, and so are those that it takes.
 //!
-//! So each ticket has been taken once or is still there, first in, first out. Full is answered only if the queue was
-//! full at one moment during the call, and none only if it was empty at one. `specs/Rule.antt` has the rule, and
+//! So each ticket has been taken once or is still there, first in, first out. Full is answered only if some
+//! lawful state with this end's history was full, and none only if one was empty. `specs/Rule.antt` has the rule, and
 //! `specs/Steps.antt` what each call shows the end that made it.
 //!
 //! That a call returns, and that a sleeping end wakes, is not proved. Tests show it.
@@ -23,8 +23,8 @@
 //! A thread with nothing to do parks in [`ReadyQueue::take`]. One word has a bit for each end that is idle. An end
 //! that is about to park sets its bit, looks at the queue again, and only then parks. A put first pushes its ticket,
 //! and then clears the lowest bit that is set and unparks that end. So at most one end is woken for a ticket, and no
-//! ticket is left in the queue while an end sleeps: either the put finds the bit, or the end's second look, which
-//! comes after the bit, finds the ticket.
+//! ticket is left in the queue while all ends sleep: either the put finds the bit, or the end's second look, which
+//! comes after the bit, finds the ticket. A ticket may wait for an end that is awake.
 //!
 //! A put by an end that will take next wakes nobody. After each [`ReadyQueue::take`] that gave a ticket, the end's
 //! first put counts on the end itself coming back: it is awake, and takes one ticket when it is done. Its second put,

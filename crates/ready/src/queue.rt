@@ -17,8 +17,8 @@ use std::sync::{Arc, Wait};
 
 /// One thread's end of a queue of tickets.
 ///
-/// An end that calls [`ReadyQueue::take`] has to call it again after each ticket that it got, until the answer is
-/// none: its next put relies on that.
+/// An end that calls [`ReadyQueue::take`] must call it again after each ticket that it got, until the answer is none: its
+/// next put relies on that. No clause asks for it.
 ///
 /// In a clause it is the queue's capacity and the end's history: what it has put and taken, each with its place among
 /// all that was ever put. Only its own calls change that.

@@ -2,7 +2,7 @@
 
 use crate::act::{Accepted, Act, Answer, Made, Opening, Polling, Record};
 use input::{Pieces, is};
-use token::{Kind, Name, Side, Token};
+use token::{KIND_WANTED, Kind, Name, Side, Token};
 
 /// Why a line of a recording is not read: the first word from the left that is wrong, and what is expected there.
 #[derive(Clone, Copy)]
@@ -320,8 +320,6 @@ fn unmade<'a>(
 
 /// A kind of failure.
 fn kind<'a>(words: &mut Pieces<'a>) -> Result<Kind, Wrong<'a>> {
-    let wanted =
-        "one of aborted, notconnected, other, pipe, refused, reset, timedout and zero is wanted";
-    let word = word(words, wanted)?;
-    said(Kind::named(word), word, wanted)
+    let word = word(words, KIND_WANTED)?;
+    said(Kind::named(word), word, KIND_WANTED)
 }

@@ -4,7 +4,7 @@ use std::alloc::{AllocError, AllocFailed, Global};
 use std::io::{Read, Write};
 use thiserror::Error;
 
-/// What is to be told of a recording.
+/// What is wanted of a recording.
 #[derive(Clone, Copy, PartialEq, Eq)]
 pub enum Wanted {
     /// How many connections, how many events of each kind, and how many bytes.
@@ -18,7 +18,8 @@ pub enum Wanted {
 /// Whether a recording is of runs of the machine.
 #[derive(Clone, Copy, PartialEq, Eq)]
 pub enum Outcome {
-    /// Each slot and each listener that was played is one. What was wanted is written. For a script that is its slot alone.
+    /// Each slot and each listener that was played is one. What was wanted is written. With `Script` only that slot is
+    /// played.
     Run,
     /// One of them is not. The first record that can stand at no place is written, and the script that leads there.
     NoRun,
@@ -44,7 +45,7 @@ pub enum ReplayFault {
     /// The reader gave an error.
     #[error("recording: cannot be read")]
     Read,
-    /// The file is no recording: its first line that is wrong, and what is wanted there.
+    /// A line is malformed, with what is wanted there, or no relay acts in that order.
     #[error("recording: malformed")]
     Broken(String),
     /// The recording has no such connection.

@@ -10,8 +10,9 @@
 //! | `fail s=3 g=1 idle` | warn | it moved nothing for the idle limit |
 //! | `gone s=3 g=1 from=192.0.2.7:50000 connected=yes up=120 down=0 seconds=9 cause=Broken pipe (os error 32)` | debug | just before its `fail`, or `drop` without `s=` and `g=`: whose connection that was, how far it got, and the system's cause |
 //! | `gone s=3 g=1 from=192.0.2.7:50000 connected=yes up=120 down=400 seconds=9 cause=done` | info | just before its `done`, where the log has all clients ([`ClientsAt`]): then it has `peer` and each `gone` at level info |
-//! | `drop kind=memory` | warn | an accepted connection was closed: memory ran out, or `connect` or `register` failed |
-//! | `drop kind=address` | warn | an accepted connection was closed: an address for its target is not known or not of IPv4 |
+//! | `drop kind=memory` | warn | an accepted connection was closed, since memory ran out |
+//! | `drop kind=connect`, `kind=register` | warn | the same, since that call failed |
+//! | `drop kind=address` | warn | the same, since an address for its target is not known or not of IPv4 |
 //! | `drops kind=memory more=12` | warn | this many more were closed so, which have no line of their own |
 //! | `slots: all 1024 are taken; further clients wait` | warn | a client waits for a slot |
 //!

@@ -32,8 +32,9 @@ impl Replay for OnMachine {
     /// out, since what was left to do may have been done there, and in neither case where a wait for reports had
     /// failed, since that ends a relay before all is done.
     ///
-    /// Refuses with `Read` if the reader gives an error, `Broken` if the file is no recording, `Unknown` if it lacks
-    /// the connection that is wanted, `Write` if the outcome could not be written, and `NoMemory`.
+    /// Refuses with `Read` if the reader gives an error, `Broken` if a line is malformed or no relay acts in that order,
+    /// `Unknown` if it lacks the connection that is wanted, `Write` if the outcome could not be written, and
+    /// `NoMemory`. No clause covers this call. After a refusal a part of the outcome may be written.
     fn replay<R: Read, W: Write>(
         &self,
         alloc: Global,

@@ -14,10 +14,9 @@
 //!
 //! # Inside
 //!
-//! - A round waits for reports only with no ticket in hand, and for one of the first four reasons for which accepting
-//!   ends, or for a millisecond if the last round left a client. If it does not wait, a ticket is in hand, or a
-//!   connection may be accepted now and was not left (`poll`: `wait`, by `WaitsAsMay`). The front was asked to wait no
-//!   longer (`waited`). The wait is a fault exactly if it gave an error other than a signal (`polled`); its batch is
+//! - `WaitsAsMay` says when a round waits for reports (`poll`: `wait`): if no sweep is due, no ticket is in hand, and
+//!   either nothing can be accepted (no client, no free slot, or all were opened) or accept(2) was starved; and for a
+//!   millisecond if the last round left a client. The front was asked to wait no longer (`waited`). The wait is a fault exactly if it gave an error other than a signal (`polled`); its batch is
 //!   delivered (`deliver_batch`).
 //! - Each error of accept(2) has its class, and only the answer that no connection waits lowers the accept flag
 //!   (`accepted_of`, `not_accepted`: `flag`). A lack lasts until that answer or a connection (`starved_after`).

@@ -27,10 +27,11 @@ use std::sync::Wait;
 
 /// One round of the poller.
 ///
-/// If the hand has no room for a ticket of each slot and 512 more, the round ends at once, and nothing happens. Else
-/// the tickets in hand stay there, in front of those of the round. The round asks once for reports and delivers them
-/// ([`deliver`]). It waits for them only if no sweep is due, no ticket is in hand and no connection can be accepted
-/// now, or for a millisecond at most if the round before left a client to other pollers. A sweep is due if at the
+/// If the hand has no room for a ticket of each slot and 512 more, the round ends at once, and only its batch is
+/// emptied. Else the tickets in hand stay there, in front of those of the round. The round asks once for reports and
+/// delivers them ([`deliver`]). It waits for them only if no sweep is due, no ticket is in hand, and either no
+/// connection can be accepted or accept(2) was starved; if the round before left a client to other pollers, it waits a
+/// millisecond at most. A sweep is due if at the
 /// second of the round before at least the idle limit had passed since the last sweep, or since the poller began: the
 /// round then posts a note at each slot in which the poller has opened a connection, in rising order. Without a limit
 /// there are no sweeps. Then the round reads its second. While connections may be waiting and a slot is free, it
@@ -41,8 +42,8 @@ use std::sync::Wait;
 ///
 /// An opened connection has the slot's next generation, one note and one ticket, and is logged. A connection whose
 /// opening fails is closed and logged or counted, and its slot is as it was, and in hand. At its end the round logs
-/// what is counted, once a second. If the listener was reported and no slot is free, that is logged by the last poller
-/// that finds it. What connections are opened with stays the same.
+/// what is counted, once a second. If the listener was reported and no slot is free, that is logged by the poller with
+/// which all have found it. What connections are opened with stays the same.
 ///
 /// Refusals: `Poll` if waiting for reports failed, and `Worn` if the seat has posted 2^56 times. Afterwards the seat
 /// holds no slot, even after a refusal.
@@ -88,7 +89,8 @@ fn begin<F: Front>(hand: &Hand, poller: &mut Poller<F>, slots: usize) -> bool
 }
 
 /// Asks for reports. If the poller may open no more connections, its front stops listening before. It waits for reports
-/// unless a sweep is due, a ticket is in hand, or a connection can be accepted now and was not left to other pollers.
+/// unless a sweep is due, a ticket is in hand, or a connection can be accepted, accept(2) was not starved, and no client
+/// was left to other pollers.
 fn look<F: Front, R: Wait + Log>(
     rt: &R,
     own: &mut Own,

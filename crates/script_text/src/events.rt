@@ -12,7 +12,7 @@ use crate::readers::{
 use input::{Pieces, is, number};
 use kernel_model::{Accepting, MAX_POLLED, Reply};
 use std::alloc::{AllocError, Global};
-use token::{Kind, MAX_GENERATION, Name, Side, Token};
+use token::{KIND_WANTED, Kind, MAX_GENERATION, Name, Side, Token};
 use world::{Act, Change, Event, Listening, Polling, Reported};
 
 /// The first words of a world's lines: what is expected in place of another one.
@@ -339,9 +339,7 @@ fn wrote(mut words: Pieces<'_>) -> Result<Reply, Wrong<'_>>
 fn failed(mut words: Pieces<'_>) -> Result<Reply, Wrong<'_>>
     ensures { Reads (word_then kind_named (λ kind. if_last (Reply.Failed kind)) words.entry) result }
 {
-    let wanted =
-        "one of aborted, notconnected, other, pipe, refused, reset, timedout and zero is wanted";
-    let word = word(&mut words, wanted)?;
-    let kind = said(Kind::named(word), word, wanted)?;
+    let word = word(&mut words, KIND_WANTED)?;
+    let kind = said(Kind::named(word), word, KIND_WANTED)?;
     last(Reply::Failed(kind), words)
 }

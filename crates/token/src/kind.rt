@@ -3,6 +3,10 @@ ghost use Rattle.std.specs.Str.{bytes_eq};
 ghost use Rattle.token.specs.Kinds.{kind_name, kind_named};
 ghost use Rattle.token.specs.declared.kind.Kind.{Kind};
 
+/// What is said where a word names no kind.
+pub const KIND_WANTED: &str =
+    "one of aborted, notconnected, other, pipe, refused, reset, timedout and zero is wanted";
+
 /// How a call on a socket failed: the errors of read(2), write(2), connect(2) and shutdown(2) that the relay
 /// distinguishes.
 #[derive(Clone, Copy, PartialEq, Eq)]

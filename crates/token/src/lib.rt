@@ -16,7 +16,7 @@ mod side;
 mod token;
 
 pub use direction::Direction;
-pub use kind::Kind;
+pub use kind::{KIND_WANTED, Kind};
 pub use limits::{MAX_GENERATION, MAX_SLOT};
 pub use name::{Name, unpack};
 pub use side::Side;

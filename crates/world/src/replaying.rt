@@ -15,8 +15,8 @@ use std::alloc::Global;
 /// The world after these events, starting with the opening world.
 ///
 /// If not all of them can happen, the answer is the index of the first that fails, and why: `NotAllowed` if the
-/// events before it can happen and it cannot happen after them; `NoMemory` if it can happen too, but a list could not
-/// grow for it. Where there is no memory for the world itself, the answer is `NoMemory` at index 0.
+/// events before it can happen and it cannot happen after them; `NoMemory` if it can happen, too, and needs memory. At
+/// index 0, `NoMemory` may also mean the world itself.
 ///
 /// About the world after every list of events:
 ///
