@@ -1,5 +1,5 @@
 -- What a text is by its first line, and the lines after it one by one.
-use Rattle.script.proofs.Prelude.{◌≡◌, ℕ, ◌≤◌, true, List, [], ◌∷◌, ◌++◌, length, Option, Some, Result, Ok, Err, refl, sym, ap, ◌∙◌, append_assoc, IsErrOf, le-ltb, Event, Fault, NoMemory, Script, NumberedEvent, Step, NumberedStep, NumberedLine, Header, lines_of, telling_lines, header_of, step_of, said_of, event_of, GivesBy, and_then, Plan, SaidLine, BeginsWell, goes_on, starts_with_event, starts_with_step, most_bytes, or_malformed, headed, parsed, plan_of, said_by, said_line, said_lines, steps_of, events_of}
+use Rattle.script.proofs.Prelude.{◌≡◌, ℕ, ◌≤◌, true, List, [], ◌∷◌, ◌++◌, length, Option, Some, None, Result, Ok, Err, refl, sym, ap, ◌∙◌, append_assoc, IsErrOf, le-ltb, Event, Fault, Malformed, Script, NumberedEvent, Step, NumberedStep, NumberedLine, Header, lines_of, telling_lines, header_of, step_of, said_of, event_of, GivesBy, and_then, Plan, SaidLine, BeginsWell, goes_on, starts_with_event, starts_with_step, most_bytes, or_malformed, headed, parsed, plan_of, said_by, said_line, said_lines, steps_of, events_of}
 
 -- a text that is not too long is what its first line says
 pub headed_is : (text : List ℕ) (ls : List NumberedLine) (first : NumberedLine) (rest : List NumberedLine) (o : Option Header)
@@ -7,6 +7,10 @@ pub headed_is : (text : List ℕ) (ls : List NumberedLine) (first : NumberedLine
     → parsed text ≡ and_then (λ h. headed h rest) (or_malformed first.number o)
 headed_is text ls first rest o short lines is header =
     rw (le-ltb most_bytes (length text) short) (ap plan_of (sym lines ∙ is)) ∙ ap (λ h. and_then (λ h. headed h rest) (or_malformed first.number h)) header
+
+pub bad_first : (text : List ℕ) (ls : List NumberedLine) (first : NumberedLine) (rest : List NumberedLine)
+    → length text ≤ most_bytes → ls ≡ telling_lines 1 (lines_of text) → ls ≡ first ∷ rest → header_of first.text ≡ None → parsed text ≡ Err (Malformed first.number)
+bad_first text ls first rest short lines is none = headed_is text ls first rest None short lines is none
 
 pub begins_well : (text : List ℕ) (ls : List NumberedLine) (first : NumberedLine) (rest : List NumberedLine) (h : Header)
     → length text ≤ most_bytes → ls ≡ telling_lines 1 (lines_of text) → ls ≡ first ∷ rest → header_of first.text ≡ Some h

@@ -6,9 +6,33 @@ use Rattle.script_text.specs.declared.word.Word.TheVariants as word
 pub no_event : (words : List (List ℕ)) → BeginsOtherwise words → event_of_words words ≡ None
 no_event [] none = refl
 no_event (name ∷ words) none =
-    rw (none word.Arrive, none word.Poll, none word.Tick, none word.Connect, none word.Accept, none word.Drop, none word.Fin, none word.Reset, none word.Room,
-    none word.Spurious, none word.Vanish, none word.Open, none word.Deliver, none word.Sweep, none word.Put, none word.Call, none word.Pop, none word.Claim,
-    none word.Take, none word.Post, none word.Release, none word.Idle, none word.Close, none word.Retire, none word.Free) refl
+    rw (
+      none word.Arrive,
+      none word.Poll,
+      none word.Tick,
+      none word.Connect,
+      none word.Accept,
+      none word.Drop,
+      none word.Fin,
+      none word.Reset,
+      none word.Room,
+      none word.Spurious,
+      none word.Vanish,
+      none word.Open,
+      none word.Deliver,
+      none word.Sweep,
+      none word.Put,
+      none word.Call,
+      none word.Pop,
+      none word.Claim,
+      none word.Take,
+      none word.Post,
+      none word.Release,
+      none word.Idle,
+      none word.Close,
+      none word.Retire,
+      none word.Free,
+    ) refl
 
 -- no step begins with such a text
 pub no_step : (words : List (List ℕ)) → BeginsOtherwise words → step_of_words words ≡ None

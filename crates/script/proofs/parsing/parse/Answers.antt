@@ -1,10 +1,10 @@
-use Rattle.script.proofs.Prelude.{None, Some, rules}
-use Rattle.script.proofs.FirstLine.{begins_well, headed_is}
+use Rattle.script.proofs.Prelude.{Some, rules}
+use Rattle.script.proofs.FirstLine.{bad_first, begins_well, headed_is}
 use Rattle.script.proofs.parsing.parse.Goals as goal
 
-pub returns-in_Err-clause-script : goal.returns-in_Err-clause-script
-returns-in_Err-clause-script c =
-    let bad = headed_is c.args.text.now _ _ _ None c.if-text-gt-MAX_BYTES.false c.new-lines.ensures c.in-Some.ensures c.in-Err.ensures.value in search (rules, bad)
+pub returns-in-Err-clause-script : goal.returns-in-Err-clause-script
+returns-in-Err-clause-script c =
+    let bad = bad_first c.args.text.now _ _ _ c.if-text-gt-MAX_BYTES.false c.new-lines.ensures c.in-Some.ensures c.in-Err.ensures.value in search (rules, bad)
 
 pub returns-in-Ok-clause-script : goal.returns-in-Ok-clause-script
 returns-in-Ok-clause-script c =
