@@ -105,7 +105,10 @@ impl Lines {
 
 /// The sizes in a first line, and how the slots are dealt then.
 fn sizes(line: &[u8]) -> Result<(Header, Split), Wrong<'_>> {
-    let header = read_header(line)?;
+    let header = match read_header(line) {
+        Ok(header) => header,
+        Err(wrong) => return Err(wrong),
+    };
     match split_of(&header) {
         Some(split) => Ok((header, split)),
         None => Err(wanted("a relay with these slots and workers has another number of pollers")),
@@ -117,7 +120,10 @@ fn record_of<'a>(recording: &Recording, line: &'a [u8]) -> Result<Record, Wrong<
     if recording.last != Last::Stopped {
         return Err(wanted("nothing comes after the record end or full"));
     }
-    let record = read_line(line)?;
+    let record = match read_line(line) {
+        Ok(record) => record,
+        Err(wrong) => return Err(wrong),
+    };
     if record.before >= record.after {
         return Err(wanted("the count before an act is below the one after it"));
     }
