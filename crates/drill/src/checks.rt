@@ -53,23 +53,18 @@ impl Checks {
         verdict: Verdict,
         counts: (u64, u64),
     ) {
-        let (alloc, (up, down)) = (self.alloc, counts);
-        let level = match verdict {
-            Verdict::Done => Level::Info,
-            _ => Level::Warn,
-        };
-        let text = match verdict {
-            Verdict::Live => return,
-            Verdict::Done => format!(in alloc; "done s={slot} g={generation} up={up} down={down}"),
-            Verdict::Failed(Fault::Idle) => format!(in alloc; "fail s={slot} g={generation} idle"),
-            Verdict::Failed(Fault::Broken { side, call, kind }) => {
-                let (side, call, kind) = (side.name(), call.name(), kind.name());
-                format!(in alloc;
-                    "fail s={slot} g={generation} side={side} call={call} kind={kind}"
-                )
+        let alloc = self.alloc;
+        match verdict {
+            Verdict::Live => {}
+            Verdict::Done => {
+                let bytes = bytes_of(alloc, counts.0, counts.1);
+                self.expect(Level::Info, line_of(alloc, "done", slot, generation, bytes));
             }
-        };
-        self.expect(level, text);
+            Verdict::Failed(fault) => {
+                let cause = cause_of(alloc, fault);
+                self.expect(Level::Warn, line_of(alloc, "fail", slot, generation, cause));
+            }
+        }
     }
 
     /// Whether all lines that are expected were logged.
@@ -89,8 +84,14 @@ impl Checks {
     pub fn write(&mut self, level: Level, text: &str) {
         self.add(text);
         let expected = self.expected.pop_front();
-        let line = match &expected {
-            Some((wanted, line)) if *wanted == level && line.as_str() == text => return,
+        if !is_expected(&expected, level, text) {
+            self.fail_at(text, &expected);
+        }
+    }
+
+    /// Fails since this line was logged in place of the expected one.
+    fn fail_at(&mut self, text: &str, expected: &Option<(Level, String)>) {
+        let line = match expected {
             Some((_, line)) => line.as_str(),
             None => "no line",
         };
@@ -111,4 +112,41 @@ impl Checks {
             Err(_) => self.fail(""),
         }
     }
+}
+
+/// Whether this line is the expected one.
+fn is_expected(expected: &Option<(Level, String)>, level: Level, text: &str) -> bool {
+    match expected {
+        Some((wanted, line)) => *wanted == level && line.as_str() == text,
+        None => false,
+    }
+}
+
+/// The line about the end of a connection.
+fn line_of(
+    alloc: Global,
+    word: &str,
+    slot: usize,
+    generation: u64,
+    rest: Result<String, AllocError>,
+) -> Result<String, AllocError> {
+    let rest = rest?;
+    format!(in alloc; "{word} s={slot} g={generation} {rest}")
+}
+
+fn bytes_of(alloc: Global, up: u64, down: u64) -> Result<String, AllocError> {
+    format!(in alloc; "up={up} down={down}")
+}
+
+fn cause_of(alloc: Global, fault: Fault) -> Result<String, AllocError> {
+    match fault {
+        Fault::Idle => String::from_str(alloc, "idle"),
+        Fault::Broken { side, call, kind } => {
+            broken_of(alloc, side.name(), call.name(), kind.name())
+        }
+    }
+}
+
+fn broken_of(alloc: Global, side: &str, call: &str, kind: &str) -> Result<String, AllocError> {
+    format!(in alloc; "side={side} call={call} kind={kind}")
 }

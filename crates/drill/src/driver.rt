@@ -24,20 +24,6 @@ pub struct ThreadCell<T> {
     pub has_ended: Cell<bool>,
 }
 
-impl<T> ThreadCell<T> {
-    /// Makes a step, unless the thread has ended. The step says whether the thread ends with it.
-    fn advance<F: FnOnce(&mut T) -> bool + Drop>(&self, step: F)
-        requires { F.IsAlwaysCallable step }
-    {
-        if self.has_ended.get() {
-            return;
-        }
-        if let Ok(mut thread) = self.thread.try_borrow_mut() {
-            self.has_ended.set(step(&mut thread));
-        }
-    }
-}
-
 /// The server's threads, and what is outside of the server.
 #[derive(Drop)]
 pub struct Driver {
@@ -90,8 +76,15 @@ impl Driver {
 
     /// Makes a step of a poller's thread, unless it has ended.
     pub fn round<R: Wait + Log>(&self, rt: &R, poller: usize) {
-        if let Some(cell) = self.pollers.get(poller) {
-            cell.advance(|thread| self.round_of(rt, poller, thread));
+        let Some(cell) = self.pollers.get(poller) else {
+            return;
+        };
+        if cell.has_ended.get() {
+            return;
+        }
+        if let Ok(mut thread) = cell.thread.try_borrow_mut() {
+            let has_ended = self.round_of(rt, poller, &mut thread);
+            cell.has_ended.set(has_ended);
         }
     }
 
@@ -106,14 +99,7 @@ impl Driver {
         let is_due = self
             .outside
             .with(false, |outside| outside.begin_step(poller));
-        let context = self.context(rt, &gate);
-        let has_ended = match thread.step(&context) {
-            Ok(()) => false,
-            Err(ended) => {
-                thread.finish(&context, ended);
-                true
-            }
-        };
+        let has_ended = step_poller(&self.context(rt, &gate), thread);
         self.outside
             .with((), |outside| outside.end_step(poller, is_due, has_ended));
         has_ended
@@ -121,8 +107,15 @@ impl Driver {
 
     /// Makes a step of a worker's thread, unless it would wait or has ended.
     pub fn turn<R: Wait + Log>(&self, rt: &R, number: usize) {
-        if let Some(cell) = self.workers.get(number) {
-            cell.advance(|worker| self.turn_of(rt, worker));
+        let Some(cell) = self.workers.get(number) else {
+            return;
+        };
+        if cell.has_ended.get() {
+            return;
+        }
+        if let Ok(mut worker) = cell.thread.try_borrow_mut() {
+            let has_ended = self.turn_of(rt, &mut worker);
+            cell.has_ended.set(has_ended);
         }
     }
 
@@ -137,14 +130,7 @@ impl Driver {
         }
         let gate = self.gate();
         self.outside.with((), |outside| outside.begin_work());
-        let context = self.context(rt, &gate);
-        let has_ended = match worker.step(&context) {
-            Ok(()) => false,
-            Err(ended) => {
-                worker.finish(&context, ended);
-                true
-            }
-        };
+        let has_ended = step_worker(&self.context(rt, &gate), worker);
         self.outside
             .with((), |outside| outside.end_work(is_due, has_ended));
         has_ended
@@ -162,6 +148,34 @@ impl Driver {
         self.is_stopped.store(true, SeqCst);
         self.outside
             .with((), |outside| outside.state.is_stopped = true);
+    }
+}
+
+/// Makes a step of a poller's thread. Returns whether that ended the thread.
+fn step_poller<R: Wait + Log>(
+    context: &StepContext<'_, R>,
+    thread: &mut PollerThread<KernelFront>,
+) -> bool {
+    match thread.step(context) {
+        Ok(()) => false,
+        Err(ended) => {
+            thread.finish(context, ended);
+            true
+        }
+    }
+}
+
+/// Makes a step of a worker's thread. Returns whether that ended the thread.
+fn step_worker<R: Wait + Log>(
+    context: &StepContext<'_, R>,
+    worker: &mut Worker<KernelFront>,
+) -> bool {
+    match worker.step(context) {
+        Ok(()) => false,
+        Err(ended) => {
+            worker.finish(context, ended);
+            true
+        }
     }
 }
 

@@ -109,19 +109,19 @@ impl Outside {
 
     /// Makes an event to which a step of the server amounts, in this slot's machine.
     pub fn record(&mut self, slot: usize, event: Event) {
-        let made = self
-            .machines
-            .get_mut(slot)
-            .map_or(false, |machine| machine.put(event));
+        let made = match self.machines.get_mut(slot) {
+            Some(machine) => machine.put(event),
+            None => false,
+        };
         self.must(made);
     }
 
     /// Makes an event to which a step of the server amounts, in the machine of this poller's listener.
     pub fn record_at_poller(&mut self, poller: usize, event: Event) {
-        let made = self
-            .pollers
-            .get_mut(poller)
-            .map_or(false, |model| model.machine.put(event));
+        let made = match self.pollers.get_mut(poller) {
+            Some(model) => model.machine.put(event),
+            None => false,
+        };
         self.must(made);
     }
 

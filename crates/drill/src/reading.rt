@@ -1,6 +1,5 @@
 // Reads the steps of a script from its lines.
-use crate::step::{Outer, Planned, Point, Polled, Step, Wanted};
-use dispatch::Unopened;
+use crate::step::{Opening, Outer, Planned, Point, Polled, Step, Wanted};
 use kernel_model::Accepting;
 use script_text::read_event;
 use std::alloc::Global;
@@ -16,10 +15,7 @@ pub fn read_step(alloc: Global, line: &str) -> Option<Step> {
         "turn" => Some(Step::Turn(number(rest)?)),
         "round" if rest.is_empty() => Some(Step::Round(0)),
         "round" => Some(Step::Round(number(rest)?)),
-        "machine" => {
-            let (slot, rest) = cut(rest);
-            Some(Step::Machine(number(slot)?, event(alloc, rest)?))
-        }
+        "machine" => machine(alloc, rest),
         _ => read_planned(alloc, line),
     }
 }
@@ -52,6 +48,12 @@ fn named<T: Copy>(table: &[(&str, T)], word: &str) -> Option<T> {
         }
     }
     None
+}
+
+/// Reads an event of a slot's machine alone, which has to be noticed if the machine refuses it.
+fn machine(alloc: Global, text: &str) -> Option<Step> {
+    let (slot, rest) = cut(text);
+    Some(Step::Machine(number(slot)?, event(alloc, rest)?))
 }
 
 fn later(point: Point, outer: Outer) -> Option<Step> {
@@ -116,10 +118,10 @@ static ACCEPTS: [(&str, Accepting); 3] = [
     ("starved", Accepting::Starved),
 ];
 
-static OPENINGS: [(&str, Option<Unopened>); 3] = [
-    ("plain", None),
-    ("connect", Some(Unopened::Connect)),
-    ("register", Some(Unopened::Register)),
+static OPENINGS: [(&str, Opening); 3] = [
+    ("plain", Opening::Plain),
+    ("connect", Opening::Connect),
+    ("register", Opening::Register),
 ];
 
 static POLLS: [(&str, Polled); 3] = [

@@ -1,6 +1,6 @@
 // What the calls of a poller's round get, and to which events the round amounts.
 use crate::outside::Outside;
-use crate::step::{Plan, Planned, Point, Polled};
+use crate::step::{Opening, Plan, Planned, Point, Polled};
 use dispatch::{Clock, Part, Unopened};
 use kernel_model::{Accepting, MAX_POLLED};
 use log::Level;
@@ -18,13 +18,19 @@ impl Outside {
                 self.checks.fail("a second poll in a round");
             }
         }
-        match self.plan.next(Point::Poll(poller)) {
-            Some(Planned::Poll(Polled::Failed)) => {
+        match self.next_poll(poller) {
+            Some(Polled::Failed) => {
                 self.fail_poll(poller);
                 Err(io::Error::from(ErrorKind::PermissionDenied))
             }
-            Some(Planned::Poll(polled)) => self.poll_names(poller, Some(polled)),
-            _ => self.poll_names(poller, None),
+            polled => self.poll_names(poller, polled),
+        }
+    }
+
+    fn next_poll(&mut self, poller: usize) -> Option<Polled> {
+        match self.plan.next(Point::Poll(poller))? {
+            Planned::Poll(polled) => Some(polled),
+            _ => None,
         }
     }
 
@@ -150,15 +156,18 @@ impl Outside {
 
     /// Opens both ends of a connection that a poller has accepted, under these names, or fails as planned.
     pub fn open(&mut self, poller: usize, client: Token, target: Token) -> Result<(), Unopened> {
-        if let Some(unopened) = self.next_unopened(poller) {
-            return Err(unopened);
+        match self.next_opening(poller) {
+            Opening::Plain => {
+                self.opened(poller, client, target);
+                Ok(())
+            }
+            Opening::Connect => Err(Unopened::Connect),
+            Opening::Register => Err(Unopened::Register),
         }
-        self.opened(poller, client, target);
-        Ok(())
     }
 
-    /// Returns how an opening fails, if that is planned. A client must have been accepted before.
-    fn next_unopened(&mut self, poller: usize) -> Option<Unopened> {
+    /// Returns the planned outcome of an opening, before which a client must have been accepted.
+    fn next_opening(&mut self, poller: usize) -> Opening {
         if let Some(model) = self.pollers.get_mut(poller) {
             if !model.has_accepted {
                 self.checks.fail("a target without an accepted client");
@@ -166,8 +175,8 @@ impl Outside {
             model.has_accepted = false;
         }
         match self.plan.next(Point::Open(poller)) {
-            Some(Planned::Open(unopened)) => unopened,
-            _ => None,
+            Some(Planned::Open(opening)) => opening,
+            _ => Opening::Plain,
         }
     }
 

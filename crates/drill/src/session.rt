@@ -7,42 +7,24 @@ use crate::making::driver_of;
 use crate::outside::Outside;
 use crate::reading::read_step;
 use crate::sizes::read_sizes;
-use crate::step::Step;
+use crate::step::{Planned, Point, Step};
 use log::{Level, Log, Logged};
 use script_text::{Counts, Page};
 use std::io::{self, ErrorKind};
 use std::sync::Wait;
 
-/// The outcome of a line.
-#[derive(Clone, Copy)]
-enum Outcome {
-    /// Nothing is compared after this line.
-    Nothing,
-    /// The server and the machines agree after it.
-    Agreed,
-    /// They differ after it.
-    Differs,
-    /// The line is no step, or its script has no header.
-    Malformed,
-}
-
-/// The server of the script in progress, how many scripts and steps were run, and how many events of each kind they
-/// made.
+/// The counts of what was run, and the server of the script in progress.
 #[derive(Drop)]
 struct Session {
+    totals: Totals,
     driver: Option<Driver>,
-    scripts: u64,
-    steps: u64,
-    counts: Counts,
 }
 
 /// Runs all scripts, and prints how much was run. Returns whether the server and the machines agreed throughout.
 pub fn run_all<R: Wait + AllocGlobal + Print>(rt: &R, text: &str) -> io::Result<bool> {
     let mut session = Session {
+        totals: Totals::NONE,
         driver: None,
-        scripts: 0,
-        steps: 0,
-        counts: Counts::NONE,
     };
     session.run(rt, text)
 }
@@ -51,18 +33,22 @@ impl Session {
     fn run<R: Wait + AllocGlobal + Print>(&mut self, rt: &R, text: &str) -> io::Result<bool> {
         for (index, line) in text.lines().enumerate() {
             if line.starts_with("world ") {
-                self.add();
-                self.driver = begin(rt, line)?;
+                self.begin(rt, line)?;
             }
             if let Some(fault) = self.run_next(rt, line.trim_end())? {
-                let number = (index as u64).saturating_add(1);
-                println!(rt; "line {number}: {fault}: {line}")?;
-                return Ok(false);
+                return stop(rt, index, fault, line);
             }
         }
-        self.add();
-        self.print(rt)?;
+        self.totals.add(&self.driver);
+        self.totals.print(rt)?;
         Ok(true)
+    }
+
+    /// Begins the script of this header.
+    fn begin<R: Wait + AllocGlobal>(&mut self, rt: &R, header: &str) -> io::Result<()> {
+        self.totals.add(&self.driver);
+        self.driver = begin(rt, header)?;
+        Ok(())
     }
 
     /// Runs a line. Returns why no more lines are run after it, or None if they are.
@@ -71,42 +57,22 @@ impl Session {
         rt: &R,
         line: &str,
     ) -> io::Result<Option<&'static str>> {
-        match run_line(rt, &self.driver, line)? {
+        match run_on(rt, &self.driver, line)? {
             Outcome::Nothing => return Ok(None),
             Outcome::Agreed => {}
             Outcome::Differs => return Ok(Some("they differ after")),
             Outcome::Malformed => return Ok(Some("malformed")),
         }
-        self.steps = self.steps.saturating_add(1);
+        self.totals.steps = self.totals.steps.saturating_add(1);
         Ok(None)
-    }
-
-    /// Adds the script that was run, if there is one.
-    fn add(&mut self) {
-        if let Some(driver) = &self.driver {
-            self.scripts = self.scripts.saturating_add(1);
-            let counts = &mut self.counts;
-            driver.outside.with((), |outside| count(counts, outside));
-        }
-    }
-
-    /// Prints a line for each kind of event, and one for the scripts and the steps.
-    fn print<R: Print + AllocGlobal>(&self, rt: &R) -> io::Result<()> {
-        let mut page = Page::new(rt.alloc());
-        self.counts.put_lines(&mut page);
-        let (lines, scripts, steps) = (page.finish()?, self.scripts, self.steps);
-        println!(rt; "{lines}{scripts} scripts, {steps} steps")
     }
 }
 
-/// Counts the events of a script.
-fn count(counts: &mut Counts, outside: &Outside) {
-    for model in &outside.pollers {
-        model.machine.count(counts);
-    }
-    for machine in &outside.machines {
-        machine.count(counts);
-    }
+/// Prints the line after which no more lines are run, and why. Returns false.
+fn stop<R: Print>(rt: &R, index: usize, fault: &str, line: &str) -> io::Result<bool> {
+    let number = (index as u64).saturating_add(1);
+    println!(rt; "line {number}: {fault}: {line}")?;
+    Ok(false)
 }
 
 /// Makes the server of the script that begins with this header. None if it is no header.
@@ -121,7 +87,7 @@ fn begin<R: Wait + AllocGlobal>(rt: &R, header: &str) -> io::Result<Option<Drive
 }
 
 /// Runs a line of a script on its server.
-fn run_line<R: Wait + AllocGlobal + Print>(
+fn run_on<R: Wait + AllocGlobal + Print>(
     rt: &R,
     driver: &Option<Driver>,
     line: &str,
@@ -136,32 +102,66 @@ fn run_line<R: Wait + AllocGlobal + Print>(
         alloc: rt.alloc(),
         outside: &driver.outside,
     };
-    make(&Logged::new(rt, Level::Debug, logger), driver, line)
+    run_line(&Logged::new(rt, Level::Debug, logger), driver, line)
 }
 
-/// Makes the step of a line, and compares the server with the machines after it.
-fn make<R: Wait + Log + Print>(rt: &R, driver: &Driver, line: &str) -> io::Result<Outcome> {
+/// The outcome of a line.
+#[derive(Clone, Copy)]
+enum Outcome {
+    /// Nothing is compared after this line.
+    Nothing,
+    /// The server and the machines agree after it.
+    Agreed,
+    /// They differ after it.
+    Differs,
+    /// The line is no step, or its script has no header.
+    Malformed,
+}
+
+/// Runs one line of a script.
+fn run_line<R: Wait + Log + Print>(rt: &R, driver: &Driver, line: &str) -> io::Result<Outcome> {
     if line.starts_with("world ") {
         driver.begin(rt);
         return Ok(Outcome::Nothing);
     }
-    let Some(step) = read_step(driver.alloc, line) else {
-        return Ok(Outcome::Malformed);
-    };
-    let outside = &driver.outside;
+    match read_step(driver.alloc, line) {
+        Some(step) => run(rt, driver, step),
+        None => Ok(Outcome::Malformed),
+    }
+}
+
+fn run<R: Wait + Log + Print>(rt: &R, driver: &Driver, step: Step) -> io::Result<Outcome> {
     match step {
-        Step::Outside(outer) => outside.with((), |outside| outside.happen(outer)),
+        Step::Outside(outer) => driver.outside.with((), |outside| outside.happen(outer)),
         Step::Round(poller) => driver.round(rt, poller),
         Step::Turn(number) => driver.turn(rt, number),
-        Step::Machine(slot, event) => outside.with((), |outside| outside.record(slot, event)),
+        Step::Machine(slot, event) => driver
+            .outside
+            .with((), |outside| outside.record(slot, event)),
         Step::Stop => driver.stop(),
-        Step::Show => return outside.with(Ok(Outcome::Nothing), |outside| show(rt, outside)),
-        Step::Later(point, planned) => {
-            outside.with(Ok(()), |outside| outside.plan.add(point, planned))?;
-            return Ok(Outcome::Nothing);
-        }
+        Step::Show => return show_all(rt, driver),
+        Step::Later(point, planned) => return plan(driver, point, planned),
     }
-    outside.with(Ok(Outcome::Nothing), |outside| agree(rt, outside))
+    compare_all(rt, driver)
+}
+
+fn show_all<R: Print>(rt: &R, driver: &Driver) -> io::Result<Outcome> {
+    driver
+        .outside
+        .with(Ok(Outcome::Nothing), |outside| show(rt, outside))
+}
+
+fn plan(driver: &Driver, point: Point, planned: Planned) -> io::Result<Outcome> {
+    driver
+        .outside
+        .with(Ok(()), |outside| outside.plan.add(point, planned))?;
+    Ok(Outcome::Nothing)
+}
+
+fn compare_all<R: Wait + Print>(rt: &R, driver: &Driver) -> io::Result<Outcome> {
+    driver
+        .outside
+        .with(Ok(Outcome::Nothing), |outside| agree(rt, outside))
 }
 
 /// Prints the script and the report of each slot's machine, and then the log.
@@ -202,4 +202,49 @@ fn print_wrong<R: Print>(rt: &R, machine: &Machine) -> io::Result<()> {
         print_machine(rt, machine)?;
     }
     Ok(())
+}
+
+/// How many scripts and steps were run, and how many events of each kind they made.
+#[derive(Clone, Copy)]
+struct Totals {
+    scripts: u64,
+    steps: u64,
+    counts: Counts,
+}
+
+impl Totals {
+    /// Nothing was run.
+    const NONE: Totals = Totals {
+        scripts: 0,
+        steps: 0,
+        counts: Counts::NONE,
+    };
+
+    /// Adds a script that was run.
+    fn add(&mut self, driver: &Option<Driver>) {
+        if let Some(driver) = driver {
+            self.scripts = self.scripts.saturating_add(1);
+            driver
+                .outside
+                .with((), |outside| count(&mut self.counts, outside));
+        }
+    }
+
+    /// Prints a line for each kind of event, and one for the scripts and the steps.
+    fn print<R: Print + AllocGlobal>(&self, rt: &R) -> io::Result<()> {
+        let mut page = Page::new(rt.alloc());
+        self.counts.put_lines(&mut page);
+        let (lines, scripts, steps) = (page.finish()?, self.scripts, self.steps);
+        println!(rt; "{lines}{scripts} scripts, {steps} steps")
+    }
+}
+
+/// Counts the events of a script.
+fn count(counts: &mut Counts, outside: &Outside) {
+    for model in &outside.pollers {
+        model.machine.count(counts);
+    }
+    for machine in &outside.machines {
+        machine.count(counts);
+    }
 }

@@ -1,5 +1,4 @@
 // The steps of a script, and what may be planned for a later point.
-use dispatch::Unopened;
 use kernel_model::Accepting;
 use std::alloc::{AllocError, Global};
 use std::collections::VecDeque;
@@ -17,7 +16,7 @@ pub enum Step {
     Turn(usize),
     /// What the server gets at one of the next such points, or what happens there.
     Later(Point, Planned),
-    /// An event of this slot's machine alone, which has to be noticed if the machine refuses it.
+    /// An event of this slot's machine alone.
     Machine(usize, Event),
     /// No more connections may be opened.
     Stop,
@@ -53,8 +52,7 @@ pub enum Planned {
     Call(Wanted),
     /// `Accepted` and `Blocked` mean what the kernel has.
     Accept(Accepting),
-    /// Why a connection that was accepted cannot be opened, or None if it is opened.
-    Open(Option<Unopened>),
+    Open(Opening),
     Poll(Polled),
 }
 
@@ -71,6 +69,17 @@ pub enum Wanted {
     Interrupted,
     /// It fails.
     Failed(Kind),
+}
+
+/// The outcome of opening a connection that was accepted.
+#[derive(Clone, Copy)]
+pub enum Opening {
+    /// It is opened.
+    Plain,
+    /// The target cannot be connected to.
+    Connect,
+    /// An end cannot be registered.
+    Register,
 }
 
 /// How a poll gives the names that are queued.

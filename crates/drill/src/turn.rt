@@ -47,10 +47,10 @@ impl Outside {
         if self.state.is_faulty {
             self.checks.fail("a turn after a fault");
         }
-        let begun = self
-            .machines
-            .get_mut(slot)
-            .map_or(false, |machine| machine.begin());
+        let begun = match self.machines.get_mut(slot) {
+            Some(machine) => machine.begin(),
+            None => false,
+        };
         self.must(begun);
         self.turn = Some(Turn::at(slot));
     }

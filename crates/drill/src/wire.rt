@@ -156,20 +156,20 @@ fn call_of(kind: CallKind, side: Side, most: usize) -> Call {
 
 /// A call on an end.
 #[derive(Clone, Copy)]
-struct Asked<'a> {
-    slot: usize,
-    call: Call,
+pub struct Asked<'a> {
+    pub slot: usize,
+    pub call: Call,
     /// What a write offers. For any other call it is empty.
-    offer: &'a [u8],
+    pub offer: &'a [u8],
     /// Whether the end is known to be connected.
-    joined: bool,
+    pub joined: bool,
 }
 
 impl Outside {
     /// Makes a call, after the events that are planned before it. It must be the one that the connection in the slot's
     /// machine makes next, with the same bytes, in the slot's turn. Returns how many bytes it moved. A read puts its
     /// bytes at the front of the buffer.
-    fn call(&mut self, asked: Asked<'_>, buffer: &mut [u8]) -> Result<usize, ErrorKind> {
+    pub fn call(&mut self, asked: Asked<'_>, buffer: &mut [u8]) -> Result<usize, ErrorKind> {
         let wanted = self.next_wanted();
         let Some(reply) = self.reply(asked, wanted, buffer) else {
             self.checks
