@@ -26,9 +26,9 @@
 //!
 //! The definitions are in `specs/`: a lead in `Leads.antt`, slots and workers in `Slots.antt`, the whole state in
 //! `States.antt`, a connection's calls in `Calls.antt`, one event in `Steps.antt`, for which events memory may run
-//! out in `Memory.antt`, lists of events in `Runs.antt` and `Tapes.antt`, what could move and what is due in
-//! `Due.antt`, the bytes that arrived in `Given.antt`, what holds after every list of events in `Headline.antt`, what
-//! that depends on in `Support.antt`, and the claim words in `Words.antt`. Only private functions use those of
+//! out in `Memory.antt`, lists of events in `Runs.antt`, what could move and what is due in `Due.antt`, the bytes that
+//! arrived and what holds after every list of events in `Headline.antt`, what that depends on in `Support.antt`, and
+//! the claim words in `Words.antt`. Only private functions use those of
 //! `Acts.antt`. The lemmas are in `proofs/`: `Turns*.antt` about who has a slot, its notes and its tickets, and
 //! `Ends*.antt` about the bytes, the ends and the flags.
 #![tactic(auto)]
