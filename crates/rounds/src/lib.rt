@@ -16,8 +16,8 @@
 //!
 //! - `WaitsAsMay` says when a round waits for reports (`poll`: `wait`): if no sweep is due, no ticket is in hand, and
 //!   either nothing can be accepted (no client, no free slot, or all were opened) or accept(2) was starved; and for a
-//!   millisecond if the last round left a client. The front was asked to wait no longer (`waited`). The wait is a fault exactly if it gave an error other than a signal (`polled`); its batch is
-//!   delivered (`deliver_batch`).
+//!   millisecond if the last round left a client. The front was asked to wait no longer (`waited`). The wait is a fault
+//!   exactly if it gave an error other than a signal (`polled`); its batch is delivered (`deliver_batch`).
 //! - Each error of accept(2) has its class, and only the answer that no connection waits lowers the accept flag
 //!   (`accepted_of`, `not_accepted`: `flag`). A lack lasts until that answer or a connection (`starved_after`).
 //! - A drop is counted, or owed a line of its own (`dropped_at`, `owed_for`). A count is cleared only for a line that
