@@ -1,7 +1,7 @@
 -- For callers: where a seat has changed, and that it holds nothing.
 use Rattle.claims.proofs.Steps.Rule.Histories.{same_at, ◌≡◌, ℕ, ◌+◌, List, [], ◌∷◌, ◌++◌, refl, sym, subst, ap, ◌∙◌, arith, append_assoc, append-nil, dite, ℕ_discrete, Account, Exchange, Posted, Wake, Quiet, Worn, one, blank, after, after_all, account_of, minted_by, TableId, SeatState, account_at, HoldsNot, HoldsNothing, OnlyAt, Adds, fresh_seat, trace_at, PostChange}
-use Rattle.claims.specs.declared.view.Exchange.TheVariants as exchange
 pub use Rattle.claims.proofs.Steps.Rule.Histories.{posted_of}
+use Rattle.claims.specs.declared.view.Exchange.TheVariants as exchange
 
 -- a seat that has done nothing
 pub fresh_holds_nothing : (table : TableId) (s : SeatState) → s ≡ fresh_seat table → HoldsNothing s

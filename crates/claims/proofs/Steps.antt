@@ -1,7 +1,7 @@
 -- Each kind of step is allowed, and what it shows in the words of the calls' contracts.
 pub mod Rule
-pub use Rule.*
 unfoldable pub use Rattle.claims.specs.Seats.{Stepped}
+pub use Rule.*
 
 -- What each exchange makes of a word, bit by bit
 

@@ -1,15 +1,7 @@
 -- Which exchange the caller made, by what the call answers. Part of the promises.
 use Rattle.std.specs.Prelude.{◌≡◌, ℕ, ◌^◌, true, false, [], ◌∷◌}
-use Rattle.claims.specs.declared.answers.Posted.{Posted}
-use Rattle.claims.specs.declared.answers.Posted.TheVariants.{Wake, Quiet, Worn}
-use Rattle.claims.specs.declared.answers.Claimed.{Claimed}
-use Rattle.claims.specs.declared.answers.Claimed.TheVariants.{Held, Busy}
-use Rattle.claims.specs.declared.answers.Released.{Released}
-use Rattle.claims.specs.declared.answers.Released.TheVariants.{Wake as ReleaseWakes, Quiet as ReleaseQuiet}
-use Rattle.claims.specs.declared.answers.Adopted.{Adopted as AdoptAnswer}
-use Rattle.claims.specs.declared.answers.Adopted.TheVariants.{Adopted, NotFree}
+use Rattle.claims.specs.{declared.answers.{Posted.{Posted, TheVariants.{Wake, Quiet, Worn}}, Claimed.{Claimed, TheVariants.{Held, Busy}}, Released.{Released, TheVariants.{Wake as ReleaseWakes, Quiet as ReleaseQuiet}}, Adopted.{Adopted as AdoptAnswer, TheVariants.{Adopted, NotFree}}}, Seats.{SeatState, account_at, posts_of, HoldsNot, Adds}}
 use Rattle.claims.specs.declared.view.Exchange.TheVariants as exchange
-use Rattle.claims.specs.Seats.{SeatState, account_at, posts_of, HoldsNot, Adds}
 
 -- Wake only where the caller does not hold the slot. Worn makes no exchange, and comes only once the seat has posted 2 ^ 56 times
 abbrev pub PostChange : ℕ → SeatState → Posted → SeatState → Type 0

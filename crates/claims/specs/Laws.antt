@@ -1,12 +1,7 @@
 -- What `open` refuses, and what it leaves; and what follows from the claim rule for all seats together, in plain terms. Part
 -- of the promises.
 use Rattle.std.specs.Prelude.{◌≡◌, ◌↔◌, ℕ, ◌+◌, ◌<◌, ◌≤◌, ◌⊎◌, true, false, List, map, replicate, All, sum_by, if◌then◌else◌, slice_index, slice_index_or}
-use Rattle.claims.specs.declared.view.Account.{Account}
-use Rattle.claims.specs.declared.view.View.{View}
-use Rattle.claims.specs.Words.{one, some_wait, word_of, WordState}
-use Rattle.claims.specs.Views.{blank, column}
-use Rattle.claims.specs.Rule.{ClaimRule}
-use Rattle.claims.specs.Seats.{SeatState, view_of}
+use Rattle.claims.specs.{declared.view.{Account.Account, View.View}, Words.{one, some_wait, word_of, WordState}, Views.{blank, column}, Rule.ClaimRule, Seats.{SeatState, view_of}}
 
 abbrev pub IsWithin : ℕ → ℕ → ℕ → Type 0
 IsWithin low high n = (low ≤ n) × (n ≤ high)

@@ -1,13 +1,9 @@
 -- The claim rule, and what one step does. Part of the promises. The rule is true of all words and of the views of all seats
 -- between any two steps, in every schedule.
 use Rattle.std.specs.Prelude.{◌≡◌, ℕ, ◌+◌, ◌^◌, ◌<◌, ◌≤◌, ◌==◌, true, List, [], ◌∷◌, ◌++◌, length, All, sum_by, if◌then◌else◌, slice_index, slice_index_or, slice_set}
+use Rattle.claims.specs.{declared.view.{Account.Account, Exchange.Exchange, View.View}, Words.{WordState, StepKind, post, claim, adopt, word_of, word_after, made, kind_of}, Views.{blank, after, accounts_of, trace_in, traces_at}}
 use mathlib.Core.Option.{some}
 use lib.ListN.{get_elem?}
-use Rattle.claims.specs.declared.view.Account.{Account}
-use Rattle.claims.specs.declared.view.Exchange.{Exchange}
-use Rattle.claims.specs.declared.view.View.{View}
-use Rattle.claims.specs.Words.{WordState, StepKind, post, claim, adopt, word_of, word_after, made, kind_of}
-use Rattle.claims.specs.Views.{blank, after, accounts_of, trace_in, traces_at}
 
 -- the exchanges of all seats at one slot, in the order in which its word changed, each with its seat
 abbrev pub History : Type 0

@@ -1,12 +1,7 @@
 -- What callers see of a seat, and how a call changes it. Part of the promises.
 use Rattle.std.specs.Prelude.{◌≡◌, ◌≢◌, ℕ, ◌^◌, ◌≤◌, Bool, true, false, List, [], ◌++◌, map, length, sum_by, slice_index_or}
 pub use Rattle.atomic_table.specs.Seated.{TableId}
-use Rattle.claims.specs.declared.view.Account.{Account}
-use Rattle.claims.specs.declared.view.Exchange.{Exchange}
-use Rattle.claims.specs.declared.view.View.{View}
-use Rattle.claims.specs.Words.{StepKind}
-use Rattle.claims.specs.Views.{account_of, accounts_of, unused_view}
-use Rattle.claims.specs.Rule.{KeepsRule}
+use Rattle.claims.specs.{declared.view.{Account.Account, Exchange.Exchange, View.View}, Words.StepKind, Views.{account_of, accounts_of, unused_view}, Rule.KeepsRule}
 
 -- the claim words that the seat belongs to, and its trace of each slot: its exchanges there, in order
 pub record SeatState : Type 0 where

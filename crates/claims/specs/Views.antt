@@ -1,11 +1,7 @@
 -- What a seat has done. Part of the promises. Its trace of a slot is the list of its exchanges there, and its account
 -- what they say.
 use Rattle.std.specs.Prelude.{ℕ, ◌+◌, true, false, List, [], ◌∷◌, map, replicate, slice_index_or}
-use Rattle.claims.specs.declared.view.Account.{Account}
-use Rattle.claims.specs.declared.view.Exchange.{Exchange}
-use Rattle.claims.specs.declared.view.Exchange.TheVariants.{Post, Busy, Held, Take, Release, Retire, Adopted, NotFree}
-use Rattle.claims.specs.declared.view.View.{View}
-use Rattle.claims.specs.Words.{one, some_wait}
+use Rattle.claims.specs.{declared.view.{Account.Account, Exchange.{Exchange, TheVariants.{Post, Busy, Held, Take, Release, Retire, Adopted, NotFree}}, View.View}, Words.{one, some_wait}}
 
 -- the account of a seat that has done nothing at the slot
 abbrev pub blank : Account

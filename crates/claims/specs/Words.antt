@@ -1,8 +1,7 @@
 -- The claim word of a slot, how a step of each kind changes it, and which exchange that is. Part of the promises. This file
 -- stands alone, so that a model of the server can describe its own steps with the same words.
 use Rattle.std.specs.Prelude.{ℕ, zero, suc, ◌+◌, ◌*◌, Bool, true, false, if◌then◌else◌}
-use Rattle.claims.specs.declared.view.Exchange.{Exchange}
-use Rattle.claims.specs.declared.view.Exchange.TheVariants.{Post, Busy, Held, Take, Release, Retire, Adopted, NotFree}
+use Rattle.claims.specs.declared.view.Exchange.{Exchange, TheVariants.{Post, Busy, Held, Take, Release, Retire, Adopted, NotFree}}
 
 -- what a word says of its slot: how many notes wait, whether the slot is free, and whether it is held
 pub record WordState : Type 0 where

@@ -1,9 +1,7 @@
 // The calls on the claim words, each one atomic exchange.
 ghost use Rattle.std.specs.Prelude.{◌≡◌, ◌≢◌, ◌<◌, ◌≤◌, ◌^◌, [], ◌∷◌};
+ghost use Rattle.claims.specs.{Words.{post, claim, take, release, retire, adopt}, Seats.{account_at, Holds, Adds, Stepped}, Calls.{PostChange, ClaimChange, ReleaseChange, AdoptChange}};
 ghost use Rattle.claims.specs.declared.view.Exchange.TheVariants as exchange;
-ghost use Rattle.claims.specs.Words.{post, claim, take, release, retire, adopt};
-ghost use Rattle.claims.specs.Seats.{account_at, Holds, Adds, Stepped};
-ghost use Rattle.claims.specs.Calls.{PostChange, ClaimChange, ReleaseChange, AdoptChange};
 
 use crate::answers::{Adopted, Claimed, Posted, Released};
 use crate::limits::{FREE, HELD, MAX_POSTS, NOTE};

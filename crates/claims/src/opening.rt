@@ -1,8 +1,6 @@
 // `Claims::open`: the words as they start, and a seat for each thread.
 ghost use Rattle.std.specs.Prelude.{◌≡◌, ◌+◌, ◌-◌, ◌<◌, ◌≤◌, ◌↔◌, IfOk, OnOk, IsErrOf, false, replicate};
-ghost use Rattle.claims.specs.Views.{unused_view};
-ghost use Rattle.claims.specs.Seats.{fresh_seat};
-ghost use Rattle.claims.specs.Laws.{IsWithin, IsOutside, OpensLawful};
+ghost use Rattle.claims.specs.{Views.unused_view, Seats.fresh_seat, Laws.{IsWithin, IsOutside, OpensLawful}};
 
 use crate::calls::{Claims, Words};
 use crate::limits::{MAX_SEATS, MAX_SLOTS, UNUSED};

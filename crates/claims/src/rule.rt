@@ -1,9 +1,7 @@
 // The claim rule, as the rule of a table of words, and the six kinds of step, which are all that there are, with what each
 // shows the seat that made it.
 ghost use Rattle.std.specs.Prelude.{ℕ, ◌-◌, length};
-ghost use Rattle.claims.specs.Rule.{ClaimRule, KeepsRule};
-ghost use Rattle.claims.specs.Views.{unused_view};
-ghost use Rattle.claims.specs.Words.{post, claim, take, release, retire, adopt};
+ghost use Rattle.claims.specs.{Rule.{ClaimRule, KeepsRule}, Views.unused_view, Words.{post, claim, take, release, retire, adopt}};
 
 use crate::view::View;
 use atomic_table::{Play, Split, TableRule};

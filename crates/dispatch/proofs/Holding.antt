@@ -1,23 +1,10 @@
 -- A seat that holds one slot, after exchanges there; and one that is worn stays so while it posts nothing more.
-use Rattle.std.proofs.Common.{◌≡◌, ℕ, Bool, true, false, List, [], ◌∷◌, refl, sym, subst, ap, ◌∙◌, arith, suc, map}
-use Rattle.claims.specs.declared.answers.Posted.{Posted}
-use Rattle.claims.specs.declared.answers.Posted.TheVariants as posted
-use Rattle.claims.specs.declared.answers.Released.{Released}
-use Rattle.claims.specs.declared.answers.Released.TheVariants.{Wake, Quiet}
-use Rattle.claims.specs.declared.view.Account.{Account}
-use Rattle.claims.specs.declared.view.Exchange.{Exchange}
-use Rattle.claims.specs.declared.view.Exchange.TheVariants.{Post, Release}
-use Rattle.claims.specs.Words.{one}
-use Rattle.claims.specs.Views.{account_of, after_all}
-use Rattle.claims.specs.Seats.{SeatState, account_at, Holds, HoldsNot, HoldsNothing, Adds, OnlyAt}
-use Rattle.claims.specs.Calls.{PostChange, ReleaseChange}
-use Rattle.claims.proofs.Seats.{account_after}
+use Rattle.std.{proofs.{Common.{◌≡◌, ℕ, Bool, true, false, List, [], ◌∷◌, refl, sym, subst, ap, ◌∙◌, arith, suc, map}, lemmas.List.Sums.sum_by-cons}, specs.Prelude.{sum_by, slice_index_or}}
+use Rattle.claims.{specs.{declared.{answers.{Posted.Posted, Released.{Released, TheVariants.{Wake, Quiet}}}, view.{Account.Account, Exchange.{Exchange, TheVariants.{Post, Release}}}}, Words.one, Views.{account_of, after_all}, Seats.{SeatState, account_at, Holds, HoldsNot, HoldsNothing, Adds, OnlyAt}, Calls.{PostChange, ReleaseChange}}, proofs.Seats.{account_after, posted_of}}
 use Rattle.dispatch.specs.Posts.{HoldsOnly, IsWorn}
+use Rattle.claims.specs.declared.answers.Posted.TheVariants as posted
 use mathlib.Core.Logic.{dite}
 use native.Mathlib.Decide.{ℕ_discrete}
-use Rattle.std.specs.Prelude.{sum_by, slice_index_or}
-use Rattle.std.proofs.lemmas.List.Sums.{sum_by-cons}
-use Rattle.claims.proofs.Seats.{posted_of}
 
 module _ (slot : ℕ) (es : List Exchange) (a b : SeatState) (adds : Adds slot es a b) where
   -- they leave it held

@@ -1,15 +1,7 @@
 -- What an end of a queue has put, and after it what is in hand.
-use Rattle.std.proofs.Common.{◌≡◌, ℕ, List, [], ◌∷◌, ◌++◌, drop, slice_get, sym, refl, ap, ◌∙◌, append_assoc}
-use Rattle.std.specs.Prelude.{Some, map}
-use Rattle.std.proofs.lemmas.List.{map-append, append-nil}
-use Rattle.std.proofs.lemmas.Option.{none-some, same_Some}
-use Rattle.ready.specs.declared.history.History.{History}
-use Rattle.ready.specs.Steps.{PutOne}
-use Rattle.ready.specs.declared.ticket.Ticket.{Ticket}
-use Rattle.ready.specs.Steps.{EndState}
-use Rattle.dispatch.specs.declared.shared.Own.{Own}
-use Rattle.dispatch.specs.Hands.{HandState}
-use Rattle.dispatch.specs.Outgoing.{outgoing, Inserted, TookNothing, tickets_out, slots_out}
+use Rattle.std.{proofs.{Common.{◌≡◌, ℕ, List, [], ◌∷◌, ◌++◌, drop, slice_get, sym, refl, ap, ◌∙◌, append_assoc}, lemmas.{List.{map-append, append-nil}, Option.{none-some, same_Some}}}, specs.Prelude.{Some, map}}
+use Rattle.ready.specs.{declared.{history.History.History, ticket.Ticket.Ticket}, Steps.{PutOne, EndState}}
+use Rattle.dispatch.specs.{declared.shared.Own.Own, Hands.HandState, Outgoing.{outgoing, Inserted, TookNothing, tickets_out, slots_out}}
 
 module _ {T : Type 0} where
   put_behind : (puts : List (ℕ × T)) (place : ℕ) (item : T) (left : List T) →

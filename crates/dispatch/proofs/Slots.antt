@@ -1,9 +1,6 @@
 -- How many parts the slots are dealt in; and a slot's heavy marks.
-use Rattle.std.proofs.Common.{◌≡◌, ℕ, ◌-◌, List, slice_index, slice_set, sym, ap, ◌∙◌, arith, ◌+◌, ◌*◌, ◌/◌, ◌<◌, ◌≤◌}
-use Rattle.std.proofs.lemmas.List.{set-get_or}
-use Rattle.dispatch.specs.Heavy.{looked_at}
-use Rattle.std.proofs.Math.Nat.{div-mul-le_self, lt-div-mul-add, div-lt_iff_lt-mul}
-use Rattle.dispatch.specs.Splits.{parts_of}
+use Rattle.std.proofs.{Common.{◌≡◌, ℕ, ◌-◌, List, slice_index, slice_set, sym, ap, ◌∙◌, arith, ◌+◌, ◌*◌, ◌/◌, ◌<◌, ◌≤◌}, lemmas.List.set-get_or, Math.Nat.{div-mul-le_self, lt-div-mul-add, div-lt_iff_lt-mul}}
+use Rattle.dispatch.specs.{Heavy.looked_at, Splits.parts_of}
 
 -- parts of this size are no more than the pollers that they are made for
 below : (slots pollers : ℕ) → 1 ≤ pollers → (slots - 1) / ((slots - 1) / pollers + 1) < pollers

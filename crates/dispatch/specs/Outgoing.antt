@@ -1,11 +1,8 @@
 -- What a thread had to put into a queue so far: what its end of the queue has put, and then what is in hand for it.
 -- Part of the promises. While this list stays the same, nothing of it is lost, doubled or moved.
 use Rattle.std.specs.Prelude.{◌≡◌, ◌⊎◌, ℕ, List, [], ◌∷◌, ◌++◌, drop, map}
-use Rattle.ready.specs.declared.history.History.{History}
-use Rattle.ready.specs.declared.ticket.Ticket.{Ticket}
-use Rattle.ready.specs.Steps.{EndState, PutLast, HeldOnce}
-use Rattle.dispatch.specs.Hands.{HandState}
-use Rattle.dispatch.specs.declared.shared.Own.{Own}
+use Rattle.ready.specs.{declared.{history.History.History, ticket.Ticket.Ticket}, Steps.{EndState, PutLast, HeldOnce}}
+use Rattle.dispatch.specs.{Hands.HandState, declared.shared.Own.Own}
 
 module _ {T : Type 0} where
   abbrev pub outgoing : History T → List T → List T

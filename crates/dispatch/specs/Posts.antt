@@ -2,8 +2,8 @@
 use Rattle.std.specs.Prelude.{◌≡◌, ◌≢◌, ℕ, ◌^◌, List, length, replicate}
 use Rattle.claims.specs.Seats.{SeatState, TableId, fresh_seat, posts_of, Holds, HoldsNot, HoldsNothing}
 use Rattle.relay_log.specs.declared.faults.ServerFault.{ServerFault}
-use Rattle.relay_log.specs.declared.faults.ServerFault.TheVariants as server_fault
 use Rattle.dispatch.specs.declared.shared.Own.{Own}
+use Rattle.relay_log.specs.declared.faults.ServerFault.TheVariants as server_fault
 
 -- seats of these claim words that have done nothing yet
 pub record AreFresh (table : TableId) (seats : List SeatState) : Type 0 where

@@ -1,7 +1,6 @@
 -- Which slots are a poller's. Part of the promises. All are dealt in parts of one size, one after the other, and the
 -- last part has what is left.
-use Rattle.std.specs.Prelude.{ℕ, ◌*◌, ◌+◌, ◌-◌, ◌/◌, ◌<◌, ◌≤◌, min, List, map}
-use Rattle.std.specs.List.{range_with_len}
+use Rattle.std.specs.{Prelude.{ℕ, ◌*◌, ◌+◌, ◌-◌, ◌/◌, ◌<◌, ◌≤◌, min, List, map}, List.range_with_len}
 use Rattle.dispatch.specs.declared.split.Part.{Part}
 
 -- this slot is one of a poller's

@@ -1,11 +1,9 @@
 -- What the statistics count of a connection, and what the log says of one that could not be opened. Part of the promises.
 use Rattle.relay_core.specs.Pairs.{PairState, verdict}
-use Rattle.statistics.specs.declared.event.Event.{Event}
-use Rattle.statistics.specs.declared.event.Event.TheVariants.{Moved, Ended}
+use Rattle.statistics.specs.declared.event.Event.{Event, TheVariants.{Moved, Ended}}
 use Rattle.relay_log.specs.declared.cause.Cause.{Cause}
+use Rattle.dispatch.specs.declared.front.Unopened.{Unopened, TheVariants.{Connect, Register}}
 use Rattle.relay_log.specs.declared.cause.Cause.TheVariants as cause
-use Rattle.dispatch.specs.declared.front.Unopened.{Unopened}
-use Rattle.dispatch.specs.declared.front.Unopened.TheVariants.{Connect, Register}
 
 -- a turn has left it open: the bytes that writes took, each way
 abbrev pub moved_by : PairState → Event

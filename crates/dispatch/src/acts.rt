@@ -19,10 +19,9 @@ use token::Token;
 /// product this is `()`, which makes each act and nothing else.
 pub trait Acts {
     ghost use Rattle.std.specs.Prelude.{◌≡◌, ◌<◌, ℕ, [], ◌∷◌, length, slice_set, IfErr, OnOk, OnErr};
-    ghost use Rattle.claims.specs.declared.view.Exchange.TheVariants as exchange;
-    ghost use Rattle.claims.specs.Seats.{Holds, Adds};
-    ghost use Rattle.claims.specs.Calls.{PostChange, ClaimChange, ReleaseChange, AdoptChange};
+    ghost use Rattle.claims.specs.{Seats.{Holds, Adds}, Calls.{PostChange, ClaimChange, ReleaseChange, AdoptChange}};
     ghost use Rattle.ready.specs.Steps.{PutOne, HeldOnce};
+    ghost use Rattle.claims.specs.declared.view.Exchange.TheVariants as exchange;
     ghost use Rattle.dispatch.specs.Acts as act;
 
     // An act was made at a slot.

@@ -1,6 +1,4 @@
-ghost use Rattle.std.specs.Prelude.{◌≡◌, ◌≢◌, ◌≤◌, ℕ, Bool, true, false, List, [], IfOk, IfErr, OnErr, vec_len, vec_capacity};
-ghost use Rattle.std.specs.IoError.{error_kind};
-ghost use Rattle.std.specs.declared.io.ErrorKind.TheVariants.{Interrupted};
+ghost use Rattle.std.specs.{Prelude.{◌≡◌, ◌≢◌, ◌≤◌, ℕ, Bool, true, false, List, [], IfOk, IfErr, OnErr, vec_len, vec_capacity}, IoError.error_kind, declared.io.ErrorKind.TheVariants.Interrupted};
 
 use crate::limits::MAX_BATCH;
 use engine::Wire;
@@ -98,8 +96,7 @@ pub enum Waiting {
 
 /// Where connections and reports come from: the system's sockets, or an in-memory fake.
 pub trait Front {
-    ghost use Rattle.dispatch.specs.declared.front.Unopened.{Unopened};
-    ghost use Rattle.dispatch.specs.declared.front.Route.{Route};
+    ghost use Rattle.dispatch.specs.declared.front.{Unopened.Unopened, Route.Route};
 
     // The numbers that the last wait for reports gave.
     ghost reported: { Self → List ℕ };

@@ -1,7 +1,6 @@
 //! What a thread has in hand, and putting it into the queues, until a queue refuses it.
 ghost use Rattle.std.specs.Prelude.{◌≡◌, ◌+◌, ◌<◌, ◌≤◌, ◌↔◌, [], ◌∷◌, ◌++◌, length, drop, slice_get, IsTrue, IsSome, IfOk};
-ghost use Rattle.dispatch.specs.Hands.{empty_hand, ticket_room, HasRoom, Shrank};
-ghost use Rattle.dispatch.specs.Outgoing.{outgoing, PutAll};
+ghost use Rattle.dispatch.specs.{Hands.{empty_hand, ticket_room, HasRoom, Shrank}, Outgoing.{outgoing, PutAll}};
 
 use circular_buffer::HeapCircularBuffer;
 use ready::{FreeQueue, Full, ReadyQueue, Ticket};

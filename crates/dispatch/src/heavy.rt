@@ -1,7 +1,6 @@
 //! Which tickets a poller's thread leaves to the workers: those of connections that had much to do a moment ago.
 ghost use Rattle.std.specs.Prelude.{◌≡◌, ◌↔◌, IfOk, IsTrue, replicate, slice_index, slice_set};
-ghost use Rattle.dispatch.specs.Heavy.{looked_at};
-ghost use Rattle.dispatch.specs.Limits.{heavy_marks};
+ghost use Rattle.dispatch.specs.{Heavy.looked_at, Limits.heavy_marks};
 
 use crate::limits::HEAVY_MARKS;
 use std::alloc::{AllocError, Global};

@@ -1,9 +1,7 @@
 //! What the threads of a server share, what each of them owns, and what they are made from.
 ghost use Rattle.std.specs.Prelude.{◌≡◌, ◌≤◌, IfOk, IfSome};
 ghost use Rattle.claims.specs.Seats.{fresh_seat};
-ghost use Rattle.dispatch.specs.Hands.{empty_hand};
-ghost use Rattle.dispatch.specs.Posts.{AreFresh};
-ghost use Rattle.dispatch.specs.Told.{ended_by, moved_by};
+ghost use Rattle.dispatch.specs.{Hands.empty_hand, Posts.AreFresh, Told.{ended_by, moved_by}};
 
 use crate::acts::Places;
 use crate::front::Front;

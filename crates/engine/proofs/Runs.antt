@@ -1,37 +1,11 @@
 -- What one call's answer does to a wire, from what the wire's call says of it; and what one answer more does to a run, and
 -- to what the wires counted of it.
-use Rattle.std.proofs.Common.{◌≡◌, ◌⊎◌, inl, inr, ℕ, ◌%◌, ◌^◌, ◌≤◌, ◌&&◌, true, false, List, [], ◌++◌, length, take, Option, Some, None, refl, sym, ◌∙◌, ap, append-nil, add-zero, ◌+◌, Bool, ◌∷◌, append_assoc, length-append, zero-add, add_assoc, arith, option_map, unwrap_or}
-use Rattle.std.specs.Prelude.{nat_le, if◌then◌else◌, OnSome}
-use Rattle.std.proofs.lemmas.Bool.{le-leb}
-use Rattle.std.proofs.lemmas.List.{length-take-le, take-append-le}
-use Rattle.std.proofs.KnownBytes.{Appends-kept, Appends-nil, Consumes-kept, Consumes-nil, Consumes-trans, Appends-trans}
-use Rattle.std.specs.Io.KnownBytes.{Consumes, Appends, Keeps}
-use Rattle.relay_core.specs.declared.Direction.{Direction}
-use Rattle.relay_core.specs.declared.Side.{Side}
-use Rattle.relay_core.specs.declared.Side.TheVariants.{Client, Target}
-use Rattle.relay_core.specs.declared.Kind.{Kind}
-use Rattle.std.specs.declared.io.ErrorKind.{ErrorKind}
-use Rattle.relay_core.specs.declared.call.Call.{Call}
+use Rattle.std.{proofs.{Common.{◌≡◌, ◌⊎◌, inl, inr, ℕ, ◌%◌, ◌^◌, ◌≤◌, ◌&&◌, true, false, List, [], ◌++◌, length, take, Option, Some, None, refl, sym, ◌∙◌, ap, append-nil, add-zero, ◌+◌, Bool, ◌∷◌, append_assoc, length-append, zero-add, add_assoc, arith, option_map, unwrap_or}, lemmas.{Bool.le-leb, List.{length-take-le, take-append-le}, Option.option_and_then_some}, KnownBytes.{Appends-kept, Appends-nil, Consumes-kept, Consumes-nil, Consumes-trans, Appends-trans}, Math.Nat.mod-add-mod}, specs.{Prelude.{nat_le, if◌then◌else◌, OnSome}, Io.KnownBytes.{Consumes, Appends, Keeps}, declared.io.ErrorKind.ErrorKind}}
+use Rattle.relay_core.{specs.{declared.{Direction.Direction, Side.{Side, TheVariants.{Client, Target}}, Kind.Kind, call.Call.{Call, TheVariants.{Write, Read, Join}}, verdict.Fault.{Fault, TheVariants.{Broken, Idle}}}, Calls.side_of, Pairs.{PairState, verdict}, Order.{offer, next_call}, Replies.{AnswerValue, Bytes, Wrote, Blocked, Interrupted, Failed, fits, after}, Runs.{brought, carried, answered, over, all_brought, all_carried}, Idle.{is_overdue, expired}, Laws.{TellsOf, IsOverdue, AnswersAreToNextCalls, CallsComeWhileLive, FailuresAreTold, OnlyOverduePairsExpire}}, proofs.Pairs.take-offer}
+use Rattle.engine.specs.{Classes.kind_of_error, Wires.{Asked, Given, Brought, Took, Refused, WireView, Rises}, Turns.{asked, made, is_failed, is_blocked, way_from, way_to, IsCalled, one_if, count_on, same_side, Made, made_if, made_on, AreMade, IsServed, FailsBy, IsTurn}, Steps.{IsErrorReply, IsError, IsStep, IsAnswered, IsMove}}
 use Rattle.relay_core.specs.declared.call.Call.TheVariants as call
-use Rattle.relay_core.specs.declared.call.Call.TheVariants.{Write, Read, Join}
-use Rattle.relay_core.specs.Calls.{side_of}
-use Rattle.relay_core.specs.Pairs.{PairState, verdict}
-use Rattle.relay_core.specs.Order.{offer, next_call}
-use Rattle.relay_core.specs.Replies.{AnswerValue, Bytes, Wrote, Blocked, Interrupted, Failed, fits, after}
-use Rattle.relay_core.specs.Runs.{brought, carried, answered, over, all_brought, all_carried}
-use Rattle.relay_core.proofs.Pairs.{take-offer}
-use Rattle.engine.specs.Classes.{kind_of_error}
 use Rattle.engine.specs.Wires as ask
-use Rattle.engine.specs.Wires.{Asked, Given, Brought, Took, Refused, WireView, Rises}
-use Rattle.engine.specs.Turns.{asked, made, is_failed, is_blocked, way_from, way_to, IsCalled, one_if, count_on, same_side, Made, made_if, made_on, AreMade, IsServed, FailsBy, IsTurn}
-use Rattle.engine.specs.Steps.{IsErrorReply, IsError, IsStep, IsAnswered, IsMove}
-use Rattle.std.proofs.Math.Nat.{mod-add-mod}
-use Rattle.std.proofs.lemmas.Option.{option_and_then_some}
-use Rattle.relay_core.specs.declared.verdict.Fault.{Fault}
-use Rattle.relay_core.specs.declared.verdict.Fault.TheVariants.{Broken, Idle}
 use Rattle.relay_core.specs.declared.verdict.Verdict.TheVariants as verdict
-use Rattle.relay_core.specs.Idle.{is_overdue, expired}
-use Rattle.relay_core.specs.Laws.{TellsOf, IsOverdue, AnswersAreToNextCalls, CallsComeWhileLive, FailuresAreTold, OnlyOverduePairsExpire}
 
 -- ---- one call
 

@@ -1,15 +1,9 @@
 -- What the errors of read(2), write(2), connect(2) and shutdown(2) mean to the relay, and what a wire keeps about its
 -- answers. Part of the promises.
-use Rattle.std.specs.Prelude.{Bool, true, false, not, ◌&&◌, if◌then◌else◌, ℕ, ◌+◌, ◌%◌, ◌^◌}
-use Rattle.std.specs.declared.io.ErrorKind.{ErrorKind}
-use Rattle.std.specs.declared.io.ErrorKind.TheVariants.{ConnectionReset, BrokenPipe, ConnectionAborted, ConnectionRefused, NotConnected, TimedOut, WouldBlock, Interrupted, Other}
-use Rattle.relay_core.specs.declared.Kind.{Kind}
-use Rattle.relay_core.specs.declared.Kind.TheVariants as kind
-use Rattle.relay_core.specs.declared.call.Call.{Call}
-use Rattle.relay_core.specs.declared.call.CallKind.{CallKind}
-use Rattle.relay_core.specs.declared.call.CallKind.TheVariants.{Shut}
-use Rattle.relay_core.specs.Calls.{kind_of}
+use Rattle.std.specs.{Prelude.{Bool, true, false, not, ◌&&◌, if◌then◌else◌, ℕ, ◌+◌, ◌%◌, ◌^◌}, declared.io.ErrorKind.{ErrorKind, TheVariants.{ConnectionReset, BrokenPipe, ConnectionAborted, ConnectionRefused, NotConnected, TimedOut, WouldBlock, Interrupted, Other}}}
+use Rattle.relay_core.specs.{declared.{Kind.Kind, call.{Call.Call, CallKind.{CallKind, TheVariants.Shut}}}, Calls.kind_of}
 use Rattle.engine.specs.declared.class.Class.{Class}
+use Rattle.relay_core.specs.declared.Kind.TheVariants as kind
 use Rattle.engine.specs.declared.class.Class.TheVariants as class
 
 -- how a call failed

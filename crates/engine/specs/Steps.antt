@@ -1,17 +1,7 @@
 -- What one call of a turn does. Only for proofs.
-use Rattle.std.specs.Prelude.{◌≡◌, ℕ, true, if◌then◌else◌, List, [], ◌∷◌}
-use Rattle.std.specs.Prelude.{Some}
-use Rattle.std.specs.Io.KnownBytes.{Consumes, Appends}
-use Rattle.relay_core.specs.declared.Side.{Side}
-use Rattle.relay_core.specs.declared.Side.TheVariants.{Client, Target}
-use Rattle.relay_core.specs.declared.Kind.{Kind}
-use Rattle.relay_core.specs.declared.call.Call.{Call}
-use Rattle.relay_core.specs.Calls.{side_of}
-use Rattle.relay_core.specs.Pairs.{PairState}
-use Rattle.relay_core.specs.Replies.{AnswerValue, Blocked, Interrupted, Failed, fits, after}
-use Rattle.relay_core.specs.Runs.{answered, brought, carried}
-use Rattle.engine.specs.Wires.{Asked, Given, WireView, Rises}
-use Rattle.engine.specs.Turns.{asked, made, is_failed, is_blocked, way_from, way_to, IsCalled}
+use Rattle.std.specs.{Prelude.{◌≡◌, ℕ, true, if◌then◌else◌, List, [], ◌∷◌, Some}, Io.KnownBytes.{Consumes, Appends}}
+use Rattle.relay_core.specs.{declared.{Side.{Side, TheVariants.{Client, Target}}, Kind.Kind, call.Call.Call}, Calls.side_of, Pairs.PairState, Replies.{AnswerValue, Blocked, Interrupted, Failed, fits, after}, Runs.{answered, brought, carried}}
+use Rattle.engine.specs.{Wires.{Asked, Given, WireView, Rises}, Turns.{asked, made, is_failed, is_blocked, way_from, way_to, IsCalled}}
 
 -- the answers that an error of this kind may be
 abbrev pub IsErrorReply : Kind → AnswerValue → Type 0

@@ -1,31 +1,10 @@
 -- What a turn does, as the pair's run over the answers of two wires. Part of the promises.
-use Rattle.std.specs.Prelude.{◌≡◌, ℕ, ◌+◌, ◌≤◌, Bool, true, false, ◌&&◌, if◌then◌else◌, List, [], ◌∷◌, ◌++◌, length, OnSome, unwrap_or, option_map}
-use Rattle.std.specs.Prelude.{Option}
-use Rattle.std.specs.Prelude.{Some, None}
-use Rattle.std.specs.declared.io.ErrorKind.{ErrorKind}
-use Rattle.std.specs.Io.KnownBytes.{Consumes, Appends}
-use Rattle.relay_core.specs.declared.Side.{Side}
-use Rattle.relay_core.specs.declared.Side.TheVariants.{Client, Target}
-use Rattle.relay_core.specs.declared.Direction.{Direction}
-use Rattle.relay_core.specs.declared.Kind.{Kind}
-use Rattle.relay_core.specs.declared.Kind.TheVariants.{Zero}
-use Rattle.relay_core.specs.declared.call.Call.{Call}
+use Rattle.std.specs.{Prelude.{◌≡◌, ℕ, ◌+◌, ◌≤◌, Bool, true, false, ◌&&◌, if◌then◌else◌, List, [], ◌∷◌, ◌++◌, length, OnSome, unwrap_or, option_map, Option, Some, None}, declared.io.ErrorKind.ErrorKind, Io.KnownBytes.{Consumes, Appends}}
+use Rattle.relay_core.specs.{declared.{Side.{Side, TheVariants.{Client, Target}}, Direction.Direction, Kind.{Kind, TheVariants.Zero}, call.Call.Call, verdict.{Fault.{Fault, TheVariants.{Broken, Idle}}, Verdict.Verdict}}, Calls.{side_of, direction_of}, Pairs.{PairState, verdict}, Order.{next_call, offer}, Replies.{AnswerValue, Bytes, End, Wrote, Joined, Shut, Blocked, Interrupted, Failed}, Runs.{answered, over, all_brought, all_carried}, Idle.expired, Laws.IsOverdue}
+use Rattle.engine.specs.{Classes.kind_of_error, Wires.{Asked, Given, Brought, Took, Done, Refused, WireView, Rises}, declared.outcome.Turn.Turn}
 use Rattle.relay_core.specs.declared.call.Call.TheVariants as call
-use Rattle.relay_core.specs.declared.verdict.Fault.{Fault}
-use Rattle.relay_core.specs.declared.verdict.Fault.TheVariants.{Broken, Idle}
-use Rattle.relay_core.specs.declared.verdict.Verdict.{Verdict}
 use Rattle.relay_core.specs.declared.verdict.Verdict.TheVariants as verdict
-use Rattle.relay_core.specs.Calls.{side_of, direction_of}
-use Rattle.relay_core.specs.Pairs.{PairState, verdict}
-use Rattle.relay_core.specs.Order.{next_call, offer}
-use Rattle.relay_core.specs.Replies.{AnswerValue, Bytes, End, Wrote, Joined, Shut, Blocked, Interrupted, Failed}
-use Rattle.relay_core.specs.Runs.{answered, over, all_brought, all_carried}
-use Rattle.relay_core.specs.Idle.{expired}
-use Rattle.relay_core.specs.Laws.{IsOverdue}
-use Rattle.engine.specs.Classes.{kind_of_error}
 use Rattle.engine.specs.Wires as ask
-use Rattle.engine.specs.Wires.{Asked, Given, Brought, Took, Done, Refused, WireView, Rises}
-use Rattle.engine.specs.declared.outcome.Turn.{Turn}
 use Rattle.engine.specs.declared.outcome.Turn.TheVariants as turn
 
 -- Done and Failed by the verdict; of a live pair, Again while there is a next call, and Quiet where

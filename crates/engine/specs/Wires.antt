@@ -1,12 +1,7 @@
 -- What is asked of a wire, call by call, what it gives, and what that does to it. Part of the promises. A wire's calls
 -- change the bytes that it specifies, and its counts of faults and of answers "would block".
-use Rattle.std.specs.Prelude.{ℕ, List, ◌≡◌, ◌⊎◌, ◌+◌, ◌%◌, ◌^◌, ◌≤◌, [], length, take, MatchResult, Option, None, Result, Ok, Err, ◌∷◌, ◌++◌}
-use Rattle.std.specs.declared.io.ErrorKind.{ErrorKind}
-use Rattle.std.specs.declared.io.Error.{Error}
-use Rattle.std.specs.IoError.{error_kind}
-use Rattle.std.specs.Io.KnownBytes.{Consumes, Keeps}
-use Rattle.engine.specs.declared.scripted.Play.{Play}
-use Rattle.engine.specs.declared.scripted.Play.TheVariants.{Bytes}
+use Rattle.std.specs.{Prelude.{ℕ, List, ◌≡◌, ◌⊎◌, ◌+◌, ◌%◌, ◌^◌, ◌≤◌, [], length, take, MatchResult, Option, None, Result, Ok, Err, ◌∷◌, ◌++◌}, declared.io.{ErrorKind.ErrorKind, Error.Error}, IoError.error_kind, Io.KnownBytes.{Consumes, Keeps}}
+use Rattle.engine.specs.declared.scripted.Play.{Play, TheVariants.Bytes}
 
 -- one call: a read of at most this many bytes, a write that offers these, the question whether connect(2)
 -- has ended, or a shutdown

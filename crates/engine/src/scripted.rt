@@ -1,8 +1,6 @@
 //! An in-memory wire that plays lists of answers, for tests.
-ghost use Rattle.std.specs.Prelude.{◌≡◌, ◌≤◌, Some, [], ◌++◌, take, drop, length, vec_len, IfOk, IfErr};
-ghost use Rattle.std.specs.IoError.{error_kind};
-ghost use Rattle.engine.specs.Classes.{class_by, counted};
-ghost use Rattle.engine.specs.Wires.{bytes_of};
+ghost use Rattle.std.specs.{Prelude.{◌≡◌, ◌≤◌, Some, [], ◌++◌, take, drop, length, vec_len, IfOk, IfErr}, IoError.error_kind};
+ghost use Rattle.engine.specs.{Classes.{class_by, counted}, Wires.bytes_of};
 
 use crate::class::error_of;
 use crate::tally::Tally;

@@ -1,15 +1,8 @@
-ghost use Rattle.std.specs.Prelude.{◌≡◌, ◌≤◌, ℕ, Some, length};
+ghost use Rattle.std.specs.{Prelude.{◌≡◌, ◌≤◌, ℕ, Some, length}, Io.{WritesAtMost, KnownBytes.{Keeps, WriteAppends}}, IoError.error_kind};
+ghost use Rattle.relay_core.specs.{Order.{next_call, offer}, Replies.reply_of, Laws.IsPossible};
+ghost use Rattle.engine.specs.{Classes.kind_of_error, Wires.{CountsError, CountsWrite, write_gave}, Steps.{IsStep, IsError}};
 ghost use Rattle.relay_core.specs.declared.call.Call.TheVariants as call;
-ghost use Rattle.relay_core.specs.Order.{next_call, offer};
-ghost use Rattle.relay_core.specs.Replies.{reply_of};
-ghost use Rattle.relay_core.specs.Laws.{IsPossible};
-ghost use Rattle.std.specs.Io.{WritesAtMost};
-ghost use Rattle.std.specs.Io.KnownBytes.{Keeps, WriteAppends};
-ghost use Rattle.std.specs.IoError.{error_kind};
 ghost use Rattle.engine.specs.Wires as ask;
-ghost use Rattle.engine.specs.Classes.{kind_of_error};
-ghost use Rattle.engine.specs.Wires.{CountsError, CountsWrite, write_gave};
-ghost use Rattle.engine.specs.Steps.{IsStep, IsError};
 
 use crate::class::kind_of;
 use crate::wire::Wire;

@@ -1,9 +1,6 @@
 ghost use Rattle.std.specs.Prelude.{◌≡◌, ◌≤◌, Some};
-ghost use Rattle.relay_core.specs.Order.{next_call};
-ghost use Rattle.relay_core.specs.Idle.{expired};
-ghost use Rattle.relay_core.specs.Laws.{IsPossible, AnswersAreToNextCalls, CallsComeWhileLive, FailuresAreTold, OnlyOverduePairsExpire};
-ghost use Rattle.engine.specs.Steps.{IsMove};
-ghost use Rattle.engine.specs.Turns.{outcome_of, IsServed, IsTurn};
+ghost use Rattle.relay_core.specs.{Order.next_call, Idle.expired, Laws.{IsPossible, AnswersAreToNextCalls, CallsComeWhileLive, FailuresAreTold, OnlyOverduePairsExpire}};
+ghost use Rattle.engine.specs.{Steps.IsMove, Turns.{outcome_of, IsServed, IsTurn}};
 
 use crate::outcome::Turn;
 use crate::step::step;

@@ -1,8 +1,6 @@
-ghost use Rattle.std.specs.Prelude.{◌≡◌, length};
-ghost use Rattle.std.specs.Io.{WritesAtMost};
-ghost use Rattle.std.specs.Io.KnownBytes.{Keeps, WriteAppends};
-ghost use Rattle.engine.specs.Wires as ask;
+ghost use Rattle.std.specs.{Prelude.{◌≡◌, length}, Io.{WritesAtMost, KnownBytes.{Keeps, WriteAppends}}};
 ghost use Rattle.engine.specs.Wires.{Asked, Given, WireView, ReadTakes, CountsAnswer, CountsWrite, CountsShut, read_gave, write_gave, call_gave};
+ghost use Rattle.engine.specs.Wires as ask;
 
 use std::io;
 

@@ -1,10 +1,6 @@
 -- Which bytes wait in a stream, and which of them a write is offered.
-use Rattle.std.proofs.Common.{◌≡◌, ℕ, zero, suc, ◌+◌, ◌-◌, ◌≤◌, List, [], ◌∷◌, ◌++◌, length, take, drop, refl, ap, ◌∙◌, sym, arith}
-use Rattle.std.proofs.lemmas.List.{take-append-le, length-append, nil_from_length}
-use Rattle.std.proofs.Math.Seq.{take-append_seam}
-use Rattle.std.specs.List.{refill}
-use Rattle.flow.specs.Stream.{Stream, waiting, first_of, front, dropped}
-use Rattle.flow.specs.Lending.{with_first, with_front}
+use Rattle.std.{proofs.{Common.{◌≡◌, ℕ, zero, suc, ◌+◌, ◌-◌, ◌≤◌, List, [], ◌∷◌, ◌++◌, length, take, drop, refl, ap, ◌∙◌, sym, arith}, lemmas.List.{take-append-le, length-append, nil_from_length}, Math.Seq.take-append_seam}, specs.List.refill}
+use Rattle.flow.specs.{Stream.{Stream, waiting, first_of, front, dropped}, Lending.{with_first, with_front}}
 
 -- what a drop of n takes from two lists that follow one another
 drop-append : (n : ℕ) (xs ys : List ℕ) → drop n (xs ++ ys) ≡ drop n xs ++ drop (n - length xs) ys

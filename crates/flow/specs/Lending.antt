@@ -1,9 +1,6 @@
 -- What a stream is once the borrow of its front has ended. Part of the promises, for `front` alone.
-use Rattle.std.specs.Prelude.{ℕ, List, [], ◌∷◌, length}
-use Rattle.std.specs.List.{refill}
-use Rattle.std.specs.Borrow.{MutBor, Fml, Lends, Array, u8}
-use Rattle.flow.specs.Stream.{Stream}
-use Rattle.flow.specs.contracts.flow.Flow.{the_row}
+use Rattle.std.specs.{Prelude.{ℕ, List, [], ◌∷◌, length}, List.refill, Borrow.{MutBor, Fml, Lends, Array, u8}}
+use Rattle.flow.specs.{Stream.Stream, contracts.flow.Flow.the_row}
 
 -- with what is now in place of the bytes of a lead, or of a ring whose lead is empty
 abbrev pub with_first : List ℕ → Stream → List ℕ → Stream

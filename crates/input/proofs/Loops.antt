@@ -1,16 +1,6 @@
 -- What a loop of reads keeps: the text is what the reader has given, a byte at least for each read.
-use Rattle.std.proofs.Common.{◌≡◌, ℕ, ◌+◌, List, [], ◌∷◌, Some, None, Bool, true, false, cond, take, drop, arith, subst, refl, ◌<◌, ◌≤◌, ◌^◌, ◌&&◌, length, get_or, ap, add-one, ◌∙◌, drop-cons, drop_of_length-le, ◌≢◌, ◌++◌, Option, sym, append-nil, length-append}
-use Rattle.std.specs.List.{slice_split, position, list_all}
-use Rattle.std.proofs.lemmas.Bool.{ltb-true, ltb-false, le-ltb, lt-ltb}
-use Rattle.std.proofs.lemmas.Option.{cond_some}
-use Rattle.std.proofs.lemmas.List.Sums.{fails_before_first}
-use Rattle.std.proofs.lemmas.List.Splits.{slice_split_first, slice_split_none}
-use Rattle.std.specs.Prelude.{fold, IfSome}
+use Rattle.std.{proofs.{Common.{◌≡◌, ℕ, ◌+◌, List, [], ◌∷◌, Some, None, Bool, true, false, cond, take, drop, arith, subst, refl, ◌<◌, ◌≤◌, ◌^◌, ◌&&◌, length, get_or, ap, add-one, ◌∙◌, drop-cons, drop_of_length-le, ◌≢◌, ◌++◌, Option, sym, append-nil, length-append}, lemmas.{Bool.{ltb-true, ltb-false, le-ltb, lt-ltb}, Option.cond_some, List.{take_all, Sums.fails_before_first, Splits.{slice_split_first, slice_split_none}}}, KnownBytes.Consumes-trans, Math.Seq.take-append_seam}, specs.{List.{slice_split, position, list_all}, Prelude.{fold, IfSome}, Io.KnownBytes.{Consumes, IsAtEnd}}}
 use Rattle.input.specs.Texts.{is_digit, is_plain, value_of, with_digit, number_of, TakesAtMost, TakesSome, ReadsOn, Stops}
-use Rattle.std.specs.Io.KnownBytes.{Consumes, IsAtEnd}
-use Rattle.std.proofs.KnownBytes.{Consumes-trans}
-use Rattle.std.proofs.lemmas.List.{take_all}
-use Rattle.std.proofs.Math.Seq.{take-append_seam}
 
 -- What stands before and after the first separator.
 

@@ -1,7 +1,5 @@
 -- How a text is cut into pieces, and which texts are numbers. Part of the promises.
-use Rattle.std.specs.Prelude.{◌≡◌, ℕ, ◌+◌, ◌<◌, ◌≤◌, List, ◌++◌, length, Option, ◌-◌, ◌*◌, ◌^◌, ◌==◌, nat_lt, nat_le, Bool, true, false, not, ◌&&◌, if◌then◌else◌, [], ◌∷◌, fold, Some, None}
-use Rattle.std.specs.Io.KnownBytes.{Consumes, IsAtEnd}
-use Rattle.std.specs.List.{slice_split, list_all}
+use Rattle.std.specs.{Prelude.{◌≡◌, ℕ, ◌+◌, ◌<◌, ◌≤◌, List, ◌++◌, length, Option, ◌-◌, ◌*◌, ◌^◌, ◌==◌, nat_lt, nat_le, Bool, true, false, not, ◌&&◌, if◌then◌else◌, [], ◌∷◌, fold, Some, None}, Io.KnownBytes.{Consumes, IsAtEnd}, List.{slice_split, list_all}}
 
 -- What reads take from a reader whose bytes are known. `TakesAtMost` and `TakesSome` are part of the promises, the
 -- rest is for proofs alone.

@@ -1,6 +1,5 @@
 //! Words and numbers.
-ghost use Rattle.std.specs.Prelude.{◌≡◌};
-ghost use Rattle.std.specs.Str.{bytes_eq};
+ghost use Rattle.std.specs.{Prelude.◌≡◌, Str.bytes_eq};
 ghost use Rattle.input.specs.Texts.{number_of, is_digit, is_plain};
 
 /// Whether a word is this text.

@@ -1,6 +1,5 @@
 //! The pieces of a text.
-ghost use Rattle.std.specs.Prelude.{◌≡◌, ◌∷◌, ◌+◌, [], drop, MatchOption, position, ◌==◌};
-ghost use Rattle.std.specs.Option.{option_copied};
+ghost use Rattle.std.specs.{Prelude.{◌≡◌, ◌∷◌, ◌+◌, [], drop, MatchOption, position, ◌==◌}, Option.option_copied};
 ghost use Rattle.input.specs.Texts.{pieces_of, pieces_left};
 
 use std::marker::Model;
@@ -13,8 +12,7 @@ pub struct Pieces<'a> {
 }
 
 impl<'a> Model for Pieces<'a> {
-    ghost use Rattle.std.specs.Prelude.{ℕ, List};
-    ghost use Rattle.std.specs.Option.{option_copied};
+    ghost use Rattle.std.specs.{Prelude.{ℕ, List}, Option.option_copied};
     ghost use Rattle.input.specs.Texts.{pieces_left};
 
     ghost Value = { List (List ℕ) };

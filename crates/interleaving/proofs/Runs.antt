@@ -1,14 +1,9 @@
 -- What holds after any list of steps, and what no thread ever finds.
 pub mod Programs
-use Programs.*
-use Rattle.world.specs.declared.limits.Limits.{Limits}
-use Rattle.world.specs.Headline.{EveryRunHolds}
-use Rattle.world.specs.CoreLaws.{CoreLaws}
-use Rattle.world.proofs.TurnsTotals.{get-replicate, get_beside}
-use Rattle.world.proofs.TurnsRun.{turns_after}
+use Rattle.world.{specs.{declared.limits.Limits.Limits, Headline.EveryRunHolds, CoreLaws.CoreLaws}, proofs.{TurnsTotals.{get-replicate, get_beside}, TurnsRun.turns_after}}
 use Rattle.dispatch.specs.Acts.{gone_turn, quiet_turn, again_turn}
-use Rattle.interleaving.specs.Threads.{Adopt, Claim, ProgramsAreThese, gone, resting, run, seen, start}
-use Rattle.interleaving.specs.Likeness.{all_outside, calls_of, exchanges, taken_word, EveryInterleavingIsARun, NoActInVain}
+use Rattle.interleaving.specs.{Threads.{Adopt, Claim, ProgramsAreThese, gone, resting, run, seen, start}, Likeness.{all_outside, calls_of, exchanges, taken_word, EveryInterleavingIsARun, NoActInVain}}
+use Programs.*
 
 -- The programs are the server's acts
 

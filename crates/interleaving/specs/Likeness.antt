@@ -3,35 +3,21 @@
 -- is ahead of them until the last of these.
 use Rattle.std.specs.Prelude.{◌≡◌, ◌≢◌, ℕ, ◌≤◌, ◌==◌, ◌&&◌, true, false, if◌then◌else◌, List, [], ◌∷◌, ◌++◌, map, replicate, slice_get, drop, Option, Some, None, option_map, option_and_then, unwrap_or, length}
 use Rattle.token.specs.declared.name.Name.{Name}
-use Rattle.token.specs.declared.name.Name.TheVariants as name
-use Rattle.kernel_model.specs.declared.reply.Reply.{Reply}
-use Rattle.kernel_model.specs.declared.both.Descriptors.{Descriptors}
-use Rattle.kernel_model.specs.Ends.{is_nonempty}
+use Rattle.kernel_model.specs.{declared.{reply.Reply.Reply, both.Descriptors.Descriptors}, Ends.is_nonempty}
 use Rattle.relay_core.specs.Pairs.{verdict, is_live}
-use Rattle.claims.specs.declared.view.Exchange.{Exchange}
-use Rattle.claims.specs.Words.{WordState, StepKind, word_after, made as exchange_made}
+use Rattle.claims.specs.{declared.view.Exchange.Exchange, Words.{WordState, StepKind, word_after, made as exchange_made}}
+use Rattle.world.specs.{declared.{connection.Connection.Connection, limits.Limits.Limits, actors.{Ticket.Ticket, Holder.TheVariants.{Nobody, By}}, event.{Event.Event, Reported.Reported}}, Slots.{SlotState, WorkerState, is_by_worker}, States.State, Steps.{may_release, step as machine_step}, Words.{word_at, steps}, Acts.busy, Headline.HeadlineHolds}
+use Rattle.interleaving.specs.Threads.{Act, Claim, TakeOut, TakeNotes, PutIn, Post, Release, Retire, Give, Adopt, Discard, turn, plan, open_slot, System, Thread, Step, Tick, Network, Connect, Spurious, Vanish, Accept, Drop, Poll, Deliver, Sweep, Acts, Calls, start, step, run}
+use Rattle.token.specs.declared.name.Name.TheVariants as name
 use Rattle.claims.specs.Words as word
-use Rattle.world.specs.declared.connection.Connection.{Connection}
-use Rattle.world.specs.declared.limits.Limits.{Limits}
-use Rattle.world.specs.declared.actors.Ticket.{Ticket}
-use Rattle.world.specs.declared.actors.Holder.TheVariants.{Nobody, By}
 use Rattle.world.specs.declared.actors.Doing.TheVariants as doing
-use Rattle.world.specs.declared.event.Event.{Event}
 use Rattle.world.specs.declared.event.Event.TheVariants as event
 use Rattle.world.specs.declared.event.Act.TheVariants as act
 use Rattle.world.specs.declared.event.Listening.TheVariants as listening
 use Rattle.world.specs.declared.event.Polling.TheVariants as polling
-use Rattle.world.specs.declared.event.Reported.{Reported}
 use Rattle.world.specs.declared.event.Reported.TheVariants as reported
-use Rattle.world.specs.Slots.{SlotState, WorkerState, is_by_worker}
-use Rattle.world.specs.States.{State}
 use Rattle.world.specs.States as machine
-use Rattle.world.specs.Steps.{may_release, step as machine_step}
-use Rattle.world.specs.Words.{word_at, steps}
-use Rattle.world.specs.Acts.{busy}
 use Rattle.world.specs.Runs as events
-use Rattle.world.specs.Headline.{HeadlineHolds}
-use Rattle.interleaving.specs.Threads.{Act, Claim, TakeOut, TakeNotes, PutIn, Post, Release, Retire, Give, Adopt, Discard, turn, plan, open_slot, System, Thread, Step, Tick, Network, Connect, Spurious, Vanish, Accept, Drop, Poll, Deliver, Sweep, Acts, Calls, start, step, run}
 
 -- Exchanges
 

@@ -1,39 +1,19 @@
 -- The threads of the server at one slot. Part of the promises. First the programs of a turn and of an opening, as lists of
 -- atomic acts; then what the threads share, which is the slot's word, its place, the queues and the kernel, and what each act
 -- does to it. Acts of different threads come in any order.
-use Rattle.std.specs.Global.{Global}
-use Rattle.std.specs.Prelude.{◌≡◌, Vec, ℕ, zero, suc, ◌+◌, ◌-◌, ◌==◌, Bool, true, false, not, ◌&&◌, nat_lt, nat_le, if◌then◌else◌, List, [], ◌∷◌, ◌++◌, length, replicate, slice_get, slice_set, Option, Some, None, option_map, option_and_then}
-use Rattle.std.specs.Option.{is_none}
-use Rattle.token.specs.declared.side.Side.{Side}
-use Rattle.token.specs.declared.side.Side.TheVariants.{Client, Target}
-use Rattle.token.specs.declared.name.Name.{Name}
-use Rattle.token.specs.declared.name.Name.TheVariants as name
-use Rattle.token.specs.Names.{EndName}
-use Rattle.kernel_model.specs.declared.reply.Reply.{Reply}
-use Rattle.kernel_model.specs.declared.watched.Watched.{Watched}
-use Rattle.kernel_model.specs.declared.watched.Watched.TheVariants as watched
-use Rattle.kernel_model.specs.declared.accepting.Accepting.{Accepting}
-use Rattle.kernel_model.specs.declared.accepting.Accepting.TheVariants.{Accepted, Blocked, Again, Starved}
-use Rattle.kernel_model.specs.declared.both.Descriptors.{Descriptors}
-use Rattle.kernel_model.specs.declared.both.Sockets.{Sockets}
-use Rattle.kernel_model.specs.Outcome.{guard, Told}
-use Rattle.kernel_model.specs.Kernel as kernel
-use Rattle.kernel_model.specs.Kernel.{KernelState}
-use Rattle.relay_core.specs.Pairs.{PairState, fresh, noted, verdict, is_live}
-use Rattle.relay_core.specs.Order.{next_call}
-use Rattle.relay_core.specs.Idle.{expired}
+use Rattle.std.specs.{Global.Global, Prelude.{◌≡◌, Vec, ℕ, zero, suc, ◌+◌, ◌-◌, ◌==◌, Bool, true, false, not, ◌&&◌, nat_lt, nat_le, if◌then◌else◌, List, [], ◌∷◌, ◌++◌, length, replicate, slice_get, slice_set, Option, Some, None, option_map, option_and_then}, Option.is_none}
+use Rattle.token.specs.{declared.{side.Side.{Side, TheVariants.{Client, Target}}, name.Name.Name}, Names.EndName}
+use Rattle.kernel_model.specs.{declared.{reply.Reply.Reply, watched.Watched.Watched, accepting.Accepting.{Accepting, TheVariants.{Accepted, Blocked, Again, Starved}}, both.{Descriptors.Descriptors, Sockets.Sockets}}, Outcome.{guard, Told}, Kernel.KernelState}
+use Rattle.relay_core.specs.{Pairs.{PairState, fresh, noted, verdict, is_live}, Order.next_call, Idle.expired}
 use Rattle.claims.specs.Words.{WordState, word_after, wakes, some_wait}
-use Rattle.claims.specs.Words as word
-use Rattle.world.specs.declared.connection.Connection.{Connection}
-use Rattle.world.specs.declared.limits.Limits.{Limits}
-use Rattle.world.specs.declared.past.Past.{Past}
-use Rattle.world.specs.declared.event.Change.{Change}
-use Rattle.world.specs.declared.event.Reported.{Reported}
-use Rattle.world.specs.declared.event.Reported.TheVariants as reported
-use Rattle.world.specs.Calls.{when, OpenConnection, descriptor, called}
-use Rattle.world.specs.Steps.{change_at, token_of, is_worn}
+use Rattle.world.specs.{declared.{connection.Connection.Connection, limits.Limits.Limits, past.Past.Past, event.{Change.Change, Reported.Reported}}, Calls.{when, OpenConnection, descriptor, called}, Steps.{change_at, token_of, is_worn}}
 pub use Rattle.dispatch.specs.Acts.{Act, Claim, TakeOut, TakeNotes, Call, PutIn, Post, Release, Close, Retire, Give, Register, Adopt, Enter, Discard, Settle, PutTicket}
 use Rattle.dispatch.specs.Acts.{gone_turn, quiet_turn, again_turn, ended_turn}
+use Rattle.token.specs.declared.name.Name.TheVariants as name
+use Rattle.kernel_model.specs.declared.watched.Watched.TheVariants as watched
+use Rattle.kernel_model.specs.Kernel as kernel
+use Rattle.claims.specs.Words as word
+use Rattle.world.specs.declared.event.Reported.TheVariants as reported
 use Rattle.dispatch.specs.Acts as server
 
 -- Programs

@@ -1,6 +1,5 @@
 //! What holds for every interleaving. The functions do nothing: the contract of each is the law that it is named after.
-ghost use Rattle.interleaving.specs.Likeness.{EveryInterleavingIsARun};
-ghost use Rattle.interleaving.specs.Threads.{ProgramsAreThese};
+ghost use Rattle.interleaving.specs.{Likeness.EveryInterleavingIsARun, Threads.ProgramsAreThese};
 
 use relay_core::laws;
 

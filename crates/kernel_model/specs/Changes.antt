@@ -1,12 +1,7 @@
 -- A change of the network as one value, by which private functions make any of the four. Not part of the promises.
 use Rattle.std.specs.Prelude.{Bool, true, false, nat_lt, List, length, Option, Some, None, option_map}
-use Rattle.token.specs.declared.name.Name.{Name}
-use Rattle.token.specs.declared.name.Name.TheVariants.{End}
-use Rattle.kernel_model.specs.declared.change.Change.{Change}
-use Rattle.kernel_model.specs.declared.change.Change.TheVariants.{Arrive, Fin, Reset, Room}
-use Rattle.kernel_model.specs.Outcome.{Told}
-use Rattle.kernel_model.specs.Ends.{EndState, arrival, finish, failure, new_room}
-use Rattle.kernel_model.specs.Kernel.{Registered, reported}
+use Rattle.token.specs.declared.name.Name.{Name, TheVariants.End}
+use Rattle.kernel_model.specs.{declared.change.Change.{Change, TheVariants.{Arrive, Fin, Reset, Room}}, Outcome.Told, Ends.{EndState, arrival, finish, failure, new_room}, Kernel.{Registered, reported}}
 
 -- what it does to an end
 abbrev pub change_of : Change → EndState → Option (Told EndState Bool)

@@ -1,10 +1,6 @@
 -- The names that a readiness queue holds, as a set: a list in which no two are equal. Part of the promises.
-use Rattle.std.specs.Prelude.{◌==◌, Bool, true, false, not, ◌&&◌, if◌then◌else◌, List, [], ◌∷◌, ◌++◌}
-use Rattle.std.specs.List.{list_any, list_all, filter}
-use Rattle.token.specs.declared.name.Name.{Name}
-use Rattle.token.specs.declared.name.Name.TheVariants.{Listener, Waker, End}
-use Rattle.token.specs.Names.{EndName}
-use Rattle.token.specs.Sides.{side_number}
+use Rattle.std.specs.{Prelude.{◌==◌, Bool, true, false, not, ◌&&◌, if◌then◌else◌, List, [], ◌∷◌, ◌++◌}, List.{list_any, list_all, filter}}
+use Rattle.token.specs.{declared.name.Name.{Name, TheVariants.{Listener, Waker, End}}, Names.EndName, Sides.side_number}
 
 -- the names of one and the same end
 abbrev pub same_end : EndName → EndName → Bool

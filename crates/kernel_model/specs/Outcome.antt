@@ -1,7 +1,6 @@
 -- How a call of the model ends, compared with the value that its definition gives, if any. Part of the promises.
 use Rattle.std.specs.Prelude.{◌≡◌, Bool, Option, Some, None, IsSome, Result, Ok, Err, if◌then◌else◌}
-use Rattle.kernel_model.specs.declared.refusal.Refusal.{Refusal}
-use Rattle.kernel_model.specs.declared.refusal.Refusal.TheVariants.{NotAllowed, NoMemory}
+use Rattle.kernel_model.specs.declared.refusal.Refusal.{Refusal, TheVariants.{NotAllowed, NoMemory}}
 
 -- the value where the test passes
 abbrev pub guard : {X : Type 0} → Bool → X → Option X

@@ -1,12 +1,8 @@
 -- Which replies an end may give to each call, and the end after it. Part of the promises. A reply that it may not give
 -- has no value. Interrupted and a failure leave the end as it is. Only a write can fail by taking 0 bytes.
 use Rattle.std.specs.Prelude.{ℕ, Bool, true, false, not, ◌&&◌, nat_lt, nat_le, List, ◌++◌, length, take, drop, Option, Some, None}
-use Rattle.token.specs.declared.kind.Kind.{Kind}
-use Rattle.token.specs.declared.kind.Kind.TheVariants.{Zero}
-use Rattle.kernel_model.specs.declared.reply.Reply.{Reply}
-use Rattle.kernel_model.specs.declared.reply.Reply.TheVariants.{Bytes, End, Wrote, Joined, Shut, Blocked, Interrupted, Failed}
-use Rattle.kernel_model.specs.Outcome.{guard}
-use Rattle.kernel_model.specs.Ends.{EndState, is_nonempty, is_readable, is_writable}
+use Rattle.token.specs.declared.kind.Kind.{Kind, TheVariants.Zero}
+use Rattle.kernel_model.specs.{declared.reply.Reply.{Reply, TheVariants.{Bytes, End, Wrote, Joined, Shut, Blocked, Interrupted, Failed}}, Outcome.guard, Ends.{EndState, is_nonempty, is_readable, is_writable}}
 
 abbrev pub is_zero : Kind → Bool
 is_zero Zero = true

@@ -1,8 +1,6 @@
 // Both ends of a connection, opened and closed at once.
 ghost use Rattle.std.specs.Prelude.{◌≡◌, ◌<◌, ◌+◌, ◌≤◌, ◌↔◌, IsTrue, IsSome, Some, vec_len, vec_capacity};
-ghost use Rattle.kernel_model.specs.Outcome.{Tells, TellsAlways};
-ghost use Rattle.kernel_model.specs.Ends.{opened};
-ghost use Rattle.kernel_model.specs.Kernel.{lowest_free, with_end, open_both, close_both};
+ghost use Rattle.kernel_model.specs.{Outcome.{Tells, TellsAlways}, Ends.opened, Kernel.{lowest_free, with_end, open_both, close_both}};
 
 use crate::both::{Descriptors, Sockets};
 use crate::end::End;

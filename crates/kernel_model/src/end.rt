@@ -1,9 +1,5 @@
-ghost use Rattle.std.specs.Prelude.{◌≡◌, Ok, Err, IsErrOf, IsTrue, IsSome, IfSome, ◌↔◌, false, if◌then◌else◌};
-ghost use Rattle.std.specs.Option.{option_copied};
-ghost use Rattle.kernel_model.specs.Outcome.{guard, Meets, MeetsAlways, Tells, TellsAlways};
-ghost use Rattle.kernel_model.specs.Ends.{IsTailOf, opened, is_readable, is_writable, arrival, finish, failure, new_room};
-ghost use Rattle.kernel_model.specs.Changes.{brings_bytes, change_of};
-ghost use Rattle.kernel_model.specs.Replies.{bytes_read, failed, blocked_write, wrote, after_read, after_write, needs_memory, after_join, after_shut};
+ghost use Rattle.std.specs.{Prelude.{◌≡◌, Ok, Err, IsErrOf, IsTrue, IsSome, IfSome, ◌↔◌, false, if◌then◌else◌}, Option.option_copied};
+ghost use Rattle.kernel_model.specs.{Outcome.{guard, Meets, MeetsAlways, Tells, TellsAlways}, Ends.{IsTailOf, opened, is_readable, is_writable, arrival, finish, failure, new_room}, Changes.{brings_bytes, change_of}, Replies.{bytes_read, failed, blocked_write, wrote, after_read, after_write, needs_memory, after_join, after_shut}};
 
 use crate::change::Change;
 use crate::{Refusal, Reply};

@@ -1,10 +1,7 @@
 // The kernel of one process: its open ends, its readiness queue and its listener. The calls on single ends are in
 // `sockets.rt`.
-ghost use Rattle.std.specs.Prelude.{◌≡◌, ◌<◌, vec_len, vec_capacity, Some, IsSome, IsErrOf, IsTrue, ◌↔◌, position};
-ghost use Rattle.std.specs.Option.{option_copied, is_none};
-ghost use Rattle.kernel_model.specs.Outcome.{Meets, MeetsAlways, Tells, TellsAlways};
-ghost use Rattle.kernel_model.specs.Names.{has};
-ghost use Rattle.kernel_model.specs.Kernel.{Registered, queues_more, idle, end_at, lowest_free, open_end, close, name_of, is_quiet, spurious, vanish, poll, connect_in, accept};
+ghost use Rattle.std.specs.{Prelude.{◌≡◌, ◌<◌, vec_len, vec_capacity, Some, IsSome, IsErrOf, IsTrue, ◌↔◌, position}, Option.{option_copied, is_none}};
+ghost use Rattle.kernel_model.specs.{Outcome.{Meets, MeetsAlways, Tells, TellsAlways}, Names.has, Kernel.{Registered, queues_more, idle, end_at, lowest_free, open_end, close, name_of, is_quiet, spurious, vanish, poll, connect_in, accept}};
 
 use crate::accepting::Accepting;
 use crate::connecting::place;

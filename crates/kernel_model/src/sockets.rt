@@ -1,10 +1,6 @@
 // What arrives at the open ends of a kernel, and the calls on them.
 ghost use Rattle.std.specs.Prelude.{◌≡◌, ◌<◌, ◌||◌, IsErrOf, IsTrue};
-ghost use Rattle.kernel_model.specs.Outcome.{Meets, MeetsAlways};
-ghost use Rattle.kernel_model.specs.Ends.{EndState};
-ghost use Rattle.kernel_model.specs.Replies.{needs_memory};
-ghost use Rattle.kernel_model.specs.Changes.{brings_bytes, change_of, told, lengthens};
-ghost use Rattle.kernel_model.specs.Kernel.{Registered, queues_more, changed, arrive, fin, reset, room, read, write, join, shut};
+ghost use Rattle.kernel_model.specs.{Outcome.{Meets, MeetsAlways}, Ends.EndState, Replies.needs_memory, Changes.{brings_bytes, change_of, told, lengthens}, Kernel.{Registered, queues_more, changed, arrive, fin, reset, room, read, write, join, shut}};
 
 use crate::change::Change;
 use crate::kernel::{Kernel, Open};

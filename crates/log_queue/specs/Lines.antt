@@ -1,11 +1,7 @@
 -- The texts of lines, and how many are left out. Part of the promises.
-use Rattle.std.specs.Prelude.{◌≡◌, ℕ, ◌+◌, ◌-◌, ◌<◌, ◌≤◌, Bool, true, false, List, [], ◌++◌, length, take, codes}
-use Rattle.std.specs.Fmt.{decimal}
-use Rattle.std.specs.Str.{IsCharBoundary}
-use Rattle.log.specs.declared.level.Level.{Level}
-use Rattle.log.specs.declared.level.Level.TheVariants.{Error, Warn, Info}
-use Rattle.log_queue.specs.declared.sink.Form.{Form}
-use Rattle.log_queue.specs.declared.sink.Form.TheVariants.{Plain, Journal}
+use Rattle.std.specs.{Prelude.{◌≡◌, ℕ, ◌+◌, ◌-◌, ◌<◌, ◌≤◌, Bool, true, false, List, [], ◌++◌, length, take, codes}, Fmt.decimal, Str.IsCharBoundary}
+use Rattle.log.specs.declared.level.Level.{Level, TheVariants.{Error, Warn, Info}}
+use Rattle.log_queue.specs.declared.sink.Form.{Form, TheVariants.{Plain, Journal}}
 
 -- a line's text, and whether more was to follow that did not fit
 pub record LineState : Type 0 where

@@ -1,13 +1,8 @@
 -- The settings of a text, and its fault, are those of the file that has the text.
-use Rattle.std.proofs.Common.{◌≡◌, ℕ, ◌+◌, ◌<◌, ◌≤◌, List, length, take, min, Option, Some, None, ◌∙◌, ap, arith, ◌≢◌, sym, subst}
-use Rattle.std.specs.Prelude.{IfSome}
-use Rattle.std.proofs.lemmas.List.{take_all, length-take}
-use Rattle.settings.specs.Document.{IsSettingsOf, IsFaultOf}
-use Rattle.settings.specs.declared.fields.Settings.{Settings}
-use Rattle.settings.specs.declared.faults.SettingsFault.{SettingsFault}
+use Rattle.std.{proofs.{Common.{◌≡◌, ℕ, ◌+◌, ◌<◌, ◌≤◌, List, length, take, min, Option, Some, None, ◌∙◌, ap, arith, ◌≢◌, sym, subst}, lemmas.List.{take_all, length-take}}, specs.Prelude.IfSome}
+use Rattle.settings.specs.{Document.{IsSettingsOf, IsFaultOf}, declared.{fields.Settings.Settings, faults.SettingsFault.SettingsFault}}
+use Rattle.program.specs.{Faults.{most_bytes, FileSets, HasFault, settings_fault}, declared.faults.ConfigFault.ConfigFault}
 use Rattle.settings.specs.declared.faults.SettingsFault.TheVariants as settings
-use Rattle.program.specs.Faults.{most_bytes, FileSets, HasFault, settings_fault}
-use Rattle.program.specs.declared.faults.ConfigFault.{ConfigFault}
 
 -- A front that is shorter than what was asked for is the whole, and no front is longer than the whole.
 

@@ -1,17 +1,9 @@
 -- What a settings file sets, or what is wrong with it, by its bytes. Part of the promises.
-use Rattle.std.specs.Prelude.{ℕ, ◌<◌, ◌≤◌, List, length, ◌≡◌, ◌⊎◌}
-use Rattle.settings.specs.Document.{IsSettingsOf, IsFaultOf}
-use Rattle.settings.specs.declared.fields.Settings.{Settings}
-use Rattle.settings.specs.declared.faults.SettingsFault.{SettingsFault}
+use Rattle.std.specs.{Prelude.{ℕ, ◌<◌, ◌≤◌, List, length, ◌≡◌, ◌⊎◌}, declared.io.ErrorKind.{ErrorKind, TheVariants.OutOfMemory}}
+use Rattle.settings.specs.{Document.{IsSettingsOf, IsFaultOf}, declared.{fields.Settings.Settings, faults.SettingsFault.SettingsFault}}
+use Rattle.program.specs.declared.faults.{ConfigFault.ConfigFault, ProgramFault.{ProgramFault, TheVariants.{Config, Argument, Seconds, Connection}}, ArgumentsFault.{ArgumentsFault, TheVariants.{NoMemory, NotText}}}
 use Rattle.settings.specs.declared.faults.SettingsFault.TheVariants as settings
-use Rattle.program.specs.declared.faults.ConfigFault.{ConfigFault}
 use Rattle.program.specs.declared.faults.ConfigFault.TheVariants as config
-use Rattle.program.specs.declared.faults.ProgramFault.{ProgramFault}
-use Rattle.program.specs.declared.faults.ProgramFault.TheVariants.{Config, Argument, Seconds, Connection}
-use Rattle.std.specs.declared.io.ErrorKind.{ErrorKind}
-use Rattle.std.specs.declared.io.ErrorKind.TheVariants.{OutOfMemory}
-use Rattle.program.specs.declared.faults.ArgumentsFault.{ArgumentsFault}
-use Rattle.program.specs.declared.faults.ArgumentsFault.TheVariants.{NoMemory, NotText}
 
 -- the most bytes that a settings file may have
 abbrev pub most_bytes : ℕ

@@ -1,14 +1,8 @@
 -- What a relay needs to start: how many connections a process has descriptors for, and when a relay is its own target. Part
 -- of the promises.
-use Rattle.std.specs.Prelude.{◌≡◌, ◌⊎◌, ℕ, ◌+◌, ◌*◌, ◌≤◌, Bool, true, List, [], ◌∷◌, slice_index, ℤ, pos, false}
-use Rattle.settings.specs.Addresses.{SocketAddress}
-use Rattle.settings.specs.Pollers.{pollers_for}
-use Rattle.program.specs.declared.extras.SecondsOption.{SecondsOption}
-use Rattle.program.specs.declared.extras.SecondsOption.TheVariants.{Stats, ConnectTimeout, Keepalive}
-use Rattle.std.specs.Fs.{asks_read, asks_write, asks_append}
-use Rattle.std.specs.declared.fs.options.OpenOptions.{OpenOptions}
-use Rattle.program.specs.declared.standard_streams.StandardStream.{StandardStream}
-use Rattle.program.specs.declared.standard_streams.StandardStream.TheVariants.{Input, Output, Errors}
+use Rattle.std.specs.{Prelude.{◌≡◌, ◌⊎◌, ℕ, ◌+◌, ◌*◌, ◌≤◌, Bool, true, List, [], ◌∷◌, slice_index, ℤ, pos, false}, Fs.{asks_read, asks_write, asks_append}, declared.fs.options.OpenOptions.OpenOptions}
+use Rattle.settings.specs.{Addresses.SocketAddress, Pollers.pollers_for}
+use Rattle.program.specs.declared.{extras.SecondsOption.{SecondsOption, TheVariants.{Stats, ConnectTimeout, Keepalive}}, standard_streams.StandardStream.{StandardStream, TheVariants.{Input, Output, Errors}}}
 
 -- what this many slots and workers need beside what is open: two descriptors for each connection, and two for each
 -- poller

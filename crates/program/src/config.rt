@@ -1,7 +1,6 @@
 //! The settings file.
 ghost use Rattle.std.specs.Prelude.{◌≡◌, ◌<◌, ◌≤◌, Ok, Err, None, IfOk, IfErr, IfSome, length, vec_len};
-ghost use Rattle.settings.specs.Table.{level_name};
-ghost use Rattle.settings.specs.Document.{IsSettingsOf};
+ghost use Rattle.settings.specs.{Table.level_name, Document.IsSettingsOf};
 ghost use Rattle.program.specs.Faults.{FileSets, HasFault};
 
 use crate::constants::MAX_CONFIG_BYTES;

@@ -1,7 +1,6 @@
 //! The options of a relay that are no settings.
 ghost use Rattle.std.specs.Prelude.{◌≡◌, ◌≤◌, IfOk, IfErr, IfSome};
-ghost use Rattle.program.specs.Starting.{most};
-ghost use Rattle.program.specs.Faults.{status_of};
+ghost use Rattle.program.specs.{Starting.most, Faults.status_of};
 
 use crate::faults::ProgramFault;
 use clap::ArgMatches;

@@ -1,9 +1,6 @@
 //! What the program reports on standard error.
-ghost use Rattle.std.specs.Prelude.{◌≡◌};
-ghost use Rattle.program.specs.Faults.{settings_fault, argument_fault, status_of, arguments_fault};
-ghost use Rattle.program.specs.declared.faults.ConfigFault.TheVariants.{NoMemory};
-ghost use Rattle.program.specs.declared.faults.ProgramFault.TheVariants.{Config};
-ghost use Rattle.std.specs.IoError.{error_kind};
+ghost use Rattle.std.specs.{Prelude.◌≡◌, IoError.error_kind};
+ghost use Rattle.program.specs.{Faults.{settings_fault, argument_fault, status_of, arguments_fault}, declared.faults.{ConfigFault.TheVariants.NoMemory, ProgramFault.TheVariants.Config}};
 
 use crate::constants::{FAULT, USAGE};
 use crate::extras::SecondsOption;

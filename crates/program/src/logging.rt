@@ -2,8 +2,7 @@
 //!
 //! The thread is never waited for but at the end, and then for a second: a write to a pipe that nobody reads may not
 //! end.
-ghost use Rattle.std.specs.Prelude.{◌≡◌, ◌≢◌, ◌⊎◌, IfErr, map};
-ghost use Rattle.std.specs.Char.{to_ascii_lowercase};
+ghost use Rattle.std.specs.{Prelude.{◌≡◌, ◌≢◌, ◌⊎◌, IfErr, map}, Char.to_ascii_lowercase};
 ghost use Rattle.log.specs.Level.{filter_name};
 ghost use Rattle.settings.specs.Table.{level_name};
 

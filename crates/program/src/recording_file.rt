@@ -1,7 +1,6 @@
 //! The file that a relay records into. No file is emptied for it: a recording that is there is kept under another
 //! name, and any other file that is not empty is refused.
-ghost use Rattle.std.specs.Prelude.{◌≡◌, IfErr, true, false};
-ghost use Rattle.std.specs.Fs.{asks_read, asks_write, asks_append, asks_truncate, asks_create, asks_create_new};
+ghost use Rattle.std.specs.{Prelude.{◌≡◌, IfErr, true, false}, Fs.{asks_read, asks_write, asks_append, asks_truncate, asks_create, asks_create_new}};
 ghost use Rattle.program.specs.Faults.{status_of};
 
 use crate::faults::ProgramFault;

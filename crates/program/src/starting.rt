@@ -1,7 +1,6 @@
 //! What is looked at once before a relay serves, and logged if it cannot work as it is set; and that it listens.
 ghost use Rattle.std.specs.Prelude.{◌≡◌, ◌≤◌, ◌↔◌, IsTrue, IfOk, IfErr, ◌<◌, ◌+◌};
-ghost use Rattle.program.specs.Faults.{status_of};
-ghost use Rattle.program.specs.Starting.{Meets, HasFor, needed};
+ghost use Rattle.program.specs.{Faults.status_of, Starting.{Meets, HasFor, needed}};
 
 use crate::acting::{stream, write};
 use crate::constants::VERSION;

@@ -1,10 +1,7 @@
 -- What is late, the socket as it is once that has come, and what every step keeps.
-use Rattle.std.proofs.Common.{◌≡◌, ◌⊎◌, Bool, true, false, ◌||◌, List, [], ◌∷◌, ◌++◌, ℕ, map, Option, Some, None, option_and_then, refl, ap, ◌∙◌, inl, inr}
-use Rattle.std.proofs.lemmas.Bool.{or_left}
-use Rattle.kernel_model.specs.Ends.{EndState, is_readable}
-use Rattle.kernel_model.specs.Outcome.{Told, guard}
-use Rattle.readiness.specs.Delays.{Came, Event, IsOnItsWay, Seen, WillBeTold, came_in, event, events, replies_in}
-use Rattle.readiness.specs.Machine.{Bytes, Change, Error, Fin, Step, Way, answer_of, change_in, change_of}
+use Rattle.std.proofs.{Common.{◌≡◌, ◌⊎◌, Bool, true, false, ◌||◌, List, [], ◌∷◌, ◌++◌, ℕ, map, Option, Some, None, option_and_then, refl, ap, ◌∙◌, inl, inr}, lemmas.Bool.or_left}
+use Rattle.kernel_model.specs.{Ends.{EndState, is_readable}, Outcome.{Told, guard}}
+use Rattle.readiness.specs.{Delays.{Came, Event, IsOnItsWay, Seen, WillBeTold, came_in, event, events, replies_in}, Machine.{Bytes, Change, Error, Fin, Step, Way, answer_of, change_in, change_of}}
 
 -- what a test let through
 pub guarded : {X : Type 0} (b : Bool) (x y : X) → guard b x ≡ Some y → (b ≡ true) × (y ≡ x)

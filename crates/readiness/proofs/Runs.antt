@@ -1,19 +1,9 @@
 -- What each step of the network, the system, the poller or the wire does, and what holds after any list of them.
-use Rattle.std.proofs.Common.{◌≡◌, ◌≢◌, ◌⊎◌, ◌+◌, ◌<◌, Bool, true, false, not, ◌&&◌, ◌||◌, List, [], ◌∷◌, ◌++◌, ℕ, zero, suc, map, take, length, Contains, Option, Some, None, option_and_then, refl, sym, ap, ◌∙◌, inl, inr, append-nil, append_assoc, length-append, lt-ltb, ltb-true, arith}
-use Rattle.std.proofs.lemmas.Bool.{not-true, or_cases, or_left, or_parts, or_right}
-use Rattle.std.proofs.lemmas.List.Elements.{Contains-push}
-use Rattle.std.specs.Cmp.{first_so, second_so}
-use Rattle.std.specs.Prelude.{if◌then◌else◌}
-use Rattle.kernel_model.specs.Ends.{EndState, is_nonempty, is_readable, is_writable, new_room}
-use Rattle.kernel_model.specs.Outcome.{Told, guard}
-use Rattle.kernel_model.specs.Replies.{is_count}
-use Rattle.kernel_model.specs.declared.reply.Reply.{Reply}
+use Rattle.std.{proofs.{Common.{◌≡◌, ◌≢◌, ◌⊎◌, ◌+◌, ◌<◌, Bool, true, false, not, ◌&&◌, ◌||◌, List, [], ◌∷◌, ◌++◌, ℕ, zero, suc, map, take, length, Contains, Option, Some, None, option_and_then, refl, sym, ap, ◌∙◌, inl, inr, append-nil, append_assoc, length-append, lt-ltb, ltb-true, arith}, lemmas.{Bool.{not-true, or_cases, or_left, or_parts, or_right}, List.Elements.Contains-push}}, specs.{Cmp.{first_so, second_so}, Prelude.if◌then◌else◌}}
+use Rattle.kernel_model.specs.{Ends.{EndState, is_nonempty, is_readable, is_writable, new_room}, Outcome.{Told, guard}, Replies.is_count, declared.reply.Reply.Reply}
+use Rattle.readiness.{specs.{Delays.{Called, Came, Event, Gone, GotRoom, IsOnItsWay, MissesNothing, Seen, Stray, Taken, WillBeTold, WiresAreDelayed, WiresMissNothing, at_call, at_telling, came_at, came_in, events, happened, is_late, late_after, late_call, late_telling, meanwhile, replies_in, reply_in, still_late, unseen}, Machine.{Bytes, Call, Calls, Change, Comes, Error, Fin, Handed, HasRoom, Join, Looks, Old, Polled, Read, Shut, Spurious, Step, Tells, Unasked, Vanished, Way, Write, after_call, answer_of, answers_of, change_in, change_of, changed, changes_of, is_quiet, may_call, opening, reads_after, run, step, tells}}, proofs.Late.{Aside, Asleep, Behind, Caught, Goes, Held, MayBe, Prompt, Rests, Settled, Settles, Waits, allowed, aside, caught, changes_behind, events-append, guarded, is_beside, prompt, replies_behind, same_socket, settle_aside, settle_more, still_waits}}
+use Rattle.token.specs.declared.{side.Side.Side, kind.Kind.Kind}
 use Rattle.kernel_model.specs.declared.reply.Reply.TheVariants as reply
-use Rattle.readiness.specs.Delays.{Called, Came, Event, Gone, GotRoom, IsOnItsWay, MissesNothing, Seen, Stray, Taken, WillBeTold, WiresAreDelayed, WiresMissNothing, at_call, at_telling, came_at, came_in, events, happened, is_late, late_after, late_call, late_telling, meanwhile, replies_in, reply_in, still_late, unseen}
-use Rattle.readiness.specs.Machine.{Bytes, Call, Calls, Change, Comes, Error, Fin, Handed, HasRoom, Join, Looks, Old, Polled, Read, Shut, Spurious, Step, Tells, Unasked, Vanished, Way, Write, after_call, answer_of, answers_of, change_in, change_of, changed, changes_of, is_quiet, may_call, opening, reads_after, run, step, tells}
-use Rattle.token.specs.declared.side.Side.{Side}
-use Rattle.token.specs.declared.kind.Kind.{Kind}
-use Rattle.readiness.proofs.Late.{Aside, Asleep, Behind, Caught, Goes, Held, MayBe, Prompt, Rests, Settled, Settles, Waits, allowed, aside, caught, changes_behind, events-append, guarded, is_beside, prompt, replies_behind, same_socket, settle_aside, settle_more, still_waits}
 
 some_is : {X : Type 0} {x y : X} → Some x ≡ Some y → y ≡ x
 some_is h = cc

@@ -1,8 +1,6 @@
 -- Which word stands where.
-use Rattle.std.proofs.Common.{◌≡◌, ℕ, ◌+◌, ◌++◌, [], ◌∷◌, true, nat_lt, length, slice_index_or, List, Some, refl, ◌∙◌, arith, ltb-true}
-use Rattle.std.proofs.lemmas.List.FromFn.{get_or-map-range_with_len, map-range_with_len_more}
-use Rattle.token.specs.declared.side.Side.{Side}
-use Rattle.token.specs.declared.side.Side.TheVariants.{Client, Target}
+use Rattle.std.proofs.{Common.{◌≡◌, ℕ, ◌+◌, ◌++◌, [], ◌∷◌, true, nat_lt, length, slice_index_or, List, Some, refl, ◌∙◌, arith, ltb-true}, lemmas.List.FromFn.{get_or-map-range_with_len, map-range_with_len_more}}
+use Rattle.token.specs.declared.side.Side.{Side, TheVariants.{Client, Target}}
 use Rattle.readiness.specs.Words.{WordName, both_of, of_side, word_of, words_of}
 
 -- one slot more

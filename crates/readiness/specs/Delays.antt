@@ -2,11 +2,9 @@
 -- does not read and no report was passed on to it, what comes to be read is late there: it comes with the report.
 use Rattle.std.specs.Prelude.{◌≡◌, ◌≢◌, ◌⊎◌, Bool, true, false, not, ◌&&◌, ◌||◌, if◌then◌else◌, List, [], ◌∷◌, ◌++◌, map, Contains, Option, Some, option_map, option_and_then, unwrap_or}
 use Rattle.token.specs.declared.side.Side.{Side}
-use Rattle.kernel_model.specs.Outcome.{guard, Told}
-use Rattle.kernel_model.specs.Ends.{EndState, opened, is_readable, new_room}
-use Rattle.kernel_model.specs.declared.reply.Reply.{Reply}
-use Rattle.kernel_model.specs.declared.reply.Reply.TheVariants as reply
+use Rattle.kernel_model.specs.{Outcome.{guard, Told}, Ends.{EndState, opened, is_readable, new_room}, declared.reply.Reply.Reply}
 use Rattle.readiness.specs.Machine.{Change, change_of, Call, Read, after_call, is_quiet, Way, Step, Comes, HasRoom, Spurious, Vanished, Polled, Tells, Old, Handed, Looks, Calls, Unasked, opening, step, run, answers_of, changes_of}
+use Rattle.kernel_model.specs.declared.reply.Reply.TheVariants as reply
 
 -- the end there, and whether its name is queued
 pub record Seen : Type 0 where

@@ -3,10 +3,7 @@
 -- wire's calls. The socket is an end of the modelled kernel.
 use Rattle.std.specs.Prelude.{ℕ, Bool, true, false, not, ◌&&◌, ◌||◌, List, [], ◌∷◌, ◌++◌, Option, Some, None, option_map, option_and_then}
 use Rattle.token.specs.declared.side.Side.{Side}
-use Rattle.kernel_model.specs.Outcome.{guard, Told}
-use Rattle.kernel_model.specs.Ends.{EndState, opened, is_readable, is_writable, arrival, finish, failure, new_room}
-use Rattle.kernel_model.specs.Replies.{after_read, after_write, after_join, after_shut}
-use Rattle.kernel_model.specs.declared.reply.Reply.{Reply}
+use Rattle.kernel_model.specs.{Outcome.{guard, Told}, Ends.{EndState, opened, is_readable, is_writable, arrival, finish, failure, new_room}, Replies.{after_read, after_write, after_join, after_shut}, declared.reply.Reply.Reply}
 use Rattle.kernel_model.specs.declared.reply.Reply.TheVariants as reply
 
 -- what the network does to a socket that concerns reading: bytes come, the end of input, or an error

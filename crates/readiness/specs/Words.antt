@@ -1,9 +1,7 @@
 -- The words at which reports are passed on. Part of the promises. Each end of each slot's connection has one of its
 -- own.
-use Rattle.std.specs.Prelude.{ℕ, nat_lt, if◌then◌else◌, List, map, Option, Some, None}
-use Rattle.std.specs.List.{range_with_len}
-use Rattle.token.specs.declared.side.Side.{Side}
-use Rattle.token.specs.declared.side.Side.TheVariants.{Client, Target}
+use Rattle.std.specs.{Prelude.{ℕ, nat_lt, if◌then◌else◌, List, map, Option, Some, None}, List.range_with_len}
+use Rattle.token.specs.declared.side.Side.{Side, TheVariants.{Client, Target}}
 
 -- the end on a side of a slot's connection
 pub record WordName : Type 0 where

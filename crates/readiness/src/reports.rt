@@ -1,5 +1,4 @@
-ghost use Rattle.std.specs.Prelude.{◌≡◌, Some, None, IfOk, IfSome, IfNone, vec_len};
-ghost use Rattle.std.specs.Arc.{arc_value};
+ghost use Rattle.std.specs.{Prelude.{◌≡◌, Some, None, IfOk, IfSome, IfNone, vec_len}, Arc.arc_value};
 ghost use Rattle.readiness.specs.Words.{of_side, word_of, words_of};
 
 use crate::word::{Heard, Word};

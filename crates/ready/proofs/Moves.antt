@@ -1,18 +1,10 @@
 -- Each call of an end keeps the queue rule: one end's list of places and items, and the sums over all ends, when one entry
 -- is added.
-use Rattle.std.proofs.Common.{◌≢◌, true, false, true≢false, ⊎_elim, ◌≡◌, ℕ, zero, suc, ◌+◌, ◌-◌, ◌<◌, ◌≤◌, ◌==◌, if◌then◌else◌, replicate, List, [], ◌∷◌, ◌++◌, length, get_or, set, refl, sym, subst, ap, ◌∙◌, append_assoc, length-append, arith}
-use Rattle.std.specs.List.{sum_by, All}
-use Rattle.std.proofs.lemmas.List.{replicate-append-replicate}
-use Rattle.std.proofs.lemmas.List.Elements.{All-push, All-set}
-use Rattle.std.proofs.lemmas.List.Quantifiers.{all_pairs_push}
-use Rattle.std.proofs.lemmas.List.Sums.{sum_by_push, sum_by-set}
+use Rattle.std.{proofs.{Common.{◌≢◌, true, false, true≢false, ⊎_elim, ◌≡◌, ℕ, zero, suc, ◌+◌, ◌-◌, ◌<◌, ◌≤◌, ◌==◌, if◌then◌else◌, replicate, List, [], ◌∷◌, ◌++◌, length, get_or, set, refl, sym, subst, ap, ◌∙◌, append_assoc, length-append, arith}, lemmas.List.{replicate-append-replicate, Elements.{All-push, All-set}, Quantifiers.all_pairs_push, Sums.{sum_by_push, sum_by-set}}}, specs.List.{sum_by, All}}
+use Rattle.crossbeam_queue.{proofs.Lists.{at_longer, at_last, at_set, at_snoc}, specs.Fifo.{Pushes, Pops, Forks, Learns}}
+use Rattle.ready.specs.{declared.history.History.History, Rule.{once_below, times, Fits, FirstPutAll, QueueRule}, Steps.{EndState, opener, blank, among_others, after_put, after_take, Saw, HeldOnce, PutOne, TookOne, in_order}}
 use mathlib.Core.Option.{some, some-injective, some-ne-none}
 use lib.ListN.{get_elem?}
-use Rattle.crossbeam_queue.proofs.Lists.{at_longer, at_last, at_set, at_snoc}
-use Rattle.crossbeam_queue.specs.Fifo.{Pushes, Pops, Forks, Learns}
-use Rattle.ready.specs.declared.history.History.{History}
-use Rattle.ready.specs.Rule.{once_below, times, Fits, FirstPutAll, QueueRule}
-use Rattle.ready.specs.Steps.{EndState, opener, blank, among_others, after_put, after_take, Saw, HeldOnce, PutOne, TookOne, in_order}
 
 module _ {A : Type 0} where
   inside : (l : List A) (k : ℕ) (v : A) → get_elem? l k ≡ some v → k < length l

@@ -1,10 +1,9 @@
 -- The queue rule. Part of the promises. It is what is true of a queue's items and of what each end has put and taken,
 -- between any two steps, in every schedule.
-use Rattle.std.specs.Prelude.{◌≡◌, ℕ, ◌<◌, ◌==◌, nat_lt, if◌then◌else◌, true, List, [], ◌∷◌, ◌++◌, length, All, sum_by}
-use Rattle.std.specs.List.{AllPairs}
+use Rattle.std.specs.{Prelude.{◌≡◌, ℕ, ◌<◌, ◌==◌, nat_lt, if◌then◌else◌, true, List, [], ◌∷◌, ◌++◌, length, All, sum_by}, List.AllPairs}
+use Rattle.ready.specs.declared.history.History.{History}
 use mathlib.Core.Option.{some}
 use lib.ListN.{get_elem?}
-use Rattle.ready.specs.declared.history.History.{History}
 
 -- 1 for each place below this one, and 0 for the others
 abbrev pub once_below : ℕ → ℕ → ℕ

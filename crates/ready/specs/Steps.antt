@@ -1,10 +1,9 @@
 -- What a call shows the end that made it. Part of the promises. The state is some state that meets the rule, since no
 -- clause can name what other threads do, but the end's own history stands in it.
 use Rattle.std.specs.Prelude.{◌≡◌, ℕ, zero, suc, ◌+◌, ◌^◌, ◌==◌, Bool, not, bit_and, true, false, List, [], ◌∷◌, ◌++◌, length, slice_set}
+use Rattle.ready.specs.{declared.history.History.History, Rule.QueueRule}
 use mathlib.Core.Option.{some}
 use lib.ListN.{get_elem?}
-use Rattle.ready.specs.declared.history.History.{History}
-use Rattle.ready.specs.Rule.{QueueRule}
 
 -- what callers see of an end: how many items its queue can hold, and what the end has put and taken
 pub record EndState (T : Type 0) : Type 0 where

@@ -1,6 +1,5 @@
 // What one end of the queue of tickets keeps, and the steps whose clauses name that.
-ghost use Rattle.std.specs.Prelude.{◌≡◌, ◌≢◌, true, false, IfOk, OnOk, IfErr, OnErr, IfSome, IfNone, IsNone, IsTrue, ◌↔◌};
-ghost use Rattle.std.specs.Arc.{arc_value};
+ghost use Rattle.std.specs.{Prelude.{◌≡◌, ◌≢◌, true, false, IfOk, OnOk, IfErr, OnErr, IfSome, IfNone, IsNone, IsTrue, ◌↔◌}, Arc.arc_value};
 ghost use Rattle.crossbeam_queue.specs.Passes.{view, IsPassOf, ruled_capacity};
 ghost use Rattle.ready.specs.Steps.{HeldOnce, PutOne, TookOne};
 

@@ -1,6 +1,5 @@
 // The queue of tickets.
-ghost use Rattle.std.specs.Prelude.{◌≡◌, ◌<◌, ◌≤◌, IfOk, OnOk, IfErr, OnErr, IfSome, IfNone, replicate, vec_len};
-ghost use Rattle.std.specs.Arc.{arc_value};
+ghost use Rattle.std.specs.{Prelude.{◌≡◌, ◌<◌, ◌≤◌, IfOk, OnOk, IfErr, OnErr, IfSome, IfNone, replicate, vec_len}, Arc.arc_value};
 ghost use Rattle.crossbeam_queue.specs.Passes.{ruled_capacity};
 ghost use Rattle.ready.specs.Steps.{unused, HeldOnce, PutOne, TookOne};
 
@@ -30,8 +29,7 @@ pub struct ReadyQueue {
 impl Model for ReadyQueue {
     ghost use Rattle.std.specs.Arc.{arc_value};
     ghost use Rattle.crossbeam_queue.specs.Passes.{ruled_capacity};
-    ghost use Rattle.ready.specs.declared.ticket.Ticket.{Ticket};
-    ghost use Rattle.ready.specs.Steps.{EndState};
+    ghost use Rattle.ready.specs.{declared.ticket.Ticket.Ticket, Steps.EndState};
 
     ghost Value = { EndState Ticket };
 

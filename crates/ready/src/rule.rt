@@ -16,8 +16,7 @@ pub(crate) type LinePass<T> = Pass<T, History<T>>;
 pub struct InPlaces;
 
 impl<T> Protocol<T, History<T>> for InPlaces {
-    ghost use Rattle.ready.specs.Rule.{QueueRule};
-    ghost use Rattle.ready.specs.Steps.{opener};
+    ghost use Rattle.ready.specs.{Rule.QueueRule, Steps.opener};
 
     ghost holds = { QueueRule };
 

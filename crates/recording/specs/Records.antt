@@ -1,33 +1,16 @@
 -- What is put into a recording: what a call is recorded as, and which steps that takes. Part of the promises.
-use Rattle.std.specs.Prelude.{ℕ, Bool, true, false, ◌==◌, if◌then◌else◌, List, [], ◌∷◌, ◌++◌, length, Option, Some, None, Result, Ok, Err, ◌≡◌}
-use Rattle.std.specs.declared.io.Error.{Error}
-use Rattle.std.specs.IoError.{error_kind}
-use Rattle.std.specs.declared.io.ErrorKind.{ErrorKind}
-use Rattle.std.specs.declared.io.ErrorKind.TheVariants.{Interrupted, ConnectionAborted, NetworkDown, NetworkUnreachable, HostUnreachable, WouldBlock}
-use Rattle.token.specs.Names.{EndName}
-use Rattle.token.specs.Numbers.{name_of}
-use Rattle.token.specs.declared.name.Name.{Name}
-use Rattle.relay_core.specs.declared.Kind.TheVariants as kind
-use Rattle.engine.specs.Wires.{Asked, Given, Brought, Took, Done, Refused, WireView}
-use Rattle.engine.specs.Wires as ask
-use Rattle.engine.specs.Classes.{kind_of_error}
+use Rattle.std.specs.{Prelude.{ℕ, Bool, true, false, ◌==◌, if◌then◌else◌, List, [], ◌∷◌, ◌++◌, length, Option, Some, None, Result, Ok, Err, ◌≡◌}, declared.io.{Error.Error, ErrorKind.{ErrorKind, TheVariants.{Interrupted, ConnectionAborted, NetworkDown, NetworkUnreachable, HostUnreachable, WouldBlock}}}, IoError.error_kind}
+use Rattle.token.specs.{Names.EndName, Numbers.name_of, declared.{name.Name.Name, side.Side.{Side, TheVariants.{Client, Target}}}}
+use Rattle.engine.specs.{Wires.{Asked, Given, Brought, Took, Done, Refused, WireView}, Classes.kind_of_error}
 use Rattle.dispatch.specs.declared.front.Unopened.{Unopened}
+use Rattle.records.specs.declared.act.{Accepted.{Accepted, TheVariants.{Taken, Again, Blocked, Starved}}, Act.{Act, TheVariants.{Poller, Wire}}, Answer.Answer, Made.Made, Opening.Opening, Polling.Polling, Record.Record}
+use Rattle.relay_core.specs.declared.Kind.TheVariants as kind
+use Rattle.engine.specs.Wires as ask
 use Rattle.dispatch.specs.declared.front.Unopened.TheVariants as unopened
-use Rattle.records.specs.declared.act.Accepted.{Accepted}
-use Rattle.records.specs.declared.act.Accepted.TheVariants.{Taken, Again, Blocked, Starved}
-use Rattle.records.specs.declared.act.Act.{Act}
-use Rattle.records.specs.declared.act.Answer.{Answer}
 use Rattle.records.specs.declared.act.Answer.TheVariants as answer
-use Rattle.records.specs.declared.act.Made.{Made}
 use Rattle.records.specs.declared.act.Made.TheVariants as made
-use Rattle.records.specs.declared.act.Opening.{Opening}
 use Rattle.records.specs.declared.act.Opening.TheVariants as opening
-use Rattle.records.specs.declared.act.Polling.{Polling}
 use Rattle.records.specs.declared.act.Polling.TheVariants as polling
-use Rattle.records.specs.declared.act.Record.{Record}
-use Rattle.token.specs.declared.side.Side.{Side}
-use Rattle.token.specs.declared.side.Side.TheVariants.{Client, Target}
-use Rattle.records.specs.declared.act.Act.TheVariants.{Poller, Wire}
 
 -- the classes of `dispatch`, which a poller goes by: a signal, a connection that was given up before it was accepted,
 -- or a network error that the new socket had pending; that none waits; anything else

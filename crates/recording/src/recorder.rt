@@ -1,8 +1,6 @@
 // What a thread records by. Only here is a record made, and a wrapped part reached.
-ghost use Rattle.std.specs.Prelude.{◌≡◌, None, false, [], ◌∷◌};
-ghost use Rattle.std.specs.Borrow.{sem};
-ghost use Rattle.recording.specs.Lending.{LendsInner};
-ghost use Rattle.recording.specs.Records.{drops, dropped, reports, Step, Began, Ended, AtOnce, Put, Another, Ends, RecordsAtOnce};
+ghost use Rattle.std.specs.{Prelude.{◌≡◌, None, false, [], ◌∷◌}, Borrow.sem};
+ghost use Rattle.recording.specs.{Lending.LendsInner, Records.{drops, dropped, reports, Step, Began, Ended, AtOnce, Put, Another, Ends, RecordsAtOnce}};
 
 use engine::Wire;
 use records::{Act, Made, Polling, Record};

@@ -1,7 +1,6 @@
 // A wire that records what is done with it.
-ghost use Rattle.std.specs.Prelude.{◌≡◌, ◌≢◌, None};
+ghost use Rattle.std.specs.{Prelude.{◌≡◌, ◌≢◌, None}, IoError.error_kind};
 ghost use Rattle.records.specs.declared.act.Made.TheVariants.{Drop};
-ghost use Rattle.std.specs.IoError.{error_kind};
 ghost use Rattle.engine.specs.Wires.{counts_alone};
 ghost use Rattle.recording.specs.Records.{answered, made_of, refused, BegunBy, EndedBy, WireRecords, Settled};
 

@@ -1,25 +1,13 @@
 -- The lines of a recording, without their line feeds. Part of the promises.
-use Rattle.std.specs.Prelude.{ℕ, Bool, if◌then◌else◌, List, ◌++◌, codes}
-use Rattle.std.specs.Fmt.{decimal}
-use Rattle.token.specs.Names.{EndName}
-use Rattle.token.specs.Kinds.{kind_name}
-use Rattle.token.specs.Sides.{side_name}
-use Rattle.token.specs.declared.name.Name.{Name}
+use Rattle.std.specs.{Prelude.{ℕ, Bool, if◌then◌else◌, List, ◌++◌, codes}, Fmt.decimal}
+use Rattle.token.specs.{Names.EndName, Kinds.kind_name, Sides.side_name, declared.name.Name.Name}
+use Rattle.records.specs.declared.{act.{Record.Record, Act.{Act, TheVariants.{Poller, Second, Begin, End, Wire, Ended, Full}}, Polling.Polling, Accepted.Accepted, Opening.Opening, Made.Made, Answer.Answer}, header.Header.Header}
 use Rattle.token.specs.declared.name.Name.TheVariants as name
-use Rattle.records.specs.declared.act.Record.{Record}
-use Rattle.records.specs.declared.act.Act.{Act}
-use Rattle.records.specs.declared.act.Act.TheVariants.{Poller, Second, Begin, End, Wire, Ended, Full}
-use Rattle.records.specs.declared.act.Polling.{Polling}
 use Rattle.records.specs.declared.act.Polling.TheVariants as polling
-use Rattle.records.specs.declared.act.Accepted.{Accepted}
 use Rattle.records.specs.declared.act.Accepted.TheVariants as accepted
-use Rattle.records.specs.declared.act.Opening.{Opening}
 use Rattle.records.specs.declared.act.Opening.TheVariants as opening
-use Rattle.records.specs.declared.act.Made.{Made}
 use Rattle.records.specs.declared.act.Made.TheVariants as made
-use Rattle.records.specs.declared.act.Answer.{Answer}
 use Rattle.records.specs.declared.act.Answer.TheVariants as answer
-use Rattle.records.specs.declared.header.Header.{Header}
 
 abbrev pub end_text : EndName → List ℕ
 end_text n = decimal n.slot ++ (codes "." ++ (decimal n.generation ++ (codes "." ++ side_name n.side)))

@@ -1,33 +1,10 @@
 -- What follows for every pair: that its next call is possible, and what an answer, a report, the idle limit and any list of
 -- them do to it.
-use Rattle.std.proofs.Common.{Bool, List, None, Option, Some, [], ap, append-nil, append_assoc, arith, drop, false, inl, inr, length, map, not, option_and_then, refl, sym, take, take-append-drop, true, ℕ, ◌&&◌, ◌++◌, ◌-◌, ◌<◌, ◌↔◌, ◌∙◌, ◌∷◌, ◌≡◌, ◌≤◌, ◌⊎◌}
-use Rattle.std.proofs.Math.Seq.{drop-nil}
-use Rattle.std.proofs.lemmas.Bool.{not-true, le-leb, leb-true, ltb-true}
-use Rattle.std.proofs.lemmas.Bool.Decides.{nat_tests}
-use Rattle.std.proofs.lemmas.Option.{cond_some, option_and_then_some}
-use Rattle.std.proofs.lemmas.List.{nil_from_length}
-use Rattle.std.specs.Cmp.{first_so, second_so}
-use Rattle.std.specs.Option.{is_none, option_or}
-use Rattle.std.specs.Prelude.{IfSome, if◌then◌else◌, nat_le, nat_lt, option_map}
-use Rattle.flow.proofs.Front.{front_offers, take-front, waiting-dropped}
-use Rattle.flow.specs.Stream.{Stream, closed, dropped, ended, free_room, front, taken_in, waiting}
-use Rattle.relay_core.specs.Calls.{direction_of, kind_of, side_of}
-use Rattle.relay_core.specs.Runs.{Answered, Event, Expired, Reported, brought_by, carried_by, ever_brought, ever_carried, happened, through, all_brought, all_carried, carried, or_nothing, same_way, answered, over}
-use Rattle.relay_core.specs.Idle.{is_overdue, is_past, timed_out}
-use Rattle.relay_core.specs.Laws.{AnswersAreEvents, AnswersAreToNextCalls, AnswersKeepOrder, AnswersKeepPlace, AnswersPassEndLast, CallsComeWhileLive, ExpiriesChangeVerdictAlone, FailuresAreTold, FreshPairsKeepEndLast, HasRoomFor, IsAtRest, IsDrained, IsOverdue, IsPossible, KeepsEndLast, KeepsOrder, LivePairsRest, OnlyEndsAreSeen, OnlyOverduePairsExpire, PassesEndLast, RunsKeepOrder, RunsKeepPlace, RunsPassEndLast, TellsOf, place_of}
-use Rattle.relay_core.specs.Order.{call_for, is_drained, is_open, is_waiting, next_call, offer, read_most}
-use Rattle.relay_core.specs.Pairs.{Flags, PairState, flags_of, is_joined, is_live, mark_joined, noted, ready, stream_of, verdict, verdict_of, with_flags, with_sent, with_stream}
-use Rattle.relay_core.specs.Replies.{AnswerValue, Blocked, Bytes, End, Failed, Interrupted, Joined, Shut, Wrote, after, fits}
-use Rattle.relay_core.specs.declared.call.Call.{Call}
-use Rattle.relay_core.specs.declared.call.Call.TheVariants.{Read}
-use Rattle.relay_core.specs.declared.verdict.Fault.{Fault}
-use Rattle.token.specs.Sides.{destination, inward, opposite, outward, source}
-use Rattle.token.specs.declared.direction.Direction.{Direction}
-use Rattle.token.specs.declared.direction.Direction.TheVariants.{Down, Up}
-use Rattle.token.specs.declared.side.Side.{Side}
-use Rattle.token.specs.declared.side.Side.TheVariants.{Client, Target}
+use Rattle.std.{proofs.{Common.{Bool, List, None, Option, Some, [], ap, append-nil, append_assoc, arith, drop, false, inl, inr, length, map, not, option_and_then, refl, sym, take, take-append-drop, true, ℕ, ◌&&◌, ◌++◌, ◌-◌, ◌<◌, ◌↔◌, ◌∙◌, ◌∷◌, ◌≡◌, ◌≤◌, ◌⊎◌}, Math.Seq.drop-nil, lemmas.{Bool.{not-true, le-leb, leb-true, ltb-true, Decides.nat_tests}, Option.{cond_some, option_and_then_some}, List.nil_from_length}}, specs.{Cmp.{first_so, second_so}, Option.{is_none, option_or}, Prelude.{IfSome, if◌then◌else◌, nat_le, nat_lt, option_map}}}
+use Rattle.flow.{proofs.Front.{front_offers, take-front, waiting-dropped}, specs.Stream.{Stream, closed, dropped, ended, free_room, front, taken_in, waiting}}
+use Rattle.relay_core.specs.{Calls.{direction_of, kind_of, side_of}, Runs.{Answered, Event, Expired, Reported, brought_by, carried_by, ever_brought, ever_carried, happened, through, all_brought, all_carried, carried, or_nothing, same_way, answered, over}, Idle.{is_overdue, is_past, timed_out}, Laws.{AnswersAreEvents, AnswersAreToNextCalls, AnswersKeepOrder, AnswersKeepPlace, AnswersPassEndLast, CallsComeWhileLive, ExpiriesChangeVerdictAlone, FailuresAreTold, FreshPairsKeepEndLast, HasRoomFor, IsAtRest, IsDrained, IsOverdue, IsPossible, KeepsEndLast, KeepsOrder, LivePairsRest, OnlyEndsAreSeen, OnlyOverduePairsExpire, PassesEndLast, RunsKeepOrder, RunsKeepPlace, RunsPassEndLast, TellsOf, place_of}, Order.{call_for, is_drained, is_open, is_waiting, next_call, offer, read_most}, Pairs.{Flags, PairState, flags_of, is_joined, is_live, mark_joined, noted, ready, stream_of, verdict, verdict_of, with_flags, with_sent, with_stream}, Replies.{AnswerValue, Blocked, Bytes, End, Failed, Interrupted, Joined, Shut, Wrote, after, fits}, declared.{call.Call.{Call, TheVariants.Read}, verdict.Fault.{Fault, TheVariants.Broken}}}
+use Rattle.token.specs.{Sides.{destination, inward, opposite, outward, source}, declared.{direction.Direction.{Direction, TheVariants.{Down, Up}}, side.Side.{Side, TheVariants.{Client, Target}}}}
 use Rattle.relay_core.specs.declared.call.Call.TheVariants as call
-use Rattle.relay_core.specs.declared.verdict.Fault.TheVariants.{Broken}
 use Rattle.relay_core.specs.declared.verdict.Verdict.TheVariants as verdict
 
 -- ---- the next call is possible: nothing in the pair speaks against it

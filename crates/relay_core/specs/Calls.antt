@@ -1,12 +1,7 @@
 -- The calls that the relay makes on a connection's two sockets, and the answers that they get. Part of the promises.
 use Rattle.std.specs.Prelude.{ℕ, List, codes}
-use Rattle.token.specs.declared.side.Side.{Side}
-use Rattle.token.specs.declared.direction.Direction.{Direction}
-use Rattle.token.specs.Sides.{inward, outward}
-use Rattle.relay_core.specs.declared.call.Call.{Call}
-use Rattle.relay_core.specs.declared.call.Call.TheVariants.{Write, Join, Shut, Read}
-use Rattle.relay_core.specs.declared.call.CallKind.{CallKind}
-use Rattle.relay_core.specs.declared.call.CallKind.TheVariants.{Write as WriteKind, Join as JoinKind, Shut as ShutKind, Read as ReadKind}
+use Rattle.token.specs.{declared.{side.Side.Side, direction.Direction.Direction}, Sides.{inward, outward}}
+use Rattle.relay_core.specs.declared.call.{Call.{Call, TheVariants.{Write, Join, Shut, Read}}, CallKind.{CallKind, TheVariants.{Write as WriteKind, Join as JoinKind, Shut as ShutKind, Read as ReadKind}}}
 
 -- the side on whose socket a call is made
 abbrev pub side_of : Call → Side

@@ -1,10 +1,7 @@
 -- The idle limit: when a pair that moves nothing fails. Part of the promises. Seconds are of one clock, and a limit of
 -- 0 is none.
-use Rattle.std.specs.Prelude.{ℕ, ◌-◌, Bool, ◌&&◌, nat_lt, nat_le, if◌then◌else◌, Some}
-use Rattle.std.specs.Option.{is_none}
-use Rattle.relay_core.specs.declared.verdict.Fault.TheVariants.{Idle}
-use Rattle.relay_core.specs.Pairs.{PairState, verdict, is_live}
-use Rattle.relay_core.specs.Order.{next_call}
+use Rattle.std.specs.{Prelude.{ℕ, ◌-◌, Bool, ◌&&◌, nat_lt, nat_le, if◌then◌else◌, Some}, Option.is_none}
+use Rattle.relay_core.specs.{declared.verdict.Fault.TheVariants.Idle, Pairs.{PairState, verdict, is_live}, Order.next_call}
 
 -- at this second the last movement lies a limit back that is not 0; a clock that went back shows nothing
 abbrev pub is_past : ℕ → ℕ → ℕ → Bool

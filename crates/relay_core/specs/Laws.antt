@@ -1,20 +1,9 @@
 -- The laws of every pair. Part of the promises.
 use Rattle.std.specs.Prelude.{◌≡◌, ◌↔◌, ℕ, ◌-◌, ◌≤◌, ◌⊎◌, true, false, List, [], ◌++◌, length, map, Some, None}
-use Rattle.token.specs.declared.direction.Direction.{Direction}
-use Rattle.token.specs.Sides.{source, destination, inward, outward}
+use Rattle.token.specs.{declared.{direction.Direction.Direction, kind.Kind.Kind}, Sides.{source, destination, inward, outward}}
 use Rattle.flow.specs.Stream.{Stream, free_room, waiting}
-use Rattle.relay_core.specs.declared.call.Call.{Call}
-use Rattle.relay_core.specs.declared.call.Call.TheVariants.{Write, Join, Shut, Read}
-use Rattle.token.specs.declared.kind.Kind.{Kind}
-use Rattle.relay_core.specs.declared.verdict.Fault.{Fault}
-use Rattle.relay_core.specs.declared.verdict.Fault.TheVariants.{Broken, Idle}
+use Rattle.relay_core.specs.{declared.{call.Call.{Call, TheVariants.{Write, Join, Shut, Read}}, verdict.Fault.{Fault, TheVariants.{Broken, Idle}}}, Calls.{side_of, kind_of, direction_of}, Pairs.{PairState, ready, fresh, stream_of, flags_of, is_joined, noted, verdict}, Order.{next_call, offer}, Replies.{AnswerValue, End, Failed, fits, after}, Runs.{answered, over, brought, carried, all_brought, all_carried, Event, Answered, through, ever_brought, ever_carried}, Idle.{is_overdue, expired}}
 use Rattle.relay_core.specs.declared.verdict.Verdict.TheVariants as Verdict
-use Rattle.relay_core.specs.Calls.{side_of, kind_of, direction_of}
-use Rattle.relay_core.specs.Pairs.{PairState, ready, fresh, stream_of, flags_of, is_joined, noted, verdict}
-use Rattle.relay_core.specs.Order.{next_call, offer}
-use Rattle.relay_core.specs.Replies.{AnswerValue, End, Failed, fits, after}
-use Rattle.relay_core.specs.Runs.{answered, over, brought, carried, all_brought, all_carried, Event, Answered, through, ever_brought, ever_carried}
-use Rattle.relay_core.specs.Idle.{is_overdue, expired}
 
 -- the end of input came, every byte before it has left, and it is still to be passed on
 pub record IsDrained (stream : Stream) : Type 0 where

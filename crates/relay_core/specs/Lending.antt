@@ -1,14 +1,9 @@
 -- What a pair is once the borrow of an offer's bytes has ended. Part of the promises, for `offer` alone.
-use Rattle.std.specs.Prelude.{ℕ, List}
-use Rattle.std.specs.Borrow.{MutBor, Fml, Lends, Array, u8}
-use Rattle.token.specs.declared.direction.Direction.{Direction}
-use Rattle.token.specs.declared.side.Side.{Side}
-use Rattle.token.specs.Sides.{inward}
-use Rattle.flow.specs.Stream.{Stream}
-use Rattle.flow.specs.Lending.{with_front}
+use Rattle.std.specs.{Prelude.{ℕ, List}, Borrow.{MutBor, Fml, Lends, Array, u8}}
+use Rattle.token.specs.{declared.{direction.Direction.Direction, side.Side.Side}, Sides.inward}
+use Rattle.flow.specs.{Stream.Stream, Lending.with_front}
+use Rattle.relay_core.specs.{Pairs.{PairState, stream_of, with_stream}, contracts.pair.Pair.the_row}
 use Rattle.flow.specs.contracts.flow.Flow as flow
-use Rattle.relay_core.specs.Pairs.{PairState, stream_of, with_stream}
-use Rattle.relay_core.specs.contracts.pair.Pair.{the_row}
 
 -- the front of what is bound for a side holds what now stands in the place of its bytes
 abbrev pub with_offer : PairState → Side → List ℕ → PairState

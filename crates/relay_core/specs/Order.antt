@@ -1,13 +1,8 @@
 -- The order of work: which call comes next. Part of the promises.
-use Rattle.std.specs.Prelude.{ℕ, Bool, not, ◌&&◌, nat_lt, min, if◌then◌else◌, List, length, Option, Some, None}
-use Rattle.std.specs.Option.{option_or}
-use Rattle.token.specs.declared.side.Side.{Side}
-use Rattle.token.specs.declared.direction.Direction.{Direction}
-use Rattle.token.specs.Sides.{source, destination, opposite, inward}
+use Rattle.std.specs.{Prelude.{ℕ, Bool, not, ◌&&◌, nat_lt, min, if◌then◌else◌, List, length, Option, Some, None}, Option.option_or}
+use Rattle.token.specs.{declared.{side.Side.Side, direction.Direction.Direction}, Sides.{source, destination, opposite, inward}}
 use Rattle.flow.specs.Stream.{Stream, free_room, waiting, front}
-use Rattle.relay_core.specs.declared.call.Call.{Call}
-use Rattle.relay_core.specs.declared.call.Call.TheVariants.{Write, Join, Shut, Read}
-use Rattle.relay_core.specs.Pairs.{PairState, stream_of, flags_of, is_joined, verdict, is_live}
+use Rattle.relay_core.specs.{declared.call.Call.{Call, TheVariants.{Write, Join, Shut, Read}}, Pairs.{PairState, stream_of, flags_of, is_joined, verdict, is_live}}
 
 -- bytes wait, of the lead or in the ring
 abbrev pub is_waiting : Stream → Bool

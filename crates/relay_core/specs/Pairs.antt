@@ -1,15 +1,10 @@
 -- One connection, as the relay keeps it. Part of the promises. That is a stream of bytes for each direction, and for
 -- each side's socket what the relay believes of its readiness.
 use Rattle.std.specs.Prelude.{ℕ, Bool, true, false, ◌&&◌, List, [], Option, Some, None}
-use Rattle.token.specs.declared.side.Side.{Side}
-use Rattle.token.specs.declared.side.Side.TheVariants.{Client, Target}
-use Rattle.token.specs.declared.direction.Direction.{Direction}
-use Rattle.token.specs.declared.direction.Direction.TheVariants.{Up, Down}
+use Rattle.token.specs.declared.{side.Side.{Side, TheVariants.{Client, Target}}, direction.Direction.{Direction, TheVariants.{Up, Down}}}
 use Rattle.flow.specs.Stream.{Stream, empty_stream}
 pub use Rattle.relay_core.specs.declared.flags.Flags.{Flags}
-use Rattle.relay_core.specs.declared.verdict.Fault.{Fault}
-use Rattle.relay_core.specs.declared.verdict.Verdict.{Verdict}
-use Rattle.relay_core.specs.declared.verdict.Verdict.TheVariants.{Live, Done, Failed}
+use Rattle.relay_core.specs.declared.verdict.{Fault.Fault, Verdict.{Verdict, TheVariants.{Live, Done, Failed}}}
 
 -- `client` and `target` are what the relay believes of the two sockets: a flag that is set says that the
 -- call is worth a try, and one that is not, that the last try would have had to wait and no report came

@@ -1,16 +1,9 @@
 -- What a socket may answer to a call, and what each answer does to the pair. Part of the promises.
 use Rattle.std.specs.Prelude.{ℕ, ◌+◌, ◌-◌, ◌^◌, Bool, true, false, ◌&&◌, nat_le, min, if◌then◌else◌, List, length, Some}
-use Rattle.token.specs.declared.kind.Kind.{Kind}
-use Rattle.token.specs.declared.direction.Direction.{Direction}
-use Rattle.token.specs.Sides.{opposite}
+use Rattle.token.specs.{declared.{kind.Kind.Kind, direction.Direction.Direction}, Sides.opposite}
 use Rattle.flow.specs.Stream.{Stream, taken_in, dropped, ended, closed}
-use Rattle.relay_core.specs.declared.call.Call.{Call}
+use Rattle.relay_core.specs.{declared.{call.Call.Call, verdict.Fault.TheVariants.Broken, answer.Answer.Answer}, Calls.{side_of, kind_of, direction_of}, Pairs.{Flags, PairState, stream_of, with_stream, flags_of, with_flags, mark_joined, sent, with_sent}, Order.offer}
 use Rattle.relay_core.specs.declared.call.Call.TheVariants as call
-use Rattle.relay_core.specs.declared.verdict.Fault.TheVariants.{Broken}
-use Rattle.relay_core.specs.Calls.{side_of, kind_of, direction_of}
-use Rattle.relay_core.specs.Pairs.{Flags, PairState, stream_of, with_stream, flags_of, with_flags, mark_joined, sent, with_sent}
-use Rattle.relay_core.specs.Order.{offer}
-use Rattle.relay_core.specs.declared.answer.Answer.{Answer}
 use Rattle.relay_core.specs.declared.answer.Answer.TheVariants as answer
 
 -- read(2) gave bytes, or the end of input; write(2) took the first n bytes of the offer; the socket is

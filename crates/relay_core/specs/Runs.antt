@@ -2,15 +2,9 @@
 -- each to the call that comes next at that point; among them reports may come, and the idle limit may pass. Reads bring
 -- bytes into a direction, and writes take them out.
 use Rattle.std.specs.Prelude.{ℕ, List, [], ◌∷◌, Option, Some, None, option_and_then, if◌then◌else◌, Bool, true, false, ◌++◌, take, option_map, unwrap_or}
-use Rattle.relay_core.specs.declared.call.Call.{Call}
-use Rattle.relay_core.specs.Pairs.{PairState, stream_of, noted}
-use Rattle.relay_core.specs.Order.{next_call}
-use Rattle.relay_core.specs.Replies.{AnswerValue, fits, after, Bytes, Wrote}
-use Rattle.token.specs.declared.direction.Direction.{Direction}
-use Rattle.token.specs.declared.direction.Direction.TheVariants.{Up, Down}
+use Rattle.relay_core.specs.{declared.call.Call.Call, Pairs.{PairState, stream_of, noted}, Order.next_call, Replies.{AnswerValue, fits, after, Bytes, Wrote}, Calls.direction_of, Idle.{is_overdue, timed_out}}
+use Rattle.token.specs.declared.direction.Direction.{Direction, TheVariants.{Up, Down}}
 use Rattle.flow.specs.Stream.{waiting}
-use Rattle.relay_core.specs.Calls.{direction_of}
-use Rattle.relay_core.specs.Idle.{is_overdue, timed_out}
 
 -- one call answered at the second `now`, if there is a next call and the answer fits it
 abbrev pub answered : ℕ → PairState → AnswerValue → Option PairState

@@ -1,13 +1,6 @@
 ghost use Rattle.std.specs.Prelude.{◌≡◌, ◌≤◌, ◌<◌, ◌&&◌, true, false, Some, length, slice_index, ◌↔◌, IfOk, IfSome, OnSome};
-ghost use Rattle.token.specs.Sides.{destination, inward};
-ghost use Rattle.relay_core.specs.Calls.{side_of};
-ghost use Rattle.relay_core.specs.Pairs.{fresh, stream_of, with_stream, flags_of, with_flags, is_joined, mark_joined, noted, verdict, is_live};
-ghost use Rattle.relay_core.specs.Order.{is_waiting, call_for, next_call, offer};
-ghost use Rattle.relay_core.specs.Replies.{Interrupted, fits, after, count_more, without_flag, reply_of};
-ghost use Rattle.relay_core.specs.Idle.{is_overdue, expired};
-ghost use Rattle.relay_core.specs.Laws.{IsPossible, IsOverdue, KeepsOrder, PassesEndLast, TellsOf};
-ghost use Rattle.token.specs.declared.direction.Direction.{Direction};
-ghost use Rattle.relay_core.specs.declared.verdict.Fault.{Fault};
+ghost use Rattle.token.specs.{Sides.{destination, inward}, declared.direction.Direction.Direction};
+ghost use Rattle.relay_core.specs.{Calls.side_of, Pairs.{fresh, stream_of, with_stream, flags_of, with_flags, is_joined, mark_joined, noted, verdict, is_live}, Order.{is_waiting, call_for, next_call, offer}, Replies.{Interrupted, fits, after, count_more, without_flag, reply_of}, Idle.{is_overdue, expired}, Laws.{IsPossible, IsOverdue, KeepsOrder, PassesEndLast, TellsOf}, declared.verdict.Fault.Fault};
 
 use crate::answer::Answer;
 use crate::call::Call;

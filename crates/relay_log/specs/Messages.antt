@@ -1,19 +1,10 @@
 -- The exact bytes of the log messages. Part of the promises.
-use Rattle.std.specs.Prelude.{ℕ, Bool, true, false, List, ◌++◌, codes, Option, Some, None}
-use Rattle.std.specs.Fmt.{decimal, ◌++?◌}
+use Rattle.std.specs.{Prelude.{ℕ, Bool, true, false, List, ◌++◌, codes, Option, Some, None}, Fmt.{decimal, ◌++?◌}}
 use Rattle.log.specs.declared.level.Level.{Level}
+use Rattle.token.specs.{Sides.side_name, Kinds.kind_name}
+use Rattle.relay_core.specs.{Calls.call_name, Pairs.PairState, declared.verdict.{Fault.{Fault, TheVariants.{Broken, Idle}}, Verdict.{Verdict, TheVariants.{Live, Done, Failed}}}}
+use Rattle.relay_log.specs.declared.{cause.Cause.{Cause, TheVariants.{Memory, Connect, Register, Address}}, gone.ClientsAt.ClientsAt}
 use Rattle.log.specs.declared.level.Level.TheVariants as level
-use Rattle.token.specs.Sides.{side_name}
-use Rattle.token.specs.Kinds.{kind_name}
-use Rattle.relay_core.specs.Calls.{call_name}
-use Rattle.relay_core.specs.Pairs.{PairState}
-use Rattle.relay_core.specs.declared.verdict.Fault.{Fault}
-use Rattle.relay_core.specs.declared.verdict.Fault.TheVariants.{Broken, Idle}
-use Rattle.relay_core.specs.declared.verdict.Verdict.{Verdict}
-use Rattle.relay_core.specs.declared.verdict.Verdict.TheVariants.{Live, Done, Failed}
-use Rattle.relay_log.specs.declared.cause.Cause.{Cause}
-use Rattle.relay_log.specs.declared.cause.Cause.TheVariants.{Memory, Connect, Register, Address}
-use Rattle.relay_log.specs.declared.gone.ClientsAt.{ClientsAt}
 use Rattle.relay_log.specs.declared.gone.ClientsAt.TheVariants as clients
 
 abbrev pub open_message : ℕ → ℕ → List ℕ

@@ -1,9 +1,8 @@
 // The calls that pass a message to a log. None takes memory.
-ghost use Rattle.std.specs.Prelude.{◌≡◌, Some, []};
-ghost use Rattle.std.specs.Fmt.{◌++?◌};
-ghost use Rattle.log.specs.declared.level.Level.TheVariants as level;
+ghost use Rattle.std.specs.{Prelude.{◌≡◌, Some, []}, Fmt.◌++?◌};
 ghost use Rattle.relay_core.specs.Pairs.{verdict};
 ghost use Rattle.relay_log.specs.Messages.{client_level, done_message, drop_message, drops_message, fail_message, full_message, gone_text, open_message, peer_message, EndLogged};
+ghost use Rattle.log.specs.declared.level.Level.TheVariants as level;
 
 use crate::{
     AllTaken, Cause, ClientsAt, Done, Dropped, Failed, Gone, MoreDropped, Opened, Peer, ServerFault,

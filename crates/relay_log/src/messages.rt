@@ -1,6 +1,5 @@
 // A message is a value that prints itself: whoever writes a line prints it there, and nothing is made before that.
-ghost use Rattle.std.specs.Prelude.{Some, [], ◌≡◌, string_bytes, IfOk};
-ghost use Rattle.std.specs.Fmt.{◌++?◌};
+ghost use Rattle.std.specs.{Prelude.{Some, [], ◌≡◌, string_bytes, IfOk}, Fmt.◌++?◌};
 ghost use Rattle.relay_log.specs.Messages.{open_message, peer_message, done_message, fail_message, drop_message, drops_message, full_message};
 
 use crate::Cause;

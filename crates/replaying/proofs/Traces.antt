@@ -1,18 +1,7 @@
 -- A run with one event more, and the connections of records with one more.
-use Rattle.std.proofs.Common.{◌≡◌, ℕ, List, [], ◌∷◌, ◌++◌, drop, take, Option, Some, None, refl, sym, ◌∙◌, ap, arith, option_and_then, ◌-◌, ◌<◌, length, get_or, subst}
-use Rattle.std.proofs.lemmas.List.{append-nil, append_assoc, take-append-drop}
-use Rattle.std.proofs.lemmas.List.Elements.{All-append, All-cons}
-use Rattle.std.specs.Prelude.{All}
-use Rattle.world.specs.declared.event.Event.{Event}
-use Rattle.world.specs.declared.limits.Limits.{Limits}
-use Rattle.world.specs.States.{State, opening}
-use Rattle.world.specs.Steps.{step}
-use Rattle.world.specs.Runs.{run}
-use Rattle.replaying.specs.declared.action.Action.{Action}
-use Rattle.replaying.specs.declared.recording.Numbered.{Numbered}
-use Rattle.replaying.specs.Traces.{IsHistory, action_in, and_then, joined, trace_next, trace_of_run}
-use Rattle.std.proofs.lemmas.Option.{get_or_from_slice_get, slice_get_read}
-use Rattle.replaying.specs.Sequences.{Follows, FollowsAt}
+use Rattle.std.{proofs.{Common.{◌≡◌, ℕ, List, [], ◌∷◌, ◌++◌, drop, take, Option, Some, None, refl, sym, ◌∙◌, ap, arith, option_and_then, ◌-◌, ◌<◌, length, get_or, subst}, lemmas.{List.{append-nil, append_assoc, take-append-drop, Elements.{All-append, All-cons}}, Option.{get_or_from_slice_get, slice_get_read}}}, specs.Prelude.All}
+use Rattle.world.specs.{declared.{event.Event.Event, limits.Limits.Limits}, States.{State, opening}, Steps.step, Runs.run}
+use Rattle.replaying.specs.{declared.{action.Action.Action, recording.Numbered.Numbered}, Traces.{IsHistory, action_in, and_then, joined, trace_next, trace_of_run}, Sequences.{Follows, FollowsAt}}
 
 one_step : (o : Option State) → option_and_then (λ (p : State). Some p) o ≡ o
 one_step None = refl

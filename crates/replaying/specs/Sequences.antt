@@ -1,10 +1,8 @@
 -- What one thread at a time does is one act after another. Part of the promises.
 use Rattle.std.specs.Prelude.{◌≡◌, ◌⊎◌, ◌-◌, ◌<◌, ℕ, Bool, true, false, List, Some, slice_get, ◌≤◌, length, slice_index}
-use Rattle.records.specs.declared.act.Record.{Record}
-use Rattle.records.specs.declared.act.Act.{Act}
-use Rattle.records.specs.declared.act.Act.TheVariants.{Poller}
-use Rattle.records.specs.declared.act.Polling.TheVariants as polling
+use Rattle.records.specs.declared.act.{Record.Record, Act.{Act, TheVariants.Poller}}
 use Rattle.replaying.specs.declared.recording.Numbered.{Numbered}
+use Rattle.records.specs.declared.act.Polling.TheVariants as polling
 
 abbrev pub is_report : Act → Bool
 is_report (Poller number (polling.Reported name)) = true

@@ -1,41 +1,20 @@
 -- What records and runs of the machine have in common: openings, turns, calls with their answers, turns that end quiet,
 -- and closings. What else a run has, nobody recorded. Part of the promises.
-use Rattle.std.specs.Prelude.{◌≡◌, ◌⊎◌, ◌+◌, ◌==◌, ◌&&◌, ℕ, Bool, true, false, if◌then◌else◌, List, [], ◌∷◌, ◌++◌, length, All, Option, Some, None, IsSome, slice_get, nat_lt, Vec}
-use Rattle.std.specs.Global.{Global}
-use Rattle.std.specs.Option.{is_none}
-use Rattle.token.specs.Names.{EndName}
-use Rattle.token.specs.declared.side.Side.{Side}
-use Rattle.token.specs.declared.side.Side.TheVariants.{Client, Target}
-use Rattle.token.specs.declared.kind.Kind.TheVariants.{Zero}
+use Rattle.std.specs.{Prelude.{◌≡◌, ◌⊎◌, ◌+◌, ◌==◌, ◌&&◌, ℕ, Bool, true, false, if◌then◌else◌, List, [], ◌∷◌, ◌++◌, length, All, Option, Some, None, IsSome, slice_get, nat_lt, Vec}, Global.Global, Option.is_none}
+use Rattle.token.specs.{Names.EndName, declared.{side.Side.{Side, TheVariants.{Client, Target}}, kind.Kind.TheVariants.Zero}}
 use Rattle.kernel_model.specs.declared.reply.Reply.{Reply}
+use Rattle.relay_core.specs.{Order.{next_call, offer}, Pairs.PairState, declared.call.Call.{Call, TheVariants.{Write, Join, Shut, Read}}}
+use Rattle.world.specs.{States.{State, opening}, Slots.SlotState, Steps.{step, connection_at, is_worn}, Runs.run, declared.{connection.Connection.Connection, limits.Limits.Limits, event.Event.Event}}
+use Rattle.records.specs.declared.{act.{Act.Act, Made.Made, Opening.TheVariants.Opened as IsOpened, Answer.Answer}, header.Header.Header}
+use Rattle.replaying.specs.declared.{recording.{Numbered.Numbered, Recording.Recording}, action.Action.{Action, TheVariants.{Opened, Began, Called, Quiet, Closed}}}
 use Rattle.kernel_model.specs.declared.reply.Reply.TheVariants as reply
-use Rattle.relay_core.specs.Order.{next_call, offer}
-use Rattle.relay_core.specs.Pairs.{PairState}
-use Rattle.relay_core.specs.declared.call.Call.{Call}
-use Rattle.relay_core.specs.declared.call.Call.TheVariants.{Write, Join, Shut, Read}
-use Rattle.world.specs.States.{State, opening}
-use Rattle.world.specs.Slots.{SlotState}
-use Rattle.world.specs.Steps.{step, connection_at, is_worn}
-use Rattle.world.specs.Runs.{run}
-use Rattle.world.specs.declared.connection.Connection.{Connection}
-use Rattle.world.specs.declared.limits.Limits.{Limits}
-use Rattle.world.specs.declared.event.Event.{Event}
 use Rattle.world.specs.declared.event.Event.TheVariants as event
 use Rattle.world.specs.declared.event.Polling.TheVariants as poll
 use Rattle.world.specs.declared.event.Act.TheVariants as work
-use Rattle.records.specs.declared.act.Act.{Act}
 use Rattle.records.specs.declared.act.Act.TheVariants as act
-use Rattle.records.specs.declared.act.Made.{Made}
 use Rattle.records.specs.declared.act.Made.TheVariants as made
 use Rattle.records.specs.declared.act.Polling.TheVariants as polling
-use Rattle.records.specs.declared.act.Opening.TheVariants.{Opened as IsOpened}
-use Rattle.records.specs.declared.act.Answer.{Answer}
 use Rattle.records.specs.declared.act.Answer.TheVariants as answer
-use Rattle.records.specs.declared.header.Header.{Header}
-use Rattle.replaying.specs.declared.recording.Numbered.{Numbered}
-use Rattle.replaying.specs.declared.recording.Recording.{Recording}
-use Rattle.replaying.specs.declared.action.Action.{Action}
-use Rattle.replaying.specs.declared.action.Action.TheVariants.{Opened, Began, Called, Quiet, Closed}
 
 -- A record
 

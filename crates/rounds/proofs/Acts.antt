@@ -1,26 +1,13 @@
 -- Acts, one after the other, and the posts of a round, in a poller's own slots alone.
-use Rattle.std.proofs.Common.{add-one, ◌≡◌, ℕ, zero, suc, ◌+◌, ◌≤◌, Bool, true, false, cond, List, [], ◌∷◌, ◌++◌, length, length-append, refl, sym, ap, ◌∙◌, arith, inl, inr, append_assoc, ◌≢◌, ◌⊎◌, ◌↔◌, IsTrue, slice_index, replicate, slice_set, ◌==◌, if◌then◌else◌, Option, Some, None, nat_lt, Contains}
-use Rattle.std.specs.List.{All, cons_option}
-use Rattle.std.proofs.lemmas.Bool.{eq-eqb, ne_eqb}
-use Rattle.std.proofs.lemmas.List.{append-nil, map-append, length-map, length-replicate, get_or-replicate, get_or_past, get_or-set_other}
-use Rattle.std.proofs.lemmas.List.Elements.{All-append, filter_map-append}
-use Rattle.std.proofs.lemmas.List.Sums.{sum_by-append}
+use Rattle.std.{proofs.{Common.{add-one, ◌≡◌, ℕ, zero, suc, ◌+◌, ◌≤◌, Bool, true, false, cond, List, [], ◌∷◌, ◌++◌, length, length-append, refl, sym, ap, ◌∙◌, arith, inl, inr, append_assoc, ◌≢◌, ◌⊎◌, ◌↔◌, IsTrue, slice_index, replicate, slice_set, ◌==◌, if◌then◌else◌, Option, Some, None, nat_lt, Contains}, lemmas.{Bool.{eq-eqb, ne_eqb, Decides.nat_tests}, List.{append-nil, map-append, length-map, length-replicate, get_or-replicate, get_or_past, get_or-set_other, Elements.{All-append, filter_map-append}, Sums.sum_by-append}}}, specs.List.{All, cons_option}}
+use Rattle.claims.{specs.{declared.view.Account.Account, Views.{after_all, minted_by}, Seats.{SeatState, trace_at, account_at, HoldsNothing, Adds}}, proofs.Seats.after_both}
+use Rattle.ready.specs.declared.ticket.Ticket.{Ticket}
+use Rattle.rounds.specs.{Acts.{Act, exchanges_at, made_by, due_of, ActsMade, IsPost, ArePosts, opening, IsTry, held_of, AreTries, at_slot, reported, all_reported, ArePosted, Delivered, is_due, last_in, opened_in, opened_below, all_opened, sweep_of}, Pollers.{IsOwnTable, PollerState, AreGenerations}, Openings.AreIn}
+use Rattle.relay_core.specs.Idle.{is_past}
+use Rattle.dispatch.specs.{Hands.HandState, declared.split.Part.Part, Splits.IsIn}
 use mathlib.Core.Logic.{dite}
 use native.Mathlib.Decide.{ℕ_discrete}
-use Rattle.claims.specs.declared.view.Account.{Account}
 use Rattle.claims.specs.declared.view.Exchange.TheVariants as exchange
-use Rattle.claims.specs.Views.{after_all, minted_by}
-use Rattle.claims.specs.Seats.{SeatState, trace_at, account_at, HoldsNothing, Adds}
-use Rattle.claims.proofs.Seats.{after_both}
-use Rattle.ready.specs.declared.ticket.Ticket.{Ticket}
-use Rattle.rounds.specs.Acts.{Act, exchanges_at, made_by, due_of, ActsMade, IsPost, ArePosts, opening, IsTry, held_of, AreTries, at_slot, reported, all_reported, ArePosted, Delivered, is_due, last_in, opened_in, opened_below, all_opened, sweep_of}
-use Rattle.std.proofs.lemmas.Bool.Decides.{nat_tests}
-use Rattle.relay_core.specs.Idle.{is_past}
-use Rattle.dispatch.specs.Hands.{HandState}
-use Rattle.dispatch.specs.declared.split.Part.{Part}
-use Rattle.dispatch.specs.Splits.{IsIn}
-use Rattle.rounds.specs.Pollers.{IsOwnTable, PollerState, AreGenerations}
-use Rattle.rounds.specs.Openings.{AreIn}
 
 pub at_slot-append : (slot : ℕ) (xs ys : List Ticket) → at_slot slot (xs ++ ys) ≡ at_slot slot xs + at_slot slot ys
 at_slot-append slot xs ys = sum_by-append (λ (t : Ticket). cond (t.slot == slot) 1 0) xs ys

@@ -1,17 +1,8 @@
 -- What the errors of accept(2) mean to the relay, and what is logged of accepting. Part of the promises.
-use Rattle.std.specs.Prelude.{◌≡◌, ℕ, ◌+◌, ◌==◌, ◌||◌, nat_lt, Bool, true, false, List, Option, Some, None, if◌then◌else◌}
-use Rattle.std.specs.declared.io.ErrorKind.{ErrorKind}
-use Rattle.std.specs.declared.io.ErrorKind.TheVariants.{Interrupted, ConnectionAborted, NetworkDown, NetworkUnreachable, HostUnreachable, WouldBlock}
-use Rattle.relay_log.specs.Messages.{drop_message, drops_message}
-use Rattle.relay_log.specs.declared.cause.Cause.{Cause}
+use Rattle.std.specs.{Prelude.{◌≡◌, ℕ, ◌+◌, ◌==◌, ◌||◌, nat_lt, Bool, true, false, List, Option, Some, None, if◌then◌else◌}, declared.io.ErrorKind.{ErrorKind, TheVariants.{Interrupted, ConnectionAborted, NetworkDown, NetworkUnreachable, HostUnreachable, WouldBlock}}}
+use Rattle.relay_log.specs.{Messages.{drop_message, drops_message}, declared.cause.Cause.Cause}
+use Rattle.rounds.specs.{Pollers.counted_up, declared.{episodes.{Accepted.{Accepted, TheVariants.{Again, Blocked, Starved}}, Episodes.Episodes, Tally.Tally, Drops.Drops}, dropping.Owed.Owed}}
 use Rattle.relay_log.specs.declared.cause.Cause.TheVariants as cause
-use Rattle.rounds.specs.Pollers.{counted_up}
-use Rattle.rounds.specs.declared.episodes.Accepted.{Accepted}
-use Rattle.rounds.specs.declared.episodes.Accepted.TheVariants.{Again, Blocked, Starved}
-use Rattle.rounds.specs.declared.episodes.Episodes.{Episodes}
-use Rattle.rounds.specs.declared.episodes.Tally.{Tally}
-use Rattle.rounds.specs.declared.episodes.Drops.{Drops}
-use Rattle.rounds.specs.declared.dropping.Owed.{Owed}
 
 -- A signal, a connection that was given up before it was accepted, or a network error that the new socket had pending:
 -- the next connection may be accepted at once. EAGAIN says that none waits. Anything else counts as a lack of

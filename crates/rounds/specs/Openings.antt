@@ -1,33 +1,20 @@
 -- What accepting and opening connections does to what the poller's thread owns. Part of the promises.
-use Rattle.std.specs.Prelude.{◌≡◌, ◌⊎◌, ℕ, ◌+◌, ◌<◌, ◌≤◌, ◌==◌, Bool, true, false, List, [], ◌∷◌, ◌++◌, length, drop, map, Option, Some, None, Result, Ok, Err, slice_index, slice_set}
-use Rattle.std.specs.List.{count_by}
-use Rattle.claims.specs.declared.view.Exchange.TheVariants as exchange
-use Rattle.claims.specs.Seats.{SeatState, TableId, Adds, HoldsNothing, account_at}
+use Rattle.std.specs.{Prelude.{◌≡◌, ◌⊎◌, ℕ, ◌+◌, ◌<◌, ◌≤◌, ◌==◌, Bool, true, false, List, [], ◌∷◌, ◌++◌, length, drop, map, Option, Some, None, Result, Ok, Err, slice_index, slice_set}, List.count_by, declared.net.socket_addr.SocketAddrV4.SocketAddrV4, Net.{Addr.ipv4_octets, Socket.{v4_ip, v4_port}}}
+use Rattle.claims.specs.{Seats.{SeatState, TableId, Adds, HoldsNothing, account_at}, Views.minted_by}
 use Rattle.ready.specs.declared.ticket.Ticket.{Ticket}
-use Rattle.dispatch.specs.declared.shared.Own.{Own}
-use Rattle.claims.specs.Views.{minted_by}
-use Rattle.dispatch.specs.Acts as act
-use Rattle.dispatch.specs.Splits.{IsIn}
-use Rattle.dispatch.specs.Hands.{ticket_room}
+use Rattle.dispatch.specs.{declared.{shared.Own.Own, front.{Unopened.Unopened, Route.Route}, split.Part.Part}, Splits.IsIn, Hands.ticket_room}
 use Rattle.token.specs.Names.{last_generation}
-use Rattle.rounds.specs.Pollers.{PollerState, Counted, counted_up}
+use Rattle.rounds.specs.{Pollers.{PollerState, Counted, counted_up}, Acts.{Act, made_by, opening, ActsMade, AreTries, at_slot}, Episodes.{dropped_for, opened_after}}
 use Rattle.log.specs.declared.level.Level.{Level}
-use Rattle.log.specs.declared.level.Level.TheVariants as level
 use Rattle.statistics.specs.declared.event.Event.{Event}
-use Rattle.statistics.specs.declared.event.Event.TheVariants as event
-use Rattle.relay_log.specs.Messages.{open_message}
-use Rattle.relay_log.specs.declared.cause.Cause.{Cause}
-use Rattle.relay_log.specs.declared.cause.Cause.TheVariants as cause
-use Rattle.dispatch.specs.declared.front.Unopened.{Unopened}
-use Rattle.dispatch.specs.declared.front.Unopened.TheVariants as unopened
-use Rattle.dispatch.specs.declared.front.Route.{Route}
-use Rattle.dispatch.specs.declared.split.Part.{Part}
-use Rattle.rounds.specs.Acts.{Act, made_by, opening, ActsMade, AreTries, at_slot}
-use Rattle.rounds.specs.Episodes.{dropped_for, opened_after}
-use Rattle.std.specs.declared.net.socket_addr.SocketAddrV4.{SocketAddrV4}
-use Rattle.std.specs.Net.Addr.{ipv4_octets}
-use Rattle.std.specs.Net.Socket.{v4_ip, v4_port}
+use Rattle.relay_log.specs.{Messages.open_message, declared.cause.Cause.Cause}
 use Rattle.relay_core.specs.Proxy.{proxy_line}
+use Rattle.claims.specs.declared.view.Exchange.TheVariants as exchange
+use Rattle.dispatch.specs.Acts as act
+use Rattle.log.specs.declared.level.Level.TheVariants as level
+use Rattle.statistics.specs.declared.event.Event.TheVariants as event
+use Rattle.relay_log.specs.declared.cause.Cause.TheVariants as cause
+use Rattle.dispatch.specs.declared.front.Unopened.TheVariants as unopened
 
 -- Between two steps of a round the poller's thread holds no slot, its seat is one of these claim words, and its table
 -- has a generation for each slot

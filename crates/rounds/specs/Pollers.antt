@@ -1,10 +1,8 @@
 -- What the poller keeps between its rounds, and the numbers of a round that clauses name. Part of the promises.
 use Rattle.std.specs.Prelude.{◌≡◌, ◌⊎◌, ℕ, ◌+◌, ◌≤◌, min, Bool, List, All, slice_index}
-use Rattle.rounds.specs.declared.episodes.Episodes.{Episodes}
-use Rattle.rounds.specs.declared.opening.Opening.{Opening}
-use Rattle.dispatch.specs.declared.split.Part.{Part}
+use Rattle.rounds.specs.declared.{episodes.Episodes.Episodes, opening.Opening.Opening}
+use Rattle.dispatch.specs.{declared.split.Part.Part, Splits.IsIn}
 use Rattle.token.specs.Names.{last_generation}
-use Rattle.dispatch.specs.Splits.{IsIn}
 
 -- What the front reported at the last wait, whether that failed, how many milliseconds it could take (0 if the front
 -- does not say so), whether the front listens, each slot's generation, the reports that this round delivers, the accept

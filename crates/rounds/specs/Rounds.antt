@@ -1,18 +1,10 @@
 -- What a round of the poller does. Part of the promises.
 use Rattle.std.specs.Prelude.{◌≡◌, ◌≢◌, ◌⊎◌, ℕ, ◌+◌, ◌<◌, ◌≤◌, true, false, List, [], ◌++◌, length, Contains}
-use Rattle.ready.specs.declared.ticket.Ticket.{Ticket}
-use Rattle.ready.specs.Steps.{HeldOnce}
-use Rattle.dispatch.specs.declared.front.Waiting.{Waiting}
-use Rattle.dispatch.specs.declared.front.Waiting.TheVariants as waiting
-use Rattle.dispatch.specs.declared.shared.Own.{Own}
-use Rattle.rounds.specs.Acts.{Act, due_of, ActsMade, ArePosts, AreTries, all_reported, ArePosted, is_due, sweep_of, swept_after}
-use Rattle.dispatch.specs.Hands.{HasRoom, ticket_room}
-use Rattle.rounds.specs.Openings.{AreIn, AreLost, AreOpened, SlotsCounted}
-use Rattle.dispatch.specs.Outgoing.{tickets_out}
-use Rattle.rounds.specs.Pollers.{PollerState, HasOpenedAll, Counted, spare_room}
-use Rattle.rounds.specs.Episodes.{AreLogged}
-use Rattle.dispatch.specs.Posts.{OnlyWorn}
+use Rattle.ready.specs.{declared.ticket.Ticket.Ticket, Steps.HeldOnce}
+use Rattle.dispatch.specs.{declared.{front.Waiting.Waiting, shared.Own.Own}, Hands.{HasRoom, ticket_room}, Outgoing.tickets_out, Posts.OnlyWorn}
+use Rattle.rounds.specs.{Acts.{Act, due_of, ActsMade, ArePosts, AreTries, all_reported, ArePosted, is_due, sweep_of, swept_after}, Openings.{AreIn, AreLost, AreOpened, SlotsCounted}, Pollers.{PollerState, HasOpenedAll, Counted, spare_room}, Episodes.AreLogged}
 use Rattle.relay_log.specs.declared.faults.ServerFault.{ServerFault}
+use Rattle.dispatch.specs.declared.front.Waiting.TheVariants as waiting
 use Rattle.relay_log.specs.declared.faults.ServerFault.TheVariants as server_fault
 
 -- The reports of the batch were delivered: each that is for a connection was posted at its slot, and those that woke

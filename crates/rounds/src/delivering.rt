@@ -1,8 +1,7 @@
 //! The reports of one poll become notes at their slots.
 ghost use Rattle.std.specs.Prelude.{◌≡◌, ℕ, ◌-◌, ◌<◌, ◌≤◌, ◌↔◌, ◌∷◌, [], length, take, IsTrue, IfOk, OnOk, IfErr, OnErr, IfSome, Contains};
 ghost use Rattle.claims.specs.Seats.{HoldsNothing};
-ghost use Rattle.dispatch.specs.Hands.{ticket_room};
-ghost use Rattle.dispatch.specs.Posts.{OnlyWorn};
+ghost use Rattle.dispatch.specs.{Hands.ticket_room, Posts.OnlyWorn};
 ghost use Rattle.rounds.specs.Acts.{connection, reported, ArePosted, Delivered};
 
 use claims::{ClaimSeat, Claims, Posted};

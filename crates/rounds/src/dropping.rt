@@ -1,7 +1,7 @@
 //! An accepted connection that is closed unopened.
 ghost use Rattle.std.specs.Prelude.{◌≡◌, ◌<◌, Some};
-ghost use Rattle.log.specs.declared.level.Level.TheVariants as level;
 ghost use Rattle.rounds.specs.Episodes.{dropped_for, line_of};
+ghost use Rattle.log.specs.declared.level.Level.TheVariants as level;
 
 use crate::episodes::Drops;
 use relay_log::{Cause, Logs, log_drop, log_drops};

@@ -2,8 +2,8 @@
 //! not again while it lasts. Of the accepted connections that are closed unopened the first of a cause has a line of its
 //! own, and those that follow it are counted.
 ghost use Rattle.std.specs.Prelude.{◌≡◌, IfSome, Some};
-ghost use Rattle.log.specs.declared.level.Level.TheVariants as level;
 ghost use Rattle.rounds.specs.Episodes.{accepted_of, all_logged_at, dropped_at, dropped_for, due_at, follows, is_counted, line_of, no_drops, no_episodes, no_tally, owed, owed_for, tally_of, logged_at, with_tally, AreLogged};
+ghost use Rattle.log.specs.declared.level.Level.TheVariants as level;
 
 use crate::dropping::Owed;
 use relay_log::{Cause, Logs};

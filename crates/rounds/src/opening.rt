@@ -1,20 +1,13 @@
 //! Opens an accepted connection, in the order in which it happens: a free slot, the names of the slot's next
 //! connection, the connection to the target, what the target is sent first, the pair, the place, and the one note
 //! that starts it.
-ghost use Rattle.std.specs.Prelude.{◌≡◌, ◌≢◌, ◌⊎◌, ◌+◌, ◌<◌, ◌≤◌, [], ◌∷◌, ◌++◌, drop, length, Err, Some, None, IfOk, IfErr, OnOk, OnErr, OnSome, IfSome, IsNone, slice_get, slice_index};
-ghost use Rattle.std.specs.Net.Addr.{ipv4_octets};
-ghost use Rattle.std.specs.Net.Socket.{v4_ip, v4_port};
+ghost use Rattle.std.specs.{Prelude.{◌≡◌, ◌≢◌, ◌⊎◌, ◌+◌, ◌<◌, ◌≤◌, [], ◌∷◌, ◌++◌, drop, length, Err, Some, None, IfOk, IfErr, OnOk, OnErr, OnSome, IfSome, IsNone, slice_get, slice_index}, Net.{Addr.ipv4_octets, Socket.{v4_ip, v4_port}}};
 ghost use Rattle.claims.specs.Seats.{HoldsNothing, OnlyAt};
-ghost use Rattle.relay_core.specs.Pairs.{fresh};
-ghost use Rattle.relay_core.specs.Proxy.{proxy_line};
-ghost use Rattle.rounds.specs.Episodes.{dropped_for};
-ghost use Rattle.dispatch.specs.Acts.{AreMade, open_slot, placing};
-ghost use Rattle.dispatch.specs.Acts as act;
-ghost use Rattle.dispatch.specs.Posts.{HoldsOnly, OnlyWorn};
-ghost use Rattle.dispatch.specs.Hands.{ticket_room};
+ghost use Rattle.relay_core.specs.{Pairs.fresh, Proxy.proxy_line};
+ghost use Rattle.rounds.specs.{Episodes.dropped_for, Openings.{lacks, lead_of, next_in, Between, DropCounted, DropsFor, Fate, IsNext, LeadGiven, LetGo, OneAccepted, OnlyOpened, OpeningLogged, Placed, Registered, SameQueues, Started}, Pollers.AreGenerations};
+ghost use Rattle.dispatch.specs.{Acts.{AreMade, open_slot, placing}, Posts.{HoldsOnly, OnlyWorn}, Hands.ticket_room};
 ghost use Rattle.token.specs.Names.{last_generation};
-ghost use Rattle.rounds.specs.Openings.{lacks, lead_of, next_in, Between, DropCounted, DropsFor, Fate, IsNext, LeadGiven, LetGo, OneAccepted, OnlyOpened, OpeningLogged, Placed, Registered, SameQueues, Started};
-ghost use Rattle.rounds.specs.Pollers.{AreGenerations};
+ghost use Rattle.dispatch.specs.Acts as act;
 
 use crate::dropping::Dropped;
 use crate::poller::{Poller, Uncounted};

@@ -1,10 +1,9 @@
 //! What a poller keeps between its rounds.
 ghost use Rattle.std.specs.Prelude.{◌≡◌, ◌-◌, ◌<◌, ◌≤◌, ◌↔◌, [], length, IfOk, OnOk, OnErr, IsTrue, replicate, slice_set, true, false};
-ghost use Rattle.dispatch.specs.Acts as act;
 ghost use Rattle.token.specs.Names.{last_generation};
 ghost use Rattle.dispatch.specs.Splits.{IsIn};
-ghost use Rattle.rounds.specs.Episodes.{all_logged_at, dropped_for, no_episodes, opened_after, AreLogged};
-ghost use Rattle.rounds.specs.Pollers.{AreGenerations, IsOwnTable, HasOpenedAll, counted_up, max_accepts};
+ghost use Rattle.rounds.specs.{Episodes.{all_logged_at, dropped_for, no_episodes, opened_after, AreLogged}, Pollers.{AreGenerations, IsOwnTable, HasOpenedAll, counted_up, max_accepts}};
+ghost use Rattle.dispatch.specs.Acts as act;
 
 use crate::dropping::Dropped;
 use crate::episodes::Episodes;

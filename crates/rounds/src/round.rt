@@ -1,16 +1,9 @@
 //! A round of the poller: it delivers reports, and accepts and opens connections.
-ghost use Rattle.std.specs.Prelude.{◌≡◌, ◌≢◌, ◌⊎◌, ◌+◌, ◌-◌, ◌<◌, ◌≤◌, ◌↔◌, [], length, Ok, Err, IsOk, OnOk, OnErr, IfErr, IfSome, IfOk, IsTrue, MatchResult, Contains, true, false};
-ghost use Rattle.std.specs.IoError.{error_kind};
-ghost use Rattle.std.specs.declared.io.ErrorKind.TheVariants.{Interrupted};
+ghost use Rattle.std.specs.{Prelude.{◌≡◌, ◌≢◌, ◌⊎◌, ◌+◌, ◌-◌, ◌<◌, ◌≤◌, ◌↔◌, [], length, Ok, Err, IsOk, OnOk, OnErr, IfErr, IfSome, IfOk, IsTrue, MatchResult, Contains, true, false}, IoError.error_kind, declared.io.ErrorKind.TheVariants.Interrupted};
 ghost use Rattle.claims.specs.Seats.{HoldsNothing};
 ghost use Rattle.ready.specs.Steps.{HeldOnce};
-ghost use Rattle.rounds.specs.Acts.{Delivered, all_reported};
-ghost use Rattle.rounds.specs.Episodes.{accepted_of, episodes_after, flag_after, starved_after, AreLogged};
-ghost use Rattle.dispatch.specs.Hands.{ticket_room};
-ghost use Rattle.rounds.specs.Openings.{AreIn, Between, OnlyTook, AcceptDone, OneAccepted, OnlyAccepted};
-ghost use Rattle.rounds.specs.Pollers.{HasOpenedAll, max_accepts, spare_room};
-ghost use Rattle.rounds.specs.Rounds.{AcceptEnded, EndedEarly, HasLeft, IsFull, IsOver, ListensToOpen, LooksForAll, MayAccept, MayNotWait, MayWait, MayWaitBriefly, NoSlot, NoneToAccept, NotBegun, RoundDone, RoundEnded, RoundKeeps, RoundRefused, TookAll, WaitLasted, WaitedAsMay, WaitsAsMay};
-ghost use Rattle.dispatch.specs.Posts.{OnlyWorn};
+ghost use Rattle.rounds.specs.{Acts.{Delivered, all_reported}, Episodes.{accepted_of, episodes_after, flag_after, starved_after, AreLogged}, Openings.{AreIn, Between, OnlyTook, AcceptDone, OneAccepted, OnlyAccepted}, Pollers.{HasOpenedAll, max_accepts, spare_room}, Rounds.{AcceptEnded, EndedEarly, HasLeft, IsFull, IsOver, ListensToOpen, LooksForAll, MayAccept, MayNotWait, MayWait, MayWaitBriefly, NoSlot, NoneToAccept, NotBegun, RoundDone, RoundEnded, RoundKeeps, RoundRefused, TookAll, WaitLasted, WaitedAsMay, WaitsAsMay}};
+ghost use Rattle.dispatch.specs.{Hands.ticket_room, Posts.OnlyWorn};
 
 use crate::delivering::deliver;
 use crate::episodes::{Accepted, accepted_of};

@@ -1,11 +1,8 @@
 //! What a round posts for time: a note at each slot in which a connection was opened, once the idle limit has passed.
 ghost use Rattle.std.specs.Prelude.{◌≡◌, ◌⊎◌, ◌<◌, ◌≤◌, length, IfErr, OnErr, OnOk};
 ghost use Rattle.claims.specs.Seats.{HoldsNothing};
-ghost use Rattle.rounds.specs.Acts.{ArePosted, all_opened, is_due, opened_in, sweep_of};
-ghost use Rattle.dispatch.specs.Hands.{ticket_room};
-ghost use Rattle.rounds.specs.Openings.{AreIn, Between, SameQueues};
-ghost use Rattle.rounds.specs.Rounds.{SweepMade};
-ghost use Rattle.dispatch.specs.Posts.{OnlyWorn};
+ghost use Rattle.rounds.specs.{Acts.{ArePosted, all_opened, is_due, opened_in, sweep_of}, Openings.{AreIn, Between, SameQueues}, Rounds.SweepMade};
+ghost use Rattle.dispatch.specs.{Hands.ticket_room, Posts.OnlyWorn};
 
 use crate::delivering::post_note;
 use crate::poller::Poller;

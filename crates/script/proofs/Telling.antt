@@ -1,8 +1,6 @@
 -- From what was computed of the text that was read, and what was written of it, to the whole input.
-use Rattle.script.proofs.Prelude.{◌≡◌, ℕ, List, [], ◌∷◌, Option, Some, None, Ok, option_and_then, IfSome, State, step, run, NumberedEvent, and_then, or_not_allowed, played, events_in, event_word, line_happened, EveryRunIsSound, EveryRun, ◌≢◌, ◌⊎◌, ◌+◌, ◌<◌, ◌≤◌, ap, length, length-append, take, Result, Err, inl, inr, refl, sym, ◌∙◌, subst, arith, IfOk, IfOk-at_ok, take_all, length-take-le, cases_lt, lt-ltb, Appends, TakesSome, Fault, TooLong, NoMemory, Outcome, Report, ScriptFault, Script, Reached, Gives, Plan, TakesMemory, most_bytes, parsed, said_by, reached_by, fault_line, LeadsTo, Tells, WritesReport, AnswersFault, WritesFault, EveryByte, EveryEnd}
+use Rattle.script.{proofs.{Prelude.{◌≡◌, ℕ, List, [], ◌∷◌, Option, Some, None, Ok, option_and_then, IfSome, State, step, run, NumberedEvent, and_then, or_not_allowed, played, events_in, event_word, line_happened, EveryRunIsSound, EveryRun, ◌≢◌, ◌⊎◌, ◌+◌, ◌<◌, ◌≤◌, ap, length, length-append, take, Result, Err, inl, inr, refl, sym, ◌∙◌, subst, arith, IfOk, IfOk-at_ok, take_all, length-take-le, cases_lt, lt-ltb, Appends, TakesSome, Fault, TooLong, NoMemory, Outcome, Report, ScriptFault, Script, Reached, Gives, Plan, TakesMemory, most_bytes, parsed, said_by, reached_by, fault_line, LeadsTo, Tells, WritesReport, AnswersFault, WritesFault, EveryByte, EveryEnd}, Keeping.{keeps_bytes, keeps_end}}, specs.declared.running.Outcome.TheVariants.Refused}
 use Rattle.world.specs.States.{opening}
-use Rattle.script.specs.declared.running.Outcome.TheVariants.{Refused}
-use Rattle.script.proofs.Keeping.{keeps_bytes, keeps_end}
 
 -- The headline of every run, for the events of a script.
 

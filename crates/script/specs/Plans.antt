@@ -1,9 +1,7 @@
 -- The two kinds of scripts, as values. Part of the promises.
 use Rattle.std.specs.Prelude.{ℕ, List, map}
-use Rattle.world.specs.declared.limits.Limits.{Limits}
-use Rattle.world.specs.declared.event.Event.{Event}
-use Rattle.script_text.specs.declared.steps.NumberedStep.{NumberedStep}
-use Rattle.script_text.specs.declared.steps.NumberedEvent.{NumberedEvent}
+use Rattle.world.specs.declared.{limits.Limits.Limits, event.Event.Event}
+use Rattle.script_text.specs.declared.steps.{NumberedStep.NumberedStep, NumberedEvent.NumberedEvent}
 
 -- a script of one direction: the most bytes of its ring, and its steps with their lines
 pub record FlowPlan : Type 0 where

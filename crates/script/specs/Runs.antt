@@ -1,31 +1,10 @@
 -- What a run writes, given what its reader had. Part of the promises.
-use Rattle.std.specs.Prelude.{Bool, Result, Ok, ℕ, List, ◌++◌, codes, ◌≡◌, ◌≢◌, ◌⊎◌, [], Option, Some, Err}
-use Rattle.world.specs.States.{State, opening}
-use Rattle.world.specs.Steps.{step}
-use Rattle.world.specs.Memory.{may_allocate}
-use Rattle.script.specs.declared.fault.Fault.{Fault}
-use Rattle.script.specs.declared.script.Script.{Script}
+use Rattle.std.specs.{Prelude.{Bool, Result, Ok, ℕ, List, ◌++◌, codes, ◌≡◌, ◌≢◌, ◌⊎◌, [], Option, Some, Err}, Io.KnownBytes.Appends}
+use Rattle.world.specs.{States.{State, opening}, Steps.step, Memory.may_allocate, declared.{limits.Limits.Limits, event.Event.Event}, Runs.run, Headline.HeadlineHolds, Support.SupportHolds}
+use Rattle.script.specs.{declared.{fault.Fault.{Fault, TheVariants.NoMemory}, script.{Script.Script, Reached.Reached}, transfer.Transfer.Transfer, running.Outcome.{Outcome, TheVariants.{Report, Refused}}}, Plans.{WorldPlan, FlowPlan, events_in}, Scripts.{FlowOf, TakesMemory, parsed, said_by}, Transfers.{run_of, KeepsBytes, KeepsEnd}, Faults.{and_then, or_not_allowed, played, fault_text}}
+use Rattle.script_text.specs.{declared.steps.NumberedEvent.NumberedEvent, Events.event_word, Pages.{newline, shown_bytes, stream_text}, WorldReports.world_report}
 use Rattle.script.specs.declared.script.Script.TheVariants as script
-use Rattle.script.specs.declared.script.Reached.{Reached}
 use Rattle.script.specs.declared.script.Reached.TheVariants as reached
-use Rattle.script_text.specs.declared.steps.NumberedEvent.{NumberedEvent}
-use Rattle.script.specs.Plans.{WorldPlan, FlowPlan, events_in}
-use Rattle.script.specs.Scripts.{FlowOf, TakesMemory, parsed, said_by}
-use Rattle.script_text.specs.Events.{event_word}
-use Rattle.script.specs.Transfers.{run_of, KeepsBytes, KeepsEnd}
-use Rattle.script.specs.Faults.{and_then, or_not_allowed, played, fault_text}
-use Rattle.script_text.specs.Pages.{newline, shown_bytes, stream_text}
-use Rattle.script.specs.declared.transfer.Transfer.{Transfer}
-use Rattle.std.specs.Io.KnownBytes.{Appends}
-use Rattle.world.specs.declared.limits.Limits.{Limits}
-use Rattle.world.specs.declared.event.Event.{Event}
-use Rattle.world.specs.Runs.{run}
-use Rattle.world.specs.Headline.{HeadlineHolds}
-use Rattle.world.specs.Support.{SupportHolds}
-use Rattle.script.specs.declared.fault.Fault.TheVariants.{NoMemory}
-use Rattle.script.specs.declared.running.Outcome.{Outcome}
-use Rattle.script.specs.declared.running.Outcome.TheVariants.{Report, Refused}
-use Rattle.script_text.specs.WorldReports.{world_report}
 
 -- What a script leads to. It is the state after all of it, or the fault of the first line that is
 -- not allowed.

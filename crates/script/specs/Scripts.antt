@@ -1,19 +1,10 @@
 -- The script that a text is, or its first fault. Part of the promises.
 use Rattle.std.specs.Prelude.{ℕ, List, map, ◌≡◌, ◌⊎◌, nat_lt, Bool, false, IsTrue, if◌then◌else◌, [], ◌∷◌, ◌≤◌, length, is_some, Option, Some, None, Result, Ok, Err}
 use Rattle.world.specs.declared.limits.Limits.{Limits}
-use Rattle.script_text.specs.declared.steps.NumberedStep.{NumberedStep}
-use Rattle.script_text.specs.declared.steps.NumberedEvent.{NumberedEvent}
-use Rattle.script.specs.declared.fault.Fault.{Fault}
-use Rattle.script.specs.declared.fault.Fault.TheVariants.{TooLong, NoWorld, Malformed}
-use Rattle.script.specs.Plans.{FlowPlan}
-use Rattle.script_text.specs.declared.header.Header.{Header}
+use Rattle.script_text.specs.{declared.{steps.{NumberedStep.NumberedStep, NumberedEvent.NumberedEvent}, header.Header.Header}, Texts.{NumberedLine, lines_of, telling_lines}, Headers.header_of, Events.{step_of, Said, said_of, event_of}}
+use Rattle.script.specs.{declared.{fault.Fault.{Fault, TheVariants.{TooLong, NoWorld, Malformed}}, script.Script.Script}, Plans.FlowPlan, Faults.and_then}
 use Rattle.script_text.specs.declared.header.Header.TheVariants as header
-use Rattle.script.specs.declared.script.Script.{Script}
 use Rattle.script.specs.declared.script.Script.TheVariants as script
-use Rattle.script_text.specs.Texts.{NumberedLine, lines_of, telling_lines}
-use Rattle.script_text.specs.Headers.{header_of}
-use Rattle.script_text.specs.Events.{step_of, Said, said_of, event_of}
-use Rattle.script.specs.Faults.{and_then}
 
 -- the most bytes of a script
 abbrev pub most_bytes : ℕ

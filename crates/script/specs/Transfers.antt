@@ -3,17 +3,10 @@
 use Rattle.std.specs.Prelude.{ℕ, min, Bool, true, false, not, ◌&&◌, if◌then◌else◌, [], take, Option, None, option_map, Result, ◌≡◌, ◌||◌, List, ◌∷◌, ◌++◌, Ok}
 use Rattle.token.specs.declared.side.Side.TheVariants.{Client, Target}
 use Rattle.flow.specs.Stream.{Stream, empty_stream, free_room, waiting, front, taken_in, dropped, ended, closed}
-use Rattle.kernel_model.specs.Ends.{opened, is_nonempty, arrival, finish, new_room}
-use Rattle.kernel_model.specs.Replies.{after_read, after_write, after_shut}
+use Rattle.kernel_model.specs.{Ends.{opened, is_nonempty, arrival, finish, new_room}, Replies.{after_read, after_write, after_shut}}
+use Rattle.script.specs.{declared.{fault.Fault.Fault, transfer.Transfer.Transfer}, Plans.FlowPlan, Faults.{or_not_allowed, played}}
+use Rattle.script_text.specs.{declared.steps.{Step.{Step, TheVariants.{Arrive, Fin, Room, Read, End, Wrote, Shut}}, NumberedStep.NumberedStep}, Events.word_of}
 use Rattle.kernel_model.specs.declared.reply.Reply.TheVariants as reply
-use Rattle.script.specs.declared.fault.Fault.{Fault}
-use Rattle.script_text.specs.declared.steps.Step.{Step}
-use Rattle.script_text.specs.declared.steps.Step.TheVariants.{Arrive, Fin, Room, Read, End, Wrote, Shut}
-use Rattle.script_text.specs.declared.steps.NumberedStep.{NumberedStep}
-use Rattle.script.specs.declared.transfer.Transfer.{Transfer}
-use Rattle.script_text.specs.Events.{word_of}
-use Rattle.script.specs.Plans.{FlowPlan}
-use Rattle.script.specs.Faults.{or_not_allowed, played}
 
 -- nothing has come, and there is no lead; the source is connected, and the destination has no room yet
 abbrev pub opening : ℕ → Transfer

@@ -1,6 +1,5 @@
 ghost use Rattle.std.specs.Prelude.{◌≡◌, ◌≤◌, IfOk};
-ghost use Rattle.script.specs.Faults.{Gives, Plays};
-ghost use Rattle.script.specs.Transfers.{opening, line_stepped, line_takes_memory, run_of};
+ghost use Rattle.script.specs.{Faults.{Gives, Plays}, Transfers.{opening, line_stepped, line_takes_memory, run_of}};
 
 use crate::{Fault, Transfer};
 use script_text::NumberedStep;

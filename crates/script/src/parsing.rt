@@ -1,7 +1,6 @@
 ghost use Rattle.std.specs.Prelude.{◌≡◌, ◌^◌, ◌<◌, IsErrOf, IsTrue, Some};
 ghost use Rattle.script_text.specs.Headers.{IsWithin};
-ghost use Rattle.script.specs.Faults.{GivesBy};
-ghost use Rattle.script.specs.Scripts.{BeginsWell, goes_on, headed, parsed, steps_of, events_of, said_by, said_lines, starts_with_event, starts_with_step};
+ghost use Rattle.script.specs.{Faults.GivesBy, Scripts.{BeginsWell, goes_on, headed, parsed, steps_of, events_of, said_by, said_lines, starts_with_event, starts_with_step}};
 
 use crate::running::MAX_BYTES;
 use crate::{Fault, FlowScript, Script, WorldScript};

@@ -1,8 +1,6 @@
-ghost use Rattle.std.specs.Prelude.{◌≡◌, ◌≢◌, ◌+◌, IfOk, IfErr, IfSome, Ok, Err};
-ghost use Rattle.std.specs.Io.KnownBytes.{Appends};
-ghost use Rattle.script.specs.Scripts.{most_bytes};
+ghost use Rattle.std.specs.{Prelude.{◌≡◌, ◌≢◌, ◌+◌, IfOk, IfErr, IfSome, Ok, Err}, Io.KnownBytes.Appends};
+ghost use Rattle.script.specs.{Scripts.most_bytes, Runs.{fault_line, LeadsTo, Tells, WritesReport, AnswersFault, WritesFault, EveryByte, EveryEnd, EveryRun, EveryRunIsSound}};
 ghost use Rattle.input.specs.Texts.{TakesAtMost};
-ghost use Rattle.script.specs.Runs.{fault_line, LeadsTo, Tells, WritesReport, AnswersFault, WritesFault, EveryByte, EveryEnd, EveryRun, EveryRunIsSound};
 
 use crate::{Fault, Reached, parse};
 use input::InputFault;

@@ -1,6 +1,5 @@
 ghost use Rattle.std.specs.Prelude.{◌≡◌, string_bytes, IfOk};
-ghost use Rattle.script.specs.Faults.{Gives};
-ghost use Rattle.script.specs.Runs.{reached_by, report, fault_line, report_of};
+ghost use Rattle.script.specs.{Faults.Gives, Runs.{reached_by, report, fault_line, report_of}};
 
 use crate::{Fault, FlowScript, Transfer, WorldScript};
 use script_text::{Page, Piece, print, put_stream};

@@ -1,7 +1,6 @@
 ghost use Rattle.std.specs.Prelude.{◌≡◌, ◌≤◌, IfOk, IsErrOf, IsTrue};
 ghost use Rattle.kernel_model.specs.Outcome.{Meets, MeetsAlways};
-ghost use Rattle.script.specs.Faults.{Carries};
-ghost use Rattle.script.specs.Transfers.{opening, stepped, line_stepped, line_takes_memory, takes_memory, read_size};
+ghost use Rattle.script.specs.{Faults.Carries, Transfers.{opening, stepped, line_stepped, line_takes_memory, takes_memory, read_size}};
 
 use crate::Fault;
 use flow::Flow;

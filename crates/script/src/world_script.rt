@@ -1,7 +1,6 @@
 ghost use Rattle.std.specs.Prelude.{◌≡◌, IfOk};
 ghost use Rattle.world.specs.States.{IsWithinLimits, opening};
-ghost use Rattle.script.specs.Faults.{Gives, Carries, Plays};
-ghost use Rattle.script.specs.Runs.{line_happened, line_takes_memory, world_of};
+ghost use Rattle.script.specs.{Faults.{Gives, Carries, Plays}, Runs.{line_happened, line_takes_memory, world_of}};
 
 use crate::Fault;
 use kernel_model::Refusal;

@@ -1,32 +1,19 @@
 -- The events of a world's script, and the lines that say them. Part of the promises.
-use Rattle.std.specs.Prelude.{◌≡◌, ℕ, false, List, [], ◌∷◌, codes, ◌+◌, nat_lt, nat_le, ◌&&◌, if◌then◌else◌, length, Option, Some, None, option_map, option_and_then}
-use Rattle.std.specs.Str.{bytes_eq}
-use Rattle.world.specs.declared.event.Event.{Event}
+use Rattle.std.specs.{Prelude.{◌≡◌, ℕ, false, List, [], ◌∷◌, codes, ◌+◌, nat_lt, nat_le, ◌&&◌, if◌then◌else◌, length, Option, Some, None, option_map, option_and_then}, Str.bytes_eq}
+use Rattle.world.specs.declared.event.{Event.Event, Change.Change, Listening.Listening, Polling.Polling, Act.Act, Reported.Reported}
+use Rattle.script_text.specs.{declared.{word.Word.Word, steps.Step.Step}, Texts.{pieces_of, words_of, number_of, number_below, bytes_of, word_then, if_last, full_of}}
+use Rattle.token.specs.{Names.last_generation, declared.{side.Side.Side, name.Name.Name}, Sides.side_named, Kinds.kind_named}
+use Rattle.kernel_model.specs.declared.{reply.Reply.Reply, accepting.Accepting.Accepting}
 use Rattle.world.specs.declared.event.Event.TheVariants as event
-use Rattle.world.specs.declared.event.Change.{Change}
 use Rattle.world.specs.declared.event.Change.TheVariants as change
-use Rattle.world.specs.declared.event.Listening.{Listening}
 use Rattle.world.specs.declared.event.Listening.TheVariants as listening
-use Rattle.world.specs.declared.event.Polling.{Polling}
 use Rattle.world.specs.declared.event.Polling.TheVariants as polling
-use Rattle.world.specs.declared.event.Act.{Act}
 use Rattle.world.specs.declared.event.Act.TheVariants as act
-use Rattle.script_text.specs.declared.word.Word.{Word}
 use Rattle.script_text.specs.declared.word.Word.TheVariants as word
-use Rattle.token.specs.Names.{last_generation}
-use Rattle.token.specs.declared.side.Side.{Side}
-use Rattle.token.specs.Sides.{side_named}
-use Rattle.token.specs.Kinds.{kind_named}
-use Rattle.token.specs.declared.name.Name.{Name}
 use Rattle.token.specs.declared.name.Name.TheVariants as name
-use Rattle.kernel_model.specs.declared.reply.Reply.{Reply}
 use Rattle.kernel_model.specs.declared.reply.Reply.TheVariants as reply
-use Rattle.kernel_model.specs.declared.accepting.Accepting.{Accepting}
 use Rattle.kernel_model.specs.declared.accepting.Accepting.TheVariants as accepting
-use Rattle.world.specs.declared.event.Reported.{Reported}
 use Rattle.world.specs.declared.event.Reported.TheVariants as reported
-use Rattle.script_text.specs.Texts.{pieces_of, words_of, number_of, number_below, bytes_of, word_then, if_last, full_of}
-use Rattle.script_text.specs.declared.steps.Step.{Step}
 use Rattle.script_text.specs.declared.steps.Step.TheVariants as step
 
 -- The first word of a step or an event, by which a fault names it.

@@ -1,13 +1,9 @@
 -- The header of a script, which says what the script covers, and its sizes. Part of the promises. It is the first line
 -- that is not skipped.
-use Rattle.std.specs.Prelude.{ℕ, ◌≤◌, nat_lt, nat_le, ◌&&◌, if◌then◌else◌, List, [], ◌∷◌, codes, length, Option, Some, None, option_map, option_and_then}
+use Rattle.std.specs.{Prelude.{ℕ, ◌≤◌, nat_lt, nat_le, ◌&&◌, if◌then◌else◌, List, [], ◌∷◌, codes, length, Option, Some, None, option_map, option_and_then}, Str.bytes_eq}
 use Rattle.token.specs.Names.{last_generation}
-use Rattle.std.specs.Str.{bytes_eq}
-use Rattle.world.specs.declared.limits.Limits.{Limits}
-use Rattle.world.specs.States.{IsWithinLimits}
-use Rattle.script_text.specs.declared.header.Header.{Header}
-use Rattle.script_text.specs.declared.header.Header.TheVariants.{Flow, World}
-use Rattle.script_text.specs.Texts.{words_of, value_after, bytes_after, Found, word_then, if_last}
+use Rattle.world.specs.{declared.limits.Limits.Limits, States.IsWithinLimits}
+use Rattle.script_text.specs.{declared.header.Header.{Header, TheVariants.{Flow, World}}, Texts.{words_of, value_after, bytes_after, Found, word_then, if_last}}
 
 -- `KEY=N` with N from 1 to the most
 abbrev pub size_of : List ℕ → ℕ → List ℕ → Option ℕ

@@ -1,15 +1,11 @@
 -- A text that is written piece by piece. Part of the promises.
-use Rattle.std.specs.Prelude.{◌≡◌, ℕ, List, [], ◌∷◌, ◌++◌, codes, if◌then◌else◌, Option, Some, option_map, IfSome, flat_map, Bool}
-use Rattle.std.specs.Fmt.{decimal}
+use Rattle.std.specs.{Prelude.{◌≡◌, ℕ, List, [], ◌∷◌, ◌++◌, codes, if◌then◌else◌, Option, Some, option_map, IfSome, flat_map, Bool}, Fmt.decimal}
 use Rattle.hex.specs.Hex.{encode_lower}
 use Rattle.kernel_model.specs.Ends.{is_nonempty}
-use Rattle.script_text.specs.declared.page.Piece.{Piece}
-use Rattle.script_text.specs.declared.page.Piece.TheVariants.{Text, Number, Named, Bytes}
-use Rattle.token.specs.declared.name.Name.{Name}
-use Rattle.token.specs.declared.name.Name.TheVariants as name
-use Rattle.token.specs.Names.{EndName}
-use Rattle.token.specs.Sides.{side_name}
+use Rattle.script_text.specs.declared.page.Piece.{Piece, TheVariants.{Text, Number, Named, Bytes}}
+use Rattle.token.specs.{declared.name.Name.Name, Names.EndName, Sides.side_name}
 use Rattle.world.specs.declared.actors.Ticket.{Ticket}
+use Rattle.token.specs.declared.name.Name.TheVariants as name
 
 abbrev pub newline : List ℕ
 newline = 10 ∷ []

@@ -1,8 +1,5 @@
 -- How the lines and words of a script are cut, and what numbers and bytes look like in it. Part of the promises.
-use Rattle.std.specs.Prelude.{ℕ, ◌+◌, ◌==◌, nat_lt, nat_le, Bool, true, ◌&&◌, ◌||◌, if◌then◌else◌, List, [], ◌∷◌, length, Option, Some, None, take, drop, option_and_then, ◌≡◌, false, codes, IsSome, option_map, Result, Ok, Err}
-use Rattle.std.specs.List.{list_all}
-use Rattle.std.specs.Str.{bytes_eq}
-use Rattle.std.specs.Result.{result_ok}
+use Rattle.std.specs.{Prelude.{ℕ, ◌+◌, ◌==◌, nat_lt, nat_le, Bool, true, ◌&&◌, ◌||◌, if◌then◌else◌, List, [], ◌∷◌, length, Option, Some, None, take, drop, option_and_then, ◌≡◌, false, codes, IsSome, option_map, Result, Ok, Err}, List.list_all, Str.bytes_eq, Result.result_ok}
 use Rattle.hex.specs.Hex.{decode_of}
 pub use Rattle.input.specs.Texts.{is_digit, is_plain, number_of, pieces_left, pieces_of, value_of, with_digit}
 use Rattle.script_text.specs.declared.readers.NotRead.{NotRead}

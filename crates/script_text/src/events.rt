@@ -1,7 +1,6 @@
 // The events in a script of a world.
 ghost use Rattle.std.specs.Prelude.{◌≡◌, ◌≤◌, nat_lt, ◌∷◌, [], None, Err, if◌then◌else◌, option_map};
-ghost use Rattle.script_text.specs.Events.{word_text, said_of, slot_of, accepting_of, change_event, put_event, call_event, act_event, plain_event, arrival, event_of, generation_of, end_of, name_of, are_names, names_of, reply_of, reported_of};
-ghost use Rattle.script_text.specs.Texts.{number_of, word_then, if_last, Reads, ReadsBy, full_of};
+ghost use Rattle.script_text.specs.{Events.{word_text, said_of, slot_of, accepting_of, change_event, put_event, call_event, act_event, plain_event, arrival, event_of, generation_of, end_of, name_of, are_names, names_of, reply_of, reported_of}, Texts.{number_of, word_then, if_last, Reads, ReadsBy, full_of}};
 ghost use Rattle.token.specs.Kinds.{kind_named};
 
 use crate::Word;

@@ -2,8 +2,7 @@
 ghost use Rattle.std.specs.Prelude.{◌≡◌, ◌≤◌, ◌<◌, [], unwrap_or, IfSome, IfOk, option_and_then};
 ghost use Rattle.token.specs.Names.{last_generation};
 ghost use Rattle.world.specs.States.{IsWithinLimits};
-ghost use Rattle.script_text.specs.Texts.{first_as, Reads, Takes, bytes_of};
-ghost use Rattle.script_text.specs.Headers.{size_of, generation_of, ring_of, idle_of, lead_of, short_enough, optional, with_extras, limits_of, lone_ring, header_of, IsRing, IsWithin};
+ghost use Rattle.script_text.specs.{Texts.{first_as, Reads, Takes, bytes_of}, Headers.{size_of, generation_of, ring_of, idle_of, lead_of, short_enough, optional, with_extras, limits_of, lone_ring, header_of, IsRing, IsWithin}};
 
 use crate::readers::{
     MAX_BUDGET, MAX_IDLE, MAX_SLOTS, MAX_WORKERS, Wrong, end_or, is_hex_text, last, said,

@@ -1,7 +1,6 @@
 //! Text that is written piece by piece.
-ghost use Rattle.std.specs.Prelude.{◌≡◌, [], Some, None, IfOk, string_bytes, ◌++◌, codes, if◌then◌else◌};
+ghost use Rattle.std.specs.{Prelude.{◌≡◌, [], Some, None, IfOk, string_bytes, ◌++◌, codes, if◌then◌else◌}, Fmt.decimal};
 ghost use Rattle.script_text.specs.Pages.{Adds, piece_text, pieces_text, name_text, ticket_text, spaced, stream_text, yes_or_no};
-ghost use Rattle.std.specs.Fmt.{decimal};
 
 use std::alloc::{AllocError, Global};
 use std::marker::Model;

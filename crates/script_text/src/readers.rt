@@ -2,11 +2,9 @@
 //! a row of `tests/program/causes` tries each text with the last word that is taken and the first that is not. A ring's
 //! limit is [`Flow::MAX`](flow::Flow::MAX), a lead's [`Flow::MAX_LEAD`](flow::Flow::MAX_LEAD), a generation's
 //! `token::MAX_GENERATION`, and a poll's `kernel_model::MAX_POLLED`.
-ghost use Rattle.std.specs.Prelude.{◌≡◌, ◌∷◌, [], MatchResult, IfOk, IfErr, IsSome};
+ghost use Rattle.std.specs.{Prelude.{◌≡◌, ◌∷◌, [], MatchResult, IfOk, IfErr, IsSome}, List.list_all};
 ghost use Rattle.token.specs.Sides.{side_named};
-ghost use Rattle.script_text.specs.Events.{word_text, BeginsOtherwise, slot_of, worker_of};
-ghost use Rattle.script_text.specs.Texts.{number_of, bytes_of, first_as, word_then, line_end, if_last, full_of, Reads, ReadsBy, Takes, number_below, value_after, is_lower_hex, is_hex_text};
-ghost use Rattle.std.specs.List.{list_all};
+ghost use Rattle.script_text.specs.{Events.{word_text, BeginsOtherwise, slot_of, worker_of}, Texts.{number_of, bytes_of, first_as, word_then, line_end, if_last, full_of, Reads, ReadsBy, Takes, number_below, value_after, is_lower_hex, is_hex_text}};
 
 use crate::{Bytes, Word};
 use input::{Pieces, is, is_digit, number};

@@ -1,7 +1,6 @@
 // The steps in a script of one direction.
 ghost use Rattle.std.specs.Prelude.{◌≡◌, option_map};
-ghost use Rattle.script_text.specs.Events.{word_of, word_text, plain_step, arrive_step, step_of};
-ghost use Rattle.script_text.specs.Texts.{number_of, word_then, if_last, full_of, Reads, ReadsBy};
+ghost use Rattle.script_text.specs.{Events.{word_of, word_text, plain_step, arrive_step, step_of}, Texts.{number_of, word_then, if_last, full_of, Reads, ReadsBy}};
 
 use crate::Word;
 use crate::readers::{NotRead, Wrong, count, first_word, is_full, last, last_bytes};

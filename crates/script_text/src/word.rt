@@ -1,7 +1,5 @@
-ghost use Rattle.std.specs.Prelude.{◌≡◌, false, IfSome, IfNone};
-ghost use Rattle.std.specs.Str.{bytes_eq};
-ghost use Rattle.script_text.specs.Events.{word_text, event_word};
-ghost use Rattle.script_text.specs.declared.word.Word.{Word};
+ghost use Rattle.std.specs.{Prelude.{◌≡◌, false, IfSome, IfNone}, Str.bytes_eq};
+ghost use Rattle.script_text.specs.{Events.{word_text, event_word}, declared.word.Word.Word};
 
 use std::fmt;
 use world::{Act, Change, Event, Listening, Polling};

@@ -1,14 +1,9 @@
 -- Lists with one item for each part of the slots.
-use Rattle.std.proofs.Common.{◌≡◌, ℕ, ◌+◌, List, [], ◌∷◌, ◌++◌, map, length, reverse, replicate, All, append_assoc, append-nil, ap, ◌∙◌, sym, subst, arith}
-use Rattle.std.specs.List.{range_with_len}
-use Rattle.std.proofs.lemmas.List.FromFn.{map-range_with_len_more}
-use Rattle.std.proofs.lemmas.List.{length-replicate, length-reverse, map-append, nil_from_length, reverse-append, reverse-reverse}
-use Rattle.rounds.specs.declared.opening.Opening.{Opening}
+use Rattle.std.{proofs.{Common.{◌≡◌, ℕ, ◌+◌, List, [], ◌∷◌, ◌++◌, map, length, reverse, replicate, All, append_assoc, append-nil, ap, ◌∙◌, sym, subst, arith}, lemmas.List.{length-replicate, length-reverse, map-append, nil_from_length, reverse-append, reverse-reverse, FromFn.map-range_with_len_more, Elements.{All-nil, All-push}}}, specs.List.range_with_len}
+use Rattle.rounds.specs.{declared.opening.Opening.Opening, Pollers.PollerState}
 use Rattle.claims.specs.Seats.{TableId, SeatState, fresh_seat}
 use Rattle.dispatch.specs.Posts.{AreFresh}
-use Rattle.rounds.specs.Pollers.{PollerState}
 use Rattle.server.specs.Begins.{HasBegun}
-use Rattle.std.proofs.lemmas.List.Elements.{All-nil, All-push}
 
 -- one more of a list with an item for each number
 pub one_more : {A : Type 0} (f : ℕ → A) (n : ℕ) → map f (range_with_len 0 (n + 1)) ≡ map f (range_with_len 0 n) ++ f n ∷ []

@@ -2,12 +2,8 @@
 use Rattle.std.specs.Prelude.{◌≡◌, ℕ, ◌+◌, Bool, true, false, List, [], ◌∷◌, All, map, replicate}
 use Rattle.claims.specs.Seats.{TableId, fresh_seat}
 use Rattle.ready.specs.Steps.{EndState, opened, unused}
-use Rattle.dispatch.specs.declared.shared.Parts.{Parts}
-use Rattle.dispatch.specs.declared.split.Split.{Split}
-use Rattle.dispatch.specs.Splits.{each_part, parts_of}
-use Rattle.rounds.specs.declared.opening.Opening.{Opening}
-use Rattle.rounds.specs.Episodes.{no_episodes}
-use Rattle.rounds.specs.Pollers.{PollerState}
+use Rattle.dispatch.specs.{declared.{shared.Parts.Parts, split.Split.Split}, Splits.{each_part, parts_of}}
+use Rattle.rounds.specs.{declared.opening.Opening.Opening, Episodes.no_episodes, Pollers.PollerState}
 use Rattle.server.specs.Limits.{shares_of}
 use Rattle.settings.specs.declared.fields.Settings.{Settings}
 

@@ -1,6 +1,5 @@
 -- The limits of a server. Part of the promises.
-use Rattle.std.specs.Prelude.{◌⊎◌, ℕ, ◌<◌, zero, suc, ◌+◌, ◌/◌, ◌%◌, nat_lt, if◌then◌else◌, List, map}
-use Rattle.std.specs.List.{range_with_len}
+use Rattle.std.specs.{Prelude.{◌⊎◌, ℕ, ◌<◌, zero, suc, ◌+◌, ◌/◌, ◌%◌, nat_lt, if◌then◌else◌, List, map}, List.range_with_len}
 
 -- How many connections the poller with this number may open, of all that the setting `stop_after` allows: with 0 as
 -- many as can be counted. The shares differ by one at most, and those of the first pollers are the greater

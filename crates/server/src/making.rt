@@ -2,9 +2,8 @@
 ghost use Rattle.std.specs.Prelude.{◌≡◌, ◌↔◌, ◌+◌, ◌-◌, ◌<◌, ◌≤◌, ◌∷◌, length, replicate, map, IfOk, IfErr, IsTrue};
 ghost use Rattle.claims.specs.Seats.{fresh_seat};
 ghost use Rattle.ready.specs.Steps.{unused, opened as filled};
-ghost use Rattle.server.specs.Limits.{SharesLight, share_of};
+ghost use Rattle.server.specs.{Limits.{SharesLight, share_of}, Begins.{HasBegun, PollersBegin, ThreadsBegin}};
 ghost use Rattle.dispatch.specs.Splits.{each_part, part_of, parts_of};
-ghost use Rattle.server.specs.Begins.{HasBegun, PollersBegin, ThreadsBegin};
 ghost use Rattle.settings.specs.Pollers.{pollers_for};
 
 use claims::Claims;

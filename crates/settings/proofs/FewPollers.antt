@@ -1,9 +1,8 @@
 -- Pollers are few: their square is no more than the slots.
-use Rattle.std.proofs.Common.{◌≡◌, ◌⊎◌, ℕ, ◌*◌, ◌/◌, ◌≤◌, min, max, subst, sym, arith, inl, inr}
+use Rattle.std.proofs.{Common.{◌≡◌, ◌⊎◌, ℕ, ◌*◌, ◌/◌, ◌≤◌, min, max, subst, sym, arith, inl, inr}, Math.Nat.{div-mul-le_self, mul-le-mul_right}}
+use Rattle.settings.specs.Pollers.{pollers_for}
 use mathlib.Core.Logic.{dite}
 use native.Mathlib.Decide.{ℕ_discrete}
-use Rattle.std.proofs.Math.Nat.{div-mul-le_self, mul-le-mul_right}
-use Rattle.settings.specs.Pollers.{pollers_for}
 
 wide : (most workers slots : ℕ) → most * 64 ≤ slots → (max (min most workers) 1 ≡ 1) ⊎ (64 * max (min most workers) 1 ≤ slots)
 wide most workers slots room = dite (ℕ_discrete (max (min most workers) 1) 1) (λ one. inl one) (λ more. inr (grind arith))

@@ -1,24 +1,7 @@
 -- A text has one answer: at most one setting for each key, and no settings where it has a fault.
-use Rattle.std.proofs.Common.{◌≡◌, ◌≢◌, ℕ, ◌<◌, ◌^◌, List, length, get_or, Result, Ok, Err, Option, IfSome, IfNone, MatchOption, Bor, ◌++◌, ◌∷◌, ◌⊎◌, sym, ◌∙◌, ap, arith, [], map, append_assoc, refl, suc, ◌==◌, Some, None, if◌then◌else◌, pos, subst, inl, inr}
-use Rattle.std.proofs.lemmas.Str.Parse.{IsNumeralModel, numerals_by_value, tells_digits, parse_plain, not_in_digits}
-use Rattle.std.proofs.lemmas.Fmt.{decimal_digit, first_decimal, decimal_nonempty, digits_decimal, decimal-digits_value, parse-decimal, decimal_injective}
-use Rattle.std.proofs.lemmas.Str.Pattern.{IsSplitOnceResult, split_after}
-use Rattle.std.specs.Fmt.{decimal}
-use Rattle.std.specs.Int.{IsInRange}
-use Rattle.std.specs.Result.{result_ok}
-use Rattle.std.specs.Str.Parse.{AllDigits, digits_value, ParsesUnsigned}
-use Rattle.settings.specs.Addresses.{IsPlain, SocketAddress, IsAddress, address_text}
-use Rattle.settings.specs.Table.{level_name, key_name, setting, Setting, address, number, level, truth, ValueKind, an_address, a_number, a_level, a_truth, Row, row_of, keys}
-use Rattle.std.specs.List.{join_with_byte}
-use Rattle.std.proofs.lemmas.Option.{same_Some}
+use Rattle.std.{proofs.{Common.{◌≡◌, ◌≢◌, ℕ, ◌<◌, ◌^◌, List, length, get_or, Result, Ok, Err, Option, IfSome, IfNone, MatchOption, Bor, ◌++◌, ◌∷◌, ◌⊎◌, sym, ◌∙◌, ap, arith, [], map, append_assoc, refl, suc, ◌==◌, Some, None, if◌then◌else◌, pos, subst, inl, inr}, lemmas.{Str.{Parse.{IsNumeralModel, numerals_by_value, tells_digits, parse_plain, not_in_digits}, Pattern.{IsSplitOnceResult, split_after}}, Fmt.{decimal_digit, first_decimal, decimal_nonempty, digits_decimal, decimal-digits_value, parse-decimal, decimal_injective}, Option.same_Some}}, specs.{Fmt.decimal, Int.IsInRange, Result.result_ok, Str.Parse.{AllDigits, digits_value, ParsesUnsigned}, List.join_with_byte}}
+use Rattle.settings.specs.{Addresses.{IsPlain, SocketAddress, IsAddress, address_text}, Table.{level_name, key_name, setting, Setting, address, number, level, truth, ValueKind, an_address, a_number, a_level, a_truth, Row, row_of, keys}, Document.{HasKind, Writes, Gives, GivesEach, Refuses, IsFirstFault, HasNoUnknown, IsDocument, IsSettingsOf, IsFaultOf}, declared.{table.Key.Key, faults.SettingsFault.{SettingsFault, TheVariants.Missing}, fields.Settings.Settings, levels.LogLevel.{LogLevel, TheVariants.{Off, Error, Warn, Info, Debug, Trace}}}}
 use Rattle.toml.specs.Data.{Data, Members, get_member}
-use Rattle.settings.specs.Document.{HasKind, Writes, Gives, GivesEach, Refuses, IsFirstFault, HasNoUnknown, IsDocument, IsSettingsOf, IsFaultOf}
-use Rattle.settings.specs.declared.table.Key.{Key}
-use Rattle.settings.specs.declared.faults.SettingsFault.{SettingsFault}
-use Rattle.settings.specs.declared.faults.SettingsFault.TheVariants.{Missing}
-use Rattle.settings.specs.declared.fields.Settings.{Settings}
-use Rattle.settings.specs.declared.levels.LogLevel.{LogLevel}
-use Rattle.settings.specs.declared.levels.LogLevel.TheVariants.{Off, Error, Warn, Info, Debug, Trace}
 
 -- Numbers in decimal, what `parse` makes of a text, and the text of an address, part by part from the left.
 

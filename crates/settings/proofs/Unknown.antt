@@ -1,24 +1,7 @@
 -- The search for the first unknown name among the keys of a document, which are in order.
-use Rattle.std.proofs.Common.{◌≡◌, ◌≢◌, ℕ, List, [], ◌∷◌, ◌⊎◌, inl, inr, Option, Some, None, IsSome, IfSome, IfNone, true, false, String, Global, string_bytes, Ordering, Less, Equal, Greater, nat_cmp, refl, sym, ◌∙◌, ap, subst}
-use Rattle.std.proofs.lemmas.Cmp.{nat_list_cmp_total}
-use Rattle.std.proofs.lemmas.Map.Text.{is_eq-slice_cmp}
-use Rattle.std.proofs.lemmas.Slice.Eq.{bytes_eq-Decides}
-use Rattle.std.specs.Cmp.{tied_itself}
-use Rattle.std.specs.Cmp.Lexicographic.{slice_cmp}
-use Rattle.std.specs.List.{AllByRecursion}
-use Rattle.std.specs.List.Sorted.{IsStrictlySortedBy}
-use Rattle.std.specs.Map.{keys_of}
-use Rattle.std.specs.Ordering.{match_ordering, is_eq}
-use Rattle.std.specs.Option.{is_some}
-use Rattle.std.specs.String.{string_cmp}
-use Rattle.toml.specs.Errors.{IsBlank}
-use Rattle.toml.specs.Parse.{parse_document, lines}
-use Rattle.toml.specs.Data.{Data, Members, no_members, get_member}
-use Rattle.toml.specs.View.{members_view}
-use Rattle.toml.specs.declared.value.Value.{Value}
-use Rattle.settings.specs.Document.{IsUnknown, IsFirstUnknown, HasNoUnknown}
-use Rattle.settings.specs.Table.{key_name}
-use Rattle.settings.specs.declared.table.Key.{Key}
+use Rattle.std.{proofs.{Common.{◌≡◌, ◌≢◌, ℕ, List, [], ◌∷◌, ◌⊎◌, inl, inr, Option, Some, None, IsSome, IfSome, IfNone, true, false, String, Global, string_bytes, Ordering, Less, Equal, Greater, nat_cmp, refl, sym, ◌∙◌, ap, subst}, lemmas.{Cmp.nat_list_cmp_total, Map.Text.is_eq-slice_cmp, Slice.Eq.bytes_eq-Decides}}, specs.{Cmp.{tied_itself, Lexicographic.slice_cmp}, List.{AllByRecursion, Sorted.IsStrictlySortedBy}, Map.keys_of, Ordering.{match_ordering, is_eq}, Option.is_some, String.string_cmp}}
+use Rattle.toml.specs.{Errors.IsBlank, Parse.{parse_document, lines}, Data.{Data, Members, no_members, get_member}, View.members_view, declared.value.Value.Value}
+use Rattle.settings.specs.{Document.{IsUnknown, IsFirstUnknown, HasNoUnknown}, Table.key_name, declared.table.Key.Key}
 
 -- one of the texts has these bytes
 abbrev pub IsAmongTexts : List ℕ → List (String Global) → Type 0

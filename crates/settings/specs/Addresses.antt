@@ -1,7 +1,5 @@
 -- An IPv4 address with a port, and its one text. Part of the promises.
-use Rattle.std.specs.Prelude.{◌≡◌, ◌≢◌, ℕ, ◌<◌, ◌^◌, List, ◌∷◌, ◌++◌, length, map, slice_index, All}
-use Rattle.std.specs.List.{join_with_byte}
-use Rattle.std.specs.Fmt.{decimal}
+use Rattle.std.specs.{Prelude.{◌≡◌, ◌≢◌, ℕ, ◌<◌, ◌^◌, List, ◌∷◌, ◌++◌, length, map, slice_index, All}, List.join_with_byte, Fmt.decimal}
 
 -- four numbers, the first first, and a port
 abbrev pub SocketAddress : Type 0

@@ -1,18 +1,7 @@
 -- What a TOML document sets, by the table of the settings, and what is wrong in one. Part of the promises.
-use Rattle.std.specs.Prelude.{◌≡◌, ◌≢◌, ℕ, ◌≤◌, List, [], ◌∷◌, Some, None, MatchOption, IsSome, pos, ◌⊎◌, ◌++◌}
-use Rattle.std.specs.Ordering.{nat_cmp}
-use Rattle.std.specs.Cmp.Lexicographic.{slice_cmp}
-use Rattle.std.specs.declared.cmp.Ordering.TheVariants.{Greater}
-use Rattle.toml.specs.Data.{Data, Members, get_member, as_str, as_integer, as_bool}
-use Rattle.settings.specs.Addresses.{IsAddress, address_text}
-use Rattle.settings.specs.Table.{level_name, truth_name, key_name, Setting, address, number, level, truth, ValueKind, an_address, a_number, a_level, a_truth, Row, row_of, setting, keys}
-use Rattle.settings.specs.declared.table.Key.{Key}
-use Rattle.settings.specs.declared.faults.SettingsFault.{SettingsFault}
-use Rattle.settings.specs.declared.faults.SettingsFault.TheVariants.{Missing, WrongKind, OutOfRange, BadAddress, NotToml, UnknownKey}
-use Rattle.std.specs.Str.{IsUtf8}
-use Rattle.std.specs.Fmt.{decimal}
-use Rattle.toml.specs.Parse.{parse_document}
-use Rattle.settings.specs.declared.fields.Settings.{Settings}
+use Rattle.std.specs.{Prelude.{◌≡◌, ◌≢◌, ℕ, ◌≤◌, List, [], ◌∷◌, Some, None, MatchOption, IsSome, pos, ◌⊎◌, ◌++◌}, Ordering.nat_cmp, Cmp.Lexicographic.slice_cmp, declared.cmp.Ordering.TheVariants.Greater, Str.IsUtf8, Fmt.decimal}
+use Rattle.toml.specs.{Data.{Data, Members, get_member, as_str, as_integer, as_bool}, Parse.parse_document}
+use Rattle.settings.specs.{Addresses.{IsAddress, address_text}, Table.{level_name, truth_name, key_name, Setting, address, number, level, truth, ValueKind, an_address, a_number, a_level, a_truth, Row, row_of, setting, keys}, declared.{table.Key.Key, faults.SettingsFault.{SettingsFault, TheVariants.{Missing, WrongKind, OutOfRange, BadAddress, NotToml, UnknownKey}}, fields.Settings.Settings}}
 
 -- the value is a text, a whole number or a truth value, as the kind asks
 abbrev pub HasKind : ValueKind → Data → Type 0

@@ -1,12 +1,6 @@
 -- The line for a settings fault. Part of the promises.
-use Rattle.std.specs.Prelude.{ℕ, List, [], ◌++◌, ◌-◌, false, length, take, drop, codes, if◌then◌else◌, nat_lt, encode_utf8}
-use Rattle.std.specs.Char.{is_control}
-use Rattle.std.specs.Fmt.{digits}
-use Rattle.std.specs.List.{flat_map}
-use Rattle.std.specs.Str.{chars}
-use Rattle.settings.specs.Table.{key_name}
-use Rattle.settings.specs.declared.faults.SettingsFault.{SettingsFault}
-use Rattle.settings.specs.declared.faults.SettingsFault.TheVariants.{NotToml, UnknownKey, Missing, WrongKind, OutOfRange, BadAddress, NoMemory}
+use Rattle.std.specs.{Prelude.{ℕ, List, [], ◌++◌, ◌-◌, false, length, take, drop, codes, if◌then◌else◌, nat_lt, encode_utf8}, Char.is_control, Fmt.digits, List.flat_map, Str.chars}
+use Rattle.settings.specs.{Table.key_name, declared.faults.SettingsFault.{SettingsFault, TheVariants.{NotToml, UnknownKey, Missing, WrongKind, OutOfRange, BadAddress, NoMemory}}}
 
 -- How a text from outside, such as a key that a person wrote, is shown within a line.
 

@@ -1,14 +1,8 @@
 -- The table of the settings: each key with its name, the kind of its value, its range and its default. Part of the
 -- promises.
 use Rattle.std.specs.Prelude.{◌≡◌, ℕ, List, [], ◌∷◌, Bool, false, Option, Some, None, codes, if◌then◌else◌}
-use Rattle.settings.specs.Addresses.{SocketAddress}
-use Rattle.settings.specs.declared.table.Key.{Key}
-use Rattle.settings.specs.declared.table.Key.TheVariants.{Listen, Target, Ring, Budget, Workers, Slots, StopAfter, Log, Idle, Proxy}
-use Rattle.settings.specs.declared.table.Takes.{Takes}
+use Rattle.settings.specs.{Addresses.SocketAddress, declared.{table.{Key.{Key, TheVariants.{Listen, Target, Ring, Budget, Workers, Slots, StopAfter, Log, Idle, Proxy}}, Takes.Takes}, fields.Settings.Settings, levels.LogLevel.{LogLevel, TheVariants.{Info, Off, Error, Warn, Debug, Trace}}}}
 use Rattle.settings.specs.declared.table.Takes.TheVariants as takes
-use Rattle.settings.specs.declared.fields.Settings.{Settings}
-use Rattle.settings.specs.declared.levels.LogLevel.{LogLevel}
-use Rattle.settings.specs.declared.levels.LogLevel.TheVariants.{Info, Off, Error, Warn, Debug, Trace}
 
 -- a key as it is written
 abbrev pub key_name : Key → List ℕ

@@ -1,6 +1,5 @@
 //! Addresses as written in a settings text.
-ghost use Rattle.std.specs.Prelude.{◌≡◌, ◌≢◌, ℕ, ◌<◌, ◌^◌, ◌∷◌, ◌++◌, ◌⊎◌, List, Some, IfSome, IfNone, IsTrue, ◌↔◌};
-ghost use Rattle.std.specs.Fmt.{decimal};
+ghost use Rattle.std.specs.{Prelude.{◌≡◌, ◌≢◌, ℕ, ◌<◌, ◌^◌, ◌∷◌, ◌++◌, ◌⊎◌, List, Some, IfSome, IfNone, IsTrue, ◌↔◌}, Fmt.decimal};
 ghost use Rattle.settings.specs.Addresses.{SocketAddress, IsAddress, IsPlain, address_text};
 
 use std::fmt;

@@ -1,6 +1,5 @@
 //! The causes of faults, for a person: the line, what it says, and what is expected there.
-ghost use Rattle.std.specs.Prelude.{◌≡◌, None};
-ghost use Rattle.std.specs.Str.{IsUtf8};
+ghost use Rattle.std.specs.{Prelude.{◌≡◌, None}, Str.IsUtf8};
 ghost use Rattle.settings.specs.Faults.{IsOfValue};
 
 use crate::SettingsFault;

@@ -45,8 +45,7 @@ pub struct Settings {
 impl Settings {
     ghost use Rattle.std.specs.Prelude.{IfOk, IfErr};
     ghost use Rattle.toml.specs.View.{table_view};
-    ghost use Rattle.settings.specs.Table.{setting, keys};
-    ghost use Rattle.settings.specs.Document.{GivesEach, IsFirstFault};
+    ghost use Rattle.settings.specs.{Table.{setting, keys}, Document.{GivesEach, IsFirstFault}};
 
     /// The settings of a document that has no unknown key, or the fault of the first key that has one.
     pub(crate) fn of(document: &Table) -> Result<Settings, SettingsFault>

@@ -1,6 +1,5 @@
 //! A text from outside, as shown to a person.
-ghost use Rattle.std.specs.Prelude.{◌≡◌, Some, [], drop, codes, nat_lt, if◌then◌else◌};
-ghost use Rattle.std.specs.Str.{chars};
+ghost use Rattle.std.specs.{Prelude.{◌≡◌, Some, [], drop, codes, nat_lt, if◌then◌else◌}, Str.chars};
 ghost use Rattle.settings.specs.Faults.{shown_character, one_line, end_of_line};
 
 use crate::limits::MAX_SHOWN;

@@ -1,11 +1,7 @@
 //! Reading a settings text.
-ghost use Rattle.std.specs.Prelude.{◌≡◌, ◌≢◌, ℕ, ◌≤◌, IfSome, IfNone, IfOk, IfErr, Err, string_bytes, option_map};
-ghost use Rattle.std.specs.Str.{IsUtf8};
-ghost use Rattle.toml.specs.Data.{get_member};
-ghost use Rattle.toml.specs.Errors.{IsBlank};
-ghost use Rattle.toml.specs.View.{view, table_view};
-ghost use Rattle.settings.specs.Table.{key_name, setting, an_address, a_number, a_level, a_truth, address, number, level, truth, required, optional};
-ghost use Rattle.settings.specs.Document.{Gives, Faults, Refuses, Writes, IsFirstUnknown, HasNoUnknown, IsSettingsOf, IsFaultOf};
+ghost use Rattle.std.specs.{Prelude.{◌≡◌, ◌≢◌, ℕ, ◌≤◌, IfSome, IfNone, IfOk, IfErr, Err, string_bytes, option_map}, Str.IsUtf8};
+ghost use Rattle.toml.specs.{Data.get_member, Errors.IsBlank, View.{view, table_view}};
+ghost use Rattle.settings.specs.{Table.{key_name, setting, an_address, a_number, a_level, a_truth, address, number, level, truth, required, optional}, Document.{Gives, Faults, Refuses, Writes, IsFirstUnknown, HasNoUnknown, IsSettingsOf, IsFaultOf}};
 
 use crate::addresses::{Address, address_of};
 use crate::faults::{KeyText, SettingsFault};

@@ -1,8 +1,6 @@
 //! The table of the keys: a row has all that is fixed about a key.
 ghost use Rattle.std.specs.Prelude.{◌≡◌, ◌*◌, ◌≤◌, ◌≢◌, ◌↔◌, IsTrue, Some, IfSome, IfNone, option_map};
-ghost use Rattle.settings.specs.Table.{key_name, row_of, a_truth, Tells};
-ghost use Rattle.settings.specs.Pollers.{pollers_for};
-ghost use Rattle.settings.specs.Document.{setting_text};
+ghost use Rattle.settings.specs.{Table.{key_name, row_of, a_truth, Tells}, Pollers.pollers_for, Document.setting_text};
 
 use crate::limits::LEAST_SLOTS;
 use std::fmt;

@@ -1,6 +1,5 @@
 -- Where nothing new is known of the connection, its limit stands.
-use Rattle.std.proofs.Common.{◌≡◌, ◌∙◌, ℕ, Bool, Option, sym}
-use Rattle.std.proofs.lemmas.Bool.{true≢false}
+use Rattle.std.proofs.{Common.{◌≡◌, ◌∙◌, ℕ, Bool, Option, sym}, lemmas.Bool.true≢false}
 use Rattle.sockets.specs.Wires.{Made, Lifts}
 
 pub unlifted :

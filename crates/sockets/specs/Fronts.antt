@@ -1,27 +1,12 @@
 -- Where a server listens, and what is reported. Part of the promises.
-use Rattle.std.specs.Prelude.{◌≡◌, ◌≢◌, ℕ, ◌*◌, max, min, Bool, true, false, ◌||◌, if◌then◌else◌, List, [], map, OnOk, IsTrue, ◌↔◌, Option, Some, None, Result, Ok, Err}
-use Rattle.std.specs.IoError.{error_kind}
-use Rattle.std.specs.declared.io.Error.{Error}
-use Rattle.std.specs.declared.io.ErrorKind.TheVariants.{Interrupted}
-use Rattle.std.specs.declared.net.SocketAddr.{SocketAddr}
-use Rattle.std.specs.declared.net.SocketAddr.TheVariants.{V4, V6}
-use Rattle.std.specs.declared.net.SocketAddrV4.{SocketAddrV4}
-use Rattle.std.specs.Result.{result_ok}
-use Rattle.std.specs.Net.Addr.{IsV4And, ipv4_octets}
-use Rattle.std.specs.Net.Socket.{socket_ip, IsPlainSocket}
-use Rattle.token.specs.Names.{EndName}
-use Rattle.token.specs.Numbers.{name_of}
-use Rattle.token.specs.declared.name.Name.{Name}
-use Rattle.token.specs.declared.name.Name.TheVariants.{Listener, Waker, End}
+use Rattle.std.specs.{Prelude.{◌≡◌, ◌≢◌, ℕ, ◌*◌, max, min, Bool, true, false, ◌||◌, if◌then◌else◌, List, [], map, OnOk, IsTrue, ◌↔◌, Option, Some, None, Result, Ok, Err}, IoError.error_kind, declared.{io.{Error.Error, ErrorKind.TheVariants.Interrupted}, net.{SocketAddr.{SocketAddr, TheVariants.{V4, V6}}, SocketAddrV4.SocketAddrV4}}, Result.result_ok, Net.{Addr.{IsV4And, ipv4_octets}, Socket.{socket_ip, IsPlainSocket}}}
+use Rattle.token.specs.{Names.EndName, Numbers.name_of, declared.name.Name.{Name, TheVariants.{Listener, Waker, End}}}
 use Rattle.readiness.specs.Words.{WordName, word_of}
 use Rattle.settings.specs.Addresses.{SocketAddress}
-use Rattle.dispatch.specs.declared.front.Waiting.{Waiting}
+use Rattle.dispatch.specs.declared.front.{Waiting.Waiting, Route.Route}
+use Rattle.sockets.specs.{declared.forwarding.Forwarding.Forwarding, Wires.{Made, NamedHere}}
+use Rattle.mio.specs.{declared.event.event.Event.Event, Event.{event_token, is_readable, is_error, is_read_closed, is_write_closed}}
 use Rattle.dispatch.specs.declared.front.Waiting.TheVariants as waiting
-use Rattle.dispatch.specs.declared.front.Route.{Route}
-use Rattle.sockets.specs.declared.forwarding.Forwarding.{Forwarding}
-use Rattle.sockets.specs.Wires.{Made, NamedHere}
-use Rattle.mio.specs.declared.event.event.Event.{Event}
-use Rattle.mio.specs.Event.{event_token, is_readable, is_error, is_read_closed, is_write_closed}
 
 -- the numbers of what is reported, in the order of the reports
 abbrev pub numbers : List Event → List ℕ

@@ -1,19 +1,13 @@
 -- What a wire over a socket knows of it, when it sends at once, what each call on it changes, and the system calls that
 -- it makes. Part of the promises.
-use Rattle.std.specs.Prelude.{◌≡◌, ◌≢◌, ℕ, ◌*◌, ◌==◌, Bool, true, false, if◌then◌else◌, length, Option, Some, None, Result, Ok, Err, ◌↔◌, ◌+◌, ◌<◌, ◌≤◌, min, IsTrue}
-use Rattle.std.specs.declared.io.Error.{Error}
-use Rattle.std.specs.declared.io.ErrorKind.TheVariants.{WouldBlock}
-use Rattle.std.specs.declared.net.SocketAddr.{SocketAddr}
-use Rattle.std.specs.IoError.{error_kind}
+use Rattle.std.specs.{Prelude.{◌≡◌, ◌≢◌, ℕ, ◌*◌, ◌==◌, Bool, true, false, if◌then◌else◌, length, Option, Some, None, Result, Ok, Err, ◌↔◌, ◌+◌, ◌<◌, ◌≤◌, min, IsTrue}, declared.{io.{Error.Error, ErrorKind.TheVariants.WouldBlock}, net.SocketAddr.SocketAddr}, IoError.error_kind}
 use Rattle.token.specs.Names.{EndName}
 use Rattle.readiness.specs.Words.{WordName}
 use Rattle.relay_core.specs.declared.call.CallKind.{CallKind}
-use Rattle.relay_core.specs.declared.call.CallKind.TheVariants as call
-use Rattle.engine.specs.Wires.{Asked, Read, Write, Join, Shut, Given, Brought, Took, Done, Refused, call_gave}
-use Rattle.engine.specs.declared.class.Class.{Class}
-use Rattle.engine.specs.declared.class.Class.TheVariants as class
-use Rattle.engine.specs.Classes.{class_by, pending_kind, Tallied, tally, connected, counted, fault_more}
+use Rattle.engine.specs.{Wires.{Asked, Read, Write, Join, Shut, Given, Brought, Took, Done, Refused, call_gave}, declared.class.Class.Class, Classes.{class_by, pending_kind, Tallied, tally, connected, counted, fault_more}}
 use Rattle.sockets.specs.declared.forwarding.Patience.{Patience}
+use Rattle.relay_core.specs.declared.call.CallKind.TheVariants as call
+use Rattle.engine.specs.declared.class.Class.TheVariants as class
 
 -- A socket sends at once (TCP_NODELAY of tcp(7)), or it may wait for more to send along: whether it sends at once, and
 -- how many full offers came in a row, up to four

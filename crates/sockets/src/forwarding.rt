@@ -1,6 +1,5 @@
 ghost use Rattle.std.specs.Prelude.{◌≡◌};
-ghost use Rattle.sockets.specs.Fronts.{IsAt};
-ghost use Rattle.sockets.specs.Wires.{unlimited};
+ghost use Rattle.sockets.specs.{Fronts.IsAt, Wires.unlimited};
 
 use mio::net::TcpStream;
 use settings::Settings;

@@ -1,13 +1,8 @@
-ghost use Rattle.std.specs.Prelude.{◌≡◌, ◌≢◌, ◌↔◌, ◌⊎◌, IsTrue, if◌then◌else◌, ◌+◌, ◌<◌, ◌≤◌, ◌++◌, [], length, replicate, true, false, Some, None, IfOk, OnOk, IfErr, OnErr, vec_len, vec_capacity};
-ghost use Rattle.std.specs.IoError.{error_kind};
-ghost use Rattle.std.specs.declared.io.ErrorKind.TheVariants.{Interrupted};
-ghost use Rattle.mio.specs.Event.{event_token};
-ghost use Rattle.mio.specs.Events.{items};
+ghost use Rattle.std.specs.{Prelude.{◌≡◌, ◌≢◌, ◌↔◌, ◌⊎◌, IsTrue, if◌then◌else◌, ◌+◌, ◌<◌, ◌≤◌, ◌++◌, [], length, replicate, true, false, Some, None, IfOk, OnOk, IfErr, OnErr, vec_len, vec_capacity}, IoError.error_kind, declared.io.ErrorKind.TheVariants.Interrupted};
+ghost use Rattle.mio.specs.{Event.event_token, Events.items};
 ghost use Rattle.token.specs.Numbers.{name_of};
-ghost use Rattle.sockets.specs.Fronts.{Fails, end_in, heard_of, most_left, names_reading, numbers, v4_of, wait_of, IsLocal, IsRoute, MayTell, WaitEnded};
-ghost use Rattle.dispatch.specs.Splits.{parts_of};
-ghost use Rattle.dispatch.specs.declared.front.Unopened.TheVariants.{Connect, Register};
-ghost use Rattle.sockets.specs.Wires.{SameButWatched, fresh_wire, patient, under, unlimited};
+ghost use Rattle.sockets.specs.{Fronts.{Fails, end_in, heard_of, most_left, names_reading, numbers, v4_of, wait_of, IsLocal, IsRoute, MayTell, WaitEnded}, Wires.{SameButWatched, fresh_wire, patient, under, unlimited}};
+ghost use Rattle.dispatch.specs.{Splits.parts_of, declared.front.Unopened.TheVariants.{Connect, Register}};
 
 use crate::bound::Bound;
 use crate::failure::{log_failure, log_failure_at};
@@ -61,9 +56,8 @@ pub struct Sockets<'r, R> {
 }
 
 impl<'r, R> Model for Sockets<'r, R> {
-    ghost use Rattle.std.specs.Prelude.{◌≡◌};
+    ghost use Rattle.std.specs.{Prelude.◌≡◌, Option.is_some};
     ghost use Rattle.mio.specs.Events.{items, capacity as events_capacity};
-    ghost use Rattle.std.specs.Option.{is_some};
     ghost use Rattle.sockets.specs.Fronts.{Watched, numbers};
 
     ghost Value = { Watched };

@@ -1,17 +1,8 @@
 -- What is counted at a slot. Part of the promises.
-use Rattle.std.specs.Prelude.{ℕ, ◌+◌, ◌-◌, min, List, ◌++◌, codes, ◌≡◌, [], ◌∷◌}
-use Rattle.token.specs.declared.kind.Kind.{Kind}
-use Rattle.token.specs.declared.kind.Kind.TheVariants.{Refused, Reset, TimedOut}
-use Rattle.token.specs.declared.side.Side.{Side}
-use Rattle.token.specs.declared.side.Side.TheVariants.{Client, Target}
-use Rattle.relay_core.specs.declared.verdict.Fault.TheVariants.{Broken, Idle}
-use Rattle.relay_core.specs.declared.verdict.Verdict.{Verdict}
-use Rattle.relay_core.specs.declared.verdict.Verdict.TheVariants.{Live, Done, Failed}
-use Rattle.statistics.specs.declared.counts.Counts.{Counts}
-use Rattle.statistics.specs.declared.event.Event.{Event}
-use Rattle.statistics.specs.declared.event.Event.TheVariants.{Dropped, Opened, Moved, Ended}
-use Rattle.std.specs.Fmt.{decimal}
-use Rattle.statistics.specs.declared.totals.Totals.{Totals}
+use Rattle.std.specs.{Prelude.{ℕ, ◌+◌, ◌-◌, min, List, ◌++◌, codes, ◌≡◌, [], ◌∷◌}, Fmt.decimal}
+use Rattle.token.specs.declared.{kind.Kind.{Kind, TheVariants.{Refused, Reset, TimedOut}}, side.Side.{Side, TheVariants.{Client, Target}}}
+use Rattle.relay_core.specs.declared.verdict.{Fault.TheVariants.{Broken, Idle}, Verdict.{Verdict, TheVariants.{Live, Done, Failed}}}
+use Rattle.statistics.specs.declared.{counts.Counts.Counts, event.Event.{Event, TheVariants.{Dropped, Opened, Moved, Ended}}, totals.Totals.Totals}
 
 -- a count of 64 bits, this many later: it stays at its greatest value
 abbrev pub sum : ℕ → ℕ → ℕ

@@ -1,10 +1,5 @@
 -- Which ends of the queues of free slots the threads get, and in which order the threads are made.
-use Rattle.std.proofs.Common.{◌≡◌, ℕ, zero, suc, ◌+◌, List, [], ◌∷◌, ◌++◌, length, length-set, map, All, slice_index_or, Some, ◌-◌, ◌<◌, refl, sym, ap, ◌∙◌, append_assoc, append-nil, arith}
-use Rattle.std.specs.Prelude.{Option, None, IfSome, option_map, option_to_list}
-use Rattle.std.specs.List.{slice_get, slice_set, enumerate_from, range_with_len}
-use Rattle.std.proofs.lemmas.List.Elements.{All-push, All-weaker}
-use Rattle.std.proofs.lemmas.Option.{slice_get-get_or, slice_get-map, slice_get_within}
-use Rattle.std.proofs.lemmas.List.{length_push, length-map, map-append, nil_from_length, reverse-append}
+use Rattle.std.{proofs.{Common.{◌≡◌, ℕ, zero, suc, ◌+◌, List, [], ◌∷◌, ◌++◌, length, length-set, map, All, slice_index_or, Some, ◌-◌, ◌<◌, refl, sym, ap, ◌∙◌, append_assoc, append-nil, arith}, lemmas.{List.{length_push, length-map, map-append, nil_from_length, reverse-append, Elements.{All-push, All-weaker}}, Option.{slice_get-get_or, slice_get-map, slice_get_within}}}, specs.{Prelude.{Option, None, IfSome, option_map, option_to_list}, List.{slice_get, slice_set, enumerate_from, range_with_len}}}
 use Rattle.ready.specs.Steps.{EndState}
 use Rattle.threads.specs.Divided.{numbered, IsEndOf, AreEndsFrom, AreLeft, HasOneOfEach}
 

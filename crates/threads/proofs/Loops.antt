@@ -1,43 +1,15 @@
 -- What the calls of a thread's loop do with the tickets that it is obliged to put.
-use Rattle.std.proofs.Common.{◌≡◌, ◌≢◌, ℕ, zero, suc, ◌+◌, ◌-◌, ◌<◌, ◌≤◌, Bool, true, false, cond, List, [], ◌∷◌, ◌++◌, length, length-append, length-set, sym, ◌∙◌, refl, ap, arith, inl, inr, append_assoc}
-use Rattle.std.specs.List.{All, flat_map, slice_set}
-use Rattle.std.proofs.lemmas.List.Concat.{flat_map-append}
-use Rattle.std.proofs.lemmas.List.Elements.{All-append, All-head, All-map, All-tail, All-weaker}
-use Rattle.std.specs.Prelude.{◌==◌, ◌&&◌, Option, Some, None, Result, Ok, Err, IfSome, slice_get, map, nat_lt, if◌then◌else◌, OnSome, IfErr, ◌⊎◌}
-use Rattle.std.proofs.lemmas.List.{get_or-set_same, map-append, append-nil, set-set}
-use Rattle.std.proofs.lemmas.Option.{get_or_from_slice_get, slice_get-get_or, slice_get_within}
-use Rattle.std.proofs.Math.ListN.{get_or}
-use Rattle.std.proofs.Math.Seq.{map-set_same}
-use Rattle.std.proofs.lemmas.List.Sums.{sum_by-append, sum_by-cons, sum_by-set}
-use Rattle.std.proofs.lemmas.Bool.{ltb-true, ltb-false, cases_lt}
+use Rattle.std.{proofs.{Common.{◌≡◌, ◌≢◌, ℕ, zero, suc, ◌+◌, ◌-◌, ◌<◌, ◌≤◌, Bool, true, false, cond, List, [], ◌∷◌, ◌++◌, length, length-append, length-set, sym, ◌∙◌, refl, ap, arith, inl, inr, append_assoc}, lemmas.{List.{get_or-set_same, map-append, append-nil, set-set, Concat.flat_map-append, Elements.{All-append, All-head, All-map, All-tail, All-weaker}, Sums.{sum_by-append, sum_by-cons, sum_by-set}}, Option.{get_or_from_slice_get, slice_get-get_or, slice_get_within}, Bool.{ltb-true, ltb-false, cases_lt}}, Math.{ListN.get_or, Seq.map-set_same}}, specs.{List.{All, flat_map, slice_set}, Prelude.{◌==◌, ◌&&◌, Option, Some, None, Result, Ok, Err, IfSome, slice_get, map, nat_lt, if◌then◌else◌, OnSome, IfErr, ◌⊎◌}}}
+use Rattle.claims.specs.{declared.view.Exchange.Exchange, Views.minted_by, Seats.SeatState}
+use Rattle.ready.specs.{declared.ticket.Ticket.Ticket, Steps.{EndState, HeldOnce}}
+use Rattle.relay_log.specs.declared.faults.ServerFault.{ServerFault, TheVariants.Worn}
+use Rattle.dispatch.specs.{declared.shared.Own.Own, Outgoing.{Inserted, tickets_out, slots_out, without_first, TookNothing}, Heavy.looked_at, Limits.own_turns, Posts.OnlyWorn}
+use Rattle.turns.specs.{declared.worker.Worked.Worked, Shares.{AreShared, OneShared, TicketsShared}, Turns.{TicketsKept, SlotGiven, SlotsKept, IsTurnOf, TurnMade, OwnTurn, program}}
+use Rattle.threads.{proofs.Divided.End, specs.{declared.ending.{Ended.Ended, Why.{Why, TheVariants.{FaultFound, QueueClosed, Met}}}, Loops.{faults_by, times_of, times_in, freed_by, freed, Run, tickets_of, acts_of, fault_in, faults_of, TurnsMade, takes_of, times_by, SlotsGiven, OthersKept, OneRan, tickets_in, Took, WorkerMayEnd, WorkerEnded, WorkerRan, OwnTurnsRan, SharedAndRan, TurnsCut, WornEnd, NoTicketTaken, Asked, RoundCut, StepMade, StepCut, StepsMade, LoopMade, RunMade, IsPollerAct, PollerRan, PollerEnded, opened_by, openings_of}}}
+use Rattle.rounds.{specs.{Pollers.PollerState, Rounds.{RoundDone, RoundRefused, ListenerKept}, Acts.{Act, made_by, due_of, IsPost, IsTry, at_slot}, Openings.slots_in}, proofs.Acts.{all_none, all_one, acts_none, acts_one, acts_both, at_slot-append, due-append}}
 use mathlib.Core.Logic.{dite}
 use native.Mathlib.Decide.{ℕ_discrete}
-use Rattle.claims.specs.declared.view.Exchange.{Exchange}
-use Rattle.claims.specs.Views.{minted_by}
-use Rattle.claims.specs.Seats.{SeatState}
-use Rattle.ready.specs.declared.ticket.Ticket.{Ticket}
-use Rattle.ready.specs.Steps.{EndState, HeldOnce}
-use Rattle.relay_log.specs.declared.faults.ServerFault.{ServerFault}
-use Rattle.relay_log.specs.declared.faults.ServerFault.TheVariants.{Worn}
-use Rattle.dispatch.specs.declared.shared.Own.{Own}
-use Rattle.turns.specs.declared.worker.Worked.{Worked}
 use Rattle.turns.specs.declared.worker.Worked.TheVariants as worked
-use Rattle.dispatch.specs.Outgoing.{Inserted, tickets_out, slots_out, without_first, TookNothing}
-use Rattle.threads.proofs.Divided.{End}
-use Rattle.dispatch.specs.Heavy.{looked_at}
-use Rattle.dispatch.specs.Limits.{own_turns}
-use Rattle.rounds.specs.Pollers.{PollerState}
-use Rattle.rounds.specs.Rounds.{RoundDone, RoundRefused, ListenerKept}
-use Rattle.turns.specs.Shares.{AreShared, OneShared, TicketsShared}
-use Rattle.turns.specs.Turns.{TicketsKept, SlotGiven, SlotsKept, IsTurnOf, TurnMade, OwnTurn, program}
-use Rattle.rounds.specs.Acts.{Act, made_by, due_of, IsPost, IsTry, at_slot}
-use Rattle.rounds.proofs.Acts.{all_none, all_one, acts_none, acts_one, acts_both, at_slot-append, due-append}
-use Rattle.rounds.specs.Openings.{slots_in}
-use Rattle.dispatch.specs.Posts.{OnlyWorn}
-use Rattle.threads.specs.declared.ending.Ended.{Ended}
-use Rattle.threads.specs.declared.ending.Why.{Why}
-use Rattle.threads.specs.declared.ending.Why.TheVariants.{FaultFound, QueueClosed, Met}
-use Rattle.threads.specs.Loops.{faults_by, times_of, times_in, freed_by, freed, Run, tickets_of, acts_of, fault_in, faults_of, TurnsMade, takes_of, times_by, SlotsGiven, OthersKept, OneRan, tickets_in, Took, WorkerMayEnd, WorkerEnded, WorkerRan, OwnTurnsRan, SharedAndRan, TurnsCut, WornEnd, NoTicketTaken, Asked, RoundCut, StepMade, StepCut, StepsMade, LoopMade, RunMade, IsPollerAct, PollerRan, PollerEnded, opened_by, openings_of}
 
 -- how often a ticket, or a slot, stands in lists one after the other
 

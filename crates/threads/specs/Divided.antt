@@ -1,6 +1,5 @@
 -- How what a server is made of is divided among its threads. Part of the promises.
-use Rattle.std.specs.Prelude.{◌≡◌, ⊤, ℕ, ◌+◌, List, [], ◌∷◌, ◌++◌, length, reverse, Some}
-use Rattle.std.specs.List.{slice_get, enumerate_from}
+use Rattle.std.specs.{Prelude.{◌≡◌, ⊤, ℕ, ◌+◌, List, [], ◌∷◌, ◌++◌, length, reverse, Some}, List.{slice_get, enumerate_from}}
 use Rattle.ready.specs.Steps.{EndState}
 
 -- the threads of these pollers, each with its number, in the order in which they begin: the last one's first

@@ -1,31 +1,15 @@
 -- Why a thread's loop ends, which fault a server ends by, and what a loop does with tickets and with free slots. Part of
 -- the promises.
-use Rattle.std.specs.Prelude.{◌≡◌, ◌≢◌, ◌⊎◌, ℕ, zero, suc, ◌+◌, ◌<◌, ◌≤◌, ◌==◌, ◌&&◌, Bool, true, false, nat_lt, if◌then◌else◌, Option, Some, None, option_to_list, List, [], ◌∷◌, ◌++◌, length, map, Result, Ok, Err, slice_get}
+use Rattle.std.specs.{Prelude.{◌≡◌, ◌≢◌, ◌⊎◌, ℕ, zero, suc, ◌+◌, ◌<◌, ◌≤◌, ◌==◌, ◌&&◌, Bool, true, false, nat_lt, if◌then◌else◌, Option, Some, None, option_to_list, List, [], ◌∷◌, ◌++◌, length, map, Result, Ok, Err, slice_get}, List.{count_by, flat_map, sum_by, All}}
 use Rattle.token.specs.Names.{last_generation}
-use Rattle.std.specs.List.{count_by, flat_map, sum_by, All}
-use Rattle.claims.specs.declared.view.Exchange.{Exchange}
-use Rattle.claims.specs.declared.view.Exchange.TheVariants.{Adopted}
-use Rattle.claims.specs.Seats.{SeatState}
-use Rattle.ready.specs.declared.ticket.Ticket.{Ticket}
-use Rattle.ready.specs.Steps.{EndState, HeldOnce, TookOne}
-use Rattle.relay_log.specs.declared.faults.ServerFault.{ServerFault}
-use Rattle.relay_log.specs.declared.faults.ServerFault.TheVariants.{Poll, Worn}
-use Rattle.dispatch.specs.declared.shared.Own.{Own}
-use Rattle.turns.specs.declared.worker.Worked.{Worked}
+use Rattle.claims.specs.{declared.view.Exchange.{Exchange, TheVariants.Adopted}, Seats.SeatState}
+use Rattle.ready.specs.{declared.ticket.Ticket.Ticket, Steps.{EndState, HeldOnce, TookOne}}
+use Rattle.relay_log.specs.declared.faults.ServerFault.{ServerFault, TheVariants.{Poll, Worn}}
+use Rattle.dispatch.specs.{declared.{shared.Own.Own, split.Split.Split}, Limits.own_turns, Outgoing.{TookNothing, tickets_out, slots_out}, Splits.{IsIn, part_of, parts_of}, Posts.{IsWorn, OnlyWorn}}
+use Rattle.turns.specs.{declared.worker.Worked.Worked, Shares.TicketsShared, Turns.{IsTurnOf, NoOwnTurn}}
+use Rattle.rounds.specs.{Acts.{Act, ActsMade, IsPost, IsTry, at_slot, due_of}, Pollers.{PollerState, HasOpenedAll}, Openings.slots_in, Rounds.{EndedEarly, ListenerKept, ListensToOpen, RoundDone}}
+use Rattle.threads.specs.declared.ending.Why.{Why, TheVariants.{FaultFound, PollerOver, QueueClosed, Met}}
 use Rattle.turns.specs.declared.worker.Worked.TheVariants as worked
-use Rattle.rounds.specs.Acts.{Act, ActsMade, IsPost, IsTry, at_slot, due_of}
-use Rattle.dispatch.specs.Limits.{own_turns}
-use Rattle.dispatch.specs.Outgoing.{TookNothing, tickets_out, slots_out}
-use Rattle.dispatch.specs.Splits.{IsIn, part_of, parts_of}
-use Rattle.rounds.specs.Pollers.{PollerState, HasOpenedAll}
-use Rattle.dispatch.specs.Posts.{IsWorn, OnlyWorn}
-use Rattle.rounds.specs.Openings.{slots_in}
-use Rattle.rounds.specs.Rounds.{EndedEarly, ListenerKept, ListensToOpen, RoundDone}
-use Rattle.turns.specs.Shares.{TicketsShared}
-use Rattle.turns.specs.Turns.{IsTurnOf, NoOwnTurn}
-use Rattle.dispatch.specs.declared.split.Split.{Split}
-use Rattle.threads.specs.declared.ending.Why.{Why}
-use Rattle.threads.specs.declared.ending.Why.TheVariants.{FaultFound, PollerOver, QueueClosed, Met}
 
 -- the fault that ended a thread's loop, if one did
 abbrev pub fault_by : Why → Option ServerFault

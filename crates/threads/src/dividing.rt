@@ -1,7 +1,5 @@
 //! Divides what a server is made of among its threads.
-ghost use Rattle.std.specs.Prelude.{◌≡◌, ◌-◌, ◌∷◌, All, length, map, IfOk, IfSome};
-ghost use Rattle.std.specs.Arc.{arc_value};
-ghost use Rattle.std.specs.List.{range_with_len};
+ghost use Rattle.std.specs.{Prelude.{◌≡◌, ◌-◌, ◌∷◌, All, length, map, IfOk, IfSome}, Arc.arc_value, List.range_with_len};
 ghost use Rattle.claims.specs.Seats.{fresh_seat};
 ghost use Rattle.dispatch.specs.Posts.{AreFresh};
 ghost use Rattle.threads.specs.Divided.{numbered, IsEndOf, AreEndsFrom, AreLeft, HasOneOfEach};

@@ -1,13 +1,9 @@
 //! The steps of a poller's thread.
-ghost use Rattle.std.specs.Prelude.{◌≡◌, ◌⊎◌, ℕ, [], length, slice_get, Ok, Some, None, OnOk, OnSome, IfErr, IfOk, IfSome};
-ghost use Rattle.std.specs.Arc.{arc_value};
+ghost use Rattle.std.specs.{Prelude.{◌≡◌, ◌⊎◌, ℕ, [], length, slice_get, Ok, Some, None, OnOk, OnSome, IfErr, IfOk, IfSome}, Arc.arc_value};
 ghost use Rattle.claims.specs.Seats.{HoldsNothing};
-ghost use Rattle.rounds.specs.Episodes.{no_drops};
-ghost use Rattle.rounds.specs.Pollers.{HasOpenedAll};
-ghost use Rattle.rounds.specs.Rounds.{EndedEarly, ListensToOpen};
+ghost use Rattle.rounds.specs.{Episodes.no_drops, Pollers.HasOpenedAll, Rounds.{EndedEarly, ListensToOpen}};
 ghost use Rattle.turns.specs.Turns.{NoOwnTurn};
-ghost use Rattle.threads.specs.declared.ending.Why.{Why};
-ghost use Rattle.threads.specs.Loops.{AllWoken, faults_by, Asked, LoopMade, OwnTurnsRan, PollerEnded, PollerRan, RoundCut, RoundMade, RunMade, StepCut, StepMade, TurnsAfter, TurnsCut, WornEnd};
+ghost use Rattle.threads.specs.{declared.ending.Why.Why, Loops.{AllWoken, faults_by, Asked, LoopMade, OwnTurnsRan, PollerEnded, PollerRan, RoundCut, RoundMade, RunMade, StepCut, StepMade, TurnsAfter, TurnsCut, WornEnd}};
 
 use crate::context::{Context, StopFlag};
 use crate::ending::{Ended, NoFault, end_if_over};

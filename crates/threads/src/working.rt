@@ -1,12 +1,9 @@
 //! The steps of a worker's thread.
-ghost use Rattle.std.specs.Prelude.{◌≡◌, ◌≢◌, ◌<◌, ◌-◌, [], ◌∷◌, Ok, Err, None, slice_get, slice_set, IfErr, IfOk, IfSome, OnOk};
-ghost use Rattle.std.specs.Arc.{arc_value};
+ghost use Rattle.std.specs.{Prelude.{◌≡◌, ◌≢◌, ◌<◌, ◌-◌, [], ◌∷◌, Ok, Err, None, slice_get, slice_set, IfErr, IfOk, IfSome, OnOk}, Arc.arc_value};
 ghost use Rattle.claims.specs.Seats.{HoldsNothing};
-ghost use Rattle.dispatch.specs.Hands.{HasRoom};
-ghost use Rattle.dispatch.specs.Outgoing.{outgoing, slots_out, PutAll};
+ghost use Rattle.dispatch.specs.{Hands.HasRoom, Outgoing.{outgoing, slots_out, PutAll}};
 ghost use Rattle.relay_log.specs.declared.faults.ServerFault.TheVariants.{Worn};
-ghost use Rattle.threads.specs.declared.ending.Why.{Why};
-ghost use Rattle.threads.specs.Loops.{GivesToOwner, OneRan, WorkerEnded, WorkerRan, WornEnd};
+ghost use Rattle.threads.specs.{declared.ending.Why.Why, Loops.{GivesToOwner, OneRan, WorkerEnded, WorkerRan, WornEnd}};
 
 use crate::context::Context;
 use crate::ending::{Cleared, Ended, NoFault, take};

@@ -1,8 +1,6 @@
 -- The words for the kinds of a failed call. Part of the promises.
-use Rattle.std.specs.Prelude.{ℕ, if◌then◌else◌, List, [], ◌∷◌, codes, Option, Some, None}
-use Rattle.std.specs.Str.{bytes_eq}
-use Rattle.token.specs.declared.kind.Kind.{Kind}
-use Rattle.token.specs.declared.kind.Kind.TheVariants.{Reset, Pipe, Aborted, Refused, NotConnected, TimedOut, Zero, Other}
+use Rattle.std.specs.{Prelude.{ℕ, if◌then◌else◌, List, [], ◌∷◌, codes, Option, Some, None}, Str.bytes_eq}
+use Rattle.token.specs.declared.kind.Kind.{Kind, TheVariants.{Reset, Pipe, Aborted, Refused, NotConnected, TimedOut, Zero, Other}}
 
 abbrev pub kind_name : Kind → List ℕ
 kind_name Reset = codes "reset"

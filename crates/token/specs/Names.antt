@@ -1,8 +1,7 @@
 -- The name of an end. Part of the promises. It says which end of which connection this is; the slot's generation
 -- distinguishes the connection from every earlier one in the same slot.
 use Rattle.std.specs.Prelude.{ℕ, ◌+◌, ◌*◌, ◌≤◌}
-use Rattle.token.specs.declared.side.Side.{Side}
-use Rattle.token.specs.Sides.{side_number}
+use Rattle.token.specs.{declared.side.Side.Side, Sides.side_number}
 
 pub record EndName : Type 0 where
   pub slot : ℕ

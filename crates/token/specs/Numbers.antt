@@ -1,11 +1,7 @@
 -- What the numbers of a readiness queue stand for. Part of the promises. A number names the listener, the waker, or one
 -- end of one connection.
 use Rattle.std.specs.Prelude.{ℕ, ◌+◌, ◌/◌, ◌%◌, ◌==◌, nat_le, ◌&&◌, if◌then◌else◌, ⊤, Option, Some, None}
-use Rattle.token.specs.declared.side.Side.{Side}
-use Rattle.token.specs.declared.side.Side.TheVariants.{Client, Target}
-use Rattle.token.specs.declared.name.Name.{Name}
-use Rattle.token.specs.declared.name.Name.TheVariants.{Listener, Waker, End}
-use Rattle.token.specs.Names.{EndName, IsEndName, end_number, last_generation}
+use Rattle.token.specs.{declared.{side.Side.{Side, TheVariants.{Client, Target}}, name.Name.{Name, TheVariants.{Listener, Waker, End}}}, Names.{EndName, IsEndName, end_number, last_generation}}
 
 -- the number of a name
 abbrev pub name_number : Name → ℕ

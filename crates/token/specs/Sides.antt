@@ -1,10 +1,6 @@
 -- The two sides of a connection, and the two directions in which bytes go through it. Part of the promises.
-use Rattle.std.specs.Prelude.{ℕ, if◌then◌else◌, List, codes, Option, Some, None}
-use Rattle.std.specs.Str.{bytes_eq}
-use Rattle.token.specs.declared.side.Side.{Side}
-use Rattle.token.specs.declared.side.Side.TheVariants.{Client, Target}
-use Rattle.token.specs.declared.direction.Direction.{Direction}
-use Rattle.token.specs.declared.direction.Direction.TheVariants.{Up, Down}
+use Rattle.std.specs.{Prelude.{ℕ, if◌then◌else◌, List, codes, Option, Some, None}, Str.bytes_eq}
+use Rattle.token.specs.declared.{side.Side.{Side, TheVariants.{Client, Target}}, direction.Direction.{Direction, TheVariants.{Up, Down}}}
 
 -- the other side
 abbrev pub other_side : Side → Side

@@ -1,7 +1,5 @@
-ghost use Rattle.std.specs.Prelude.{◌≡◌, ◌≢◌, IfSome, IfNone};
-ghost use Rattle.std.specs.Str.{bytes_eq};
-ghost use Rattle.token.specs.Kinds.{kind_name, kind_named};
-ghost use Rattle.token.specs.declared.kind.Kind.{Kind};
+ghost use Rattle.std.specs.{Prelude.{◌≡◌, ◌≢◌, IfSome, IfNone}, Str.bytes_eq};
+ghost use Rattle.token.specs.{Kinds.{kind_name, kind_named}, declared.kind.Kind.Kind};
 
 /// What is said where a word names no kind.
 pub const KIND_WANTED: &str =

@@ -1,6 +1,5 @@
 ghost use Rattle.std.specs.Prelude.{◌≡◌, ◌≤◌, ◌↔◌, Some};
-ghost use Rattle.token.specs.Numbers.{IsName, name_number, name_of};
-ghost use Rattle.token.specs.declared.name.Name.{Name};
+ghost use Rattle.token.specs.{Numbers.{IsName, name_number, name_of}, declared.name.Name.Name};
 
 use crate::limits::NUMBERS_PER_GENERATION;
 use crate::side::Side;

@@ -1,6 +1,5 @@
 ghost use Rattle.std.specs.Prelude.{◌≡◌, ◌≢◌, IfSome, IfNone};
-ghost use Rattle.token.specs.Sides.{other_side, side_name, side_named, side_number};
-ghost use Rattle.token.specs.declared.side.Side.{Side};
+ghost use Rattle.token.specs.{Sides.{other_side, side_name, side_named, side_number}, declared.side.Side.Side};
 
 /// One of the two ends of a connection.
 #[derive(Clone, Copy, PartialEq, Eq)]

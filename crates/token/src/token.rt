@@ -1,7 +1,5 @@
 ghost use Rattle.std.specs.Prelude.{◌≡◌, ◌≤◌, ◌<◌, ◌+◌, ◌↔◌, Some, Ok, Err, IsErrOf};
-ghost use Rattle.token.specs.Names.{EndName, IsSlot, IsGeneration, end_number, last_generation};
-ghost use Rattle.token.specs.Numbers.{name_of, generation_after};
-ghost use Rattle.token.specs.declared.name.Name.TheVariants.{End};
+ghost use Rattle.token.specs.{Names.{EndName, IsSlot, IsGeneration, end_number, last_generation}, Numbers.{name_of, generation_after}, declared.name.Name.TheVariants.End};
 
 use crate::limits::{MAX_GENERATION, MAX_SLOT, NUMBERS_PER_GENERATION};
 use crate::side::Side;

@@ -1,35 +1,15 @@
 -- The end of a turn, after the steps that took the notes and ran the connection; a turn of a poller's own; and the
 -- tickets in hand of which some were looked at: each of those is put, or after the others in hand.
-use Rattle.std.proofs.Common.{◌≡◌, ◌⊎◌, ◌+◌, ◌↔◌, ◌<◌, ◌≤◌, ℕ, List, [], ◌∷◌, length, drop, slice_get, Bool, true, false, IsTrue, Option, Some, None, Result, Ok, Err, IfOk, IfSome, IsErrAnd, inl, inr, refl, sym, ap, subst, ◌∙◌, arith, suc, ◌++◌, append_assoc, zero, nat_lt}
-use Rattle.std.proofs.lemmas.Option.{IfSome_then, none-some, same_Some}
-use Rattle.claims.specs.declared.view.Account.{Account}
-use Rattle.claims.specs.declared.view.Exchange.{Exchange}
-use Rattle.claims.specs.declared.view.Exchange.TheVariants.{Busy, Held, Take, Release, Retire, Post}
-use Rattle.claims.specs.declared.answers.Posted.{Posted}
-use Rattle.claims.specs.declared.answers.Posted.TheVariants as posted
-use Rattle.claims.specs.Calls.{PostChange}
-use Rattle.dispatch.proofs.Holding.{holds_still, holds_from, holds_behind_post, woke_behind_post}
-use Rattle.dispatch.proofs.Outgoing.{took_both}
-use Rattle.claims.specs.Views.{after_all, minted_by}
-use Rattle.claims.specs.Seats.{TableId, SeatState, account_at, Holds, HoldsNothing, OnlyAt, Adds}
-use Rattle.claims.proofs.Seats.{adds_none, adds_both, account_after, minted_both, holds_nothing_again, only_at_post}
-use Rattle.std.proofs.lemmas.Bool.{ltb-true, ltb-false, false≢true}
-use Rattle.ready.specs.declared.ticket.Ticket.{Ticket}
+use Rattle.std.proofs.{Common.{◌≡◌, ◌⊎◌, ◌+◌, ◌↔◌, ◌<◌, ◌≤◌, ℕ, List, [], ◌∷◌, length, drop, slice_get, Bool, true, false, IsTrue, Option, Some, None, Result, Ok, Err, IfOk, IfSome, IsErrAnd, inl, inr, refl, sym, ap, subst, ◌∙◌, arith, suc, ◌++◌, append_assoc, zero, nat_lt}, lemmas.{Option.{IfSome_then, none-some, same_Some}, Bool.{ltb-true, ltb-false, false≢true}, List.append-nil}}
+use Rattle.claims.{specs.{declared.{view.{Account.Account, Exchange.{Exchange, TheVariants.{Busy, Held, Take, Release, Retire, Post}}}, answers.Posted.Posted}, Calls.PostChange, Views.{after_all, minted_by}, Seats.{TableId, SeatState, account_at, Holds, HoldsNothing, OnlyAt, Adds}}, proofs.Seats.{adds_none, adds_both, account_after, minted_both, holds_nothing_again, only_at_post}}
+use Rattle.dispatch.{proofs.{Holding.{holds_still, holds_from, holds_behind_post, woke_behind_post}, Outgoing.took_both}, specs.{declared.shared.Own.Own, Outgoing.{Inserted, KeepsTicket, TookNothing, outgoing, tickets_out, slots_out, without_first}, Posts.HoldsOnly, Hands.{HandState, HasRoom}, Acts.{Act, AreMade, leaving, giving}, Heavy.looked_at}}
+use Rattle.ready.specs.{declared.ticket.Ticket.Ticket, Steps.EndState}
 use Rattle.relay_log.specs.declared.faults.ServerFault.{ServerFault}
-use Rattle.dispatch.specs.declared.shared.Own.{Own}
-use Rattle.turns.specs.declared.worker.Worked.{Worked}
-use Rattle.turns.specs.declared.worker.Worked.TheVariants as worked
-use Rattle.dispatch.specs.Outgoing.{Inserted, KeepsTicket, TookNothing, outgoing, tickets_out, slots_out, without_first}
-use Rattle.dispatch.specs.Posts.{HoldsOnly}
-use Rattle.dispatch.specs.Hands.{HandState, HasRoom}
+use Rattle.turns.specs.{declared.worker.Worked.Worked, Turns.{WasHeld, ActsLeft, TurnInOrder, OwnTurnInOrder, program, AtWork, TicketsKept, SlotsKept, SlotGiven, TurnDone, ClaimedTurn, TurnEnd, LeftSlot, TurnMade, OwnTurn, NoOwnTurn, marks_after}, Shares.{AreShared, IsLight, OneShared, Passed, Stays}}
 use Rattle.token.specs.Names.{last_generation}
-use Rattle.dispatch.specs.Acts.{Act, AreMade, leaving, giving}
+use Rattle.claims.specs.declared.answers.Posted.TheVariants as posted
+use Rattle.turns.specs.declared.worker.Worked.TheVariants as worked
 use Rattle.dispatch.specs.Acts as act
-use Rattle.turns.specs.Turns.{WasHeld, ActsLeft, TurnInOrder, OwnTurnInOrder, program, AtWork, TicketsKept, SlotsKept, SlotGiven, TurnDone, ClaimedTurn, TurnEnd, LeftSlot, TurnMade, OwnTurn, NoOwnTurn, marks_after}
-use Rattle.std.proofs.lemmas.List.{append-nil}
-use Rattle.ready.specs.Steps.{EndState}
-use Rattle.dispatch.specs.Heavy.{looked_at}
-use Rattle.turns.specs.Shares.{AreShared, IsLight, OneShared, Passed, Stays}
 
 -- the same was to be put, and nothing was taken
 pub record Still (a b : Own) : Type 0 where

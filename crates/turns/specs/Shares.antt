@@ -1,11 +1,8 @@
 -- Which of the tickets in hand a poller's thread keeps for turns of its own, and which it puts for the workers. Part of
 -- the promises.
 use Rattle.std.specs.Prelude.{◌≡◌, ◌⊎◌, ℕ, suc, ◌<◌, List, [], ◌∷◌, ◌++◌, slice_index}
-use Rattle.ready.specs.declared.ticket.Ticket.{Ticket}
-use Rattle.ready.specs.Steps.{EndState, PutOne, HeldOnce}
-use Rattle.dispatch.specs.Heavy.{looked_at}
-use Rattle.dispatch.specs.Limits.{first_light}
-use Rattle.dispatch.specs.declared.shared.Own.{Own}
+use Rattle.ready.specs.{declared.ticket.Ticket.Ticket, Steps.{EndState, PutOne, HeldOnce}}
+use Rattle.dispatch.specs.{Heavy.looked_at, Limits.first_light, declared.shared.Own.Own}
 
 -- the ticket was put
 pub record Puts (ticket : Ticket) (old new : EndState Ticket) : Type 0 where

@@ -1,26 +1,15 @@
 -- What a worker's turn does to what its thread owns, by its answer. Part of the promises.
 use Rattle.std.specs.Prelude.{◌≡◌, ◌⊎◌, ℕ, zero, suc, ◌<◌, ◌≤◌, Bool, true, false, nat_lt, if◌then◌else◌, Option, Some, None, Result, Ok, Err, List, [], ◌∷◌, drop, length, slice_set}
-use Rattle.claims.specs.declared.view.Exchange.{Exchange}
-use Rattle.claims.specs.declared.view.Exchange.TheVariants.{Post, Busy, Held, Take, Release, Retire}
-use Rattle.claims.specs.Views.{minted_by}
-use Rattle.claims.specs.Seats.{TableId, account_at, Adds}
+use Rattle.claims.specs.{declared.view.Exchange.{Exchange, TheVariants.{Post, Busy, Held, Take, Release, Retire}}, Views.minted_by, Seats.{TableId, account_at, Adds}}
 use Rattle.ready.specs.declared.ticket.Ticket.{Ticket}
-use Rattle.relay_core.specs.Pairs.{PairState, noted}
-use Rattle.relay_core.specs.Replies.{AnswerValue}
-use Rattle.relay_core.specs.declared.Side.{Side}
+use Rattle.relay_core.specs.{Pairs.{PairState, noted}, Replies.AnswerValue, declared.Side.Side}
 use Rattle.berths.specs.declared.berths.Berth.{Berth}
 use Rattle.engine.specs.Turns.{IsTurn}
-use Rattle.turns.specs.declared.terms.Terms.{Terms}
+use Rattle.turns.specs.declared.{terms.Terms.Terms, worker.Worked.Worked}
 use Rattle.relay_log.specs.declared.faults.ServerFault.{ServerFault}
-use Rattle.dispatch.specs.declared.shared.Own.{Own}
-use Rattle.turns.specs.declared.worker.Worked.{Worked}
-use Rattle.turns.specs.declared.worker.Worked.TheVariants as worked
-use Rattle.dispatch.specs.Acts.{Act, AreMade, busy_turn, gone_turn, quiet_turn, again_turn, ended_turn}
-use Rattle.dispatch.specs.Hands.{HasRoom}
+use Rattle.dispatch.specs.{declared.shared.Own.Own, Acts.{Act, AreMade, busy_turn, gone_turn, quiet_turn, again_turn, ended_turn}, Hands.HasRoom, Limits.heavy_marks, Posts.HoldsOnly, Outgoing.{Inserted, KeepsTicket, KeepsSlot, TookNothing, tickets_out, slots_out, without_first}}
 use Rattle.token.specs.Names.{last_generation}
-use Rattle.dispatch.specs.Limits.{heavy_marks}
-use Rattle.dispatch.specs.Posts.{HoldsOnly}
-use Rattle.dispatch.specs.Outgoing.{Inserted, KeepsTicket, KeepsSlot, TookNothing, tickets_out, slots_out, without_first}
+use Rattle.turns.specs.declared.worker.Worked.TheVariants as worked
 
 -- the slot was held
 abbrev pub WasHeld : Result Worked ServerFault → Type 0

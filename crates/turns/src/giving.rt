@@ -1,12 +1,10 @@
 //! What a turn puts into the queues: the ticket of its slot, or the slot. What a queue refuses stays in hand.
 ghost use Rattle.std.specs.Prelude.{◌≡◌, ◌<◌, nat_lt, length};
 ghost use Rattle.claims.specs.Seats.{HoldsNot};
-ghost use Rattle.dispatch.specs.Acts as act;
-ghost use Rattle.dispatch.specs.Acts.{AreMade, giving};
+ghost use Rattle.dispatch.specs.{Acts.{AreMade, giving}, Outgoing.{tickets_out, slots_out, Inserted, KeepsTicket, KeepsSlot}};
 ghost use Rattle.token.specs.Names.{last_generation};
-ghost use Rattle.dispatch.specs.Outgoing.{tickets_out, slots_out, Inserted, KeepsTicket, KeepsSlot};
-ghost use Rattle.turns.specs.Shares.{Passed};
-ghost use Rattle.turns.specs.Turns.{SlotGiven};
+ghost use Rattle.turns.specs.{Shares.Passed, Turns.SlotGiven};
+ghost use Rattle.dispatch.specs.Acts as act;
 
 use crate::visit::Closed;
 use dispatch::{Acts, Own};

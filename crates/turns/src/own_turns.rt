@@ -1,12 +1,8 @@
 //! The turns that the poller's thread runs by itself, so that no worker has to be woken for them.
 ghost use Rattle.std.specs.Prelude.{◌≡◌, ◌↔◌, ◌<◌, ◌≤◌, ◌∷◌, ◌++◌, [], length, slice_get, Ok, Some, None, IfErr, IfSome, IsSome, false, true};
 ghost use Rattle.claims.specs.Seats.{HoldsNothing, OnlyAt};
-ghost use Rattle.dispatch.specs.Outgoing.{TookNothing};
-ghost use Rattle.dispatch.specs.Heavy.{looked_at};
-ghost use Rattle.dispatch.specs.Limits.{first_light};
-ghost use Rattle.turns.specs.Shares.{IsLight, Stays, TicketsShared};
-ghost use Rattle.dispatch.specs.Posts.{AtRest, OnlyWorn};
-ghost use Rattle.turns.specs.Turns.{marks_after, NoOwnTurn, OwnTurn, OwnTurnInOrder};
+ghost use Rattle.dispatch.specs.{Outgoing.TookNothing, Heavy.looked_at, Limits.first_light, Posts.{AtRest, OnlyWorn}};
+ghost use Rattle.turns.specs.{Shares.{IsLight, Stays, TicketsShared}, Turns.{marks_after, NoOwnTurn, OwnTurn, OwnTurnInOrder}};
 
 use crate::giving::put_ticket;
 use crate::terms::Terms;

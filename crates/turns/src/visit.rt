@@ -1,9 +1,9 @@
 //! The connection of a held slot, out of its place and back.
 ghost use Rattle.std.specs.Prelude.{◌≡◌, ◌<◌, ◌≤◌, IfOk, IfErr};
 ghost use Rattle.engine.specs.Turns.{outcome_of, IsServed};
-ghost use Rattle.dispatch.specs.Acts as act;
 ghost use Rattle.dispatch.specs.Posts.{HoldsOnly};
 ghost use Rattle.turns.specs.Turns.{noted_by, Plays};
+ghost use Rattle.dispatch.specs.Acts as act;
 
 use crate::terms::Terms;
 use berths::Berth;

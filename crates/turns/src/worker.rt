@@ -1,16 +1,13 @@
 //! One turn of a worker: it claims a ticket's slot, takes its connection out, gives it the notes, runs it, and puts
 //! it back.
 ghost use Rattle.std.specs.Prelude.{◌≡◌, ◌≢◌, ◌⊎◌, ℕ, ◌<◌, ◌≤◌, [], ◌∷◌, Bool, false, length, Ok, IfOk, IfErr};
-ghost use Rattle.claims.specs.declared.view.Exchange.TheVariants as exchange;
 ghost use Rattle.claims.specs.Seats.{Adds, HoldsNothing, OnlyAt};
 ghost use Rattle.engine.specs.Turns.{outcome_of, IsServed};
-ghost use Rattle.dispatch.specs.Acts.{AreMade, leaving};
-ghost use Rattle.dispatch.specs.Acts as act;
-ghost use Rattle.dispatch.specs.Hands.{HasRoom};
+ghost use Rattle.dispatch.specs.{Acts.{AreMade, leaving}, Hands.HasRoom, Outgoing.{KeepsSlot, TookNothing}, Posts.{HoldsOnly, OnlyWorn}};
 ghost use Rattle.token.specs.Names.{last_generation};
-ghost use Rattle.dispatch.specs.Outgoing.{KeepsSlot, TookNothing};
-ghost use Rattle.dispatch.specs.Posts.{HoldsOnly, OnlyWorn};
 ghost use Rattle.turns.specs.Turns.{ActsLeft, AtWork, ClaimedTurn, TurnEnd, TurnInOrder, LeftSlot, TurnMade, Plays};
+ghost use Rattle.claims.specs.declared.view.Exchange.TheVariants as exchange;
+ghost use Rattle.dispatch.specs.Acts as act;
 
 use crate::giving::{give_back, put_ticket};
 use crate::gone::log_gone;

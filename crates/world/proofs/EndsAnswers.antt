@@ -1,18 +1,12 @@
 -- A worker's call. Its answer, for a pair and the end on which it is made: the bytes keep their order, an end comes
 -- last, and a flag that goes down is covered. The kernel changes at that end, and the pair takes the answer in.
-use Rattle.world.proofs.Prelude.{Bool, List, None, Option, Some, [], ap, append_assoc, arith, drop, false, if◌then◌else◌, inr, le_refl, leb-true, length, ltb-true, nat_lt, not, option_map, refl, slice_get, slice_set, subst, sym, take-append-drop, true, ℕ, ◌&&◌, ◌++◌, ◌<◌, ◌||◌, ◌∙◌, ◌∷◌, ◌≡◌, ◌≤◌, drop-nil, nat_tests, nil_from_length, first_so, second_so, option_or, nat_le, take-front, waiting-dropped, Stream, closed, dropped, ended, front, taken_in, waiting, EndState, is_nonempty, is_readable, is_writable, KernelState, end_at, same, guard, after_join, after_read, after_shut, after_write, bytes_read, is_count, Sockets, Reply, AnswersNext, Standing, TellsOf, call_for, is_drained, is_open, is_waiting, next_call, offer, PairState, flags_of, is_live, stream_of, verdict, after, fits, moves, Call, Join, Read, Shut, Write, Flags, Fault, Failed, inward, opposite, Direction, Down, Up, Kind, Side, Client, Target, OpenConnection, descriptor, made, plain, replied, told_of, CoreLaws, failure, failure_by, fault_of, socket_of, SlotState, WorkerState, State, OpenSlot, call, connection_at, EndCovered, Doing, Holds, Connection}
-use Rattle.world.specs.Calls.{called}
-use Rattle.world.specs.Steps.{slot_call}
+use Rattle.world.{proofs.{Prelude.{Bool, List, None, Option, Some, [], ap, append_assoc, arith, drop, false, if◌then◌else◌, inr, le_refl, leb-true, length, ltb-true, nat_lt, not, option_map, refl, slice_get, slice_set, subst, sym, take-append-drop, true, ℕ, ◌&&◌, ◌++◌, ◌<◌, ◌||◌, ◌∙◌, ◌∷◌, ◌≡◌, ◌≤◌, drop-nil, nat_tests, nil_from_length, first_so, second_so, option_or, nat_le, take-front, waiting-dropped, Stream, closed, dropped, ended, front, taken_in, waiting, EndState, is_nonempty, is_readable, is_writable, KernelState, end_at, same, guard, after_join, after_read, after_shut, after_write, bytes_read, is_count, Sockets, Reply, AnswersNext, Standing, TellsOf, call_for, is_drained, is_open, is_waiting, next_call, offer, PairState, flags_of, is_live, stream_of, verdict, after, fits, moves, Call, Join, Read, Shut, Write, Flags, Fault, Failed, inward, opposite, Direction, Down, Up, Kind, Side, Client, Target, OpenConnection, descriptor, made, plain, replied, told_of, CoreLaws, failure, failure_by, fault_of, socket_of, SlotState, WorkerState, State, OpenSlot, call, connection_at, EndCovered, Doing, Holds, Connection}, TurnsKept.{Kept, kept_some, kept_none, kept_bind, kept_map, kept_when, kept_guard, kept_then, kept_at, kept_next}, EndsHeld.{History, same_before, DirectionOk, PairOk, token_at, is_pending, registered, ConnectionOk, SlotOk, AllOk, cover_flag, cover_armed, by_side, by_direction, with_socket, pair_more}, EndsFrame.{keep_place, ends_there, others_kept}, EndsShapes.{Continues, Stays, Shape, Changed, Calm, kept_calm, same_clock, connection_stays}}, specs.{Calls.called, Steps.slot_call}}
 use Rattle.std.proofs.Common.{take}
 use Rattle.kernel_model.specs.declared.reply.Reply.TheVariants as reply
 use Rattle.relay_core.specs.Replies as answer
 use Rattle.world.specs.declared.event.Event.TheVariants as event
 use Rattle.world.specs.declared.event.Act.TheVariants as act
 use Rattle.world.specs.Steps
-use Rattle.world.proofs.TurnsKept.{Kept, kept_some, kept_none, kept_bind, kept_map, kept_when, kept_guard, kept_then, kept_at, kept_next}
-use Rattle.world.proofs.EndsHeld.{History, same_before, DirectionOk, PairOk, token_at, is_pending, registered, ConnectionOk, SlotOk, AllOk, cover_flag, cover_armed, by_side, by_direction, with_socket, pair_more}
-use Rattle.world.proofs.EndsFrame.{keep_place, ends_there, others_kept}
-use Rattle.world.proofs.EndsShapes.{Continues, Stays, Shape, Changed, Calm, kept_calm, same_clock, connection_stays}
 
 -- What speaks for the next call: a read's and a write's flag is up, and a shutdown comes after every byte
 

@@ -1,8 +1,6 @@
 -- When each connection last moved: not before any event that opened it or moved something of it, and not after the
 -- second that it is. One that expires moved nothing for the idle limit; and a pair fails only after a failed call, or so.
-use Rattle.world.proofs.Prelude.{Bool, List, None, Option, Some, [], ap, append-nil, append_assoc, arith, false, if◌then◌else◌, inl, inr, le_refl, nat_lt, option_and_then, option_map, refl, slice_get, slice_set, subst, sym, true, ℕ, ⊎_elim, ◌++◌, ◌+◌, ◌-◌, ◌∙◌, ◌∷◌, ◌≡◌, ◌≤◌, ◌⊎◌, same, Reply, IsOverdue, next_call, fresh, verdict, fits, moves, Call, Read, Fault, Broken, Failed, Live, Kind, Client, Target, OpenConnection, made, plain, told_of, CoreLaws, FailedAfter, FailedBy, Failure, FailuresHold, LiesBack, Named, Throughout, failure, failure_by, held_by, held_connection, is_movement, moved_by, named, next_opened, run, SlotState, WorkerState, State, opening, unused, OpenSlot, call, connection_at, expired_place, opened_world, step, token_of, with_place, worked, one, Doing, Holds, Connection, Event, Limits, Past}
-use Rattle.world.specs.Calls.{called}
-use Rattle.world.specs.Steps.{slot_call}
+use Rattle.world.{proofs.{Prelude.{Bool, List, None, Option, Some, [], ap, append-nil, append_assoc, arith, false, if◌then◌else◌, inl, inr, le_refl, nat_lt, option_and_then, option_map, refl, slice_get, slice_set, subst, sym, true, ℕ, ⊎_elim, ◌++◌, ◌+◌, ◌-◌, ◌∙◌, ◌∷◌, ◌≡◌, ◌≤◌, ◌⊎◌, same, Reply, IsOverdue, next_call, fresh, verdict, fits, moves, Call, Read, Fault, Broken, Failed, Live, Kind, Client, Target, OpenConnection, made, plain, told_of, CoreLaws, FailedAfter, FailedBy, Failure, FailuresHold, LiesBack, Named, Throughout, failure, failure_by, held_by, held_connection, is_movement, moved_by, named, next_opened, run, SlotState, WorkerState, State, opening, unused, OpenSlot, call, connection_at, expired_place, opened_world, step, token_of, with_place, worked, one, Doing, Holds, Connection, Event, Limits, Past}, Runs.run_and, TurnsTotals.{get-set_same, get-replicate}, TurnsKept.{Kept, kept_some, kept_none, kept_bind, kept_map, kept_when, kept_then, kept_at, kept_next, Expired, expired_so}, EndsHeld.{at_one, last_of, before}, EndsFrame.{Lies, lies}, EndsShapes.{cause_by, Continues, IsFresh, Clock, Shape, Same, Changed, Opened, Ended}, EndsRuns.{closes, step_goes}}, specs.{Calls.called, Steps.slot_call}}
 use Rattle.kernel_model.specs.declared.reply.Reply.TheVariants as reply
 use Rattle.kernel_model.specs.Kernel as kernel
 use Rattle.relay_core.specs.Replies as answer
@@ -11,13 +9,6 @@ use Rattle.world.specs.declared.event.Event.TheVariants as event
 use Rattle.world.specs.declared.event.Polling.TheVariants as polling
 use Rattle.world.specs.declared.event.Act.TheVariants as act
 use Rattle.world.specs.Steps
-use Rattle.world.proofs.Runs.{run_and}
-use Rattle.world.proofs.TurnsTotals.{get-set_same, get-replicate}
-use Rattle.world.proofs.TurnsKept.{Kept, kept_some, kept_none, kept_bind, kept_map, kept_when, kept_then, kept_at, kept_next, Expired, expired_so}
-use Rattle.world.proofs.EndsHeld.{at_one, last_of, before}
-use Rattle.world.proofs.EndsFrame.{Lies, lies}
-use Rattle.world.proofs.EndsShapes.{cause_by, Continues, IsFresh, Clock, Shape, Same, Changed, Opened, Ended}
-use Rattle.world.proofs.EndsRuns.{closes, step_goes}
 
 -- Lists of events
 

@@ -1,11 +1,9 @@
 -- What a slot keeps while the rest of the machine changes; and what the kernel does to one end: the network changes it,
 -- or takes back its report.
-use Rattle.world.proofs.Prelude.{Bool, List, None, Option, Some, [], ap, append-nil, arith, eq-eqb, false, if◌then◌else◌, inl, inr, ne_eqb, not, option_and_then, option_map, refl, slice_get, slice_set, sym, true, ℕ, ◌&&◌, ◌++◌, ◌==◌, ◌||◌, ◌∙◌, ◌≡◌, second_so, EndState, is_nonempty, KernelState, Registered, changed, end_at, is_quiet_end, has, same, Told, guard, Sockets, EndName, other_side, side_number, Name, Side, Client, Target, descriptor, has_generation, end_of, socket_of, SlotState, State, connection_at, over_kernel, Connection, Limits}
+use Rattle.world.proofs.{Prelude.{Bool, List, None, Option, Some, [], ap, append-nil, arith, eq-eqb, false, if◌then◌else◌, inl, inr, ne_eqb, not, option_and_then, option_map, refl, slice_get, slice_set, sym, true, ℕ, ◌&&◌, ◌++◌, ◌==◌, ◌||◌, ◌∙◌, ◌≡◌, second_so, EndState, is_nonempty, KernelState, Registered, changed, end_at, is_quiet_end, has, same, Told, guard, Sockets, EndName, other_side, side_number, Name, Side, Client, Target, descriptor, has_generation, end_of, socket_of, SlotState, State, connection_at, over_kernel, Connection, Limits}, TurnsKept.{Kept, kept_some, kept_none}, EndsHeld.{at_one, set_same, other_slot, or_left, or_both, has_reported, is_reported, has_without, end_same, end_kept, History, same_before, token_at, is_pending, registered, ConnectionOk, SlotOk, AllOk, with_socket, pair_more, pair_unready, pair_changed, Changes}}
 use Rattle.token.specs.declared.name.Name.TheVariants as name
 use Rattle.kernel_model.specs.Kernel as kernel
 use Rattle.kernel_model.specs.declared.watched.Watched.TheVariants as watched
-use Rattle.world.proofs.TurnsKept.{Kept, kept_some, kept_none}
-use Rattle.world.proofs.EndsHeld.{at_one, set_same, other_slot, or_left, or_both, has_reported, is_reported, has_without, end_same, end_kept, History, same_before, token_at, is_pending, registered, ConnectionOk, SlotOk, AllOk, with_socket, pair_more, pair_unready, pair_changed, Changes}
 
 -- the rest of the machine has at least as much for slot s
 pub record Better (st q : State) (s : ℕ) : Type 0 where

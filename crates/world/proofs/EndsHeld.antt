@@ -1,10 +1,8 @@
 -- What the machine keeps of each connection's two ends in the kernel, after every event; and before it elements of a
 -- list by place, what the readiness queue keeps when names come and go, and the ends by descriptor.
-use Rattle.world.proofs.Prelude.{Bool, List, None, Option, Some, [], ap, append-nil, append_assoc, arith, cond, eq-eqb, eqb-true, false, if◌then◌else◌, inl, inr, is_none, length, length-append, lt-ltb, ltb-true, nat_lt, ne_eqb, not, one-add, refl, slice_get, slice_set, suc, sym, true, unwrap_or, zero, ℕ, ◌&&◌, ◌++◌, ◌+◌, ◌<◌, ◌==◌, ◌||◌, ◌∙◌, ◌∷◌, ◌≡◌, ◌⊎◌, slice_get_within, first_so, second_so, position_or_len, option_flatten, Stream, waiting, EndState, arrival, finish, is_nonempty, is_readable, is_writable, new_room, Registered, end_at, lowest_free, reported, with_end, has, same, same_end, with_name, without_name, without_names, Told, Sockets, IsClosedLast, PairState, flags_of, stream_of, Flags, EndName, destination, other_side, side_number, source, Direction, Down, Up, Name, End, Listener, Waker, Side, Client, Target, end_of, socket_of, SlotState, State, EndCovered, is_covered, one, Connection, Limits}
+use Rattle.world.proofs.{Prelude.{Bool, List, None, Option, Some, [], ap, append-nil, append_assoc, arith, cond, eq-eqb, eqb-true, false, if◌then◌else◌, inl, inr, is_none, length, length-append, lt-ltb, ltb-true, nat_lt, ne_eqb, not, one-add, refl, slice_get, slice_set, suc, sym, true, unwrap_or, zero, ℕ, ◌&&◌, ◌++◌, ◌+◌, ◌<◌, ◌==◌, ◌||◌, ◌∙◌, ◌∷◌, ◌≡◌, ◌⊎◌, slice_get_within, first_so, second_so, position_or_len, option_flatten, Stream, waiting, EndState, arrival, finish, is_nonempty, is_readable, is_writable, new_room, Registered, end_at, lowest_free, reported, with_end, has, same, same_end, with_name, without_name, without_names, Told, Sockets, IsClosedLast, PairState, flags_of, stream_of, Flags, EndName, destination, other_side, side_number, source, Direction, Down, Up, Name, End, Listener, Waker, Side, Client, Target, end_of, socket_of, SlotState, State, EndCovered, is_covered, one, Connection, Limits}, TurnsTotals.{get-set_same, get-set_other}, TurnsKept.{Kept, kept_guard}}
 use Rattle.token.specs.declared.name.Name.TheVariants as name
 use Rattle.kernel_model.specs.Ends as model
-use Rattle.world.proofs.TurnsTotals.{get-set_same, get-set_other}
-use Rattle.world.proofs.TurnsKept.{Kept, kept_guard}
 
 pub data Tell (b : Bool) : Type 0 where
   Yes : b ≡ true → Tell b

@@ -2,7 +2,7 @@
 -- keeps what holds of the ends. So after every run: bytes and ends, and no flag down without cover. And of each closed
 -- connection: what was sent is a beginning of the preamble and what was given, and all of it where it was done. Nothing
 -- more is given for its generation, since its slot has none of that generation any more.
-use Rattle.world.proofs.Prelude.{Bool, List, None, Option, Some, [], ap, append-nil, append_assoc, arith, eqb-true, false, if◌then◌else◌, inl, inr, le_refl, length, ne_eqb, not, option_and_then, option_map, refl, slice_get, slice_set, subst, sym, true, unwrap_or, ℕ, ⊎_elim, ◌&&◌, ◌++◌, ◌+◌, ◌<◌, ◌==◌, ◌∙◌, ◌∷◌, ◌≡◌, ◌≤◌, ◌⊎◌, first_so, second_so, nat_le, waiting_ends, Stream, empty_stream, waiting, EndState, arrival, finish, new_room, opened, KernelState, Registered, end_at, lowest_free, open_both, with_end, same, without_name, Told, Descriptors, Sockets, PairState, fresh, is_live, stream_of, verdict, verdict_of, Fault, Done, EndName, destination, side_number, source, Direction, Down, Up, Side, Client, Target, descriptor, when, CoreLaws, given, given_by, has_generation, BytesAndEndsHold, ClosedHold, DirectionHolds, end_of, preamble, socket_of, grows, run, SlotState, WorkerState, State, opening, unused, acted, change_at, closed_world, connection_at, opened_place, opened_world, opening_of, over_kernel, step, token_of, EdgesHold, one, Doing, Holds, Connection, Act, Change, Arrive, Fin, Reset, Room, Event, Polling, Limits, Past}
+use Rattle.world.proofs.{Prelude.{Bool, List, None, Option, Some, [], ap, append-nil, append_assoc, arith, eqb-true, false, if◌then◌else◌, inl, inr, le_refl, length, ne_eqb, not, option_and_then, option_map, refl, slice_get, slice_set, subst, sym, true, unwrap_or, ℕ, ⊎_elim, ◌&&◌, ◌++◌, ◌+◌, ◌<◌, ◌==◌, ◌∙◌, ◌∷◌, ◌≡◌, ◌≤◌, ◌⊎◌, first_so, second_so, nat_le, waiting_ends, Stream, empty_stream, waiting, EndState, arrival, finish, new_room, opened, KernelState, Registered, end_at, lowest_free, open_both, with_end, same, without_name, Told, Descriptors, Sockets, PairState, fresh, is_live, stream_of, verdict, verdict_of, Fault, Done, EndName, destination, side_number, source, Direction, Down, Up, Side, Client, Target, descriptor, when, CoreLaws, given, given_by, has_generation, BytesAndEndsHold, ClosedHold, DirectionHolds, end_of, preamble, socket_of, grows, run, SlotState, WorkerState, State, opening, unused, acted, change_at, closed_world, connection_at, opened_place, opened_world, opening_of, over_kernel, step, token_of, EdgesHold, one, Doing, Holds, Connection, Act, Change, Arrive, Fin, Reset, Room, Event, Polling, Limits, Past}, TurnsKept.{Kept, kept_some, kept_none, kept_bind, kept_map, kept_when, kept_guard, kept_at}, TurnsTotals.{get-set_same, get-set_other, get-replicate, get_beside}, EndsHeld.{Yes, No, tell, at_one, last_of, other_slot, or_both, has_without, end_kept, opened_here, opened_other, History, before, DirectionOk, PairOk, token_at, registered, ConnectionOk, SlotOk, AllOk, by_side, by_direction, same_gave, arrival_changes, finish_changes, failure_changes, room_changes}, EndsFrame.{better, keep_place, Lies, lies, BringsTo, others_kept, network_keeps}, EndsShapes.{IsFresh, Shape, Same, Changed, Opened, Ended, Calm, kept_calm, same_clock, over_same, same_rest, tick_calm, spurious_calm, vanish_calm, listen_calm, batched_calm, deliver_calm, sweep_calm, put_by_poller_calm, put_by_worker_calm, pop_calm, claim_calm, take_calm, post_calm, release_calm, retire_calm, free_calm, expire_calm}, EndsAnswers.call_calm}
 use Rattle.token.specs.declared.name.Name.TheVariants as name
 use Rattle.kernel_model.specs.Ends as model
 use Rattle.kernel_model.specs.Kernel as kernel
@@ -10,12 +10,6 @@ use Rattle.world.specs.declared.event.Event.TheVariants as event
 use Rattle.world.specs.declared.event.Polling.TheVariants as polling
 use Rattle.world.specs.declared.event.Act.TheVariants as act
 use Rattle.world.specs.Steps
-use Rattle.world.proofs.TurnsKept.{Kept, kept_some, kept_none, kept_bind, kept_map, kept_when, kept_guard, kept_at}
-use Rattle.world.proofs.TurnsTotals.{get-set_same, get-set_other, get-replicate, get_beside}
-use Rattle.world.proofs.EndsHeld.{Yes, No, tell, at_one, last_of, other_slot, or_both, has_without, end_kept, opened_here, opened_other, History, before, DirectionOk, PairOk, token_at, registered, ConnectionOk, SlotOk, AllOk, by_side, by_direction, same_gave, arrival_changes, finish_changes, failure_changes, room_changes}
-use Rattle.world.proofs.EndsFrame.{better, keep_place, Lies, lies, BringsTo, others_kept, network_keeps}
-use Rattle.world.proofs.EndsShapes.{IsFresh, Shape, Same, Changed, Opened, Ended, Calm, kept_calm, same_clock, over_same, same_rest, tick_calm, spurious_calm, vanish_calm, listen_calm, batched_calm, deliver_calm, sweep_calm, put_by_poller_calm, put_by_worker_calm, pop_calm, claim_calm, take_calm, post_calm, release_calm, retire_calm, free_calm, expire_calm}
-use Rattle.world.proofs.EndsAnswers.{call_calm}
 
 -- An opening
 

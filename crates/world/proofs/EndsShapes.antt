@@ -1,8 +1,7 @@
 -- What each event does to the slots and to the closed connections: it leaves them, it changes one slot and keeps its
 -- connection, it opens one, or it closes a connection. And each event of the clock, the kernel's reports, the poller and
 -- the workers, but an opening, a call and a closing, leaves the ends as they are, and loses no report that counts.
-use Rattle.world.proofs.Prelude.{Bool, List, None, Option, Some, [], ap, arith, drop, eq-eqb, eqb-true, false, if◌then◌else◌, inl, inr, le_refl, length, nat_lt, option_map, refl, slice_get, slice_set, subst, sym, true, ℕ, ◌++◌, ◌+◌, ◌==◌, ◌∙◌, ◌∷◌, ◌≡◌, ◌≤◌, ◌⊎◌, nil_from_length, is_nonempty, KernelState, name_of, has, same, Accepted, Again, Blocked, Starved, Sockets, timed_out, is_live, noted, verdict, Fault, Failed, Live, EndName, Down, Up, Name, Side, Client, Target, given_by, Failure, Named, failure, failure_by, held_connection, SlotState, WorkerState, is_held, State, connection_at, delivered, delivered_at, expired_place, free, is_limited, may_accept, over_kernel, popped, post_at, posted, put_by_poller, put_by_worker, watched_of, with_note, with_place, Doing, Closed, Holds, Idle, Retired, Tries, Holder, Ticket, Connection, Event, Listening, Reported}
-use Rattle.world.specs.Steps.{may_release}
+use Rattle.world.{proofs.{Prelude.{Bool, List, None, Option, Some, [], ap, arith, drop, eq-eqb, eqb-true, false, if◌then◌else◌, inl, inr, le_refl, length, nat_lt, option_map, refl, slice_get, slice_set, subst, sym, true, ℕ, ◌++◌, ◌+◌, ◌==◌, ◌∙◌, ◌∷◌, ◌≡◌, ◌≤◌, ◌⊎◌, nil_from_length, is_nonempty, KernelState, name_of, has, same, Accepted, Again, Blocked, Starved, Sockets, timed_out, is_live, noted, verdict, Fault, Failed, Live, EndName, Down, Up, Name, Side, Client, Target, given_by, Failure, Named, failure, failure_by, held_connection, SlotState, WorkerState, is_held, State, connection_at, delivered, delivered_at, expired_place, free, is_limited, may_accept, over_kernel, popped, post_at, posted, put_by_poller, put_by_worker, watched_of, with_note, with_place, Doing, Closed, Holds, Idle, Retired, Tries, Holder, Ticket, Connection, Event, Listening, Reported}, TurnsKept.{Kept, kept_some, kept_none, kept_bind, kept_map, kept_when, kept_guard, kept_then, kept_map_map, kept_bind_map, either_of, expired_so}, EndsHeld.{Yes, No, tell, same_end_is, other_slot, or_left, or_right, or_then, or_both, has_with, has_reported, has_without, has_polled, History, token_at, ConnectionOk, SlotOk, AllOk, by_side, by_direction, pair_more, nonempty_more}, EndsFrame.{Better, better, keep_place, over_guard, vanish_end}}, specs.Steps.may_release}
 use Rattle.token.specs.declared.name.Name.TheVariants as name
 use Rattle.kernel_model.specs.Kernel as kernel
 use Rattle.relay_core.specs.declared.verdict.Fault.TheVariants as reason
@@ -11,9 +10,6 @@ use Rattle.world.specs.declared.event.Act.TheVariants as act
 use Rattle.world.specs.declared.event.Reported.TheVariants as reported
 use Rattle.world.specs.declared.event.Listening.TheVariants as listening
 use Rattle.world.specs.Steps
-use Rattle.world.proofs.TurnsKept.{Kept, kept_some, kept_none, kept_bind, kept_map, kept_when, kept_guard, kept_then, kept_map_map, kept_bind_map, either_of, expired_so}
-use Rattle.world.proofs.EndsHeld.{Yes, No, tell, same_end_is, other_slot, or_left, or_right, or_then, or_both, has_with, has_reported, has_without, has_polled, History, token_at, ConnectionOk, SlotOk, AllOk, by_side, by_direction, pair_more, nonempty_more}
-use Rattle.world.proofs.EndsFrame.{Better, better, keep_place, over_guard, vanish_end}
 
 -- the failure that an event brings, by a call or by the idle limit
 abbrev pub cause_by : State → Event → Option Failure

@@ -1,10 +1,5 @@
 -- The headline of every run.
-use Rattle.world.proofs.Prelude.{◌≡◌, List, Some, Event, Limits, State, opening, run, HeadlineHolds, SupportHolds, CoreLaws}
-use Rattle.world.proofs.TurnsRun.{turns_after, own_after, support_from}
-use Rattle.world.proofs.TurnsListener.{listener_after}
-use Rattle.world.proofs.TurnsDue.{movable_is_due}
-use Rattle.world.proofs.EndsRuns.{bytes_hold, closed_hold, edges_hold}
-use Rattle.world.proofs.EndsFailures.{failures_hold}
+use Rattle.world.proofs.{Prelude.{◌≡◌, List, Some, Event, Limits, State, opening, run, HeadlineHolds, SupportHolds, CoreLaws}, TurnsRun.{turns_after, own_after, support_from}, TurnsListener.listener_after, TurnsDue.movable_is_due, EndsRuns.{bytes_hold, closed_hold, edges_hold}, EndsFailures.failures_hold}
 
 pub headline : (laws : CoreLaws) (l : Limits) (events : List Event) (st : State) → run (opening l) events ≡ Some st → HeadlineHolds l events st
 headline laws l events st ran = record {

@@ -1,8 +1,6 @@
 -- A run with one event more.
 use Rattle.world.proofs.Prelude.{◌≡◌, ℕ, ◌+◌, List, [], ◌∷◌, ◌++◌, Option, Some, None, refl, ◌∙◌, option_and_then, slice_get, slice_get_within, Event, State, step, run}
-use Rattle.std.proofs.Common.{take}
-use Rattle.std.proofs.lemmas.List.{take_more}
-use Rattle.std.proofs.lemmas.Option.{get_or_from_slice_get}
+use Rattle.std.proofs.{Common.take, lemmas.{List.take_more, Option.get_or_from_slice_get}}
 
 both_if : (xs ys : List Event) (o : Option State) → ((q : State) → run q (xs ++ ys) ≡ option_and_then (λ (r : State). run r ys) (run q xs))
     → option_and_then (λ (q : State). run q (xs ++ ys)) o ≡ option_and_then (λ (r : State). run r ys) (option_and_then (λ (q : State). run q xs) o)

@@ -1,9 +1,5 @@
 -- Whatever could move is due to be tried: from who has a slot, and from the cover of every flag that is down.
-use Rattle.world.proofs.Prelude.{◌≡◌, ℕ, zero, suc, ◌+◌, ◌≤◌, Bool, true, false, not, ◌&&◌, ◌||◌, nat_lt, List, [], ◌∷◌, length, slice_get, Option, Some, None, refl, ap, arith, eq-eqb, ltb-true, ltb-false, and_parts, list_any, Side, Direction, Up, Down, Name, Listener, Waker, End, EndName, source, destination, Stream, waiting, same, has, is_readable, is_writable, is_nonempty, Registered, Verdict, Live, Done, Failed, PairState, stream_of, flags_of, is_joined, verdict, is_live, is_waiting, is_drained, Standing, place_of, IsDrained, IsAtRest, Connection, Ticket, Holder, Nobody, By, Free, Doing, Tries, SlotState, is_by_worker, State, gives, takes, has_place, flows, is_report, is_ticket, tries, has_ticket, is_reported, is_ticketed, moves_if_any, movable_at, movable, due_place, due_at, due, end_of, total, is_covered, has_report, EdgesHold, CoreLaws}
-use Rattle.world.specs.Due.{moves}
-use Rattle.world.proofs.TurnsFacts.{facts, SlotOk, Turns, names, tried_right, worker_right, right_tickets, is_shaped, standing}
-use Rattle.world.proofs.EndsHeld.{same_end_is, or_left, or_right, or_then}
-use Rattle.world.proofs.TurnsRun.{sure, unless, own_generation}
+use Rattle.world.{proofs.{Prelude.{◌≡◌, ℕ, zero, suc, ◌+◌, ◌≤◌, Bool, true, false, not, ◌&&◌, ◌||◌, nat_lt, List, [], ◌∷◌, length, slice_get, Option, Some, None, refl, ap, arith, eq-eqb, ltb-true, ltb-false, and_parts, list_any, Side, Direction, Up, Down, Name, Listener, Waker, End, EndName, source, destination, Stream, waiting, same, has, is_readable, is_writable, is_nonempty, Registered, Verdict, Live, Done, Failed, PairState, stream_of, flags_of, is_joined, verdict, is_live, is_waiting, is_drained, Standing, place_of, IsDrained, IsAtRest, Connection, Ticket, Holder, Nobody, By, Free, Doing, Tries, SlotState, is_by_worker, State, gives, takes, has_place, flows, is_report, is_ticket, tries, has_ticket, is_reported, is_ticketed, moves_if_any, movable_at, movable, due_place, due_at, due, end_of, total, is_covered, has_report, EdgesHold, CoreLaws}, TurnsFacts.{facts, SlotOk, Turns, names, tried_right, worker_right, right_tickets, is_shaped, standing}, EndsHeld.{same_end_is, or_left, or_right, or_then}, TurnsRun.{sure, unless, own_generation}}, specs.Due.moves}
 
 -- a ticket that counts is there
 

@@ -1,7 +1,6 @@
 -- Who has a slot: what the rest of the machine has of it, as numbers, and what a slot has to do with them.
-use Rattle.world.proofs.Prelude.{◌≡◌, ◌≢◌, ◌⊎◌, inl, inr, ◌∙◌, ℕ, ◌+◌, ◌≤◌, ◌==◌, Bool, true, false, not, ◌&&◌, List, [], slice_get, slice_set, Option, Some, None, is_some, refl, ap, sym, arith, ne_eqb, eq-eqb, cases_eq, list_all, verdict, is_live, next_call, Standing, place_of, is_nonempty, Connection, Ticket, Holder, Nobody, By, Free, Doing, Tries, Holds, Closed, Retired, SlotState, WorkerState, is_held, is_by_worker, State, doing, is_ticket, one, total, of_slot, tried, worker_tickets, tickets}
+use Rattle.world.proofs.{Prelude.{◌≡◌, ◌≢◌, ◌⊎◌, inl, inr, ◌∙◌, ℕ, ◌+◌, ◌≤◌, ◌==◌, Bool, true, false, not, ◌&&◌, List, [], slice_get, slice_set, Option, Some, None, is_some, refl, ap, sym, arith, ne_eqb, eq-eqb, cases_eq, list_all, verdict, is_live, next_call, Standing, place_of, is_nonempty, Connection, Ticket, Holder, Nobody, By, Free, Doing, Tries, Holds, Closed, Retired, SlotState, WorkerState, is_held, is_by_worker, State, doing, is_ticket, one, total, of_slot, tried, worker_tickets, tickets}, TurnsTotals.{total-set, get-set_same, get-set_other}}
 pub use Rattle.world.specs.Words.{is_free}
-use Rattle.world.proofs.TurnsTotals.{total-set, get-set_same, get-set_other}
 
 -- the numbers of slot s, one actor or ticket or free slot at a time
 

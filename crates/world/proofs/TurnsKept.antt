@@ -1,9 +1,7 @@
 -- What holds of the value that a step leaves, if it leaves one; and what each event found and left, case by case. A
 -- claim about every step is proved by these cases.
 use Rattle.std.proofs.Common.{Vec, Global}
-use Rattle.world.proofs.Prelude.{◌≡◌, ℕ, ◌+◌, ◌-◌, ◌==◌, true, false, nat_lt, List, [], ◌∷◌, ◌++◌, length, slice_get, drop, Option, Some, None, refl, Side, Client, Target, Name, Listener, Waker, End, EndName, same, Accepting, Reply, Sockets, Watched, Told, KernelState, is_nonempty, Connection, Ticket, Nobody, Free, Doing, Idle, Tries, Holds, Closed, Retired, Event, Change, Reported, Listening, Polling, Act, SlotState, WorkerState, State, OpenConnection, descriptor, connection_at, over_kernel, change_at, watched_of, may_accept, after_accept, listen, opened_world, token_of, with_note, posted, post_at, delivered_at, delivered, put_by_poller, polled, is_limited, with_worker, with_place, doing, put_by_worker, popped, pop, claimed, claim, heard, take, call, post, with_ticket, release, expired, expire, closed_world, close, retire, freed, free, acted, step, run, delivery_steps, Bool, option_map, option_and_then, if◌then◌else◌, guard, when, is_overdue, timed_out, expired_place}
-use Rattle.world.specs.Calls.{called}
-use Rattle.world.specs.Steps.{slot_call, may_release}
+use Rattle.world.{proofs.Prelude.{◌≡◌, ℕ, ◌+◌, ◌-◌, ◌==◌, true, false, nat_lt, List, [], ◌∷◌, ◌++◌, length, slice_get, drop, Option, Some, None, refl, Side, Client, Target, Name, Listener, Waker, End, EndName, same, Accepting, Reply, Sockets, Watched, Told, KernelState, is_nonempty, Connection, Ticket, Nobody, Free, Doing, Idle, Tries, Holds, Closed, Retired, Event, Change, Reported, Listening, Polling, Act, SlotState, WorkerState, State, OpenConnection, descriptor, connection_at, over_kernel, change_at, watched_of, may_accept, after_accept, listen, opened_world, token_of, with_note, posted, post_at, delivered_at, delivered, put_by_poller, polled, is_limited, with_worker, with_place, doing, put_by_worker, popped, pop, claimed, claim, heard, take, call, post, with_ticket, release, expired, expire, closed_world, close, retire, freed, free, acted, step, run, delivery_steps, Bool, option_map, option_and_then, if◌then◌else◌, guard, when, is_overdue, timed_out, expired_place}, specs.{Calls.called, Steps.{slot_call, may_release}}}
 use Rattle.kernel_model.specs.Kernel as kernel
 use Rattle.world.specs.declared.event.Event.TheVariants as event
 use Rattle.world.specs.declared.event.Listening.TheVariants as listening

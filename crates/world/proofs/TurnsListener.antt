@@ -1,11 +1,8 @@
 -- The listener: while the accept flag is down, it is armed and nobody waits, or somebody waits and its name is queued
 -- or in the batch. Every event keeps that.
-use Rattle.world.proofs.Prelude.{◌≡◌, ◌∙◌, ℕ, ◌+◌, ◌==◌, Bool, true, false, ◌||◌, nat_lt, List, [], ◌∷◌, length, slice_get, drop, Some, refl, arith, eqb-true, eq-eqb, ltb-false, lt-ltb, and_parts, Name, Listener, Waker, End, same, has, Reply, Descriptors, Sockets, Told, Blocked, Watched, EndState, KernelState, Registered, end_at, Call, Write, Join, Shut, Read, next_call, Limits, Event, Change, Arrive, State, opening, is_held, OpenConnection, descriptor, told_of, made, change_at, run, ListenerHolds, is_covered, Option, fits, without_name}
-use Rattle.world.specs.Calls.{called}
+use Rattle.world.{proofs.{Prelude.{◌≡◌, ◌∙◌, ℕ, ◌+◌, ◌==◌, Bool, true, false, ◌||◌, nat_lt, List, [], ◌∷◌, length, slice_get, drop, Some, refl, arith, eqb-true, eq-eqb, ltb-false, lt-ltb, and_parts, Name, Listener, Waker, End, same, has, Reply, Descriptors, Sockets, Told, Blocked, Watched, EndState, KernelState, Registered, end_at, Call, Write, Join, Shut, Read, next_call, Limits, Event, Change, Arrive, State, opening, is_held, OpenConnection, descriptor, told_of, made, change_at, run, ListenerHolds, is_covered, Option, fits, without_name}, EndsHeld.{has_with, has_reported, is_reported, has_without, has_polled, or_left, or_right, or_then}, TurnsKept.{Kept, kept_bind, kept_map, kept_when, kept_guard, kept_then, kept_next, kept_at, kept_bind_map, either_of, Happens, Changes, Reports, Vanishes, Connects, Accepts, Polls, Hears, Passes, Delivers, Claims, Calls, Closes, holds_after}}, specs.Calls.called}
 use Rattle.kernel_model.specs.declared.watched.Watched.TheVariants as watched
 use Rattle.kernel_model.specs.Kernel as kernel
-use Rattle.world.proofs.EndsHeld.{has_with, has_reported, is_reported, has_without, has_polled, or_left, or_right, or_then}
-use Rattle.world.proofs.TurnsKept.{Kept, kept_bind, kept_map, kept_when, kept_guard, kept_then, kept_next, kept_at, kept_bind_map, either_of, Happens, Changes, Reports, Vanishes, Connects, Accepts, Polls, Hears, Passes, Delivers, Claims, Calls, Closes, holds_after}
 
 abbrev hears : List Name → Bool
 hears names = has Listener names

@@ -1,12 +1,7 @@
 -- Who has a slot, through every event, and so after any list of events.
 use Rattle.std.proofs.Common.{◌*◌}
-use Rattle.world.proofs.Prelude.{◌≡◌, ◌∙◌, ℕ, ◌+◌, ◌-◌, ◌≤◌, ◌==◌, Bool, true, false, not, ◌&&◌, ◌||◌, List, [], ◌∷◌, ◌++◌, length, slice_get, slice_set, drop, Option, Some, None, is_some, is_none, refl, ap, sym, subst, arith, eq-eqb, lt-ltb, length-append, if◌then◌else◌, and_parts, Descriptors, Sockets, Told, KernelState, Accepted, verdict, is_live, next_call, fresh, Standing, place_of, noted, is_nonempty, Reply, Connection, Ticket, Holder, Nobody, By, Free, Doing, Idle, Tries, Holds, Closed, Retired, Event, SlotState, WorkerState, is_held, is_by_worker, State, OpenConnection, expired, with_note, brings_ticket, with_ticket, posted, opened_place, opened_world, with_place, doing, claimed, heard, closed_world, is_worn, freed, one, total, of_slot, worker_tickets, tickets, ◌≢◌, ◌⊎◌, inl, inr, zero, suc, replicate, eqb-true, option_and_then, cases_eq, Limits, opening, unused, resting, numbers_below, step, run, Throughout, TakesOwnNotes, ClaimsByOwnTicket, TriedOnOwn, EdgesHold, SupportHolds, CoreLaws, Call, told_of, made, replied}
-use Rattle.world.specs.Calls.{called}
-use Rattle.world.specs.Steps.{may_release}
+use Rattle.world.{proofs.{Prelude.{◌≡◌, ◌∙◌, ℕ, ◌+◌, ◌-◌, ◌≤◌, ◌==◌, Bool, true, false, not, ◌&&◌, ◌||◌, List, [], ◌∷◌, ◌++◌, length, slice_get, slice_set, drop, Option, Some, None, is_some, is_none, refl, ap, sym, subst, arith, eq-eqb, lt-ltb, length-append, if◌then◌else◌, and_parts, Descriptors, Sockets, Told, KernelState, Accepted, verdict, is_live, next_call, fresh, Standing, place_of, noted, is_nonempty, Reply, Connection, Ticket, Holder, Nobody, By, Free, Doing, Idle, Tries, Holds, Closed, Retired, Event, SlotState, WorkerState, is_held, is_by_worker, State, OpenConnection, expired, with_note, brings_ticket, with_ticket, posted, opened_place, opened_world, with_place, doing, claimed, heard, closed_world, is_worn, freed, one, total, of_slot, worker_tickets, tickets, ◌≢◌, ◌⊎◌, inl, inr, zero, suc, replicate, eqb-true, option_and_then, cases_eq, Limits, opening, unused, resting, numbers_below, step, run, Throughout, TakesOwnNotes, ClaimsByOwnTicket, TriedOnOwn, EdgesHold, SupportHolds, CoreLaws, Call, told_of, made, replied}, TurnsTotals.{total_push, total_moved, total_none, total_le, total_le_at, total_at, get-set_same, get-set_other, get-replicate, get_beside}, TurnsKept.{Kept, kept_bind, kept_map, kept_when, kept_guard, kept_at, Holding, called_on, hand_after, released, Happens, Accepts, Opens, Delivers, Sweeps, Puts, HandsIn, Pops, Claims, Takes, Calls, Posts, Releases, Expires, Closes, Retires, Frees, happens, holds_after}, TurnsFacts.{Facts, facts, SlotOk, ConnectionOk, Turns, Same, same_self, keep_slots, keep_others, names, worker_right, worker_holds, worker_closes, worker_retires, is_number, right_tickets, is_free, are_own, standing, one_same, one_other, names_of_slot, names_other, names_own, tried_less, replaced, turned, turned_elsewhere, doing_so}}, specs.{Calls.called, Steps.may_release}}
 use Rattle.kernel_model.specs.Kernel as kernel
-use Rattle.world.proofs.TurnsTotals.{total_push, total_moved, total_none, total_le, total_le_at, total_at, get-set_same, get-set_other, get-replicate, get_beside}
-use Rattle.world.proofs.TurnsKept.{Kept, kept_bind, kept_map, kept_when, kept_guard, kept_at, Holding, called_on, hand_after, released, Happens, Accepts, Opens, Delivers, Sweeps, Puts, HandsIn, Pops, Claims, Takes, Calls, Posts, Releases, Expires, Closes, Retires, Frees, happens, holds_after}
-use Rattle.world.proofs.TurnsFacts.{Facts, facts, SlotOk, ConnectionOk, Turns, Same, same_self, keep_slots, keep_others, names, worker_right, worker_holds, worker_closes, worker_retires, is_number, right_tickets, is_free, are_own, standing, one_same, one_other, names_of_slot, names_other, names_own, tried_less, replaced, turned, turned_elsewhere, doing_so}
 
 -- a test that counts holds
 pub sure : (b : Bool) → 1 ≤ one b → b ≡ true

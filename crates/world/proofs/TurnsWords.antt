@@ -1,11 +1,7 @@
 -- Each event moves the claim word of its slot by the steps of its kinds, and makes a ticket where one answers so.
-use Rattle.world.proofs.Prelude.{◌≡◌, ◌≢◌, ◌⊎◌, inl, inr, ◌∙◌, ℕ, zero, suc, ◌+◌, ◌-◌, ◌==◌, Bool, true, false, not, ◌||◌, nat_lt, List, [], ◌∷◌, ◌++◌, length, slice_get, slice_set, Some, None, Result, Ok, Err, IfOk, refl, ap, arith, ne_eqb, eq-eqb, lt-ltb, length-append, if◌then◌else◌, cases_eq, Refusal, NotAllowed, NoMemory, Accepted, Descriptors, Told, Meets, KernelState, is_nonempty, Ticket, Nobody, By, Free, Idle, Tries, Holds, Closed, Retired, Event, SlotState, WorkerState, is_held, State, with_note, brings_ticket, posted, opened_place, heard, step, one, total, of_slot, tickets, word_at, after_all, count_wakes, claims, at_slot, steps, WordMoves, WordsMove, WordsMoveInRuns, StepKind, some_wait, CoreLaws}
+use Rattle.world.proofs.{Prelude.{◌≡◌, ◌≢◌, ◌⊎◌, inl, inr, ◌∙◌, ℕ, zero, suc, ◌+◌, ◌-◌, ◌==◌, Bool, true, false, not, ◌||◌, nat_lt, List, [], ◌∷◌, ◌++◌, length, slice_get, slice_set, Some, None, Result, Ok, Err, IfOk, refl, ap, arith, ne_eqb, eq-eqb, lt-ltb, length-append, if◌then◌else◌, cases_eq, Refusal, NotAllowed, NoMemory, Accepted, Descriptors, Told, Meets, KernelState, is_nonempty, Ticket, Nobody, By, Free, Idle, Tries, Holds, Closed, Retired, Event, SlotState, WorkerState, is_held, State, with_note, brings_ticket, posted, opened_place, heard, step, one, total, of_slot, tickets, word_at, after_all, count_wakes, claims, at_slot, steps, WordMoves, WordsMove, WordsMoveInRuns, StepKind, some_wait, CoreLaws}, TurnsTotals.{total_push, get-set_same, get-set_other}, TurnsKept.{kept_at, hand_after, Happens, Accepts, Opens, Hears, Passes, Delivers, Sweeps, Puts, HandsIn, Pops, Claims, Takes, Calls, Posts, Releases, Expires, Closes, Retires, Frees, happens}, TurnsFacts.{Turns, one_same, one_other, replaced, turned, doing_so}, TurnsRun.{handed, first_free, waiting, held_by, closed_by, turns_after}}
 use Rattle.kernel_model.specs.Kernel as kernel
 use Rattle.claims.specs.Words as words
-use Rattle.world.proofs.TurnsTotals.{total_push, get-set_same, get-set_other}
-use Rattle.world.proofs.TurnsKept.{kept_at, hand_after, Happens, Accepts, Opens, Hears, Passes, Delivers, Sweeps, Puts, HandsIn, Pops, Claims, Takes, Calls, Posts, Releases, Expires, Closes, Retires, Frees, happens}
-use Rattle.world.proofs.TurnsFacts.{Turns, one_same, one_other, replaced, turned, doing_so}
-use Rattle.world.proofs.TurnsRun.{handed, first_free, waiting, held_by, closed_by, turns_after}
 
 -- an event that changes no slot and makes no step
 untouched : {st next : State} {e : Event} → next.slots ≡ st.slots → ((s : ℕ) → steps st e s ≡ []) → ((s : ℕ) → tickets next s ≡ tickets st s) → WordsMove st e next

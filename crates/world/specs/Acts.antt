@@ -1,9 +1,7 @@
 -- How private functions say what a worker's event does. Not part of the promises.
 use Rattle.std.specs.Prelude.{◌≡◌, Bool, [], Option, Some, None, IsSome, IsTrue, Result, Ok, Err}
-use Rattle.kernel_model.specs.declared.refusal.Refusal.{Refusal}
-use Rattle.kernel_model.specs.declared.refusal.Refusal.TheVariants.{NotAllowed, NoMemory}
-use Rattle.world.specs.declared.actors.Doing.{Doing}
-use Rattle.world.specs.Slots.{WorkerState}
+use Rattle.kernel_model.specs.declared.refusal.Refusal.{Refusal, TheVariants.{NotAllowed, NoMemory}}
+use Rattle.world.specs.{declared.actors.Doing.Doing, Slots.WorkerState}
 
 -- a worker that is about this, and has no ticket to put
 abbrev pub busy : Doing → WorkerState

@@ -1,18 +1,11 @@
 -- A connection's next call, made on the kernel, and its reply. Part of the promises.
 use Rattle.std.specs.Prelude.{ℕ, Bool, if◌then◌else◌, List, Option, Some, None, option_map, option_and_then}
-use Rattle.token.specs.declared.side.Side.{Side}
-use Rattle.token.specs.declared.side.Side.TheVariants.{Client, Target}
-use Rattle.kernel_model.specs.declared.reply.Reply.{Reply}
-use Rattle.kernel_model.specs.declared.reply.Reply.TheVariants as reply
-use Rattle.kernel_model.specs.declared.both.Descriptors.{Descriptors}
-use Rattle.kernel_model.specs.Replies.{bytes_read}
-use Rattle.kernel_model.specs.Kernel.{KernelState, Registered, end_at, read, write, join, shut}
-use Rattle.relay_core.specs.declared.call.Call.{Call}
-use Rattle.relay_core.specs.declared.call.Call.TheVariants.{Write, Join, Shut, Read}
-use Rattle.relay_core.specs.Order.{next_call, offer}
-use Rattle.relay_core.specs.Replies.{fits, after}
-use Rattle.relay_core.specs.Replies as answer
+use Rattle.token.specs.declared.side.Side.{Side, TheVariants.{Client, Target}}
+use Rattle.kernel_model.specs.{declared.{reply.Reply.Reply, both.Descriptors.Descriptors}, Replies.bytes_read, Kernel.{KernelState, Registered, end_at, read, write, join, shut}}
+use Rattle.relay_core.specs.{declared.call.Call.{Call, TheVariants.{Write, Join, Shut, Read}}, Order.{next_call, offer}, Replies.{fits, after}}
 use Rattle.world.specs.declared.connection.Connection.{Connection}
+use Rattle.kernel_model.specs.declared.reply.Reply.TheVariants as reply
+use Rattle.relay_core.specs.Replies as answer
 
 -- the value where the test passes, if there is one
 abbrev pub when : {X : Type 0} → Bool → Option X → Option X

@@ -1,23 +1,10 @@
 -- What could move, and what is due to be tried. Part of the promises. Neither depends on a flag that the pair keeps.
-use Rattle.std.specs.Prelude.{ℕ, ◌==◌, Bool, false, not, ◌&&◌, ◌||◌, nat_lt, length, Option, Some, None, slice_get}
-use Rattle.std.specs.List.{list_any}
-use Rattle.token.specs.declared.direction.Direction.{Direction}
-use Rattle.token.specs.declared.direction.Direction.TheVariants.{Up, Down}
-use Rattle.token.specs.declared.name.Name.{Name}
-use Rattle.token.specs.declared.name.Name.TheVariants.{Listener, Waker, End}
-use Rattle.token.specs.Sides.{source, destination}
+use Rattle.std.specs.{Prelude.{ℕ, ◌==◌, Bool, false, not, ◌&&◌, ◌||◌, nat_lt, length, Option, Some, None, slice_get}, List.list_any}
+use Rattle.token.specs.{declared.{direction.Direction.{Direction, TheVariants.{Up, Down}}, name.Name.{Name, TheVariants.{Listener, Waker, End}}}, Sides.{source, destination}}
 use Rattle.flow.specs.Stream.{Stream}
-use Rattle.kernel_model.specs.Ends.{is_readable, is_writable}
-use Rattle.kernel_model.specs.Kernel.{KernelState, Registered, end_at}
-use Rattle.relay_core.specs.Pairs.{stream_of, is_joined, verdict, is_live}
-use Rattle.relay_core.specs.Order.{is_waiting, is_drained}
-use Rattle.world.specs.declared.connection.Connection.{Connection}
-use Rattle.world.specs.declared.actors.Ticket.{Ticket}
-use Rattle.world.specs.declared.actors.Doing.{Doing}
-use Rattle.world.specs.declared.actors.Doing.TheVariants.{Tries}
-use Rattle.world.specs.Slots.{SlotState, WorkerState, is_by_worker}
-use Rattle.world.specs.States.{State}
-use Rattle.world.specs.Calls.{descriptor}
+use Rattle.kernel_model.specs.{Ends.{is_readable, is_writable}, Kernel.{KernelState, Registered, end_at}}
+use Rattle.relay_core.specs.{Pairs.{stream_of, is_joined, verdict, is_live}, Order.{is_waiting, is_drained}}
+use Rattle.world.specs.{declared.{connection.Connection.Connection, actors.{Ticket.Ticket, Doing.{Doing, TheVariants.Tries}}}, Slots.{SlotState, WorkerState, is_by_worker}, States.State, Calls.descriptor}
 
 -- an open end from which a read would not block
 abbrev pub gives : Option Registered → Bool

@@ -1,44 +1,16 @@
 -- The headline: what holds after every run of events, clause by clause. Part of the promises. No definition here
 -- depends on how the relay achieves it; what the clause about due connections depends on is in `Support`.
-use Rattle.std.specs.Prelude.{◌≡◌, ℕ, ◌+◌, ◌≤◌, ◌==◌, Bool, true, false, ◌&&◌, ◌||◌, if◌then◌else◌, ◌⊎◌, List, [], ◌∷◌, ◌++◌, Option, Some, None, IsSome, slice_get, option_map, option_and_then, unwrap_or}
-use Rattle.std.specs.List.{list_all}
-use Rattle.token.specs.declared.kind.Kind.{Kind}
-use Rattle.token.specs.declared.side.Side.{Side}
-use Rattle.token.specs.declared.side.Side.TheVariants.{Client, Target}
-use Rattle.token.specs.declared.direction.Direction.{Direction}
-use Rattle.token.specs.declared.direction.Direction.TheVariants.{Up, Down}
-use Rattle.token.specs.declared.name.Name.TheVariants as name
-use Rattle.token.specs.Sides.{source, destination, side_number}
+use Rattle.std.specs.{Prelude.{◌≡◌, ℕ, ◌+◌, ◌≤◌, ◌==◌, Bool, true, false, ◌&&◌, ◌||◌, if◌then◌else◌, ◌⊎◌, List, [], ◌∷◌, ◌++◌, Option, Some, None, IsSome, slice_get, option_map, option_and_then, unwrap_or}, List.list_all}
+use Rattle.token.specs.{declared.{kind.Kind.Kind, side.Side.{Side, TheVariants.{Client, Target}}, direction.Direction.{Direction, TheVariants.{Up, Down}}}, Sides.{source, destination, side_number}}
 use Rattle.flow.specs.Stream.{Stream}
-use Rattle.kernel_model.specs.declared.both.Sockets.{Sockets}
-use Rattle.kernel_model.specs.declared.reply.Reply.{Reply}
+use Rattle.kernel_model.specs.{declared.{both.Sockets.Sockets, reply.Reply.Reply}, Ends.EndState, Kernel.{Registered, end_at}, Names.has}
+use Rattle.relay_core.specs.{declared.{call.Call.Call, verdict.{Fault.{Fault, TheVariants.{Broken, Idle}}, Verdict.TheVariants.{Done, Failed}}}, Calls.{side_of, kind_of}, Pairs.{stream_of, verdict}, Order.next_call}
+use Rattle.world.specs.{declared.{connection.Connection.Connection, actors.Doing.{Doing, TheVariants.{Tries, Holds}}, event.{Event.Event, Change.TheVariants.Arrive}, limits.Limits.Limits, past.Past.Past}, Slots.{SlotState, WorkerState}, States.{State, opening}, Calls.descriptor, Steps.{step, connection_at}, Runs.run, Due.{movable, due}}
+use Rattle.token.specs.declared.name.Name.TheVariants as name
 use Rattle.kernel_model.specs.declared.reply.Reply.TheVariants as reply
-use Rattle.kernel_model.specs.Ends.{EndState}
-use Rattle.kernel_model.specs.Kernel.{Registered, end_at}
-use Rattle.kernel_model.specs.Names.{has}
-use Rattle.relay_core.specs.declared.call.Call.{Call}
-use Rattle.relay_core.specs.declared.verdict.Fault.{Fault}
-use Rattle.relay_core.specs.declared.verdict.Fault.TheVariants.{Broken, Idle}
-use Rattle.relay_core.specs.declared.verdict.Verdict.TheVariants.{Done, Failed}
-use Rattle.relay_core.specs.Calls.{side_of, kind_of}
-use Rattle.relay_core.specs.Pairs.{stream_of, verdict}
-use Rattle.relay_core.specs.Order.{next_call}
-use Rattle.world.specs.declared.connection.Connection.{Connection}
-use Rattle.world.specs.declared.actors.Doing.{Doing}
-use Rattle.world.specs.declared.actors.Doing.TheVariants.{Tries, Holds}
-use Rattle.world.specs.declared.event.Event.{Event}
 use Rattle.world.specs.declared.event.Event.TheVariants as event
 use Rattle.world.specs.declared.event.Act.TheVariants as act
-use Rattle.world.specs.declared.event.Change.TheVariants.{Arrive}
 use Rattle.world.specs.declared.event.Polling.TheVariants as polling
-use Rattle.world.specs.declared.limits.Limits.{Limits}
-use Rattle.world.specs.declared.past.Past.{Past}
-use Rattle.world.specs.Slots.{SlotState, WorkerState}
-use Rattle.world.specs.States.{State, opening}
-use Rattle.world.specs.Calls.{descriptor}
-use Rattle.world.specs.Steps.{step, connection_at}
-use Rattle.world.specs.Runs.{run}
-use Rattle.world.specs.Due.{movable, due}
 
 -- the open end of one side of a connection
 abbrev pub end_of : State → Connection → Side → Option Registered

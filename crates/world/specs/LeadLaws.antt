@@ -1,10 +1,6 @@
 -- What holds of each lead's array. Only for proofs.
-use Rattle.std.proofs.Common.{◌≡◌, ◌≤◌, ℕ, ◌+◌, ◌-◌, List, ◌++◌, length, take, drop, refl, sym, arith, length-append, ap}
-use Rattle.std.specs.Prelude.{replicate}
-use Rattle.std.proofs.lemmas.List.{length-replicate, length-take-le, drop-replicate}
-use Rattle.std.proofs.Math.Seq.{take-append_seam}
-use Rattle.world.specs.Leads.{IsPadded, padded}
-use Rattle.world.specs.declared.lead.Lead.TheInside.{Inside}
+use Rattle.std.{proofs.{Common.{◌≡◌, ◌≤◌, ℕ, ◌+◌, ◌-◌, List, ◌++◌, length, take, drop, refl, sym, arith, length-append, ap}, lemmas.List.{length-replicate, length-take-le, drop-replicate}, Math.Seq.take-append_seam}, specs.Prelude.replicate}
+use Rattle.world.specs.{Leads.{IsPadded, padded}, declared.lead.Lead.TheInside.Inside}
 
 inside : (n m : ℕ) (xs ys : List ℕ) → n ≡ m → xs ≡ ys → ◌≡◌ {A = Inside} (record { bytes = xs; len = n }) (record { bytes = ys; len = m })
 inside n m xs ys e f = rw (e, f) refl

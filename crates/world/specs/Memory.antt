@@ -1,20 +1,13 @@
 -- The events for which memory may run out: those that make a list longer, if they are allowed. Part of the promises.
 -- Any other event happens if it is allowed.
 use Rattle.std.specs.Prelude.{ℕ, Bool, true, false, ◌||◌, nat_lt, length, Option, Some, None, slice_get}
-use Rattle.token.specs.declared.side.Side.{Side}
-use Rattle.token.specs.declared.name.Name.{Name}
-use Rattle.token.specs.declared.name.Name.TheVariants as name
+use Rattle.token.specs.declared.{side.Side.Side, name.Name.Name}
 use Rattle.kernel_model.specs.Replies.{needs_memory}
-use Rattle.world.specs.declared.event.Event.{Event}
+use Rattle.world.specs.{declared.event.{Event.Event, Change.{Change, TheVariants.Arrive}, Polling.Polling, Act.Act}, States.{State, is_entry}, Steps.{batched, listen, network, spurious, worked}}
+use Rattle.token.specs.declared.name.Name.TheVariants as name
 use Rattle.world.specs.declared.event.Event.TheVariants as event
-use Rattle.world.specs.declared.event.Change.{Change}
-use Rattle.world.specs.declared.event.Change.TheVariants.{Arrive}
-use Rattle.world.specs.declared.event.Polling.{Polling}
 use Rattle.world.specs.declared.event.Polling.TheVariants as polling
-use Rattle.world.specs.declared.event.Act.{Act}
 use Rattle.world.specs.declared.event.Act.TheVariants as act
-use Rattle.world.specs.States.{State, is_entry}
-use Rattle.world.specs.Steps.{batched, listen, network, spurious, worked}
 
 -- a name that is delivered becomes a note if it is that of an end, with the generation of the table
 abbrev pub becomes_note : State → Option Name → Bool

@@ -1,12 +1,7 @@
 -- A list of events, one after the other, and why one of them fails. Part of the promises.
 use Rattle.std.specs.Prelude.{◌≡◌, ℕ, ◌⊎◌, List, [], ◌∷◌, take, Option, Some, None, IsSome, IsTrue, slice_get, option_and_then}
-use Rattle.kernel_model.specs.declared.refusal.Refusal.{Refusal}
-use Rattle.kernel_model.specs.declared.refusal.Refusal.TheVariants.{NotAllowed, NoMemory}
-use Rattle.world.specs.declared.limits.Limits.{Limits}
-use Rattle.world.specs.declared.event.Event.{Event}
-use Rattle.world.specs.States.{State, opening}
-use Rattle.world.specs.Steps.{step}
-use Rattle.world.specs.Memory.{may_allocate}
+use Rattle.kernel_model.specs.declared.refusal.Refusal.{Refusal, TheVariants.{NotAllowed, NoMemory}}
+use Rattle.world.specs.{declared.{limits.Limits.Limits, event.Event.Event}, States.{State, opening}, Steps.step, Memory.may_allocate}
 
 -- the world after these events; undefined from the first on that is not allowed
 abbrev pub run : State → List Event → Option State

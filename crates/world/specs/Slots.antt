@@ -1,10 +1,6 @@
 -- What a slot and a worker are. Part of the promises.
 use Rattle.std.specs.Prelude.{ℕ, Bool, true, false, List, Option}
-use Rattle.world.specs.declared.connection.Connection.{Connection}
-use Rattle.world.specs.declared.actors.Ticket.{Ticket}
-use Rattle.world.specs.declared.actors.Holder.{Holder}
-use Rattle.world.specs.declared.actors.Holder.TheVariants.{Nobody, By, Free}
-use Rattle.world.specs.declared.actors.Doing.{Doing}
+use Rattle.world.specs.declared.{connection.Connection.Connection, actors.{Ticket.Ticket, Holder.{Holder, TheVariants.{Nobody, By, Free}}, Doing.Doing}}
 
 -- A place for one connection. `generation` is that of the connection that was opened in it last. Each note is a
 -- report that was delivered, by the generation that it was for

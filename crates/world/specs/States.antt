@@ -1,14 +1,8 @@
 -- The state of the whole machine, its limits, and how it begins. Part of the promises.
 use Rattle.std.specs.Prelude.{ℕ, suc, zero, ◌==◌, ◌<◌, ◌≤◌, Bool, true, false, List, [], ◌∷◌, ◌++◌, replicate, Option, Some, None}
-use Rattle.token.specs.declared.name.Name.{Name}
-use Rattle.token.specs.Names.{last_generation}
+use Rattle.token.specs.{declared.name.Name.Name, Names.last_generation}
 use Rattle.kernel_model.specs.Kernel.{KernelState, idle}
-use Rattle.world.specs.declared.limits.Limits.{Limits}
-use Rattle.world.specs.declared.actors.Ticket.{Ticket}
-use Rattle.world.specs.declared.actors.Holder.TheVariants.{Free}
-use Rattle.world.specs.declared.actors.Doing.TheVariants.{Idle}
-use Rattle.world.specs.declared.past.Past.{Past}
-use Rattle.world.specs.Slots.{SlotState, WorkerState}
+use Rattle.world.specs.{declared.{limits.Limits.Limits, actors.{Ticket.Ticket, Holder.TheVariants.Free, Doing.TheVariants.Idle}, past.Past.Past}, Slots.{SlotState, WorkerState}}
 
 -- `second` is the second that it is; nothing but the clock changes it. `kernel` has the ends, the readiness queue and
 -- the listener's backlog. The poller has `flag`, which says that an accept is worth a try, perhaps an `accepted`

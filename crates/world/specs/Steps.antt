@@ -1,47 +1,18 @@
 -- What one event does to the machine. Part of the promises. Each choice is part of the event, so a step has one result
 -- or, if the event is not allowed, none.
-use Rattle.std.specs.Prelude.{ℕ, ◌+◌, ◌-◌, ◌==◌, Bool, true, false, not, ◌&&◌, ◌||◌, nat_lt, nat_le, if◌then◌else◌, List, [], ◌∷◌, ◌++◌, length, slice_get, slice_set, drop, Option, Some, None, option_map, option_and_then}
-use Rattle.std.specs.Option.{is_none}
-use Rattle.token.specs.declared.side.Side.{Side}
-use Rattle.token.specs.declared.side.Side.TheVariants.{Client, Target}
-use Rattle.token.specs.declared.name.Name.{Name}
+use Rattle.std.specs.{Prelude.{ℕ, ◌+◌, ◌-◌, ◌==◌, Bool, true, false, not, ◌&&◌, ◌||◌, nat_lt, nat_le, if◌then◌else◌, List, [], ◌∷◌, ◌++◌, length, slice_get, slice_set, drop, Option, Some, None, option_map, option_and_then}, Option.is_none}
+use Rattle.token.specs.{declared.{side.Side.{Side, TheVariants.{Client, Target}}, name.Name.Name}, Names.{EndName, last_generation}}
+use Rattle.kernel_model.specs.{declared.{reply.Reply.Reply, watched.Watched.Watched, accepting.Accepting.{Accepting, TheVariants.{Accepted, Blocked, Again, Starved}}, both.{Descriptors.Descriptors, Sockets.Sockets}}, Outcome.{guard, Told}, Ends.is_nonempty, Kernel.KernelState}
+use Rattle.relay_core.specs.{Pairs.{fresh, noted, verdict, is_live}, Order.next_call, Idle.{is_overdue, timed_out}}
+use Rattle.world.specs.{declared.{connection.Connection.Connection, limits.Limits.Limits, actors.{Ticket.Ticket, Holder.TheVariants.{Nobody, By, Free as IsFree}, Doing.{Doing, TheVariants.{Idle, Tries, Holds, Closed, Retired}}}, event.{Event.Event, Change.{Change, TheVariants.{Arrive, Fin, Reset, Room}}, Reported.Reported, Listening.Listening, Polling.Polling, Act.Act}}, Slots.{SlotState, WorkerState, is_held}, States.State, Calls.{when, OpenConnection, descriptor, called}}
 use Rattle.token.specs.declared.name.Name.TheVariants as name
-use Rattle.token.specs.Names.{EndName, last_generation}
-use Rattle.kernel_model.specs.declared.reply.Reply.{Reply}
-use Rattle.kernel_model.specs.declared.watched.Watched.{Watched}
 use Rattle.kernel_model.specs.declared.watched.Watched.TheVariants as watched
-use Rattle.kernel_model.specs.declared.accepting.Accepting.{Accepting}
-use Rattle.kernel_model.specs.declared.accepting.Accepting.TheVariants.{Accepted, Blocked, Again, Starved}
-use Rattle.kernel_model.specs.declared.both.Descriptors.{Descriptors}
-use Rattle.kernel_model.specs.declared.both.Sockets.{Sockets}
-use Rattle.kernel_model.specs.Outcome.{guard, Told}
-use Rattle.kernel_model.specs.Ends.{is_nonempty}
 use Rattle.kernel_model.specs.Kernel as kernel
-use Rattle.kernel_model.specs.Kernel.{KernelState}
-use Rattle.relay_core.specs.Pairs.{fresh, noted, verdict, is_live}
-use Rattle.relay_core.specs.Order.{next_call}
-use Rattle.relay_core.specs.Idle.{is_overdue, timed_out}
-use Rattle.world.specs.declared.connection.Connection.{Connection}
-use Rattle.world.specs.declared.limits.Limits.{Limits}
-use Rattle.world.specs.declared.actors.Ticket.{Ticket}
-use Rattle.world.specs.declared.actors.Holder.TheVariants.{Nobody, By, Free as IsFree}
-use Rattle.world.specs.declared.actors.Doing.{Doing}
-use Rattle.world.specs.declared.actors.Doing.TheVariants.{Idle, Tries, Holds, Closed, Retired}
-use Rattle.world.specs.declared.event.Event.{Event}
 use Rattle.world.specs.declared.event.Event.TheVariants as event
-use Rattle.world.specs.declared.event.Change.{Change}
-use Rattle.world.specs.declared.event.Change.TheVariants.{Arrive, Fin, Reset, Room}
-use Rattle.world.specs.declared.event.Reported.{Reported}
 use Rattle.world.specs.declared.event.Reported.TheVariants as reported
-use Rattle.world.specs.declared.event.Listening.{Listening}
 use Rattle.world.specs.declared.event.Listening.TheVariants as listening
-use Rattle.world.specs.declared.event.Polling.{Polling}
 use Rattle.world.specs.declared.event.Polling.TheVariants as polling
-use Rattle.world.specs.declared.event.Act.{Act}
 use Rattle.world.specs.declared.event.Act.TheVariants as act
-use Rattle.world.specs.Slots.{SlotState, WorkerState, is_held}
-use Rattle.world.specs.States.{State}
-use Rattle.world.specs.Calls.{when, OpenConnection, descriptor, called}
 
 -- the connection in a slot
 abbrev pub connection_at : State → ℕ → Option Connection

@@ -1,23 +1,11 @@
 -- What "whatever could move is due" depends on: where the tickets are, that a connection at rest has no call to make,
 -- the poller's table, and what covers each flag that is down. Promised too, but the headline can be read without it.
 use Rattle.std.specs.Prelude.{◌≡◌, ℕ, ◌+◌, ◌==◌, Bool, true, false, not, ◌&&◌, ◌||◌, List, [], ◌∷◌, Some, None, slice_get}
-use Rattle.token.specs.declared.side.Side.{Side}
+use Rattle.token.specs.{declared.side.Side.Side, Names.EndName}
+use Rattle.kernel_model.specs.{Ends.{EndState, is_nonempty, is_readable, is_writable}, Kernel.Registered, Names.has}
+use Rattle.relay_core.specs.{declared.flags.Flags.Flags, Pairs.flags_of, Order.next_call}
+use Rattle.world.specs.{declared.{connection.Connection.Connection, actors.{Ticket.Ticket, Holder.TheVariants.Nobody, Doing.{Doing, TheVariants.Tries}}}, Slots.{SlotState, WorkerState, is_held}, States.State, Headline.end_of}
 use Rattle.token.specs.declared.name.Name.TheVariants as name
-use Rattle.token.specs.Names.{EndName}
-use Rattle.kernel_model.specs.Ends.{EndState, is_nonempty, is_readable, is_writable}
-use Rattle.kernel_model.specs.Kernel.{Registered}
-use Rattle.kernel_model.specs.Names.{has}
-use Rattle.relay_core.specs.declared.flags.Flags.{Flags}
-use Rattle.relay_core.specs.Pairs.{flags_of}
-use Rattle.relay_core.specs.Order.{next_call}
-use Rattle.world.specs.declared.connection.Connection.{Connection}
-use Rattle.world.specs.declared.actors.Ticket.{Ticket}
-use Rattle.world.specs.declared.actors.Holder.TheVariants.{Nobody}
-use Rattle.world.specs.declared.actors.Doing.{Doing}
-use Rattle.world.specs.declared.actors.Doing.TheVariants.{Tries}
-use Rattle.world.specs.Slots.{SlotState, WorkerState, is_held}
-use Rattle.world.specs.States.{State}
-use Rattle.world.specs.Headline.{end_of}
 
 abbrev pub one : Bool → ℕ
 one true = 1

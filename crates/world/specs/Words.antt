@@ -1,25 +1,13 @@
 -- The claim word of a slot. Part of the promises, for the clause `words` of `World::step` alone. It has the word of a
 -- place, and which steps an event makes. What a step makes of a word and answers is defined in `claims`.
 use Rattle.std.specs.Prelude.{◌≡◌, ℕ, ◌+◌, ◌==◌, Bool, true, false, if◌then◌else◌, List, [], ◌∷◌, length, slice_get, Option, Some, None}
-use Rattle.claims.specs.declared.view.Exchange.{Exchange}
-use Rattle.claims.specs.declared.view.Exchange.TheVariants.{Post, Release}
-use Rattle.claims.specs.Words.{WordState, StepKind, post, claim, take, release, retire, adopt, word_of, word_after, made}
+use Rattle.claims.specs.{declared.view.Exchange.{Exchange, TheVariants.{Post, Release}}, Words.{WordState, StepKind, post, claim, take, release, retire, adopt, word_of, word_after, made}}
 use Rattle.token.specs.declared.name.Name.{Name}
+use Rattle.world.specs.{declared.{actors.{Holder.{Holder, TheVariants.{Nobody, By, Free}}, Doing.{Doing, TheVariants.{Tries, Holds, Closed}}}, event.{Event.Event, Act.Act}, limits.Limits.Limits}, Slots.{SlotState, WorkerState, is_held}, States.{State, is_entry, opening}, Runs.run, Support.{one, tickets}}
 use Rattle.token.specs.declared.name.Name.TheVariants as name
-use Rattle.world.specs.declared.actors.Holder.{Holder}
-use Rattle.world.specs.declared.actors.Holder.TheVariants.{Nobody, By, Free}
-use Rattle.world.specs.declared.actors.Doing.{Doing}
-use Rattle.world.specs.declared.actors.Doing.TheVariants.{Tries, Holds, Closed}
-use Rattle.world.specs.declared.event.Event.{Event}
 use Rattle.world.specs.declared.event.Event.TheVariants as event
 use Rattle.world.specs.declared.event.Polling.TheVariants as polling
-use Rattle.world.specs.declared.event.Act.{Act}
 use Rattle.world.specs.declared.event.Act.TheVariants as act
-use Rattle.world.specs.declared.limits.Limits.{Limits}
-use Rattle.world.specs.Slots.{SlotState, WorkerState, is_held}
-use Rattle.world.specs.States.{State, is_entry, opening}
-use Rattle.world.specs.Runs.{run}
-use Rattle.world.specs.Support.{one, tickets}
 
 abbrev pub is_free : Holder → Bool
 is_free Nobody = false

@@ -1,6 +1,5 @@
 ghost use Rattle.std.specs.Prelude.{◌≡◌, Some, IsNone, IsSome, ◌↔◌, option_map};
-ghost use Rattle.relay_core.specs.Order.{next_call};
-ghost use Rattle.relay_core.specs.Replies.{reply_of};
+ghost use Rattle.relay_core.specs.{Order.next_call, Replies.reply_of};
 ghost use Rattle.world.specs.Calls.{told_of, plain};
 
 use crate::working::is_live;
@@ -18,12 +17,9 @@ pub struct Connection {
 #[tactic(auto, using(std::proofs::lemmas::Option::gets, std::proofs::lemmas::Grind::common_steps))]
 impl Connection {
     ghost use Rattle.std.specs.Prelude.{◌≡◌, if◌then◌else◌, IsErrOf, IsTrue};
-    ghost use Rattle.relay_core.specs.Pairs.{noted};
-    ghost use Rattle.kernel_model.specs.Outcome.{Meets, MeetsAlways};
-    ghost use Rattle.kernel_model.specs.Replies.{needs_memory};
-    ghost use Rattle.relay_core.specs.Replies.{reply_of};
-    ghost use Rattle.world.specs.Calls.{descriptor, OpenConnection, made, replied, called};
-    ghost use Rattle.world.specs.Steps.{may_release, expired};
+    ghost use Rattle.relay_core.specs.{Pairs.noted, Replies.reply_of};
+    ghost use Rattle.kernel_model.specs.{Outcome.{Meets, MeetsAlways}, Replies.needs_memory};
+    ghost use Rattle.world.specs.{Calls.{descriptor, OpenConnection, made, replied, called}, Steps.{may_release, expired}};
 
     /// The descriptor of one side's end.
     pub fn descriptor(&self, side: Side) -> usize

@@ -1,9 +1,6 @@
 // What could move, and what is due to be tried.
-ghost use Rattle.std.specs.Prelude.{◌≡◌};
-ghost use Rattle.std.specs.List.{list_any};
-ghost use Rattle.std.specs.Option.{option_copied};
-ghost use Rattle.relay_core.specs.Pairs.{stream_of};
-ghost use Rattle.relay_core.specs.Order.{is_waiting, is_drained};
+ghost use Rattle.std.specs.{Prelude.◌≡◌, List.list_any, Option.option_copied};
+ghost use Rattle.relay_core.specs.{Pairs.stream_of, Order.{is_waiting, is_drained}};
 ghost use Rattle.world.specs.Due.{gives, takes, has_place, flows, moves, is_report, is_ticket, tries, has_ticket, is_reported, is_ticketed, movable, due};
 
 use crate::actors::{Doing, Holder, Ticket};

@@ -1,8 +1,7 @@
 //! What holds for every run. The functions do nothing: the contract of each is the law that it is named after, so
 //! that the layers above can use it.
 
-ghost use Rattle.world.specs.CoreLaws.{CoreLaws};
-ghost use Rattle.world.specs.Headline.{EveryRunHolds};
+ghost use Rattle.world.specs.{CoreLaws.CoreLaws, Headline.EveryRunHolds};
 
 use relay_core::laws;
 

@@ -1,9 +1,7 @@
 // What happens outside the relay: time, the network's changes, reports, and connections at the listener.
 ghost use Rattle.std.specs.Prelude.{◌||◌, IsErrOf, IsTrue};
-ghost use Rattle.kernel_model.specs.Outcome.{Meets};
-ghost use Rattle.kernel_model.specs.Kernel.{queues_more};
-ghost use Rattle.world.specs.Memory.{brings_bytes};
-ghost use Rattle.world.specs.Steps.{change_at};
+ghost use Rattle.kernel_model.specs.{Outcome.Meets, Kernel.queues_more};
+ghost use Rattle.world.specs.{Memory.brings_bytes, Steps.change_at};
 
 use crate::connection::Connection;
 use crate::event::{Change, Listening, Reported};
@@ -14,11 +12,9 @@ use token::Side;
 
 #[tactic(auto, using(std::proofs::lemmas::Option::gets, std::proofs::lemmas::Grind::common_steps))]
 impl World {
-    ghost use Rattle.std.specs.Prelude.{◌≡◌, IsErrOf, IsTrue};
-    ghost use Rattle.std.specs.Option.{option_copied};
+    ghost use Rattle.std.specs.{Prelude.{◌≡◌, IsErrOf, IsTrue}, Option.option_copied};
     ghost use Rattle.kernel_model.specs.Outcome.{Meets, MeetsAlways};
-    ghost use Rattle.world.specs.Memory.{grows, network_allocates, queue_length};
-    ghost use Rattle.world.specs.Steps.{connection_at, tick, network, watched_of, spurious, vanish, may_accept, listen};
+    ghost use Rattle.world.specs.{Memory.{grows, network_allocates, queue_length}, Steps.{connection_at, tick, network, watched_of, spurious, vanish, may_accept, listen}};
 
     /// The connection in a slot.
     pub fn connection(&self, slot: usize) -> Option<&Connection>

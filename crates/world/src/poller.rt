@@ -15,12 +15,9 @@ use token::{MAX_GENERATION, Name, Side, Token};
 #[tactic(auto, using(std::proofs::lemmas::Option::gets, std::proofs::lemmas::Grind::common_steps))]
 impl World {
     ghost use Rattle.std.specs.Prelude.{◌≡◌, ◌<◌, length, slice_get, Some, IfOk, IsErrOf, IsTrue};
-    ghost use Rattle.kernel_model.specs.Outcome.{Meets};
-    ghost use Rattle.kernel_model.specs.Kernel.{open_both};
+    ghost use Rattle.kernel_model.specs.{Outcome.Meets, Kernel.open_both};
     ghost use Rattle.relay_core.specs.Pairs.{fresh};
-    ghost use Rattle.world.specs.Memory.{becomes_note, batch_length, grows, polling_allocates};
-    ghost use Rattle.world.specs.States.{is_entry};
-    ghost use Rattle.world.specs.Steps.{opened_world, opening_of, delivered, delivered_at, deliver, sweep, batched, put_by_poller, post_at, polled};
+    ghost use Rattle.world.specs.{Memory.{becomes_note, batch_length, grows, polling_allocates}, States.is_entry, Steps.{opened_world, opening_of, delivered, delivered_at, deliver, sweep, batched, put_by_poller, post_at, polled}};
 
     /// The poller does something.
     pub(crate) fn poll(&mut self, event: &Polling) -> Result<(), Refusal>

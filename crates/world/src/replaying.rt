@@ -1,9 +1,6 @@
 // A list of events from the opening world on.
 ghost use Rattle.std.specs.Prelude.{◌≡◌, IfOk, IfErr, Some};
-ghost use Rattle.world.specs.States.{IsWithinLimits, opening};
-ghost use Rattle.world.specs.Runs.{run, Fails};
-ghost use Rattle.world.specs.Headline.{BytesAndEndsHold, ClosedHold, DueHolds, FailuresHold, ListenerHolds, Throughout, TriedOnOwn};
-ghost use Rattle.world.specs.Support.{SupportHolds};
+ghost use Rattle.world.specs.{States.{IsWithinLimits, opening}, Runs.{run, Fails}, Headline.{BytesAndEndsHold, ClosedHold, DueHolds, FailuresHold, ListenerHolds, Throughout, TriedOnOwn}, Support.SupportHolds};
 
 use crate::event::Event;
 use crate::laws::rests_on_core;

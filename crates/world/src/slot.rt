@@ -24,14 +24,9 @@ impl Model for Slot {
 
 #[tactic(auto, using(std::proofs::lemmas::Option::gets, std::proofs::lemmas::Grind::common_steps))]
 impl Slot {
-    ghost use Rattle.std.specs.Prelude.{◌≡◌, OnOk, OnErr, IsErrOf, IsTrue, Some, None};
-    ghost use Rattle.std.specs.Option.{option_copied};
-    ghost use Rattle.kernel_model.specs.Ends.{is_nonempty};
-    ghost use Rattle.kernel_model.specs.Outcome.{Meets, MeetsAlways, Tells};
-    ghost use Rattle.kernel_model.specs.Replies.{needs_memory};
-    ghost use Rattle.world.specs.Slots.{is_held};
-    ghost use Rattle.world.specs.States.{unused};
-    ghost use Rattle.world.specs.Steps.{with_note, brings_ticket, noted_slot, expired_place, OpenSlot, slot_call};
+    ghost use Rattle.std.specs.{Prelude.{◌≡◌, OnOk, OnErr, IsErrOf, IsTrue, Some, None}, Option.option_copied};
+    ghost use Rattle.kernel_model.specs.{Ends.is_nonempty, Outcome.{Meets, MeetsAlways, Tells}, Replies.needs_memory};
+    ghost use Rattle.world.specs.{Slots.is_held, States.unused, Steps.{with_note, brings_ticket, noted_slot, expired_place, OpenSlot, slot_call}};
 
     /// A slot without a connection.
     pub fn new(alloc: Global, generation: u64) -> Slot

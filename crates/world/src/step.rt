@@ -7,10 +7,7 @@ use kernel_model::Refusal;
 impl World {
     ghost use Rattle.kernel_model.specs.Outcome.{Meets};
     ghost use Rattle.std.specs.Prelude.{◌≡◌, Some, IfOk, IfErr, OnOk, IsErrOf, IsTrue};
-    ghost use Rattle.world.specs.Memory.{may_allocate};
-    ghost use Rattle.world.specs.Runs.{run, FailsAt};
-    ghost use Rattle.world.specs.Steps.{step};
-    ghost use Rattle.world.specs.Words.{WordsMoveInRuns};
+    ghost use Rattle.world.specs.{Memory.may_allocate, Runs.{run, FailsAt}, Steps.step, Words.WordsMoveInRuns};
 
     /// One event happens.
     ///

@@ -13,10 +13,8 @@ pub struct Worker {
 }
 
 impl Model for Worker {
-    ghost use Rattle.std.specs.Prelude.{◌≡◌, ◌⊎◌, None};
-    ghost use Rattle.std.specs.Option.{option_to_list};
-    ghost use Rattle.world.specs.declared.actors.Doing.TheVariants.{Idle};
-    ghost use Rattle.world.specs.Slots.{WorkerState};
+    ghost use Rattle.std.specs.{Prelude.{◌≡◌, ◌⊎◌, None}, Option.option_to_list};
+    ghost use Rattle.world.specs.{declared.actors.Doing.TheVariants.Idle, Slots.WorkerState};
 
     ghost Value = { WorkerState };
 
@@ -27,10 +25,8 @@ impl Model for Worker {
 
 #[tactic(auto, using(std::proofs::lemmas::Option::gets, std::proofs::lemmas::Grind::common_steps))]
 impl Worker {
-    ghost use Rattle.std.specs.Prelude.{◌≡◌, ◌==◌, ◌⊎◌, [], length};
-    ghost use Rattle.std.specs.Option.{option_to_list};
-    ghost use Rattle.world.specs.States.{resting};
-    ghost use Rattle.world.specs.Steps.{with_ticket};
+    ghost use Rattle.std.specs.{Prelude.{◌≡◌, ◌==◌, ◌⊎◌, [], length}, Option.option_to_list};
+    ghost use Rattle.world.specs.{States.resting, Steps.with_ticket};
 
     /// A worker with nothing to do.
     pub fn new() -> Worker

@@ -23,12 +23,8 @@ pub fn is_live(verdict: Verdict) -> bool
 #[tactic(auto, using(std::proofs::lemmas::Option::gets, std::proofs::lemmas::Grind::common_steps))]
 impl World {
     ghost use Rattle.std.specs.Prelude.{◌≡◌, ◌<◌, length, slice_get, option_map, Some, IsErrOf, IsTrue};
-    ghost use Rattle.kernel_model.specs.Outcome.{Meets, MeetsAlways};
-    ghost use Rattle.kernel_model.specs.Replies.{needs_memory};
-    ghost use Rattle.world.specs.Acts.{busy, MeetsIn};
-    ghost use Rattle.world.specs.Memory.{act_allocates, grows, free_length};
-    ghost use Rattle.world.specs.Slots.{WorkerState};
-    ghost use Rattle.world.specs.Steps.{of_worker, claim, take, call, post, release, expire, close, retire, free, pop, worked};
+    ghost use Rattle.kernel_model.specs.{Outcome.{Meets, MeetsAlways}, Replies.needs_memory};
+    ghost use Rattle.world.specs.{Acts.{busy, MeetsIn}, Memory.{act_allocates, grows, free_length}, Slots.WorkerState, Steps.{of_worker, claim, take, call, post, release, expire, close, retire, free, pop, worked}};
 
     /// A worker does something.
     #[tactic(auto, using(std::proofs::lemmas::Option::gets, std::proofs::lemmas::Grind::common_steps))]

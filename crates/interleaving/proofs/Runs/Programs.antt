@@ -1,21 +1,12 @@
 -- What a thread does, act by act, where no opening is half way: a turn, the first act of an opening, and how both go on.
 pub mod Frames
-pub use Frames.*
-pub use Rattle.std.proofs.Common.{◌-◌, append_assoc, eq-eqb, leb-true, unwrap_or}
-pub use Rattle.std.proofs.lemmas.List.{set-set}
+pub use Rattle.std.proofs.{Common.{◌-◌, append_assoc, eq-eqb, leb-true, unwrap_or}, lemmas.List.set-set}
 pub use Rattle.token.specs.declared.side.Side.TheVariants.{Client, Target}
 pub use Rattle.kernel_model.specs.Outcome.{Told}
-pub use Rattle.relay_core.specs.Pairs.{fresh, noted}
-pub use Rattle.relay_core.specs.Replies.{fits}
-pub use Rattle.relay_core.specs.Idle.{is_overdue, expired}
-pub use Rattle.world.specs.declared.actors.Holder.{Holder}
-pub use Rattle.world.specs.Calls.{OpenConnection, called, told_of, made}
-pub use Rattle.world.specs.Steps.{is_worn, may_release, token_of}
-pub use Rattle.world.specs.Support.{worker_tickets}
-pub use Rattle.world.proofs.TurnsFacts.{Facts, is_shaped}
-pub use Rattle.world.proofs.TurnsRun.{names_it}
-pub use Rattle.world.proofs.TurnsTotals.{total_at}
+pub use Rattle.relay_core.specs.{Pairs.{fresh, noted}, Replies.fits, Idle.{is_overdue, expired}}
+pub use Rattle.world.{specs.{declared.actors.Holder.Holder, Calls.{OpenConnection, called, told_of, made}, Steps.{is_worn, may_release, token_of}, Support.worker_tickets}, proofs.{TurnsFacts.{Facts, is_shaped}, TurnsRun.names_it, TurnsTotals.total_at}}
 pub use Rattle.interleaving.specs.Threads.{Post, PutIn, Retire, Give, TakeNotes, after_call, calls, claimed, closed, begins, given, heard, notes_taken, planned, put_in, registered, registering, taken_out}
+pub use Frames.*
 
 -- what is true of each list that a plan may be is true of a plan
 pub by_plan : (f : List Act → Bool) (b : Bool) (left : ℕ) (p : PairState) → f quiet ≡ b → f again ≡ b → f (Call ∷ []) ≡ b → f ended ≡ b → f (plan left p) ≡ b

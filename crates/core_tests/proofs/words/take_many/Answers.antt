@@ -1,7 +1,5 @@
 use Rattle.std.proofs.Common.{◌∙◌, ap, [], ◌∷◌}
-use Rattle.claims.specs.declared.view.Account.{Account}
-use Rattle.claims.specs.declared.view.Exchange.TheVariants.{Take}
-use Rattle.claims.proofs.Seats.{account_after}
+use Rattle.claims.{specs.declared.view.{Account.Account, Exchange.TheVariants.Take}, proofs.Seats.account_after}
 use Rattle.core_tests.proofs.words.take_many.Goals as goal
 
 pub loop-preserved : goal.loop-preserved

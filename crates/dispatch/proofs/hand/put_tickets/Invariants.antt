@@ -1,6 +1,5 @@
 use Rattle.std.specs.Prelude.{◌≡◌, ◌+◌, length}
-use Rattle.dispatch.specs.Hands.{Shrank}
-use Rattle.dispatch.specs.Outgoing.{outgoing}
+use Rattle.dispatch.specs.{Hands.Shrank, Outgoing.outgoing}
 use Rattle.dispatch.proofs.hand.put_tickets.Given as goal
 
 -- what was to be put is put or in hand, in order, and each turn of the loop leaves one less in hand

@@ -1,7 +1,6 @@
 use Rattle.std.proofs.Common.{refl}
 use Rattle.relay_core.specs.Replies.{Joined}
-use Rattle.engine.specs.Wires.{Done}
-use Rattle.engine.proofs.Runs.{erred, stays_at, unmoved}
+use Rattle.engine.{specs.Wires.Done, proofs.Runs.{erred, stays_at, unmoved}}
 use Rattle.engine.proofs.step.join.Goals as goal
 
 pub returns-in-Ok : goal.returns-in-Ok

@@ -1,8 +1,6 @@
-use Rattle.std.proofs.Common.{ℕ, refl, arith}
-use Rattle.std.proofs.lemmas.List.{length-take, length-take-le}
+use Rattle.std.proofs.{Common.{ℕ, refl, arith}, lemmas.List.{length-take, length-take-le}}
 use Rattle.relay_core.specs.Replies.{End}
-use Rattle.engine.specs.Wires.{Brought}
-use Rattle.engine.proofs.Runs.{bytes_in, erred, none_read, stays_at, unmoved}
+use Rattle.engine.{specs.Wires.Brought, proofs.Runs.{bytes_in, erred, none_read, stays_at, unmoved}}
 use Rattle.engine.proofs.step.read.Goals as goal
 
 pub returns-in-Ok-eq0 : goal.returns-in-Ok-eq0

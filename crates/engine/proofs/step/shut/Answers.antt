@@ -1,8 +1,6 @@
 use Rattle.std.proofs.Common.{refl, ◌∙◌, ap}
-use Rattle.engine.specs.Classes.{kind_of_error}
+use Rattle.engine.{specs.{Classes.kind_of_error, Wires.Done}, proofs.Runs.{raised, refused, stays_at, unmoved}}
 use Rattle.relay_core.specs.Replies.{Failed, Shut, Interrupted}
-use Rattle.engine.specs.Wires.{Done}
-use Rattle.engine.proofs.Runs.{raised, refused, stays_at, unmoved}
 use Rattle.engine.proofs.step.shut.Goals as goal
 
 pub returns-in-Ok : goal.returns-in-Ok

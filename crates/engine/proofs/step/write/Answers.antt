@@ -1,7 +1,6 @@
 use Rattle.std.proofs.Common.{refl, arith}
 use Rattle.relay_core.specs.Replies.{Failed}
-use Rattle.engine.specs.Wires.{Took}
-use Rattle.engine.proofs.Runs.{bytes_out, erred, none_written, stays_at, unmoved}
+use Rattle.engine.{specs.Wires.Took, proofs.Runs.{bytes_out, erred, none_written, stays_at, unmoved}}
 use Rattle.engine.proofs.step.write.Goals as goal
 
 pub returns-in-Ok-eq0 : goal.returns-in-Ok-eq0

@@ -1,5 +1,4 @@
-use Rattle.engine.specs.Turns.{IsServed}
-use Rattle.engine.proofs.Runs.{Runs}
+use Rattle.engine.{specs.Turns.IsServed, proofs.Runs.Runs}
 use Rattle.engine.proofs.turning.turn_with.Given as goal
 
 abbrev pub invariant-loop-calls : goal.invariant-loop-calls

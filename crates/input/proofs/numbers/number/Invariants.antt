@@ -1,6 +1,4 @@
-use Rattle.std.proofs.Common.{◌≡◌, ◌<◌, ◌^◌, drop}
-use Rattle.std.specs.Prelude.{fold}
-use Rattle.std.specs.List.{list_all}
+use Rattle.std.{proofs.Common.{◌≡◌, ◌<◌, ◌^◌, drop}, specs.{Prelude.fold, List.list_all}}
 use Rattle.input.specs.Texts.{is_digit, value_of, with_digit}
 use Rattle.input.proofs.numbers.number.Given as goal
 

@@ -1,5 +1,4 @@
-use Rattle.std.proofs.Common.{sym, ◌∙◌, ◌+◌}
-use Rattle.std.proofs.lemmas.List.{take_rest}
+use Rattle.std.proofs.{Common.{sym, ◌∙◌, ◌+◌}, lemmas.List.take_rest}
 use Rattle.input.proofs.Loops.{split_at_first, split_nowhere}
 use Rattle.input.proofs.pieces.cut.Goals as goal
 

@@ -1,5 +1,4 @@
-use Rattle.std.proofs.Common.{arith}
-use Rattle.std.proofs.lemmas.Grind.{common_steps}
+use Rattle.std.proofs.{Common.arith, lemmas.Grind.common_steps}
 use Rattle.input.proofs.reading.read_on.Goals as goal
 
 pub slice_bounds-buffer-end-in-Ok : goal.slice_bounds-buffer-end-in-Ok

@@ -1,34 +1,12 @@
 -- What a step is for the machine, what the network, the kernel, the clock and the poller do between the programs, and the
 -- poller's posts. What this file imports is passed on to the files above it.
-pub use Rattle.std.proofs.Common.{Bool, List, None, Option, Some, [], ap, append-nil, arith, drop, false, if◌then◌else◌, inl, inr, is_some, length, lt-ltb, map, nat_le, nat_lt, not, option_and_then, option_map, refl, replicate, slice_get, slice_set, subst, suc, sym, true, zero, ℕ, ◌&&◌, ◌++◌, ◌+◌, ◌==◌, ◌∙◌, ◌∷◌, ◌≡◌, ◌≢◌, ◌≤◌, ◌⊎◌, ◌||◌, length-append, eqb-true, ne_eqb}
-pub use Rattle.std.proofs.lemmas.Bool.{and_parts, cases_eq}
-pub use Rattle.std.proofs.lemmas.List.{map-append, length-replicate}
-pub use Rattle.std.specs.Option.{is_none}
-pub use Rattle.claims.specs.Words.{WordState, made as exchange_made, some_wait, wakes, word_after}
-pub use Rattle.claims.specs.declared.view.Exchange.{Exchange}
-pub use Rattle.interleaving.specs.Likeness.{exchange, exchanges_in, exchanges_of, first_kind, kind_in, left_of, Adopted, Emptied, Entered, Goes, HalfOpen, HasClosed, HasOut, HasRetired, Held, Holds, IsHalfOpen, IsSettled, Leaves, Like, Opens, Placed, Posted, Registered, Rests, Settled, Stage, Stays, ThreadLike, Tries, WorkerFor, WorkersFor, ahead, call_in, call_of, calls_in, ends_of, machine_of, opened_slot, outside_among, outside_in, outside_of, ticket, posts, here}
-pub use Rattle.interleaving.specs.Threads.{Act, Call, Release, TakeOut, again, ended, open_slot, plan, quiet, turn, Accept, Acts, Begin, Calls, Connect, Deliver, Drop, Network, Open, Poll, Spurious, Step, Sweep, System, Thread, Tick, Vanish, acts, begun, goes_on, is_over, poller_rests, posted, released, rests, step, with_thread, watched_of, is_limited, delivered, delivers}
-pub use Rattle.kernel_model.specs.Ends.{is_nonempty}
-pub use Rattle.kernel_model.specs.Kernel.{KernelState}
-pub use Rattle.kernel_model.specs.declared.both.Descriptors.{Descriptors}
-pub use Rattle.kernel_model.specs.declared.reply.Reply.{Reply}
-pub use Rattle.relay_core.specs.Order.{next_call}
-pub use Rattle.relay_core.specs.Pairs.{PairState, is_live, verdict}
-pub use Rattle.token.specs.Names.{EndName}
-pub use Rattle.token.specs.declared.name.Name.{Name}
-pub use Rattle.world.proofs.TurnsRun.{own_generation, Waiting, waiting, some_more}
-pub use Rattle.world.proofs.TurnsFacts.{SlotOk, Turns, facts, is_number, worker_retires}
-pub use Rattle.world.proofs.TurnsKept.{Kept, kept_at, kept_bind, kept_guard, kept_map, kept_none, kept_some, kept_when}
-pub use Rattle.world.proofs.TurnsTotals.{get-set_other, get-set_same}
-pub use Rattle.world.specs.Acts.{busy}
-pub use Rattle.world.specs.Slots.{SlotState, WorkerState, is_by_worker, is_held}
-pub use Rattle.world.specs.States.{State}
-pub use Rattle.world.specs.Steps.{with_note, brings_ticket, may_release}
-pub use Rattle.world.specs.Support.{of_slot, one, tickets, total}
-pub use Rattle.world.specs.Words.{is_free, word_at}
-pub use Rattle.world.specs.declared.actors.Holder.TheVariants.{By, Free, Nobody}
-pub use Rattle.world.specs.declared.connection.Connection.{Connection}
-pub use Rattle.world.specs.declared.event.Event.{Event}
+pub use Rattle.std.{proofs.{Common.{Bool, List, None, Option, Some, [], ap, append-nil, arith, drop, false, if◌then◌else◌, inl, inr, is_some, length, lt-ltb, map, nat_le, nat_lt, not, option_and_then, option_map, refl, replicate, slice_get, slice_set, subst, suc, sym, true, zero, ℕ, ◌&&◌, ◌++◌, ◌+◌, ◌==◌, ◌∙◌, ◌∷◌, ◌≡◌, ◌≢◌, ◌≤◌, ◌⊎◌, ◌||◌, length-append, eqb-true, ne_eqb}, lemmas.{Bool.{and_parts, cases_eq}, List.{map-append, length-replicate}}}, specs.Option.is_none}
+pub use Rattle.claims.specs.{Words.{WordState, made as exchange_made, some_wait, wakes, word_after}, declared.view.Exchange.Exchange}
+pub use Rattle.interleaving.specs.{Likeness.{exchange, exchanges_in, exchanges_of, first_kind, kind_in, left_of, Adopted, Emptied, Entered, Goes, HalfOpen, HasClosed, HasOut, HasRetired, Held, Holds, IsHalfOpen, IsSettled, Leaves, Like, Opens, Placed, Posted, Registered, Rests, Settled, Stage, Stays, ThreadLike, Tries, WorkerFor, WorkersFor, ahead, call_in, call_of, calls_in, ends_of, machine_of, opened_slot, outside_among, outside_in, outside_of, ticket, posts, here}, Threads.{Act, Call, Release, TakeOut, again, ended, open_slot, plan, quiet, turn, Accept, Acts, Begin, Calls, Connect, Deliver, Drop, Network, Open, Poll, Spurious, Step, Sweep, System, Thread, Tick, Vanish, acts, begun, goes_on, is_over, poller_rests, posted, released, rests, step, with_thread, watched_of, is_limited, delivered, delivers}}
+pub use Rattle.kernel_model.specs.{Ends.is_nonempty, Kernel.KernelState, declared.{both.Descriptors.Descriptors, reply.Reply.Reply, accepting.Accepting.TheVariants.{Accepted, Blocked, Again, Starved}}}
+pub use Rattle.relay_core.specs.{Order.next_call, Pairs.{PairState, is_live, verdict}}
+pub use Rattle.token.specs.{Names.EndName, declared.{name.Name.Name, side.Side.Side}}
+pub use Rattle.world.{proofs.{TurnsRun.{own_generation, Waiting, waiting, some_more}, TurnsFacts.{SlotOk, Turns, facts, is_number, worker_retires}, TurnsKept.{Kept, kept_at, kept_bind, kept_guard, kept_map, kept_none, kept_some, kept_when}, TurnsTotals.{get-set_other, get-set_same}}, specs.{Acts.busy, Slots.{SlotState, WorkerState, is_by_worker, is_held}, States.State, Steps.{with_note, brings_ticket, may_release}, Support.{of_slot, one, tickets, total}, Words.{is_free, word_at}, declared.{actors.Holder.TheVariants.{By, Free, Nobody}, connection.Connection.Connection, event.{Event.Event, Change.Change, Reported.Reported}}, Calls.descriptor}}
 pub use Rattle.claims.specs.Words as word
 pub use Rattle.kernel_model.specs.Kernel as kernel
 pub use Rattle.world.specs.Runs as machine_runs
@@ -38,11 +16,6 @@ pub use Rattle.world.specs.declared.actors.Doing.TheVariants as doing
 pub use Rattle.world.specs.declared.event.Act.TheVariants as act
 pub use Rattle.world.specs.declared.event.Event.TheVariants as event
 pub use Rattle.world.specs.declared.event.Polling.TheVariants as polling
-pub use Rattle.token.specs.declared.side.Side.{Side}
-pub use Rattle.kernel_model.specs.declared.accepting.Accepting.TheVariants.{Accepted, Blocked, Again, Starved}
-pub use Rattle.world.specs.declared.event.Change.{Change}
-pub use Rattle.world.specs.declared.event.Reported.{Reported}
-pub use Rattle.world.specs.Calls.{descriptor}
 pub use Rattle.kernel_model.specs.declared.watched.Watched.TheVariants as watched
 pub use Rattle.world.specs.declared.event.Reported.TheVariants as reported
 pub use Rattle.world.specs.declared.event.Listening.TheVariants as listening

@@ -1,6 +1,5 @@
 use Rattle.std.proofs.Common.{refl, ap, ◌∙◌, arith}
-use Rattle.ready.specs.Steps.{opener}
-use Rattle.ready.proofs.Moves.{in_order-none, next_slot, has_room}
+use Rattle.ready.{specs.Steps.opener, proofs.Moves.{in_order-none, next_slot, has_room}}
 use Rattle.ready.proofs.free.fill.Goals as goal
 
 pub loop-index-init : goal.loop-index-init

@@ -1,5 +1,4 @@
-use Rattle.std.proofs.Common.{◌≡◌, ◌+◌, ◌≤◌}
-use Rattle.std.specs.Prelude.{vec_len, vec_capacity}
+use Rattle.std.{proofs.Common.{◌≡◌, ◌+◌, ◌≤◌}, specs.Prelude.{vec_len, vec_capacity}}
 use Rattle.recording.proofs.front.record_all.Given as goal
 
 abbrev pub invariant-loop-poller : goal.invariant-loop-poller

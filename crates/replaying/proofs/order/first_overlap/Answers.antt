@@ -1,5 +1,4 @@
-use Rattle.std.proofs.Common.{arith, below_more}
-use Rattle.std.proofs.lemmas.Bool.{iff_false}
+use Rattle.std.proofs.{Common.{arith, below_more}, lemmas.Bool.iff_false}
 use Rattle.replaying.proofs.Traces.{follows_at, follows_there}
 use Rattle.replaying.proofs.order.first_overlap.Goals as goal
 

@@ -1,5 +1,4 @@
-use Rattle.std.proofs.Common.{take, arith}
-use Rattle.std.proofs.lemmas.List.{length-take, take_more}
+use Rattle.std.proofs.{Common.{take, arith}, lemmas.List.{length-take, take_more}}
 use Rattle.rounds.proofs.Acts.{delivered_both, few_tickets, capacity_kept, holds_nothing_still, reported_le}
 use Rattle.rounds.proofs.delivering.deliver.Goals as goal
 

@@ -1,7 +1,5 @@
-use Rattle.std.proofs.Common.{rules, ◌≡◌, refl, inl, inr, arith, sym, ◌∙◌}
-use Rattle.std.proofs.lemmas.Result.{on_err_weaker, on_ok_weaker}
-use Rattle.rounds.specs.Openings.{Dropped, Spent}
-use Rattle.rounds.proofs.Rounds.{between_still, no_names, opened_never, opened_not, opened_there, placed_fate, registered_once, some_first, still}
+use Rattle.std.proofs.{Common.{rules, ◌≡◌, refl, inl, inr, arith, sym, ◌∙◌}, lemmas.Result.{on_err_weaker, on_ok_weaker}}
+use Rattle.rounds.{specs.Openings.{Dropped, Spent}, proofs.Rounds.{between_still, no_names, opened_never, opened_not, opened_there, placed_fate, registered_once, some_first, still}}
 use Rattle.rounds.proofs.opening.open.Goals as goal
 
 pub returns-in_default : goal.returns-in_default

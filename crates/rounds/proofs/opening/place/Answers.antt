@@ -1,9 +1,6 @@
-use Rattle.std.proofs.Common.{◌∙◌, ◌∷◌, [], ap, arith, inl, inr, length-append, refl}
-use Rattle.std.proofs.lemmas.List.{length-set}
-use Rattle.claims.specs.declared.view.Account.{Account}
-use Rattle.claims.proofs.Seats.{account_after, adds_both, holds_nothing_again}
-use Rattle.dispatch.proofs.Holding.{holds_from}
-use Rattle.dispatch.specs.Acts.{AreMade, placing}
+use Rattle.std.proofs.{Common.{◌∙◌, ◌∷◌, [], ap, arith, inl, inr, length-append, refl}, lemmas.List.length-set}
+use Rattle.claims.{specs.declared.view.Account.Account, proofs.Seats.{account_after, adds_both, holds_nothing_again}}
+use Rattle.dispatch.{proofs.Holding.holds_from, specs.Acts.{AreMade, placing}}
 use Rattle.ready.specs.declared.ticket.Ticket.{Ticket}
 use Rattle.rounds.proofs.Rounds.{if_fails, not_ok, not_placed, passed_up, placed}
 use Rattle.rounds.proofs.opening.place.Goals as goal

@@ -1,6 +1,5 @@
 use Rattle.std.proofs.Common.{refl, ap}
-use Rattle.claims.specs.declared.view.Account.{Account}
-use Rattle.claims.proofs.Seats.{account_after}
+use Rattle.claims.{specs.declared.view.Account.Account, proofs.Seats.account_after}
 use Rattle.dispatch.proofs.Holding.{holds_still, holds_behind_post, worn_still}
 use Rattle.rounds.proofs.Rounds.{started_by}
 use Rattle.rounds.proofs.opening.start.Goals as goal

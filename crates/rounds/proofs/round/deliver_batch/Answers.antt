@@ -1,6 +1,5 @@
 use Rattle.std.proofs.Common.{◌∙◌, inr, refl}
-use Rattle.rounds.proofs.Rounds.{not_ok, passed_up}
-use Rattle.rounds.proofs.Acts.{flag_still, own_reports}
+use Rattle.rounds.proofs.{Rounds.{not_ok, passed_up}, Acts.{flag_still, own_reports}}
 use Rattle.rounds.proofs.round.deliver_batch.Goals as goal
 
 pub deliver-requires : goal.deliver-requires

@@ -1,6 +1,5 @@
 use Rattle.std.proofs.Common.{◌∙◌, refl, sym}
-use Rattle.rounds.proofs.Rounds.{if_fails, not_ok, passed_up}
-use Rattle.rounds.proofs.Acts.{no_sweep, own_opened, own_sweep, posted_none, sweep_is}
+use Rattle.rounds.proofs.{Rounds.{if_fails, not_ok, passed_up}, Acts.{no_sweep, own_opened, own_sweep, posted_none, sweep_is}}
 use Rattle.rounds.proofs.sweeping.sweep_if_due.Goals as goal
 
 pub sweep-requires : goal.sweep-requires

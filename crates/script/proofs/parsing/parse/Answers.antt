@@ -1,5 +1,4 @@
-use Rattle.script.proofs.Prelude.{Some, rules}
-use Rattle.script.proofs.FirstLine.{bad_first, begins_well, headed_is}
+use Rattle.script.proofs.{Prelude.{Some, rules}, FirstLine.{bad_first, begins_well, headed_is}}
 use Rattle.script.proofs.parsing.parse.Goals as goal
 
 pub returns-in-Err-clause-script : goal.returns-in-Err-clause-script

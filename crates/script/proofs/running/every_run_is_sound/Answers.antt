@@ -1,5 +1,4 @@
-use Rattle.world.specs.CoreLaws.{CoreLaws}
-use Rattle.world.proofs.Headline.{support}
+use Rattle.world.{specs.CoreLaws.CoreLaws, proofs.Headline.support}
 use Rattle.script.proofs.running.every_run_is_sound.Goals as goal
 
 pub returns : goal.returns

@@ -1,5 +1,4 @@
-use Rattle.script_text.proofs.Prelude.{◌≡◌, ap, sym, ◌∙◌, rules, None, option_map, said_of, event_of, event_of_words}
-use Rattle.script_text.proofs.FirstWords.{no_event, plain_event_of}
+use Rattle.script_text.proofs.{Prelude.{◌≡◌, ap, sym, ◌∙◌, rules, None, option_map, said_of, event_of, event_of_words}, FirstWords.{no_event, plain_event_of}}
 use Rattle.script_text.proofs.events.read_event.Goals as goal
 
 pub returns-in_err-first : goal.returns-in_err-first

@@ -1,6 +1,5 @@
 use Rattle.std.proofs.Common.{◌≡◌, ap, sym, ◌∙◌, rules, None}
-use Rattle.script_text.specs.Events.{step_of, step_of_words}
-use Rattle.script_text.proofs.FirstWords.{no_step, plain_step_of}
+use Rattle.script_text.{specs.Events.{step_of, step_of_words}, proofs.FirstWords.{no_step, plain_step_of}}
 use Rattle.script_text.proofs.steps.read_step.Goals as goal
 
 pub returns-in_err-first : goal.returns-in_err-first

@@ -1,6 +1,4 @@
-use Rattle.std.proofs.Common.{◌≡◌, ◌≤◌, ℕ, ◌∷◌, map, replicate}
-use Rattle.std.specs.Prelude.{vec_len, vec_capacity}
-use Rattle.std.specs.List.{range_with_len}
+use Rattle.std.{proofs.Common.{◌≡◌, ◌≤◌, ℕ, ◌∷◌, map, replicate}, specs.{Prelude.{vec_len, vec_capacity}, List.range_with_len}}
 use Rattle.ready.specs.Steps.{unused, opened}
 use Rattle.dispatch.specs.Splits.{part_of}
 use Rattle.server.proofs.making.frees_of.Given as goal

@@ -1,9 +1,6 @@
-use Rattle.std.proofs.Common.{◌≡◌, ◌≤◌, ℕ, ◌+◌, ◌++◌, length, map, reverse, All}
-use Rattle.std.specs.Prelude.{vec_len, vec_capacity}
-use Rattle.std.specs.List.{range_with_len}
-use Rattle.server.specs.Limits.{share_of}
+use Rattle.std.{proofs.Common.{◌≡◌, ◌≤◌, ℕ, ◌+◌, ◌++◌, length, map, reverse, All}, specs.{Prelude.{vec_len, vec_capacity}, List.range_with_len}}
+use Rattle.server.specs.{Limits.share_of, Begins.HasBegun}
 use Rattle.dispatch.specs.Splits.{part_of, parts_of}
-use Rattle.server.specs.Begins.{HasBegun}
 use Rattle.server.proofs.making.pollers_of.Given as goal
 
 abbrev pub invariant-loop-number : goal.invariant-loop-number

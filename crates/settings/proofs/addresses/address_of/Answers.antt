@@ -1,7 +1,5 @@
 -- An address whose text this is has each part that the code looks for.
-use Rattle.std.proofs.Common.{sym, ◌∙◌, arith}
-use Rattle.std.proofs.lemmas.Fmt.{decimal_injective}
-use Rattle.std.proofs.lemmas.Grind.{common_steps}
+use Rattle.std.proofs.{Common.{sym, ◌∙◌, arith}, lemmas.{Fmt.decimal_injective, Grind.common_steps}}
 use Rattle.settings.proofs.Unique.{octet_at, rest_of_first, rest_of_second, rest_of_third, rest_of_fourth, text_parts, is_byte, from_parts}
 use Rattle.settings.proofs.addresses.address_of.Goals as goal
 

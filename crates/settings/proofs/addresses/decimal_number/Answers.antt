@@ -1,6 +1,5 @@
 use Rattle.std.proofs.Common.{◌≡◌, true, arith}
-use Rattle.settings.specs.Addresses.{IsPlain}
-use Rattle.settings.proofs.Unique.{plain_decimal, parsed_plain, unparsed}
+use Rattle.settings.{specs.Addresses.IsPlain, proofs.Unique.{plain_decimal, parsed_plain, unparsed}}
 use Rattle.settings.proofs.addresses.decimal_number.Goals as goal
 
 pub returns-then-not-is_plain-clause-none : goal.returns-then-not-is_plain-clause-none

@@ -1,6 +1,4 @@
-use Rattle.std.proofs.Common.{sym, ◌∙◌, arith}
-use Rattle.std.proofs.lemmas.Fmt.{decimal_injective}
-use Rattle.std.proofs.lemmas.Str.Pattern.{split_parts}
+use Rattle.std.proofs.{Common.{sym, ◌∙◌, arith}, lemmas.{Fmt.decimal_injective, Str.Pattern.split_parts}}
 use Rattle.settings.proofs.Unique.{split_number}
 use Rattle.settings.proofs.addresses.octet_before.Goals as goal
 

@@ -1,8 +1,4 @@
-use Rattle.std.proofs.Common.{◌≡◌, ℕ, drop, chars, IsUtf8, Option, Some, None, ap, ◌∙◌, refl}
-use Rattle.std.proofs.lemmas.List.{drop-drop, nil_from_length}
-use Rattle.std.proofs.lemmas.Str.{IsUtf8-past_char, chars_past_char, chars-nil}
-use Rattle.std.specs.Str.Iter.{chars_rest, chars_steps}
-use Rattle.std.specs.declared.str.Chars.{Chars}
+use Rattle.std.{proofs.{Common.{◌≡◌, ℕ, drop, chars, IsUtf8, Option, Some, None, ap, ◌∙◌, refl}, lemmas.{List.{drop-drop, nil_from_length}, Str.{IsUtf8-past_char, chars_past_char, chars-nil}}}, specs.{Str.Iter.{chars_rest, chars_steps}, declared.str.Chars.Chars}}
 use Rattle.settings.proofs.one_line.without_first.Goals as goal
 
 -- a call of `next` leaves out the first character, if there is one

@@ -1,5 +1,4 @@
-use Rattle.std.proofs.Common.{◌≡◌, drop, chars, IsUtf8}
-use Rattle.std.specs.Str.Iter.{chars_rest}
+use Rattle.std.{proofs.Common.{◌≡◌, drop, chars, IsUtf8}, specs.Str.Iter.chars_rest}
 use Rattle.settings.proofs.one_line.without_first.Given as goal
 
 abbrev pub invariant-loop : goal.invariant-loop

@@ -1,5 +1,4 @@
-use Rattle.std.proofs.lemmas.Map.Iter.{rest_more, rest_all}
-use Rattle.std.specs.Map.Iter.{deref}
+use Rattle.std.{proofs.lemmas.Map.Iter.{rest_more, rest_all}, specs.Map.Iter.deref}
 use Rattle.settings.proofs.Unknown.{all_left, left_known, none_left, first_unnamed}
 use Rattle.settings.proofs.read.first_unknown.Goals as goal
 

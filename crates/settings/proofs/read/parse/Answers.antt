@@ -1,8 +1,6 @@
-use Rattle.std.proofs.Common.{inl, inr}
-use Rattle.std.proofs.lemmas.Result.{IfOk-weaker, IfErr-weaker}
+use Rattle.std.proofs.{Common.{inl, inr}, lemmas.Result.{IfOk-weaker, IfErr-weaker}}
 use Rattle.toml.specs.View.{table_view}
-use Rattle.settings.proofs.Unique.{settings_once, no_settings}
-use Rattle.settings.proofs.Unknown.{named_not_blank}
+use Rattle.settings.proofs.{Unique.{settings_once, no_settings}, Unknown.named_not_blank}
 use Rattle.settings.proofs.read.parse.Goals as goal
 
 pub returns-in-Some-clause-memory : goal.returns-in-Some-clause-memory

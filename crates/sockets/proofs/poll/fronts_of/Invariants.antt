@@ -1,5 +1,4 @@
-use Rattle.std.proofs.Common.{◌≡◌, ◌+◌, ◌≤◌, [], replicate, true, false}
-use Rattle.std.specs.Prelude.{vec_len, vec_capacity}
+use Rattle.std.{proofs.Common.{◌≡◌, ◌+◌, ◌≤◌, [], replicate, true, false}, specs.Prelude.{vec_len, vec_capacity}}
 use Rattle.sockets.proofs.poll.fronts_of.Given as goal
 
 abbrev pub invariant-loop-poller : goal.invariant-loop-poller

@@ -1,7 +1,5 @@
-use Rattle.std.proofs.Common.{◌≡◌, ap, ◌∙◌, ◌+◌, ℕ, length, map, arith}
-use Rattle.std.proofs.lemmas.List.Elements.{All-nil}
-use Rattle.threads.specs.Divided.{IsEndOf}
-use Rattle.threads.proofs.Divided.{all_left, all_made, all_pushed, end_of_all, left_of_left, threads_more}
+use Rattle.std.proofs.{Common.{◌≡◌, ap, ◌∙◌, ◌+◌, ℕ, length, map, arith}, lemmas.List.Elements.All-nil}
+use Rattle.threads.{specs.Divided.IsEndOf, proofs.Divided.{all_left, all_made, all_pushed, end_of_all, left_of_left, threads_more}}
 use Rattle.threads.proofs.dividing.pollers_of.Goals as goal
 
 pub loop-thread-preserved : goal.loop-thread-preserved

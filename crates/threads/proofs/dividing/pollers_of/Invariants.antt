@@ -1,6 +1,4 @@
-use Rattle.std.proofs.Common.{◌≡◌, ◌+◌, ◌≤◌, ◌++◌, map, length, All}
-use Rattle.std.specs.Prelude.{vec_len, vec_capacity}
-use Rattle.std.specs.Arc.{arc_value}
+use Rattle.std.{proofs.Common.{◌≡◌, ◌+◌, ◌≤◌, ◌++◌, map, length, All}, specs.{Prelude.{vec_len, vec_capacity}, Arc.arc_value}}
 use Rattle.dispatch.specs.Posts.{AreFresh}
 use Rattle.threads.specs.Divided.{numbered, IsEndOf, AreLeft}
 use Rattle.threads.proofs.dividing.pollers_of.Given as goal

@@ -1,6 +1,5 @@
 use Rattle.std.proofs.Common.{ap, ◌∙◌, ◌∷◌, ◌+◌, ℕ, map, arith}
-use Rattle.threads.specs.Divided.{HasOneOfEach}
-use Rattle.threads.proofs.Divided.{all_pushed, left_of_left, numbers_more, one_of_all}
+use Rattle.threads.{specs.Divided.HasOneOfEach, proofs.Divided.{all_pushed, left_of_left, numbers_more, one_of_all}}
 use Rattle.threads.proofs.dividing.workers_of.Goals as goal
 
 pub loop-index-preserved : goal.loop-index-preserved

@@ -1,7 +1,4 @@
-use Rattle.std.proofs.Common.{◌≡◌, ◌≤◌, ◌∷◌, map, All}
-use Rattle.std.specs.Prelude.{vec_len, vec_capacity}
-use Rattle.std.specs.Arc.{arc_value}
-use Rattle.std.specs.List.{range_with_len}
+use Rattle.std.{proofs.Common.{◌≡◌, ◌≤◌, ◌∷◌, map, All}, specs.{Prelude.{vec_len, vec_capacity}, Arc.arc_value, List.range_with_len}}
 use Rattle.dispatch.specs.Posts.{AreFresh}
 use Rattle.threads.specs.Divided.{AreLeft, HasOneOfEach}
 use Rattle.threads.proofs.dividing.workers_of.Given as goal

@@ -1,7 +1,7 @@
 use Rattle.std.proofs.Common.{rules, ◌≡◌, ◌∙◌, Some, None, Ok, Err, slice_get, refl, sym, ap, inl, inr, length}
 use Rattle.dispatch.specs.Hands.{HandState}
-use Rattle.turns.specs.declared.worker.Worked.TheVariants as worked
 use Rattle.turns.proofs.Turns.{empty_is, err_is, err_not_ok, marks_none, no_room, none_taken, of_any, own_made, ran, same_answer, some_not_none}
+use Rattle.turns.specs.declared.worker.Worked.TheVariants as worked
 use Rattle.turns.proofs.own_turns.own_turn_with.Goals as goal
 
 pub returns-then-not-has_slot_room : goal.returns-then-not-has_slot_room

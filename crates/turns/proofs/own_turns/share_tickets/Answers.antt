@@ -1,10 +1,7 @@
-use Rattle.std.proofs.Common.{rules, arith, ap, sym, ◌∙◌, refl}
+use Rattle.std.proofs.{Common.{rules, arith, ap, sym, ◌∙◌, refl}, lemmas.Bool.false≢true}
 use Rattle.dispatch.specs.Hands.{HandState}
-use Rattle.std.proofs.lemmas.Bool.{false≢true}
-use Rattle.turns.specs.Shares.{Stays}
-use Rattle.turns.proofs.Turns.{OneMoved, kept_moves, passed_moves, shared_more, shared_all, took_none}
+use Rattle.turns.{specs.Shares.Stays, proofs.{Turns.{OneMoved, kept_moves, passed_moves, shared_more, shared_all, took_none}, own_turns.share_tickets.Goals.{in-Some-stays, in_default-stays}}}
 use Rattle.turns.proofs.own_turns.share_tickets.Goals as goal
-use Rattle.turns.proofs.own_turns.share_tickets.Goals.{in-Some-stays, in_default-stays}
 
 pub loop-ticket-preserved : goal.loop-ticket-preserved
 loop-ticket-preserved g c =

@@ -1,9 +1,8 @@
 use Rattle.std.proofs.Common.{Ok, false, refl, subst}
 use Rattle.ready.specs.declared.ticket.Ticket.{Ticket}
-use Rattle.turns.specs.declared.worker.Worked.TheVariants as worked
-use Rattle.turns.specs.Turns.{ActsLeft, TurnEnd}
+use Rattle.turns.{specs.Turns.{ActsLeft, TurnEnd}, proofs.Turns.end_of}
 use Rattle.dispatch.proofs.Holding.{let_go}
-use Rattle.turns.proofs.Turns.{end_of}
+use Rattle.turns.specs.declared.worker.Worked.TheVariants as worked
 use Rattle.turns.proofs.worker.end.Goals as goal
 
 pub give_back-requires-clause-retired : goal.give_back-requires-clause-retired

@@ -1,7 +1,6 @@
 use Rattle.std.proofs.Common.{refl}
 use Rattle.dispatch.proofs.Holding.{let_go}
-use Rattle.turns.proofs.Turns.{left_put, left_quiet}
-use Rattle.turns.proofs.worker.leave.Goals.{in-Wake, in-Quiet}
+use Rattle.turns.proofs.{Turns.{left_put, left_quiet}, worker.leave.Goals.{in-Wake, in-Quiet}}
 use Rattle.turns.proofs.worker.leave.Goals as goal
 
 pub put_ticket-requires-clause-released : goal.put_ticket-requires-clause-released

@@ -1,7 +1,5 @@
 use Rattle.std.proofs.Common.{refl, ap, [], ◌∷◌}
-use Rattle.claims.specs.declared.view.Account.{Account}
-use Rattle.claims.specs.declared.view.Exchange.TheVariants.{Release}
-use Rattle.claims.proofs.Seats.{account_after}
+use Rattle.claims.{specs.declared.view.{Account.Account, Exchange.TheVariants.Release}, proofs.Seats.account_after}
 use Rattle.dispatch.proofs.Holding.{worn_still}
 use Rattle.turns.proofs.Turns.{left_worn, posted_again, still, still_posting}
 use Rattle.turns.proofs.worker.stay_due.Goals as goal

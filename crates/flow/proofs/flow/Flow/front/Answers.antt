@@ -1,7 +1,5 @@
-use Rattle.std.proofs.Common.{◌≡◌, ℕ, ◌≤◌, length, refl, arith}
-use Rattle.std.proofs.lemmas.Grind.{common_steps}
-use Rattle.flow.specs.Stream.{Stream, front}
-use Rattle.flow.proofs.Front.{front-lead, with_front-lead, with_front-unwritten}
+use Rattle.std.proofs.{Common.{◌≡◌, ℕ, ◌≤◌, length, refl, arith}, lemmas.Grind.common_steps}
+use Rattle.flow.{specs.Stream.{Stream, front}, proofs.Front.{front-lead, with_front-lead, with_front-unwritten}}
 use Rattle.flow.proofs.flow.Flow.front.Goals as goal
 
 -- The lead is what is lent while it is there.

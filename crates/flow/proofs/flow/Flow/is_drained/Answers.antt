@@ -1,6 +1,5 @@
-use Rattle.std.proofs.Common.{arith}
+use Rattle.std.proofs.{Common.arith, lemmas.Grind.common_steps}
 use Rattle.flow.proofs.Front.{waiting_ends}
-use Rattle.std.proofs.lemmas.Grind.{common_steps}
 use Rattle.flow.proofs.flow.Flow.is_drained.Goals as goal
 
 pub returns-else-is_empty : goal.returns-else-is_empty

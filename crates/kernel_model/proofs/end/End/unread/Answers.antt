@@ -1,5 +1,4 @@
-use Rattle.std.proofs.Common.{sym, ap, ◌∙◌, ◌++◌, take}
-use Rattle.std.proofs.lemmas.List.{take-append-drop, take_rest}
+use Rattle.std.proofs.{Common.{sym, ap, ◌∙◌, ◌++◌, take}, lemmas.List.{take-append-drop, take_rest}}
 use Rattle.kernel_model.specs.Ends.{EndState}
 use Rattle.kernel_model.proofs.end.End.unread.Goals as goal
 

@@ -1,5 +1,4 @@
-use Rattle.std.proofs.Common.{◌≡◌, ◌∷◌, ◌-◌, replicate}
-use Rattle.std.specs.Arc.{arc_value}
+use Rattle.std.{proofs.Common.{◌≡◌, ◌∷◌, ◌-◌, replicate}, specs.Arc.arc_value}
 use Rattle.crossbeam_queue.specs.Passes.{IsPassOf, ruled_capacity}
 use Rattle.ready.specs.Steps.{unused, opened}
 use Rattle.ready.proofs.free.FreeQueue.new.Given as goal

@@ -1,5 +1,4 @@
-use Rattle.std.proofs.Common.{◌≡◌, ◌+◌, vec_len, replicate}
-use Rattle.std.specs.Arc.{arc_value}
+use Rattle.std.{proofs.Common.{◌≡◌, ◌+◌, vec_len, replicate}, specs.Arc.arc_value}
 use Rattle.crossbeam_queue.specs.Passes.{IsPassOf, ruled_capacity}
 use Rattle.ready.specs.Steps.{unused}
 use Rattle.ready.proofs.queue.ReadyQueue.new.Given as goal

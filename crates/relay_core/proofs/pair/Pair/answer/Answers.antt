@@ -1,5 +1,4 @@
-use Rattle.relay_core.specs.Replies.{reply_of}
-use Rattle.relay_core.proofs.Pairs.{end_passed_last, fails_by_call, interrupted_changes_turn, order_kept}
+use Rattle.relay_core.{specs.Replies.reply_of, proofs.Pairs.{end_passed_last, fails_by_call, interrupted_changes_turn, order_kept}}
 use Rattle.relay_core.proofs.pair.Pair.answer.Goals as goal
 
 -- The laws are about the definition, and the pair is the definition's.

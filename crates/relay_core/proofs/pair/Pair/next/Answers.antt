@@ -1,6 +1,5 @@
 use Rattle.std.proofs.Common.{◌≡◌, Some}
-use Rattle.relay_core.specs.Order.{call_for}
-use Rattle.relay_core.proofs.Pairs.{call_for_is_possible, served_is_possible}
+use Rattle.relay_core.{specs.Order.call_for, proofs.Pairs.{call_for_is_possible, served_is_possible}}
 use Rattle.relay_core.proofs.pair.Pair.next.Goals as goal
 
 -- the call that serves the direction whose turn it is

@@ -1,8 +1,5 @@
-use Rattle.std.proofs.Common.{sym, subst, List, ◌≡◌, ◌++◌}
-use Rattle.std.specs.Prelude.{All, take}
-use Rattle.replaying.specs.declared.recording.Numbered.{Numbered}
-use Rattle.replaying.specs.Traces.{IsConnection, joined}
-use Rattle.replaying.proofs.Traces.{one_more}
+use Rattle.std.{proofs.Common.{sym, subst, List, ◌≡◌, ◌++◌}, specs.Prelude.{All, take}}
+use Rattle.replaying.{specs.{declared.recording.Numbered.Numbered, Traces.{IsConnection, joined}}, proofs.Traces.one_more}
 use Rattle.replaying.proofs.slot_replay.SlotReplay.replay_connections.Goals as goal
 
 pub loop-rest-preserved : goal.loop-rest-preserved

@@ -1,6 +1,5 @@
 -- The first fault is that of the first key that has one: those before it are given.
-use Rattle.std.proofs.Common.{◌≡◌, ◌⊎◌, Result, Ok, Err, IfErr, inl, inr}
-use Rattle.std.specs.Result.{IsErrAnd}
+use Rattle.std.{proofs.Common.{◌≡◌, ◌⊎◌, Result, Ok, Err, IfErr, inl, inr}, specs.Result.IsErrAnd}
 use Rattle.settings.proofs.fields.Settings.of.Goals as goal
 
 infixr 40 ◌▸◌

@@ -1,9 +1,4 @@
-use Rattle.std.proofs.Common.{◌≡◌, ℕ, ◌≤◌, ◌-◌, List, [], ◌++◌, length, take, drop, chars, false, codes, nat_lt, if◌then◌else◌, arith, ap, ◌∙◌, append-nil, take_all, IsUtf8, rules, sym}
-use Rattle.std.proofs.Output.{has_written_of_eq}
-use Rattle.std.proofs.lemmas.Bool.Decides.{nat_tests}
-use Rattle.std.proofs.lemmas.List.{length-drop}
-use Rattle.std.proofs.lemmas.Str.{Chars-Drains, encodes-chars}
-use Rattle.std.specs.List.{flat_map}
+use Rattle.std.{proofs.{Common.{◌≡◌, ℕ, ◌≤◌, ◌-◌, List, [], ◌++◌, length, take, drop, chars, false, codes, nat_lt, if◌then◌else◌, arith, ap, ◌∙◌, append-nil, take_all, IsUtf8, rules, sym}, Output.has_written_of_eq, lemmas.{Bool.Decides.nat_tests, List.length-drop, Str.{Chars-Drains, encodes-chars}}}, specs.List.flat_map}
 use Rattle.settings.specs.Faults.{shown_character, one_line, end_of_line}
 use Rattle.settings.proofs.one_line.EndOfLineDisplay.fmt.Goals as goal
 

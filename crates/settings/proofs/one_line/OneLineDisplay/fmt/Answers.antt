@@ -1,10 +1,4 @@
-use Rattle.std.proofs.Common.{rules, ◌≡◌, ℕ, ◌+◌, ◌<◌, ◌≤◌, length, take, get_or, chars, IsUtf8, arith, ◌++◌, ◌∷◌, [], List, true, false, codes, nat_lt, if◌then◌else◌, refl, sym, ap, ◌∙◌, append-nil, take_all}
-use Rattle.std.proofs.Output.{has_written_append, has_written_of_eq}
-use Rattle.std.proofs.lemmas.Bool.Decides.{nat_tests}
-use Rattle.std.proofs.lemmas.Iterator.{YieldsList-from_chars}
-use Rattle.std.proofs.lemmas.Iterator.Consumers.{YieldsList-turn, YieldsList-end}
-use Rattle.std.proofs.lemmas.List.{take_more, flat_map_more, length_push}
-use Rattle.std.specs.List.{flat_map}
+use Rattle.std.{proofs.{Common.{rules, ◌≡◌, ℕ, ◌+◌, ◌<◌, ◌≤◌, length, take, get_or, chars, IsUtf8, arith, ◌++◌, ◌∷◌, [], List, true, false, codes, nat_lt, if◌then◌else◌, refl, sym, ap, ◌∙◌, append-nil, take_all}, Output.{has_written_append, has_written_of_eq}, lemmas.{Bool.Decides.nat_tests, Iterator.{YieldsList-from_chars, Consumers.{YieldsList-turn, YieldsList-end}}, List.{take_more, flat_map_more, length_push}}}, specs.List.flat_map}
 use Rattle.settings.specs.Faults.{shown_character}
 use Rattle.settings.proofs.one_line.OneLineDisplay.fmt.Goals as goal
 

@@ -1,6 +1,4 @@
-use Rattle.std.proofs.Common.{◌≡◌, ◌≤◌, length, take, chars}
-use Rattle.std.specs.Fmt.{HasWritten, IsPlainFormatter}
-use Rattle.std.specs.List.{flat_map}
+use Rattle.std.{proofs.Common.{◌≡◌, ◌≤◌, length, take, chars}, specs.{Fmt.{HasWritten, IsPlainFormatter}, List.flat_map}}
 use Rattle.settings.specs.Faults.{shown_character}
 use Rattle.settings.proofs.one_line.OneLineDisplay.fmt.Given as goal
 

@@ -1,6 +1,5 @@
 -- The texts are the decimals of the numbers.
-use Rattle.std.proofs.Common.{rules}
-use Rattle.std.specs.Fmt.{digits}
+use Rattle.std.{proofs.Common.rules, specs.Fmt.digits}
 use Rattle.settings.proofs.table.Key.default.Goals as goal
 
 pub returns : goal.returns

@@ -1,8 +1,5 @@
-use Rattle.std.proofs.Common.{◌≡◌, ℕ, suc, ◌+◌, ◌<◌, List, [], ◌∷◌, ◌++◌, length, take, get_or, sym, subst, ap, ◌∙◌, arith}
-use Rattle.std.proofs.Math.Seq.{take-suc}
-use Rattle.statistics.specs.Counts.{Step, Loaded, AreSums, added}
-use Rattle.statistics.specs.declared.counts.Counts.{Counts}
-use Rattle.statistics.specs.declared.totals.Totals.{Totals}
+use Rattle.std.proofs.{Common.{◌≡◌, ℕ, suc, ◌+◌, ◌<◌, List, [], ◌∷◌, ◌++◌, length, take, get_or, sym, subst, ap, ◌∙◌, arith}, Math.Seq.take-suc}
+use Rattle.statistics.specs.{Counts.{Step, Loaded, AreSums, added}, declared.{counts.Counts.Counts, totals.Totals.Totals}}
 use Rattle.statistics.proofs.statistics.Statistics.totals.Goals as goal
 
 -- the sums of places, one after the other

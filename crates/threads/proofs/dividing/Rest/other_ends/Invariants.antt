@@ -1,5 +1,4 @@
-use Rattle.std.proofs.Common.{◌≡◌, ◌≤◌, ◌+◌, map, length}
-use Rattle.std.specs.Prelude.{vec_len, vec_capacity}
+use Rattle.std.{proofs.Common.{◌≡◌, ◌≤◌, ◌+◌, map, length}, specs.Prelude.{vec_len, vec_capacity}}
 use Rattle.threads.specs.Divided.{AreEndsFrom, AreLeft}
 use Rattle.threads.proofs.dividing.Rest.other_ends.Given as goal
 

@@ -1,5 +1,4 @@
-use Rattle.std.proofs.Common.{inl}
-use Rattle.std.proofs.lemmas.Result.{on_ok_weaker, IfErr-weaker}
+use Rattle.std.proofs.{Common.inl, lemmas.Result.{on_ok_weaker, IfErr-weaker}}
 use Rattle.threads.proofs.Loops.{cut_ran, ran_none, step_ran}
 use Rattle.threads.proofs.polling.PollerThread.step.Goals as goal
 

@@ -1,5 +1,4 @@
-use Rattle.std.proofs.Common.{ap, rules, ◌∙◌}
-use Rattle.std.proofs.lemmas.Result.{IfOk-weaker}
+use Rattle.std.proofs.{Common.{ap, rules, ◌∙◌}, lemmas.Result.IfOk-weaker}
 use Rattle.dispatch.specs.Hands.{HandState}
 use Rattle.threads.proofs.Loops.{Changes, gave_turn, one_ran, others_kept, out_same, turn_worn}
 use Rattle.threads.proofs.working.Worker.turn.Goals as goal
