@@ -16,7 +16,8 @@ r"""Reads the rows of this folder: what each run of the program is given, and wh
 A line of a transcript that ends with `\` has no line feed.
 
 The others are tables. A row is `GIVEN => WANTED`; in both ` | ` is a line feed. A line `begins: TEXT` says how what is given
-in the rows below it begins, or, where TEXT has `%s`, what stands around it; `begins:` that it is whole. `N * (TEXT)` is TEXT N
+in the rows below it begins, or, where TEXT has `%s`, what stands around it; `begins:` that it is whole. After a line
+`[NAME]: TEXT`, `[NAME]` stands for TEXT. `N * (TEXT)` is TEXT N
 times, as lines, or as words where it does not begin a line; in it `{}` counts from 0 up. Where GIVEN has `{A / B}` there is a
 row for each of these, and it stands for each `{}` of the row. A line that ends with ` |`, ` /` or ` =>` goes on in the next.
 
@@ -164,9 +165,15 @@ def choices(line):
 
 def sides(lines):
     """The rows of a table: how their section is marked, the name of each, and its two sides."""
-    mark, begins = "begins", ""
+    mark, begins, named = "begins", "", {}
     for number, line in lines:
+        for name, text in named.items():
+            line = line.replace(name, text)
+        naming = re.fullmatch(r"(\[[a-z ]+\]): (.*)", line)
         section = re.fullmatch(r"(begins|rests|scripts): ?(.*)", line)
+        if naming:
+            named[naming[1]] = naming[2]
+            continue
         if section:
             mark, begins = section.groups()
             continue
