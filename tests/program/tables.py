@@ -1,11 +1,11 @@
 r"""Reads the rows of this folder: what each run of the program is given, and what it must give.
 
-`transcripts` and `help` have runs. All that a run gives is compared to the byte. These are its lines:
+`transcripts` and `help` have runs, of which all output is compared to the byte. These are the lines of a run:
 
     == NAME             a run begins
     $ relayd WORDS      the command, as a shell reads it. After `<`, `>` and `2>`, in this order, stands where a stream goes:
-                        a file, `closed` (nowhere), `gone` (a pipe that nobody reads) or `terminal` (one where the input is
-                        typed, and then Ctrl-D). Where there are several commands, each gives the same
+                        a file, `closed`, `gone` (a pipe that nobody reads) or `terminal` (one where the input is typed,
+                        and then Ctrl-D). Where there are several commands, each gives the same
     < TEXT              a line of standard input
     NAME: TEXT          a line of the file NAME, which lies where the program runs; so does the folder `examples`
     > TEXT              a line of standard output
@@ -15,11 +15,10 @@ r"""Reads the rows of this folder: what each run of the program is given, and wh
 
 A line of a transcript that ends with `\` has no line feed.
 
-The others are tables. A row is `GIVEN => WANTED`; in both ` | ` is a line feed. A line `begins: TEXT` says how what is given
-in the rows below it begins, or, where TEXT has `%s`, what stands around it; `begins:` that it is whole. After a line
-`[NAME]: TEXT`, `[NAME]` stands for TEXT. `N * (TEXT)` is TEXT N
-times, as lines, or as words where it does not begin a line; in it `{}` counts from 0 up. Where GIVEN has `{A / B}` there is a
-row for each of these, and it stands for each `{}` of the row. A line that ends with ` |`, ` /` or ` =>` goes on in the next.
+The others are tables. A row is `GIVEN => WANTED`. A line `begins: TEXT` says how what is given in the rows below it begins, or,
+where TEXT has `%s`, what stands around it; `begins:` that it is whole. `N * (TEXT)` is TEXT N times, as lines, or as words where
+it does not begin a line; in it `{}` counts from 0 up. Where GIVEN has `{A / B}` there is a row for each of these, and it stands
+for each `{}` of the row.
 
 `reports` has scripts, or a file of `examples`, and the whole report of each, which for a world leaves out what is as in a world
 in which nothing has happened: lists are empty, workers idle, directions have no bytes, and slots are free.
@@ -42,8 +41,9 @@ that the log has, or the settings that differ from their defaults, as `ring=1 lo
 `words` has the words after `relayd`, as a shell reads them, that are refused. WANTED is such a fault with its cause, or what
 the parser of arguments prints.
 
-In all of them `\xHH` is a byte, and `\xHH*N` that byte N times, but in what the log has of a fault, which is as it stands.
-Lines that begin with `#` are comments.
+In all files, after a line `[NAME]: TEXT`, `[NAME]` stands for TEXT, ` | ` for a line feed, `\xHH` for a byte and `\xHH*N` for
+that byte N times, but in what the log has of a fault, which is as it stands. A line that ends with ` |`, ` /` or ` =>` goes on
+in the next. Lines that begin with `#` are comments.
 """
 
 import functools
@@ -89,6 +89,19 @@ def lines_of(path):
                 begun = ""
 
 
+def named(lines):
+    """The lines with the texts for which names in them stand, but for those that say what a name stands for."""
+    texts = {}
+    for number, line in lines:
+        for name, text in texts.items():
+            line = line.replace(name, text)
+        naming = re.fullmatch(r"(\[[a-z ]+\]): (.*)", line)
+        if naming:
+            texts[naming[1]] = naming[2]
+        else:
+            yield number, line
+
+
 def repeated(text, between=" | "):
     """A text in which `N * (TEXT)` stands for TEXT N times."""
 
@@ -100,7 +113,7 @@ def repeated(text, between=" | "):
 
 
 def bytes_of(text):
-    """The bytes of a text, with those that stand in it as numbers."""
+    """The bytes of a text, in which some stand as numbers."""
     number = re.compile(rb"\\x([0-9a-f]{2})(?:\*([0-9]+))?")
     return number.sub(lambda found: bytes([int(found[1], 16)]) * int(found[2] or 1), text.encode())
 
@@ -126,7 +139,7 @@ def printed(different):
 def transcript(lines):
     """The runs of a transcript."""
     runs = []
-    for number, line in lines:
+    for number, line in named(lines):
         mark, _, text = line.partition(" ")
         command = re.fullmatch(r"relayd(| .*?)(?: < (\S+))?(?: > (\S+))?(?: 2> (\S+))?", text)
         if mark == "==":
@@ -138,7 +151,7 @@ def transcript(lines):
         elif mark == "<":
             row.given += line_of(text)
         elif mark == ">":
-            row.output += line_of(text)
+            row.output += line_of(text.replace(" | ", "\n"))
         elif mark == "!":
             row.errors += line_of(text)
         elif mark == "settings":
@@ -165,15 +178,9 @@ def choices(line):
 
 def sides(lines):
     """The rows of a table: how their section is marked, the name of each, and its two sides."""
-    mark, begins, named = "begins", "", {}
-    for number, line in lines:
-        for name, text in named.items():
-            line = line.replace(name, text)
-        naming = re.fullmatch(r"(\[[a-z ]+\]): (.*)", line)
+    mark, begins = "begins", ""
+    for number, line in named(lines):
         section = re.fullmatch(r"(begins|rests|scripts): ?(.*)", line)
-        if naming:
-            named[naming[1]] = naming[2]
-            continue
         if section:
             mark, begins = section.groups()
             continue
@@ -203,7 +210,7 @@ def report_of(script, told):
         lines[f"slot {slot}"] = f"slot {slot} free gen={header.get('gen', 0)} notes=0"
         if re.search(" (live|done|failed) ", told.get(f"slot {slot}", "")):
             lines |= {f"{slot} {way}": f"{slot} {way} sent=- ring=- unread=- end=no shut=no" for way in ("up", "down")}
-    # What is reported of other things, which are connections of the past, comes last.
+    # Connections of the past come last.
     return " | ".join({**lines, **told}.values())
 
 
@@ -229,8 +236,7 @@ def scripts(lines):
 
 
 def with_each_step(row):
-    """The row of a world's script whose steps are all shown: each has its line, and what is shown last of everything is the
-    report."""
+    """The row of a world's script whose steps are all shown: what is shown last of everything is the report."""
     script = [line for line in row.given.decode().split("\n") if line and line[0] != "#"]
     report = row.output.decode().splitlines()
 
@@ -267,7 +273,7 @@ def numbered(acts):
 
 
 def is_malformed(wanted, text, status, output, errors):
-    """Whether a text is reported to be no recording for this cause, in which the act of the line stands for its number."""
+    """Whether a text is no recording for this cause, in which the act of the line stands for its number."""
 
     def act(line):
         return re.sub(r"^\d+ \d+ ", "", text.split("\n")[int(line[1]) - 1]) + ": "

@@ -27,8 +27,8 @@ use std::process::Abort;
 #[cfg(test)]
 use std::test::Fail;
 
-// What a test answers by what its helpers found. The helpers promise nothing and answer plain values, so that only
-// its run shows what a test asserts, and a test is cheap to prove.
+// What a test answers by what its helpers found, which promise nothing and answer plain values, so that it is cheap to
+// prove.
 
 /// Passes if all goes well. Where memory ran out, the test fails by that.
 #[cfg(test)]

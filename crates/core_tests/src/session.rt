@@ -1,5 +1,5 @@
-// What a wire in memory plays, of which nothing is promised, over a session in which each side gives some bytes and then
-// its end, and takes what the other side gave; and what no program does with a pair.
+// What a wire in memory plays over a session in which each side gives some bytes and its end, and takes what the other
+// side gave; and what no program does with a pair.
 use crate::{all_well, no_row};
 use engine::{Class, Play, PlayList, ScriptWire, Turn, Wire, class_of, pending, turn};
 use relay_core::{Answer, Call, CallKind, Fault, Kind, Pair, Side, Verdict};
@@ -27,7 +27,6 @@ static ROWS: [(u8, Seen); 4] = [
     (3, (TOOK_NONE, 0, 0, 3, 1)),
 ];
 
-/// The play of a number.
 fn play(number: u8) -> Play {
     match number {
         0 => Play::Interrupted,
@@ -37,7 +36,6 @@ fn play(number: u8) -> Play {
     }
 }
 
-/// A list of these plays.
 fn plays<const N: usize>(alloc: Global, plays: [Play; N]) -> Result<Vec<Play>, AllocError> {
     Ok(Vec::from_array(alloc, plays)?)
 }
@@ -57,7 +55,6 @@ fn seen(alloc: Global, mut client: ScriptWire, mut target: ScriptWire) -> Result
     Ok((pair.verdict(), down, up, target.left(), target.faults()))
 }
 
-/// The first row that goes otherwise.
 fn first_wrong(alloc: Global) -> Result<Option<usize>, AllocError> {
     for (row, (number, wanted)) in ROWS.iter().enumerate() {
         let client = wire(alloc, true, b"abc", 2)?;
@@ -126,13 +123,8 @@ fn is_patient(
 
 /// A wire without plays.
 fn silent(alloc: Global, joined: bool) -> Result<ScriptWire, AllocError> {
-    ScriptWire::new(
-        alloc,
-        joined,
-        Vec::new(alloc),
-        Vec::new(alloc),
-        Vec::new(alloc),
-    )
+    let none = || Vec::new(alloc);
+    ScriptWire::new(alloc, joined, none(), none(), none())
 }
 
 /// Whether a broken pipe is a failure of that kind, and a pending error is one of any kind.

@@ -70,7 +70,6 @@ fn cells<T: Drop>(alloc: Global, mut threads: Vec<T>) -> Result<Vec<ThreadCell<T
     Ok(cells)
 }
 
-/// The settings of a server of these sizes.
 fn settings_of(alloc: Global, sizes: Sizes) -> Result<Settings, AllocError> {
     let (slots, workers) = (sizes.limits.slots, sizes.limits.workers);
     let (ring, budget) = (sizes.limits.ring, sizes.limits.budget);
@@ -81,7 +80,6 @@ fn settings_of(alloc: Global, sizes: Sizes) -> Result<Settings, AllocError> {
     parse(alloc, text.as_bytes()).or(Err(AllocError))
 }
 
-/// Makes the threads of such a server.
 fn cast_of<R: Wait>(
     rt: &R,
     alloc: Global,
@@ -110,7 +108,6 @@ fn cast_of<R: Wait>(
     divide(alloc, &shared, Rest { parts, free }, pollers, workers)
 }
 
-/// Makes a front for each poller.
 fn fronts_of(
     alloc: Global,
     outside: &OutsideCell,
@@ -123,7 +120,7 @@ fn fronts_of(
     Ok(fronts)
 }
 
-/// Has each slot begin at this generation.
+/// Has each slot of the pollers begin at this generation.
 fn start_each(pollers: &mut Vec<Poller<KernelFront>>, generation: u64)
     requires { generation ≤ last_generation }
 {
@@ -132,7 +129,6 @@ fn start_each(pollers: &mut Vec<Poller<KernelFront>>, generation: u64)
     }
 }
 
-/// Has each of a poller's slots begin at this generation.
 fn start_all(poller: &mut Poller<KernelFront>, generation: u64)
     requires { generation ≤ last_generation }
 {
