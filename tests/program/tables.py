@@ -32,8 +32,8 @@ in which nothing has happened: lists are empty, workers idle, directions have no
 reports get those of their poll. A last one that ends with `\` has no line feed. After `rests:`, in place of `begins:`, all has
 come to rest when the relay is stopped; after `scripts:` the script of 0.1 is wanted, which WANTED `too long` says that it is
 for `sim`.
-WANTED is `N connections; LINES`, lines of the output, or `WHOSE: ACT: WHY` of the act that can stand nowhere, or `malformed: CAUSE`,
-where CAUSE has the act in place of its line.
+WANTED is `N connections; LINES`, lines of the output, or `WHOSE: ACT: WHY` of an act that can stand nowhere, or
+`malformed: CAUSE`, which has the act in place of its line.
 
 `settings` has settings texts, on which `relayd check` is run. WANTED is the fault that is reported, and after ` | ` the cause
 that the log has, or the settings that differ from their defaults, as `ring=1 log=off`.
@@ -119,12 +119,10 @@ def bytes_of(text):
 
 
 def line_of(text):
-    """The bytes of a line of a transcript."""
     return bytes_of(text[:-1]) if text.endswith("\\") else bytes_of(text) + b"\n"
 
 
 def lines_as_bytes(text):
-    """The bytes of lines of a table, each with its line feed."""
     return bytes_of(text.replace(" | ", "\n") + "\n")
 
 
@@ -137,7 +135,6 @@ def printed(different):
 
 
 def transcript(lines):
-    """The runs of a transcript."""
     runs = []
     for number, line in named(lines):
         mark, _, text = line.partition(" ")
@@ -193,7 +190,6 @@ def sides(lines):
 
 
 def about(line):
-    """What a line of a report is about."""
     words = line.split(" ")
     return words[0] if words[0] in QUIET else " ".join(words[:2])
 
@@ -215,7 +211,6 @@ def report_of(script, told):
 
 
 def scripts(lines):
-    """The rows of a table of scripts, each with its report or its fault."""
     for _, name, script, wanted in sides(lines):
         script = script.replace(" | ", "\n")
         if script.startswith("examples/"):
@@ -300,7 +295,6 @@ def is_told(wanted, text, status, output, errors):
 
 
 def recordings(lines):
-    """The rows of a table of recordings."""
     for mark, name, acts, wanted in sides(lines):
         words = [b"replay", *{"rests": [b"--rest"], "scripts": [b"--script", b"0.1"]}.get(mark, []), b"t.record"]
         text = numbered(acts.split(" | "))
@@ -313,12 +307,11 @@ def error(cause):
 
 
 def fault(told, cause):
-    """What is printed of a fault: a line with its topic and the cause, and the fault."""
+    """What is printed of a fault."""
     return error(f"{told.split(':')[0]}: {cause}") + f"relayd: {told}\n".encode()
 
 
 def settings(lines):
-    """The rows of a table of settings texts."""
     for _, name, text, wanted in sides(lines):
         row = Row(name, [b"check", b"--config", b"t.toml"], files={"t.toml": lines_as_bytes(text)})
         told, _, cause = wanted.partition(" | ")
@@ -330,7 +323,6 @@ def settings(lines):
 
 
 def words(lines):
-    """The rows of a table of words that are refused."""
     for _, name, text, wanted in sides(lines):
         row = Row(name, [bytes_of(word) for word in shlex.split(text)], status=2)
         told, _, cause = wanted.partition(" | ")

@@ -51,16 +51,15 @@ impl Checks {
         verdict: Verdict,
         counts: (u64, u64),
     ) {
-        let alloc = self.alloc;
         match verdict {
             Verdict::Live => {}
             Verdict::Done => {
-                let bytes = bytes_of(alloc, counts.0, counts.1);
-                self.expect(Level::Info, line_of(alloc, "done", slot, generation, bytes));
+                let line = done_line(self.alloc, slot, generation, counts);
+                self.expect(Level::Info, line);
             }
             Verdict::Failed(fault) => {
-                let cause = cause_of(alloc, fault);
-                self.expect(Level::Warn, line_of(alloc, "fail", slot, generation, cause));
+                let line = fail_line(self.alloc, slot, generation, fault);
+                self.expect(Level::Warn, line);
             }
         }
     }
@@ -107,30 +106,26 @@ impl Checks {
     }
 }
 
-fn line_of(
+fn done_line(
     alloc: Global,
-    word: &str,
     slot: usize,
     generation: u64,
-    rest: Result<String, AllocError>,
+    (up, down): (u64, u64),
 ) -> Result<String, AllocError> {
-    let rest = rest?;
-    format!(in alloc; "{word} s={slot} g={generation} {rest}")
+    format!(in alloc; "done s={slot} g={generation} up={up} down={down}")
 }
 
-fn bytes_of(alloc: Global, up: u64, down: u64) -> Result<String, AllocError> {
-    format!(in alloc; "up={up} down={down}")
-}
-
-fn cause_of(alloc: Global, fault: Fault) -> Result<String, AllocError> {
+fn fail_line(
+    alloc: Global,
+    slot: usize,
+    generation: u64,
+    fault: Fault,
+) -> Result<String, AllocError> {
     match fault {
-        Fault::Idle => String::from_str(alloc, "idle"),
+        Fault::Idle => format!(in alloc; "fail s={slot} g={generation} idle"),
         Fault::Broken { side, call, kind } => {
-            broken_of(alloc, side.name(), call.name(), kind.name())
+            let (side, call, kind) = (side.name(), call.name(), kind.name());
+            format!(in alloc; "fail s={slot} g={generation} side={side} call={call} kind={kind}")
         }
     }
-}
-
-fn broken_of(alloc: Global, side: &str, call: &str, kind: &str) -> Result<String, AllocError> {
-    format!(in alloc; "side={side} call={call} kind={kind}")
 }

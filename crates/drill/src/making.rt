@@ -17,7 +17,7 @@ use std::cell::{Cell, RefCell};
 use std::rc::Rc;
 use std::sync::atomic::AtomicBool;
 use std::sync::{Arc, Wait};
-use threads::{Ending, PollerThread, Rest, Server, ServerThreads, Worker, divide};
+use threads::{Ending, Rest, Server, ServerThreads, divide};
 
 /// Makes the driver of a server of these sizes.
 pub fn driver_of<R: Wait>(rt: &R, alloc: Global, sizes: Sizes) -> Result<Driver, ServerFault>
@@ -28,7 +28,11 @@ pub fn driver_of<R: Wait>(rt: &R, alloc: Global, sizes: Sizes) -> Result<Driver,
     let settings = settings_of(alloc, sizes)?;
     let cast = cast_of(rt, alloc, &outside, &settings, sizes)?;
     let ending = Ending::new(cast.pollers.len());
-    let (pollers, workers) = cells_of(alloc, cast)?;
+    let ServerThreads {
+        pollers,
+        mut workers,
+    } = cast;
+    workers.reverse();
     Ok(Driver {
         alloc,
         sizes,
@@ -36,24 +40,9 @@ pub fn driver_of<R: Wait>(rt: &R, alloc: Global, sizes: Sizes) -> Result<Driver,
         clock,
         ending,
         is_stopped: AtomicBool::new(false),
-        pollers,
-        workers,
+        pollers: cells(alloc, pollers)?,
+        workers: cells(alloc, workers)?,
     })
-}
-
-/// The threads of a server that has not begun.
-type ThreadCells = (
-    Vec<ThreadCell<PollerThread<KernelFront>>>,
-    Vec<ThreadCell<Worker<KernelFront>>>,
-);
-
-fn cells_of(alloc: Global, cast: ServerThreads<KernelFront>) -> Result<ThreadCells, AllocError> {
-    let ServerThreads {
-        pollers,
-        mut workers,
-    } = cast;
-    workers.reverse();
-    Ok((cells(alloc, pollers)?, cells(alloc, workers)?))
 }
 
 /// Puts each thread in a cell, the last one first.
