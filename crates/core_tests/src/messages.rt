@@ -14,7 +14,6 @@ fn is(text: Result<String, AllocError>, wanted: &str) -> Result<bool, AllocError
     Ok(text?.as_str() == wanted)
 }
 
-/// Whether each message of which there are texts has its own.
 fn are_texts(alloc: Global) -> Result<bool, AllocError> {
     Ok(
         is(open_text(alloc, 3, 1), "open s=3 g=1")?
@@ -30,7 +29,7 @@ fn texts_are_made(rt: HostRuntime) -> Result<(), Fail> {
     all_well(are_texts(rt.alloc()))
 }
 
-/// Whether a line that is longer than any that the program prints is cut where it is full.
+/// Whether a line that is longer than any of the program is cut where it is full.
 fn is_cut(alloc: Global) -> Result<bool, AllocError> {
     let mut line = LogLine::new();
     for _ in 0..40 {
@@ -61,12 +60,7 @@ impl fmt::Display for Noting {
 #[test]
 fn no_text_is_made_for_a_level_that_is_off(rt: HostRuntime) -> Result<(), Fail> {
     let from = Noting(Cell::new(false));
-    log_peer(
-        &Logged::new(&rt, Level::Info, Discard),
-        ClientsAt::Debug,
-        0,
-        1,
-        &from,
-    );
+    let log = Logged::new(&rt, Level::Info, Discard);
+    log_peer(&log, ClientsAt::Debug, 0, 1, &from);
     all_well(Ok(!from.0.get()))
 }

@@ -24,7 +24,22 @@ pub struct ThreadCell<T> {
     pub has_ended: Cell<bool>,
 }
 
-/// The server's threads, and what is outside of the server.
+impl<T: Drop> ThreadCell<T> {
+    /// Makes a step, which returns whether the thread ends with it, unless that has ended.
+    fn make<F: FnOnce(&mut T) -> bool + Drop>(&self, step: F)
+        requires { F.IsAlwaysCallable step }
+    {
+        if self.has_ended.get() {
+            return;
+        }
+        if let Ok(mut thread) = self.thread.try_borrow_mut() {
+            let has_ended = step(&mut thread);
+            self.has_ended.set(has_ended);
+        }
+    }
+}
+
+/// The server's threads, and what is outside of them.
 #[derive(Drop)]
 pub struct Driver {
     pub alloc: Global,
@@ -58,7 +73,6 @@ impl Driver {
         }
     }
 
-    /// What a thread is passed for a step.
     fn context<'a, R>(&'a self, rt: &'a R, gate: &'a TurnGate<'a>) -> StepContext<'a, R> {
         Context {
             rt,
@@ -76,19 +90,12 @@ impl Driver {
 
     /// Makes a step of a poller's thread, unless it has ended.
     pub fn round<R: Wait + Log>(&self, rt: &R, poller: usize) {
-        let Some(cell) = self.pollers.get(poller) else {
-            return;
-        };
-        if cell.has_ended.get() {
-            return;
-        }
-        if let Ok(mut thread) = cell.thread.try_borrow_mut() {
-            let has_ended = self.round_of(rt, poller, &mut thread);
-            cell.has_ended.set(has_ended);
+        if let Some(cell) = self.pollers.get(poller) {
+            cell.make(|thread| self.round_of(rt, poller, thread));
         }
     }
 
-    /// Makes the step of a poller's thread. Returns whether the thread ends with it.
+    /// Returns whether the thread ends with its step.
     fn round_of<R: Wait + Log>(
         &self,
         rt: &R,
@@ -107,19 +114,12 @@ impl Driver {
 
     /// Makes a step of a worker's thread, unless it would wait or has ended.
     pub fn turn<R: Wait + Log>(&self, rt: &R, number: usize) {
-        let Some(cell) = self.workers.get(number) else {
-            return;
-        };
-        if cell.has_ended.get() {
-            return;
-        }
-        if let Ok(mut worker) = cell.thread.try_borrow_mut() {
-            let has_ended = self.turn_of(rt, &mut worker);
-            cell.has_ended.set(has_ended);
+        if let Some(cell) = self.workers.get(number) {
+            cell.make(|worker| self.turn_of(rt, worker));
         }
     }
 
-    /// Makes the step of a worker's thread, unless it would wait. Returns whether the thread ends with it.
+    /// Returns whether the thread ends with its step.
     fn turn_of<R: Wait + Log>(&self, rt: &R, worker: &mut Worker<KernelFront>) -> bool {
         let Ok(has_ticket) = has_ticket(rt, self.alloc, &mut worker.own.ready) else {
             return false;
@@ -136,7 +136,7 @@ impl Driver {
         has_ended
     }
 
-    /// Whether a worker's thread must end with its next step, if a ticket is queued, or not.
+    /// Whether a worker's thread must end with its next step.
     fn worker_is_due(&self, has_ticket: bool) -> bool {
         let polling = self.pollers.iter().any(|cell| !cell.has_ended.get());
         let is_faulty = self.outside.with(false, |outside| outside.state.is_faulty);
@@ -151,7 +151,6 @@ impl Driver {
     }
 }
 
-/// Makes a step of a poller's thread. Returns whether that ended the thread.
 fn step_poller<R: Wait + Log>(
     context: &StepContext<'_, R>,
     thread: &mut PollerThread<KernelFront>,
@@ -165,7 +164,6 @@ fn step_poller<R: Wait + Log>(
     }
 }
 
-/// Makes a step of a worker's thread. Returns whether that ended the thread.
 fn step_worker<R: Wait + Log>(
     context: &StepContext<'_, R>,
     worker: &mut Worker<KernelFront>,
@@ -179,7 +177,7 @@ fn step_worker<R: Wait + Log>(
     }
 }
 
-/// Whether a ticket is queued. All tickets are taken out, and put back in the same order.
+/// Whether a ticket is queued: takes all out, and puts them back in the same order.
 fn has_ticket(rt: &impl Wait, alloc: Global, ready: &mut ReadyQueue) -> Result<bool, AllocError> {
     let mut tickets = Vec::with_capacity(alloc, MOST)?;
     for _ticket in 0..MOST {

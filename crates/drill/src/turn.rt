@@ -8,11 +8,11 @@ use world::{Act, Event};
 #[derive(Clone, Copy)]
 pub struct Turn {
     pub slot: usize,
-    /// How many calls the turn has made.
+    /// How many calls it has made.
     calls: usize,
-    /// Whether the turn may still make calls.
+    /// Whether it may still make calls.
     pub calling: bool,
-    /// Whether the turn left its connection due.
+    /// Whether it left its connection due.
     again: bool,
     /// Whether the end of its connection was logged, or need not be.
     logged: bool,
@@ -32,7 +32,7 @@ impl Turn {
         }
     }
 
-    /// Whether the turn has made at most its budget of calls, and exactly that many if it left its connection due.
+    /// Whether it made at most its budget of calls, and exactly that many if it left its connection due.
     fn is_of(&self, budget: usize) -> bool {
         self.calls == budget || self.calls < budget && !self.again
     }
@@ -47,30 +47,26 @@ impl Outside {
         if self.state.is_faulty {
             self.checks.fail("a turn after a fault");
         }
-        let begun = match self.machines.get_mut(slot) {
-            Some(machine) => machine.begin(),
-            None => false,
-        };
-        self.must(begun);
+        let machine = self.machines.get_mut(slot);
+        let is_begun = machine.is_some_and(|machine| machine.begin());
+        self.must(is_begun);
         self.turn = Some(Turn::at(slot));
     }
 
-    /// Makes an act of the thread of the turn in progress, in the slot's machine.
+    /// Makes an act of the turn in progress, in the slot's machine.
     pub fn act(&mut self, act: Act) {
         if let Some(turn) = self.turn {
             self.record(turn.slot, Event::Work(0, act));
         }
     }
 
-    /// Counts a call of the turn in progress.
     pub fn count_call(&mut self) {
         if let Some(turn) = &mut self.turn {
             turn.calls = turn.calls.saturating_add(1);
         }
     }
 
-    /// Ends the calls of the turn in progress. It must have made as many as its budget if its connection is due, and
-    /// never more.
+    /// Ends the calls of the turn in progress, which must be of its budget.
     pub fn end_calls(&mut self) {
         let Some(turn) = &mut self.turn else {
             return;
@@ -90,7 +86,7 @@ impl Outside {
         }
     }
 
-    /// Expects the line about the end of the turn's connection, if that has ended.
+    /// Expects the line about the turn's connection, if that has ended.
     pub fn expect_ended(&mut self) {
         let Some(turn) = &mut self.turn else {
             return;
@@ -107,7 +103,6 @@ impl Outside {
         }
     }
 
-    /// Closes an end.
     pub fn close(&mut self, token: Token) {
         match &mut self.turn {
             Some(turn) if turn.slot == token.slot() && turn.logged => {
@@ -157,7 +152,6 @@ impl Outside {
         }
     }
 
-    /// Begins a step of a worker's thread.
     pub fn begin_work(&mut self) {
         self.poller = None;
     }

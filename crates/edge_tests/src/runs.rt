@@ -13,38 +13,25 @@ const ROOM: usize = 4096;
 /// The script of one direction from its first byte to its shutdown.
 const SCRIPT: &[u8] = b"flow ring=4\narrive 616263\nroom\nread 3\nfin\nwrote 3\nend\nshut";
 
-/// What it prints.
 const REPORT: &[u8] = b"up sent=616263 ring=- unread=- end=yes shut=yes\n";
 
-/// A reader over bytes: it hands over a byte a read. One read may fail, and it goes on with the rest if it is read
-/// again.
+/// A reader that hands over a byte a read, but for one that may fail.
 #[derive(Drop)]
 struct Source<'a> {
     rest: &'a [u8],
+    /// How many reads were made, the one that failed too.
     reads: usize,
     fails: usize,
     kind: ErrorKind,
 }
 
-impl<'a> Source<'a> {
-    /// All bytes, and then the end.
-    fn whole(bytes: &'a [u8]) -> Source<'a> {
-        Source::failing_once(bytes, usize::MAX, ErrorKind::Other)
-    }
-
-    /// The first bytes, this many; then one error; and then the rest.
-    fn failing_once(bytes: &'a [u8], length: usize, kind: ErrorKind) -> Source<'a> {
-        Source {
-            rest: bytes,
-            reads: 0,
-            fails: length,
-            kind,
-        }
-    }
-
-    /// How many reads were made, the one that failed too.
-    fn reads(&self) -> usize {
-        self.reads
+/// A reader of the first bytes, this many; then one error; and then the rest.
+fn source(rest: &[u8], fails: usize, kind: ErrorKind) -> Source<'_> {
+    Source {
+        rest,
+        reads: 0,
+        fails,
+        kind,
     }
 }
 
@@ -79,16 +66,11 @@ struct Sink {
 
 impl Sink {
     /// Takes this many bytes, and then fails.
-    fn failing_after(alloc: Global, length: usize) -> Result<Sink, AllocError> {
+    fn failing_after(alloc: Global, left: usize) -> Result<Sink, AllocError> {
         Ok(Sink {
-            taken: Vec::with_capacity(alloc, length)?,
-            left: length,
+            taken: Vec::with_capacity(alloc, left)?,
+            left,
         })
-    }
-
-    /// The bytes that were taken.
-    fn into_taken(self) -> Vec<u8> {
-        self.taken
     }
 }
 
@@ -120,7 +102,6 @@ struct Run {
 }
 
 impl Run {
-    /// Whether it ended so.
     fn is(&self, status: u8, output: &[u8], errors: &[u8]) -> bool {
         self.status == status
             && self.output.as_slice() == output
@@ -151,7 +132,6 @@ impl Replay for NoPlayer {
     }
 }
 
-/// The arguments of a command line, which single spaces separate.
 fn arguments(alloc: Global, line: &str) -> Result<Vec<String>, AllocError> {
     let mut arguments = Vec::new(alloc);
     for argument in line.split(' ') {
@@ -160,14 +140,15 @@ fn arguments(alloc: Global, line: &str) -> Result<Vec<String>, AllocError> {
     Ok(arguments)
 }
 
-/// Runs a command line on a reader and a writer, with a server that ends since its claim words are worn. Where memory
-/// runs out, the test fails by that, and not by a text that it doesn't expect.
+/// Runs a command line on a reader, and on a writer that fails after so many bytes, with a server that ends since its
+/// claim words are worn. Where memory runs out, the test fails by that, and not by a text that it doesn't expect.
 fn play(
     rt: &HostRuntime,
     line: &str,
     source: &mut Source<'_>,
-    mut sink: Sink,
+    length: usize,
 ) -> Result<Run, AllocError> {
+    let mut sink = Sink::failing_after(rt.alloc(), length)?;
     let arguments = arguments(rt.alloc(), line)?;
     let mut errors = Vec::with_capacity(rt.alloc(), ROOM)?;
     let status = act(
@@ -179,10 +160,9 @@ fn play(
         &|_settings, _bound, _extras, _file| Err(ServerFault::Worn),
         &NoPlayer,
     );
-    let output = sink.into_taken();
     let run = Run {
         status,
-        output,
+        output: sink.taken,
         errors,
     };
     if run.is_out_of_memory() {
@@ -201,21 +181,16 @@ fn reads(
     output: &[u8],
     errors: &[u8],
 ) -> Result<bool, AllocError> {
-    let mut source = Source::failing_once(SCRIPT, length, kind);
-    let sink = Sink::failing_after(rt.alloc(), ROOM)?;
-    let run = play(rt, "relayd", &mut source, sink)?;
+    let mut source = source(SCRIPT, length, kind);
+    let run = play(rt, "relayd", &mut source, ROOM)?;
     let reads = length.min(SCRIPT.len()).saturating_add(1);
-    Ok(run.is(status, output, errors) && source.reads() == reads)
+    Ok(run.is(status, output, errors) && source.reads == reads)
 }
 
 /// Whether each of these errors is reported where it comes after this many bytes.
 fn are_reported(rt: &HostRuntime, length: usize) -> Result<bool, AllocError> {
     let mut all = true;
-    for kind in [
-        ErrorKind::Interrupted,
-        ErrorKind::OutOfMemory,
-        ErrorKind::Other,
-    ] {
+    for kind in [ErrorKind::Interrupted, ErrorKind::OutOfMemory, ErrorKind::Other] {
         all = all && reads(rt, length, kind, 1, b"", b"relayd: input: cannot be read\n")?;
     }
     Ok(all)
@@ -237,10 +212,9 @@ static COMMANDS: [(&str, &[u8]); 3] = [
     ("relayd sim --each", SCRIPT),
 ];
 
-/// What a command writes to a writer that fails after this many bytes.
+/// Runs a command with a writer that fails after this many bytes.
 fn writes(rt: &HostRuntime, line: &str, script: &[u8], length: usize) -> Result<Run, AllocError> {
-    let sink = Sink::failing_after(rt.alloc(), length)?;
-    play(rt, line, &mut Source::whole(script), sink)
+    play(rt, line, &mut source(script, usize::MAX, ErrorKind::Other), length)
 }
 
 /// Whether a writer that fails after any number of bytes is reported, also at the flush after the last one, and what
