@@ -13,9 +13,9 @@ use token::{Name, Token, unpack};
 /// Posts a note for each report of a batch, and adds a ticket to the hand for each post that answers Wake. Returns
 /// whether the listener was reported.
 ///
-/// A batch has the numbers of the tokens that were reported, in order (epoll_wait(2)), and the table has each slot's
-/// generation. A number that names no end, such as the waker's, leaves no note, and neither does an end whose slot
-/// the table lacks or has with another generation: its connection was closed after the report arrived.
+/// A batch has the numbers of the tokens that were reported, in order (epoll_wait(2)), and the table each slot's
+/// generation. A number that names no end, such as the waker's, leaves no note, and neither does an end whose slot the
+/// table lacks or has with another generation: its connection was closed after the report arrived.
 ///
 /// The only refusal is `Worn`: the seat has posted 2^56 times. Then the reports before that one are delivered.
 pub fn deliver(
@@ -42,7 +42,7 @@ pub fn deliver(
     Ok(batch.contains(&LISTENER))
 }
 
-/// Posts a note for one report, if it is for a connection. `Worn` changes nothing.
+/// Posts a note for one report, if it is for a connection.
 fn report(
     claims: &Claims,
     seat: &mut ClaimSeat,
@@ -65,8 +65,7 @@ fn report(
     post_note(claims, seat, ticket, hand)
 }
 
-/// Posts a note at a connection's slot, and adds its ticket to the hand if the post answers Wake. `Worn` changes
-/// nothing.
+/// Posts a note at a connection's slot, and adds its ticket to the hand if the post answers Wake.
 #[tactic(auto, using(crate::proofs::Acts::posted_quiet, crate::proofs::Acts::posted_woke))]
 pub(crate) fn post_note(
     claims: &Claims,
@@ -102,7 +101,6 @@ fn connection(table: &[u64], number: u64) -> Option<Ticket>
     }
 }
 
-/// The connection of an end, if it is still in its slot.
 fn connection_of(table: &[u64], end: Token) -> Option<Ticket>
     ensures value { result ≡ connection table.now (Some (Name.End end)) }
     ensures inside { IfSome result (λ ticket. ticket.slot < length table.now) }

@@ -1,4 +1,4 @@
-//! What a round posts for time: a note at each slot in which a connection was opened, once the idle limit has passed.
+//! What a round posts for time.
 ghost use Rattle.std.specs.Prelude.{◌≡◌, ◌⊎◌, ◌<◌, ◌≤◌, length, IfErr, OnErr, OnOk};
 ghost use Rattle.claims.specs.Seats.{HoldsNothing};
 ghost use Rattle.rounds.specs.{Acts.{ArePosted, all_opened, is_due, opened_in, sweep_of}, Openings.{AreIn, Between, SameQueues}, Rounds.SweepMade};
@@ -36,7 +36,6 @@ pub(crate) fn keep_time<F: Front, C: Clock>(
     Ok(())
 }
 
-/// Makes a sweep if one is due. The poller opened no connection in the slots of another one, and posts none there.
 fn sweep_if_due<F: Front>(
     shared: &Shared<F>,
     own: &mut Own,
@@ -61,8 +60,6 @@ fn sweep_if_due<F: Front>(
     Ok(())
 }
 
-/// Whether a sweep is due: at the second of the last round the limit, if there is one, had passed since the last
-/// sweep.
 pub(crate) fn is_due<F: Front>(poller: &Poller<F>, limit: u64) -> bool
     ensures { result ≡ is_due limit poller.now }
 {
@@ -71,8 +68,6 @@ pub(crate) fn is_due<F: Front>(poller: &Poller<F>, limit: u64) -> bool
 }
 
 /// Posts a note at each slot in which a connection was opened, in rising order.
-///
-/// The only refusal is `Worn`: the seat has posted 2^56 times. Then the slots before that one have their notes.
 fn sweep(
     claims: &Claims,
     seat: &mut ClaimSeat,
@@ -94,7 +89,6 @@ fn sweep(
     Ok(())
 }
 
-/// Posts a note at a slot, if a connection was opened there. `Worn` changes nothing.
 fn sweep_slot(
     claims: &Claims,
     seat: &mut ClaimSeat,

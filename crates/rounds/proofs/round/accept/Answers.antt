@@ -1,15 +1,17 @@
-use Rattle.std.proofs.Common.{refl, inl, inr, ◌∙◌, arith}
-use Rattle.rounds.proofs.Rounds.{accept_and_took, accept_both, accept_none, between_still, between_took, ended_by, not_ok, passed_up, room_same, still}
-use Rattle.rounds.proofs.round.accept_all.Goals as goal
+use Rattle.std.proofs.Common.{inl, inr, refl, ◌∙◌, arith}
+use Rattle.rounds.proofs.Rounds.{accept_and_took, accept_both, accept_took, between_took, ended_by, not_ok, passed_up, room_same, still}
+use Rattle.rounds.proofs.round.accept.Goals as goal
 
 pub loop-try-init : goal.loop-try-init
-loop-try-init g c = record {
-  between = between_still c.requires.between refl (rw c.reset_tries.ensures);
-  room = omega arith;
-  tries = rw c.reset_tries.ensures;
-  done = accept_none (rw c.reset_tries.ensures (still c.args.poller.now));
-  poller = rw c.reset_tries.ensures;
-}
+loop-try-init g c =
+    let full = c.log_if_full.ensures in
+    record {
+      between = between_took c.requires.between full.took (rw (c.reset_tries.ensures, full.poller));
+      room = omega (arith, room_same full.took);
+      tries = rw c.reset_tries.ensures;
+      done = accept_took (rw (c.reset_tries.ensures, full.poller) (still c.args.poller.now)) full.took;
+      poller = rw (c.reset_tries.ensures, full.poller);
+    }
 
 pub accept_next-requires : goal.accept_next-requires
 accept_next-requires g c =
@@ -23,14 +25,17 @@ accept_next-requires g c =
     }
 
 pub returns-then-not-may_accept : goal.returns-then-not-may_accept
-returns-then-not-may_accept g c = record {
-  between = between_took c.loop-try.invariant.between c.may_accept.ensures.took refl;
-  worn = tt;
-  done = accept_and_took c.loop-try.invariant.done c.may_accept.ensures.took;
-  ended = inl (inr (c.may_accept.ensures.ended c.if-not-may_accept.true));
-  ready = c.may_accept.ensures.took.ready ∙ c.loop-try.invariant.done.connected.ready;
-  poller = c.loop-try.invariant.poller;
-}
+returns-then-not-may_accept g c =
+    let before = c.loop-try.invariant in
+    let took = c.may_accept.ensures.took in
+    record {
+      between = between_took before.between took refl;
+      worn = tt;
+      done = accept_and_took before.done took;
+      ended = inl (inr (c.may_accept.ensures.ended c.if-not-may_accept.true));
+      ready = took.ready ∙ before.done.connected.ready;
+      poller = before.poller;
+    }
 
 pub returns-in_err-accept_next : goal.returns-in_err-accept_next
 returns-in_err-accept_next g c = record {
@@ -53,10 +58,13 @@ returns-then-not-branch g c = record {
 }
 
 pub loop-try-preserved : goal.loop-try-preserved
-loop-try-preserved g c = record {
-  between = c.in_ok-accept_next.ensures.between;
-  room = omega (arith, room_same c.may_accept.ensures.took, c.in_ok-accept_next.ensures.done.room, c.loop-try.invariant.room);
-  tries = omega (arith, c.in_ok-accept_next.ensures.tries c.if-not-branch.false, c.loop-try.invariant.tries, c.loop-try-test.true);
-  done = accept_both (accept_and_took c.loop-try.invariant.done c.may_accept.ensures.took) c.in_ok-accept_next.ensures.done.done;
-  poller = rw (c.accept_next.ensures.poller, c.loop-try.invariant.poller);
-}
+loop-try-preserved g c =
+    let before = c.loop-try.invariant in
+    let tried = c.in_ok-accept_next.ensures in
+    record {
+      between = tried.between;
+      room = omega (arith, room_same c.may_accept.ensures.took, tried.done.room, before.room);
+      tries = omega (arith, tried.tries c.if-not-branch.false, before.tries, c.loop-try-test.true);
+      done = accept_both (accept_and_took before.done c.may_accept.ensures.took) tried.done.done;
+      poller = rw (c.accept_next.ensures.poller, before.poller);
+    }
