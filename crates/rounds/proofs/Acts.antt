@@ -130,10 +130,6 @@ delivered_both generations xs ys one two = rw (filter_map-append (reported gener
 pub none_at : (t : Ticket) (slot : ℕ) → slot ≢ t.slot → at_slot slot (t ∷ []) ≡ 0
 none_at t slot other = rw (ne_eqb t.slot slot (λ e. other (sym e)))
 
--- a report for a connection
-pub one_reported : (generations : List ℕ) (number : ℕ) (t : Ticket) → reported generations number ≡ Some t → all_reported generations (number ∷ []) ≡ t ∷ []
-one_reported generations number t is = ap (λ (o : Option Ticket). cons_option o []) is
-
 module _ {t : Ticket} {old new : SeatState} where
   one_posted : (woke : Bool) {h k : HandState} → Adds t.slot (exchange.Post woke ∷ []) old new
       → k ≡ record h { tickets = h.tickets ++ (made_by (minted_by (exchange.Post woke ∷ [])) t ++ []) } → ArePosted (t ∷ []) old new h k
@@ -222,9 +218,11 @@ no_sweep old swept same = rw (eq-eqb swept old.swept same)
 past_later : (second limit last : ℕ) → is_past second limit last ≡ true → second ≢ last
 past_later second limit last past same = grind (arith, nat_tests)
 
--- a sweep was made
-pub sweep_is : (limit : ℕ) (p r : PollerState) → r ≡ record p { swept = p.second } → is_due limit p ≡ true → sweep_of p r ≡ all_opened p.table
-sweep_is limit p r counted due = rw (counted, ne_eqb p.second p.swept (past_later p.second limit p.swept due))
+-- a sweep was made, or none was due
+pub swept_by : (limit : ℕ) (p r : PollerState) (due : Bool) {second : ℕ} → due ≡ is_due limit p → r ≡ record p { swept = if due then p.second else p.swept; second = second }
+    → sweep_of p r ≡ (if due then all_opened p.table else [])
+swept_by limit p r true due is = rw (is, ne_eqb p.second p.swept (past_later p.second limit p.swept (sym due)))
+swept_by limit p r false due is = rw (is, eq-eqb p.swept p.swept refl)
 
 -- the listener was reported, or not
 pub flag_raised : (told flag : Bool) (batch : List ℕ) → (IsTrue told ↔ Contains batch 0) → IsTrue (flag || told) ↔ (IsTrue flag ⊎ Contains batch 0)

@@ -1,5 +1,5 @@
 //! The reports of one poll become notes at their slots.
-ghost use Rattle.std.specs.Prelude.{◌≡◌, ℕ, ◌-◌, ◌<◌, ◌≤◌, ◌↔◌, ◌∷◌, [], length, take, IsTrue, IfOk, OnOk, IfErr, OnErr, IfSome, Contains};
+ghost use Rattle.std.specs.{Prelude.{◌≡◌, ℕ, ◌-◌, ◌<◌, ◌≤◌, ◌↔◌, [], length, take, IsTrue, IfOk, OnOk, IfErr, OnErr, IfSome, Contains}, List.cons_option};
 ghost use Rattle.claims.specs.Seats.{HoldsNothing};
 ghost use Rattle.dispatch.specs.{Hands.ticket_room, Posts.OnlyWorn};
 ghost use Rattle.rounds.specs.Acts.{connection, reported, ArePosted, Delivered};
@@ -37,51 +37,31 @@ pub fn deliver(
     ensures same { seat.new.table ≡ seat.old.table }
 {
     for number in batch {
-        report(claims, seat, table, *number, hand)?;
+        post_note(claims, seat, connection(table, *number), hand)?;
     }
     Ok(batch.contains(&LISTENER))
 }
 
-/// Posts a note for one report, if it is for a connection.
-fn report(
-    claims: &Claims,
-    seat: &mut ClaimSeat,
-    table: &[u64],
-    number: u64,
-    hand: &mut Hand,
-) -> Result<(), ServerFault>
-    requires same { seat.old.table ≡ claims.now }
-    requires idle { HoldsNothing seat.old }
-    requires sized { length table.now ≡ claims.now.words }
-    requires room { length hand.old.tickets < hand.old.capacity }
-    ensures delivered { OnOk result (Delivered table.now (number ∷ []) seat.old seat.new hand.old hand.new) }
-    ensures seat { OnErr result (seat.new ≡ seat.old) }
-    ensures hand { OnErr result (hand.new ≡ hand.old) }
-    ensures worn { IfErr result (λ fault. OnlyWorn fault seat.new) }
-{
-    let Some(ticket) = connection(table, number) else {
-        return Ok(());
-    };
-    post_note(claims, seat, ticket, hand)
-}
-
-/// Posts a note at a connection's slot, and adds its ticket to the hand if the post answers Wake.
+/// Posts a note at a connection's slot, if there is one, and adds its ticket to the hand if the post answers Wake.
 #[tactic(auto, using(crate::proofs::Acts::posted_quiet, crate::proofs::Acts::posted_woke))]
 pub(crate) fn post_note(
     claims: &Claims,
     seat: &mut ClaimSeat,
-    ticket: Ticket,
+    ticket: Option<Ticket>,
     hand: &mut Hand,
 ) -> Result<(), ServerFault>
     requires same { seat.old.table ≡ claims.now }
     requires idle { HoldsNothing seat.old }
-    requires inside { ticket.slot < claims.now.words }
+    requires inside { IfSome ticket (λ ticket. ticket.slot < claims.now.words) }
     requires room { length hand.old.tickets < hand.old.capacity }
-    ensures posted { OnOk result (ArePosted (ticket ∷ []) seat.old seat.new hand.old hand.new) }
+    ensures posted { OnOk result (ArePosted (cons_option ticket []) seat.old seat.new hand.old hand.new) }
     ensures seat { OnErr result (seat.new ≡ seat.old) }
     ensures hand { OnErr result (hand.new ≡ hand.old) }
     ensures worn { IfErr result (λ fault. OnlyWorn fault seat.new) }
 {
+    let Some(ticket) = ticket else {
+        return Ok(());
+    };
     match claims.post(seat, ticket.slot) {
         Posted::Wake => hand.keep_ticket(ticket),
         Posted::Quiet => {}

@@ -86,6 +86,8 @@ pub fn open<F: Front + Counting, A: Moves<F>, R: Wait + Logs>(
         poller.count_lost(uncounted);
         return Ok(());
     };
+    let generation = names.client.generation();
+    let ticket = Ticket { slot, generation };
     match prepare(
         rt,
         alloc,
@@ -96,7 +98,7 @@ pub fn open<F: Front + Counting, A: Moves<F>, R: Wait + Logs>(
         client,
         names,
     ) {
-        Ok(berth) => place(rt, acts, shared, own, poller, berth, uncounted),
+        Ok(berth) => place(rt, acts, shared, own, poller, ticket, berth, uncounted),
         Err(dropped) => {
             poller.count_dropped(shared, slot, dropped, uncounted);
             Ok(())
@@ -315,15 +317,6 @@ fn log_unopened<N: Log>(
     }
 }
 
-fn ticket_of<F: Front>(berth: &Box<Berth<F::Client, F::Target>>) -> Ticket
-    ensures { result ≡ record { slot = berth.now.value.pair.slot; generation = berth.now.value.pair.generation } }
-{
-    Ticket {
-        slot: berth.pair.slot(),
-        generation: berth.pair.generation(),
-    }
-}
-
 /// Places a connection in its slot, which has it from then on.
 fn place<F: Front + Counting, A: Moves<F>, R: Wait + Logs>(
     rt: &R,
@@ -331,18 +324,20 @@ fn place<F: Front + Counting, A: Moves<F>, R: Wait + Logs>(
     shared: &Shared<F>,
     own: &mut Own,
     poller: &mut Poller<F>,
+    ticket: Ticket,
     berth: Box<Berth<F::Client, F::Target>>,
     uncounted: Uncounted,
 ) -> Result<(), ServerFault>
     requires between { Between shared.now.claims own.old poller.old }
-    requires next { IsNext poller.old (record { slot = berth.value.pair.slot; generation = berth.value.pair.generation }) }
+    requires next { IsNext poller.old ticket }
+    requires slot { berth.value.pair.slot ≡ ticket.slot }
+    requires generation { berth.value.pair.generation ≡ ticket.generation }
     requires room { 1 ≤ ticket_room own.old.hand }
     ensures between { Between shared.now.claims own.new poller.new }
     ensures worn { IfErr result (λ fault. OnlyWorn fault own.new.seat) }
     ensures placed { OnOk result (Placed (OpeningLogged (R.logged rt.now) F.counted)
-        (λ made. AreMade A.made berth.value.pair.slot made acts.old acts.new)
-        (record { slot = berth.value.pair.slot; generation = berth.value.pair.generation }) poller.old poller.new own.old own.new) }
-    ensures in_order { OnErr result (AreMade A.made berth.value.pair.slot placing acts.old acts.new) }
+        (λ made. AreMade A.made ticket.slot made acts.old acts.new) ticket poller.old poller.new own.old own.new) }
+    ensures in_order { OnErr result (AreMade A.made ticket.slot placing acts.old acts.new) }
     ensures poller { poller.new ≡ record poller.old {
       table = poller.new.table;
       opened = poller.new.opened;
@@ -351,7 +346,6 @@ fn place<F: Front + Counting, A: Moves<F>, R: Wait + Logs>(
     } }
     ensures ready { own.new.ready ≡ own.old.ready }
 {
-    let ticket = ticket_of::<F>(&berth);
     if let Some(from) = F::peer(&berth.client) {
         log_peer(rt, shared.clients, ticket.slot, ticket.generation, &from);
     }

@@ -1,5 +1,5 @@
 //! What a poller keeps between its rounds.
-ghost use Rattle.std.specs.Prelude.{◌≡◌, ◌||◌, ◌-◌, ◌<◌, ◌≤◌, ◌↔◌, [], length, IfOk, OnOk, OnErr, IsTrue, replicate, slice_set, true, false};
+ghost use Rattle.std.specs.Prelude.{◌≡◌, ◌||◌, if◌then◌else◌, ◌-◌, ◌<◌, ◌≤◌, ◌↔◌, [], length, IfOk, OnOk, OnErr, IsTrue, replicate, slice_set, true, false};
 ghost use Rattle.token.specs.Names.{last_generation};
 ghost use Rattle.dispatch.specs.Splits.{IsIn};
 ghost use Rattle.rounds.specs.{Episodes.{all_logged_at, dropped_for, no_episodes, opened_after, AreLogged}, Pollers.{AreGenerations, IsOwnTable, HasOpenedAll, counted_up, max_accepts}};
@@ -212,16 +212,14 @@ impl<F: Front> Poller<F> {
         self.accepting = self.accepting || reported;
     }
 
-    pub(crate) fn set_second(&mut self, second: u64)
-        ensures { self.new ≡ record self.old { second = second } }
+    /// The round is made at this second. It made a sweep at the second of the one before, or none.
+    pub(crate) fn set_second(&mut self, swept: bool, second: u64)
+        ensures { self.new ≡ record self.old { swept = if swept then self.old.second else self.old.swept; second = second } }
     {
+        if swept {
+            self.swept = self.second;
+        }
         self.second = second;
-    }
-
-    pub(crate) fn count_sweep(&mut self)
-        ensures { self.new ≡ record self.old { swept = self.old.second } }
-    {
-        self.swept = self.second;
     }
 
     pub(crate) fn reset_tries(&mut self)
