@@ -58,7 +58,7 @@ done_after {t} {fs} {r} {a} {b} {c} es adds none same done =
     }
 
 -- what comes first in a turn that held its slot, and in what is left of it
-firsts : (r : Answer) → WasHeld r → (found noted notes g : ℕ) (other woke : Bool)
+pub firsts : (r : Answer) → WasHeld r → (found noted notes g : ℕ) (other woke : Bool)
     → (Held found ∷ drop 1 (program r 0 noted woke) ≡ program r found noted woke)
     × (Take notes ∷ drop 2 (program r 0 noted woke) ≡ drop 1 (program r 0 notes woke))
     × (acts_of r g other woke ≡ act.Claim ∷ drop 1 (acts_of r g other woke))
@@ -80,10 +80,6 @@ module _ {S : Type 0} {made : Act → ℕ → S → S → Type 0} {t : Ticket} {
       → made one t.slot from mid → TurnRest made t r other e (suc n) a c mid to → TurnRest made t r other e n a c from to
   act_first next first rest =
       record { noted = rest.noted; woke = rest.woke; held = rest.held; done = rest.done; acts = rw (next rest.woke) (mid, first, rest.acts) }
-
-  -- the ticket's own connection was taken out
-  pub own_out : {r : Answer} → made act.TakeOut t.slot from mid → TurnRest made t r false 1 2 a c mid to → (other : Bool) × TurnRest made t r other 1 1 a c from to
-  own_out {r} first rest = (false, act_first (λ woke. (firsts r rest.held 0 0 0 t.generation false woke).3) first rest)
 
   -- the notes were taken, and then the turn came to its end
   pub played_then : {r : Answer} {notes : ℕ} {b : Own}

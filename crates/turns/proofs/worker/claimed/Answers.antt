@@ -1,9 +1,11 @@
 use Rattle.std.proofs.Common.{false, refl, true}
-use Rattle.turns.proofs.Turns.{act_first, own_out}
+use Rattle.turns.proofs.Turns.{act_first, firsts}
 use Rattle.turns.proofs.worker.claimed.Goals as goal
 
 pub returns-in-Ok-clause-done : goal.returns-in-Ok-clause-done
-returns-in-Ok-clause-done g c = own_out c.in-Ok.ensures.made (rw c.in-Ok.ensures.out at c.run.ensures.done)
+returns-in-Ok-clause-done g c =
+    let rest = rw c.in-Ok.ensures.out at c.run.ensures.done in
+    (false, act_first (λ woke. (firsts c.run.result rest.held 0 0 0 _ false woke).3) c.in-Ok.ensures.made rest)
 
 pub returns-in-Ok-2-clause-done : goal.returns-in-Ok-2-clause-done
 returns-in-Ok-2-clause-done g c =
