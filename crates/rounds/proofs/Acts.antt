@@ -122,11 +122,6 @@ posted_both one two = record {
   hand = rw (two.hand, one.hand, due-append one.posts two.posts, append_assoc);
 }
 
--- reports, and then others
-pub delivered_both : (generations xs ys : List ℕ) {a b c : SeatState} {h k l : HandState} → Delivered generations xs a b h k → Delivered generations ys b c k l
-    → Delivered generations (xs ++ ys) a c h l
-delivered_both generations xs ys one two = rw (filter_map-append (reported generations) xs ys) (posted_both one two)
-
 pub none_at : (t : Ticket) (slot : ℕ) → slot ≢ t.slot → at_slot slot (t ∷ []) ≡ 0
 none_at t slot other = rw (ne_eqb t.slot slot (λ e. other (sym e)))
 
@@ -195,14 +190,11 @@ none_in table part slot at own out = dite (ℕ_discrete slot at) (λ same. rw (r
     elim (nat_lt 0 (slice_index table at)) as (λ (b : Bool). at_slot slot (if b then last_in table at ∷ [] else []) ≡ 0)
     [ true ↦ none_at (last_in table at) slot other | false ↦ refl ])
 
-below_own : (part : Part) (table : List ℕ) (slots : ℕ) → IsOwnTable part table → AreIn part (opened_below table slots)
+-- a poller opened connections in its own slots alone
+pub below_own : (part : Part) (table : List ℕ) (slots : ℕ) → IsOwnTable part table → AreIn part (opened_below table slots)
 below_own part table zero own slot out = refl
 below_own part table (suc slots) own slot out =
     omega (arith, below_own part table slots own slot out, none_in table part slot slots own out, at_slot-append slot (opened_below table slots) (opened_in table slots))
-
--- a poller opened connections in its own slots alone
-pub own_opened : (part : Part) (table : List ℕ) → IsOwnTable part table → AreIn part (all_opened table)
-own_opened part table own = below_own part table (length table) own
 
 -- what a round posts for time
 pub own_sweep : (part : Part) (old new : PollerState) → AreIn part (all_opened old.table) → AreIn part (sweep_of old new)

@@ -4,7 +4,7 @@ use Rattle.claims.{specs.{declared.answers.Posted.Posted, Calls.PostChange, Seat
 use Rattle.dispatch.{specs.{Posts.HoldsOnly, declared.{shared.Own.Own, split.Part.Part, front.{Unopened.Unopened, Route.Route, Waiting.{Waiting, TheVariants.{No, Brief, Long}}}}, Hands.{HandState, ticket_room}, Acts.{Act, AreMade, Register, Adopt, placing}, Splits.IsIn, Told.cause_of}, proofs.Holding.{holds_still, released_all, woke_behind_post}}
 use Rattle.ready.specs.declared.ticket.Ticket.{Ticket}
 use Rattle.token.specs.Names.{last_generation}
-use Rattle.rounds.{specs.{Acts.{Act as Acted, ActsMade, AreTries, opening, all_reported, ArePosted, Delivered, swept_after, sweep_of}, Openings.{times, slots_in, AreIn, AreOpened, OnlyTook, Between, LetGo, Started, Connected, AcceptDone, IsOpened, IsLost, IsSpent, AreLost, Fate, next_in, Opened, Held, DropsFor, Placed, lacks, lead_of}, Pollers.{PollerState, Counted, counted_up, HasOpenedAll}, Episodes.opened_after, Rounds.{AcceptEnded, HasLeft, IsOver, RoundDone, RoundKeeps, ListenerKept, ListensToOpen, MayWait, MayWaitBriefly, WaitLasted, WaitedAsMay}}, proofs.Acts.{at_slot-append, acts_none, acts_one, acts_both, tries_none, tries_both, try_opened, try_held, none_at, posted_none, no_sweep}}
+use Rattle.rounds.{specs.{Acts.{Act as Acted, ActsMade, AreTries, opening, all_reported, ArePosted, Delivered, swept_after, sweep_of}, Openings.{times, slots_in, AreIn, AreOpened, OnlyTook, Between, LetGo, Started, Connected, AcceptDone, IsOpened, IsLost, IsSpent, AreLost, Fate, next_in, Opened, Held, DropsFor, Placed, lacks, lead_of}, Pollers.{PollerState, Counted, counted_up, HasOpenedAll}, Episodes.opened_after, Rounds.{AcceptEnded, HasLeft, IsOver, RoundDone, RoundKeeps, ListenerKept, ListensNoMore, ListensToOpen, Looked, MayWait, MayWaitBriefly, WaitLasted, WaitedAsMay}}, proofs.Acts.{at_slot-append, acts_none, acts_one, acts_both, tries_none, tries_both, try_opened, try_held, none_at, posted_none, no_sweep}}
 use Rattle.relay_log.specs.declared.{cause.Cause.Cause, faults.ServerFault.{ServerFault, TheVariants.Worn}}
 use mathlib.Core.Logic.{dite}
 use native.Mathlib.Decide.{ℕ_discrete}
@@ -15,7 +15,7 @@ use Rattle.dispatch.specs.declared.front.Unopened.TheVariants as unopened
 
 -- counts
 
-counted_same : {old new : ℕ} → new ≡ old → Counted old 0 new
+pub counted_same : {old new : ℕ} → new ≡ old → Counted old 0 new
 counted_same same = inl (omega arith)
 
 pub counted_one : (most old new : ℕ) → new ≡ min (old + 1) most → (new ≡ old + 1) ⊎ ((most ≤ old + 1) × (most ≤ new))
@@ -52,16 +52,17 @@ opened_rises (t ∷ ts) a b opened slot =
     (rest.0 ∙ length-set a t.slot t.generation, omega (arith, rest.1, raised a t.slot t.generation slot opened.0))
 
 -- a slot that is spent stays so
-spent_still : (p q : PollerState) (ts : List Ticket) (slot : ℕ) → q.part ≡ p.part → AreOpened p.table ts q.table → IsSpent p slot → IsSpent q slot
-spent_still p q ts slot part opened (inl others) = inl (rw part others)
-spent_still p q ts slot part opened (inr (inl outside)) = inr (inl (omega (arith, (opened_rises ts p.table q.table opened slot).0)))
-spent_still p q ts slot part opened (inr (inr (inl wide))) = inr (inr (inl wide))
-spent_still p q ts slot part opened (inr (inr (inr last))) = inr (inr (inr (omega (arith, (opened_rises ts p.table q.table opened slot).1))))
+module _ (p q : PollerState) (ts : List Ticket) (part : q.part ≡ p.part) (opened : AreOpened p.table ts q.table) where
+  spent_still : (slot : ℕ) → IsSpent p slot → IsSpent q slot
+  spent_still slot (inl others) = inl (rw part others)
+  spent_still slot (inr (inl outside)) = inr (inl (omega (arith, (opened_rises ts p.table q.table opened slot).0)))
+  spent_still slot (inr (inr (inl wide))) = inr (inr (inl wide))
+  spent_still slot (inr (inr (inr last))) = inr (inr (inr (omega (arith, (opened_rises ts p.table q.table opened slot).1))))
 
-lost_still : (p q : PollerState) (ts : List Ticket) (held lost : List ℕ) → q.part ≡ p.part → AreOpened p.table ts q.table → AreLost p held lost → AreLost q held lost
-lost_still p q ts held [] part opened none = none
-lost_still p q ts held (slot ∷ lost) part opened (inl spent) = inl (spent_still p q ts slot part opened spent.0, lost_still p q ts held lost part opened spent.1)
-lost_still p q ts held (slot ∷ lost) part opened (inr found) = inr (found.0, found.1, lost_still p q ts found.0 lost part opened found.2)
+  lost_still : (held lost : List ℕ) → AreLost p held lost → AreLost q held lost
+  lost_still held [] none = none
+  lost_still held (slot ∷ lost) (inl spent) = inl (spent_still slot spent.0, lost_still held lost spent.1)
+  lost_still held (slot ∷ lost) (inr found) = inr (found.0, found.1, lost_still found.0 lost found.2)
 
 lost_both : (p : PollerState) (h k ls ms : List ℕ) → AreLost p h ls → AreLost p k ms → AreLost p (h ++ k) (ls ++ ms)
 lost_both p h k [] ms none two = rw none two
@@ -72,7 +73,7 @@ module _ {p q r : PollerState} {a b c : Own} where
   -- connections, and then others
   connected_both : {xs ys : List Ticket} {ls ms h k : List ℕ} → Connected xs ls h p q a b → Connected ys ms k q r b c → Connected (xs ++ ys) (ls ++ ms) (h ++ k) p r a c
   connected_both {xs} {ys} {ls} {ms} {h} {k} one two = record {
-    why = lost_both r h k ls ms (lost_still q r ys h ls two.part two.table one.why) two.why;
+    why = lost_both r h k ls ms (lost_still q r ys two.part two.table h ls one.why) two.why;
     tries = one.tries ++ two.tries;
     are = tries_both one.are two.are;
     made = acts_both _ _ _ _ _ one.made two.made;
@@ -151,7 +152,7 @@ slot_left : (s slot : ℕ) (a b : Own) (hand : HandState) → hand ≡ record a.
 slot_left s slot a b hand taken is free slots = rw (free, slots, taken) (omega (arith, times_first s a.hand.slots slot is))
 
 -- one slot is no longer used
-lost_one : {p q : PollerState} {a b : Own} {slot : ℕ} (held : List ℕ) (tries : List Acted) → q ≡ record p { lost = counted_up p.lost 1 } → AreLost p held (slot ∷ [])
+pub lost_one : {p q : PollerState} {a b : Own} {slot : ℕ} (held : List ℕ) (tries : List Acted) → q ≡ record p { lost = counted_up p.lost 1 } → AreLost p held (slot ∷ [])
     → AreTries [] held tries → ActsMade tries a.seat b.seat → b.hand.tickets ≡ a.hand.tickets → b.ready ≡ a.ready → b.free ≡ a.free
     → Connected [] (slot ∷ []) held p q a b
 lost_one {p} {a = a} held tries lost why are made tickets ready free = rw lost (record {
@@ -259,11 +260,7 @@ placed_fate same next joined placed = fate_by joined (rw (same, next) at placed.
 -- a slot that has no next names
 pub no_names : (table : List ℕ) (slot : ℕ) → (slot ≤ 32767 → slot < length table → slice_index table slot ≡ last_generation)
     → (length table ≤ slot) ⊎ ((32768 ≤ slot) ⊎ (last_generation ≤ slice_index table slot))
-no_names table slot last = by_case (cases_lt slot (length table)) (cases_lt slot 32768) where
-  by_case : (slot < length table) ⊎ (length table ≤ slot) → (slot < 32768) ⊎ (32768 ≤ slot) → (length table ≤ slot) ⊎ ((32768 ≤ slot) ⊎ (last_generation ≤ slice_index table slot))
-  by_case (inr outside) width = inl outside
-  by_case (inl inside) (inr wide) = inr (inl wide)
-  by_case (inl inside) (inl narrow) = inr (inr (omega (arith, last (omega arith) inside)))
+no_names table slot last = grind arith
 
 -- a call refuses what a call of its own refused, and no more is said where it does
 pub passed_up : {T E : Type 0} (r : Result T E) (e : E) (P : E → Type 0) → IsErrAnd r (λ y. y ≡ e) → P e → IfErr r P
@@ -277,37 +274,6 @@ not_ok (Err y) X is = tt
 pub if_fails : {T E A : Type 0} (r : Result T E) → A → OnErr r A
 if_fails (Ok x) a = tt
 if_fails (Err y) a = a
-
--- no connection was placed, since the slot was not free
-pub not_placed : {p q : PollerState} {a : Own} {seat : SeatState} {slot : ℕ} → q ≡ record p { lost = counted_up p.lost 1 } → Adds slot (exchange.NotFree ∷ []) a.seat seat
-    → Connected [] (slot ∷ []) (slot ∷ []) p q a (record a { seat = seat })
-not_placed {p} {q} {a} {seat} {slot} lost adds =
-    let ticket : Ticket = record { slot = slot; generation = 0 } in
-    let try : Acted = record { ticket = ticket; exchanges = exchange.NotFree ∷ [] } in
-    lost_one (slot ∷ []) (try ∷ []) lost (inr ([], refl, refl)) (try_held ticket) (acts_one try a.seat seat adds) refl refl refl
-
--- the connection was placed in a slot that was adopted for it, and started
-pub placed : {p r q : PollerState} {t : Ticket} {a b : Own} (found noted : ℕ) → r ≡ record p { table = slice_set p.table t.slot t.generation; opened = counted_up p.opened 1 }
-    → q ≡ record r { episodes = opened_after r.episodes } → IsIn p.part t.slot → t.generation ≡ slice_index p.table t.slot + 1
-    → Adds t.slot (opening found noted) a.seat b.seat → b.hand ≡ record a.hand { tickets = a.hand.tickets ++ t ∷ [] } → b.ready ≡ a.ready → b.free ≡ a.free
-    → Connected (t ∷ []) [] [] p q a b
-placed {p} {r} {q} {t} {a} {b} found noted counted told here next adds hand ready free =
-    let try : Acted = record { ticket = t; exchanges = opening found noted } in
-    rw (told, counted) (record {
-      why = refl;
-      tries = try ∷ [];
-      are = try_opened t found noted;
-      made = acts_one try a.seat b.seat adds;
-      table = (next, refl);
-      counted = counted_one _ p.opened _ refl;
-      unused = counted_same refl;
-      batch = refl;
-      part = refl;
-      own = λ slot out. none_at t slot (λ same. out (rw same here));
-      tickets = rw hand;
-      ready = ready;
-      gave = rw free;
-    })
 
 -- the note of an opening was posted by the slot's holder, who then let it go
 pub started_by : (t : Ticket) (noted : ℕ) (r : Posted) (a : Own) (first second : SeatState) (b : Own) → HoldsOnly t.slot a.seat
@@ -335,32 +301,22 @@ between_still between seat table = record { same = rw seat between.same; idle = 
 pub between_took : {claims : TableId} {a b : Own} {p q : PollerState} → Between claims a p → OnlyTook a b → q.table ≡ p.table → Between claims b q
 between_took between took table = between_still between took.seat table
 
--- why a connection is closed unopened: by what the front answered
-pub refused_drops : (may_refuse : Unopened → Type 0) (may_tell : Route → Type 0) (proxy : Bool) (why : Unopened) (c : Cause)
-    → may_refuse why → c ≡ cause_of why → DropsFor may_refuse may_tell proxy c
-refused_drops may_refuse may_tell proxy why c refuses is = rw is (by_front why refuses) where
-  by_front : (w : Unopened) → may_refuse w → DropsFor may_refuse may_tell proxy (cause_of w)
-  by_front unopened.Connect refuses = refuses
-  by_front unopened.Register refuses = refuses
+-- why a connection is closed unopened: by what the front answered, by what the lead lacked, or for want of memory
+module _ (may_refuse : Unopened → Type 0) (may_tell : Route → Type 0) (proxy : Bool) where
+  pub refused_drops : (why : Unopened) (c : Cause) → may_refuse why → c ≡ cause_of why → DropsFor may_refuse may_tell proxy c
+  refused_drops unopened.Connect c refuses is = rw is refuses
+  refused_drops unopened.Register c refuses is = rw is refuses
 
--- by what the lead lacked
-pub lacking_drops : (may_refuse : Unopened → Type 0) (may_tell : Route → Type 0) (proxy : Bool) (route : Route) (c : Cause)
-    → may_tell route → c ≡ lacks (lead_of proxy route) → DropsFor may_refuse may_tell proxy c
-lacking_drops may_refuse may_tell proxy route c told is = rw is (by_lead (lead_of proxy route) refl) where
-  by_lead : (lead : Option (List ℕ)) → lead_of proxy route ≡ lead → DropsFor may_refuse may_tell proxy (lacks lead)
-  by_lead None same = (route, told, same)
-  by_lead (Some lead) same = (lead, (route, told, same))
+  pub lacking_drops : (route : Route) (c : Cause) → may_tell route → c ≡ lacks (lead_of proxy route) → DropsFor may_refuse may_tell proxy c
+  lacking_drops route c told is = rw is (by_lead (lead_of proxy route) refl) where
+    by_lead : (lead : Option (List ℕ)) → lead_of proxy route ≡ lead → DropsFor may_refuse may_tell proxy (lacks lead)
+    by_lead None same = (route, told, same)
+    by_lead (Some lead) same = (lead, (route, told, same))
 
--- for want of memory
-pub memory_drops : (may_refuse : Unopened → Type 0) (may_tell : Route → Type 0) (proxy : Bool) (route : Route) (lead : List ℕ) (c : Cause)
-    → may_tell route → lead_of proxy route ≡ Some lead → c ≡ cause.Memory → DropsFor may_refuse may_tell proxy c
-memory_drops may_refuse may_tell proxy route lead c told same is = rw is (lead, (route, told, same))
+  pub memory_drops : (route : Route) (lead : List ℕ) (c : Cause) → may_tell route → lead_of proxy route ≡ Some lead → c ≡ cause.Memory → DropsFor may_refuse may_tell proxy c
+  memory_drops route lead c told same is = rw is (lead, (route, told, same))
 
 -- A round: the reports were delivered, a sweep was made or none, and connections were opened
-
--- the look for reports, from the start of a round on
-abbrev pub Looked : PollerState → PollerState → Type 0
-Looked p q = q ≡ record p { listening = q.listening; reported = q.reported; failed = q.failed; waited = q.waited; batch = q.batch }
 
 pub round_of : (c : Own) {p q r v t : PollerState} {a b d e : Own} → Looked p q → OnlyTook a b
     → Delivered q.table q.batch b.seat c.seat b.hand c.hand → c.ready ≡ b.ready → c.free ≡ b.free → AreIn q.part (all_reported q.table q.batch) → r ≡ record q { accepting = r.accepting }
@@ -407,11 +363,7 @@ ended_still {p} {q} {a} {b} ended is left = by_count (cases_lt p.opened p.most) 
   by_count (inl some) = let same = left (λ all. omega (arith, some, all)) in rw (same.1, same.0) ended
   by_count (inr all) = inl (inr (inr (inr (rw is all))))
 
--- the front listens as before, unless all was opened before
-abbrev pub Listens : PollerState → PollerState → Type 0
-Listens old new = (new.listening ≡ old.listening) ⊎ (HasOpenedAll old × (new.listening ≡ false))
-
-kept : (p q : PollerState) → Listens p q → ListenerKept p q
+kept : (p q : PollerState) → ListensNoMore p q → ListenerKept p q
 kept p q listens = grind arith
 
 -- the poller waits only where it may, and for as long
@@ -433,12 +385,11 @@ Lasting limit had old new = record {
   heavy : new.heavy ≡ old.heavy;
   waits : WaitedAsMay limit old new had;
   over : new.over ≡ old.over;
-  listening : Listens old new;
+  listening : ListensNoMore old new;
 }
 
 pub looked_lasts : (limit : ℕ) (had : Own) (p : PollerState) {q r : PollerState} → q ≡ record p { batch = [] }
-    → r ≡ record q { listening = r.listening; reported = r.reported; failed = r.failed; waited = r.waited; batch = r.batch }
-    → Listens q r → WaitedAsMay limit q r had → Lasting limit had p r
+    → Looked q r → ListensNoMore q r → WaitedAsMay limit q r had → Lasting limit had p r
 looked_lasts limit had p begun looked listens waits = search (looked, begun, rw begun at waits, rw begun at listens)
 
 -- the hand had no room for a round
@@ -465,7 +416,7 @@ pub over_before : {a b : Bool} {X : Type 0} → b ≡ a → (b ≡ true) ⊎ X �
 over_before same over = rw same at over
 
 -- the front listens as before, since it ends only once all connections were opened
-pub listens_still : (p : PollerState) {q r : PollerState} {a b : Own} → Listens p q → r ≡ record q { listening = r.listening; over = r.over }
+pub listens_still : (p : PollerState) {q r : PollerState} {a b : Own} → ListensNoMore p q → r ≡ record q { listening = r.listening; over = r.over }
     → ((HasOpenedAll q → ⊥) → (b ≡ a) × (r ≡ q)) → ListensToOpen r → ListenerKept p r
 listens_still p {q} {r} same is left closed = by_count (cases_lt q.opened q.most) where
   by_count : (q.opened < q.most) ⊎ (q.most ≤ q.opened) → ListenerKept p r

@@ -40,7 +40,21 @@ pub record NoSlot (own : Own) : Type 0 where
   pub hand : own.hand.slots ≡ []
   pub queue : HeldOnce 0 own.free.history
 
--- the front listens as before, or no longer, since all connections that the poller may open were opened
+-- a look for reports changes at most this of what the poller keeps
+abbrev pub Looked : PollerState → PollerState → Type 0
+Looked old new = new ≡ record old {
+  listening = new.listening;
+  reported = new.reported;
+  failed = new.failed;
+  waited = new.waited;
+  batch = new.batch;
+}
+
+-- the front listens as before, or no longer, since all connections that the poller may open were opened before
+abbrev pub ListensNoMore : PollerState → PollerState → Type 0
+ListensNoMore old new = (new.listening ≡ old.listening) ⊎ (HasOpenedAll old × (new.listening ≡ false))
+
+-- the same, or since they were opened now
 abbrev pub ListenerKept : PollerState → PollerState → Type 0
 ListenerKept old new = (new.listening ≡ old.listening) ⊎ ((HasOpenedAll old ⊎ HasOpenedAll new) × (new.listening ≡ false))
 

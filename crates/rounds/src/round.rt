@@ -1,8 +1,8 @@
 //! A round of the poller.
-ghost use Rattle.std.specs.{Prelude.{◌≡◌, ◌≢◌, ◌⊎◌, ◌+◌, ◌-◌, ◌<◌, ◌≤◌, ◌↔◌, [], length, Ok, Err, IsOk, OnOk, OnErr, IfErr, IfSome, IfOk, IsTrue, MatchResult, Contains, true, false}, IoError.error_kind, declared.io.ErrorKind.TheVariants.Interrupted};
+ghost use Rattle.std.specs.{Prelude.{◌≡◌, ◌≢◌, ◌⊎◌, ◌+◌, ◌-◌, ◌<◌, ◌≤◌, ◌↔◌, [], length, Ok, Err, IsOk, OnOk, OnErr, IfErr, IfOk, IsTrue, MatchResult, Contains, true, false}, IoError.error_kind, declared.io.ErrorKind.TheVariants.Interrupted};
 ghost use Rattle.claims.specs.Seats.{HoldsNothing};
 ghost use Rattle.ready.specs.Steps.{HeldOnce};
-ghost use Rattle.rounds.specs.{Acts.{Delivered, all_reported}, Episodes.{accepted_of, episodes_after, flag_after, starved_after}, Openings.{AreIn, Between, OnlyTook, AcceptDone, OneAccepted, OnlyAccepted}, Pollers.{HasOpenedAll, max_accepts, spare_room}, Rounds.{AcceptEnded, EndedEarly, HasLeft, IsFull, IsOver, ListensToOpen, LooksForAll, MayAccept, MayNotWait, MayWait, MayWaitBriefly, NoSlot, NoneToAccept, NotBegun, RoundDone, RoundEnded, RoundKeeps, RoundRefused, TookAll, WaitLasted, WaitedAsMay, WaitsAsMay}};
+ghost use Rattle.rounds.specs.{Acts.{Delivered, all_reported}, Episodes.{accepted_of, episodes_after, flag_after, starved_after}, Openings.{AreIn, Between, OnlyTook, AcceptDone, OneAccepted, OnlyAccepted}, Pollers.{HasOpenedAll, max_accepts, spare_room}, Rounds.{AcceptEnded, EndedEarly, HasLeft, IsFull, IsOver, ListensNoMore, ListensToOpen, Looked, LooksForAll, MayAccept, MayNotWait, MayWait, MayWaitBriefly, NoSlot, NoneToAccept, NotBegun, RoundDone, RoundEnded, RoundKeeps, RoundRefused, TookAll, WaitLasted, WaitedAsMay, WaitsAsMay}};
 ghost use Rattle.dispatch.specs.{Hands.ticket_room, Posts.OnlyWorn};
 
 use crate::delivering::deliver;
@@ -88,15 +88,9 @@ fn look<F: Front, R: Wait + Log>(
 ) -> Result<(), ServerFault>
     requires room { 1 ≤ ticket_room own.old.hand }
     ensures took { OnlyTook own.old own.new }
-    ensures poller { poller.new ≡ record poller.old {
-      listening = poller.new.listening;
-      reported = poller.new.reported;
-      failed = poller.new.failed;
-      waited = poller.new.waited;
-      batch = poller.new.batch;
-    } }
+    ensures poller { Looked poller.old poller.new }
     ensures waits { WaitedAsMay limit poller.old poller.new own.old }
-    ensures listens { (poller.new.listening ≡ poller.old.listening) ⊎ (HasOpenedAll poller.old × (poller.new.listening ≡ false)) }
+    ensures listens { ListensNoMore poller.old poller.new }
     ensures batch { poller.new.batch ≡ poller.new.reported }
     ensures failed { IfErr result (λ fault. (fault ≡ ServerFault.Poll) × (poller.new.failed ≡ true) × (poller.new.batch ≡ [])) }
     ensures few { length poller.new.batch ≤ 256 }
@@ -109,7 +103,7 @@ fn look<F: Front, R: Wait + Log>(
 /// Once all connections that it may open have been opened, the poller's front listens no longer.
 fn listen_to_open<F: Front>(poller: &mut Poller<F>)
     ensures poller { poller.new ≡ record poller.old { listening = poller.new.listening } }
-    ensures listens { (poller.new.listening ≡ poller.old.listening) ⊎ (HasOpenedAll poller.old × (poller.new.listening ≡ false)) }
+    ensures listens { ListensNoMore poller.old poller.new }
     ensures closed { ListensToOpen poller.new }
 {
     if poller.has_opened_all() {

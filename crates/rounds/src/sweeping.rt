@@ -1,5 +1,5 @@
 //! What a round posts for time.
-ghost use Rattle.std.specs.{Prelude.{◌≡◌, ◌⊎◌, ◌<◌, ◌≤◌, [], if◌then◌else◌, length, IfErr, IfSome, OnErr, OnOk}, List.cons_option};
+ghost use Rattle.std.specs.{Prelude.{◌≡◌, ◌<◌, ◌≤◌, [], if◌then◌else◌, length, IfErr, IfSome, OnErr, OnOk}, List.cons_option};
 ghost use Rattle.claims.specs.Seats.{HoldsNothing};
 ghost use Rattle.rounds.specs.{Acts.{ArePosted, all_opened, is_due, opened_in, sweep_of}, Openings.{AreIn, Between, SameQueues}, Rounds.SweepMade};
 ghost use Rattle.dispatch.specs.{Hands.ticket_room, Posts.OnlyWorn};

@@ -1,6 +1,7 @@
 use Rattle.std.proofs.Common.{◌<◌, ◌+◌, refl, inl, inr, arith}
 use Rattle.dispatch.specs.Hands.{ticket_room}
-use Rattle.rounds.proofs.{Rounds.{accept_both, accept_took, between_took, not_ok, passed_up, room_same, still, took_none, Lasting, Looked, begun_not_early, but_worn, ended_early, ended_still, keeps, listens_still, looked_lasts, over_before, round_ended, round_of}, Acts.{few_tickets, capacity_kept, reported_le, few_sweep}}
+use Rattle.rounds.proofs.{Rounds.{accept_both, accept_took, between_took, not_ok, passed_up, room_same, still, took_none, Lasting, begun_not_early, but_worn, ended_early, ended_still, keeps, listens_still, looked_lasts, over_before, round_ended, round_of}, Acts.{few_tickets, capacity_kept, reported_le, few_sweep}}
+use Rattle.rounds.specs.Rounds.{Looked}
 use Rattle.rounds.proofs.round.poller_round.Goals as goal
 
 pub returns-then-not-begin : goal.returns-then-not-begin

@@ -1,5 +1,5 @@
-use Rattle.std.proofs.Common.{◌∙◌, refl}
-use Rattle.rounds.proofs.{Rounds.{if_fails, not_ok, passed_up}, Acts.{no_sweep, own_opened, own_sweep, swept_by}}
+use Rattle.std.proofs.Common.{length, refl, ◌∙◌}
+use Rattle.rounds.proofs.{Rounds.{if_fails, not_ok, passed_up}, Acts.{below_own, no_sweep, own_sweep, swept_by}}
 use Rattle.rounds.proofs.sweeping.keep_time.Goals as goal
 
 pub sweep-requires : goal.sweep-requires
@@ -39,6 +39,6 @@ returns g c =
         swept = rw (second, c.is_due-due.ensures);
       };
       unswept = tt;
-      own = own_sweep c.args.poller.now.part c.args.poller.now c.set_second.new.self (own_opened _ _ (rw c.table.ensures.table at c.table.ensures.own));
+      own = own_sweep c.args.poller.now.part c.args.poller.now c.set_second.new.self (below_own _ _ (length c.args.poller.now.table) (rw c.table.ensures.table at c.table.ensures.own));
       queues = record { ready = refl; free = refl };
     }
