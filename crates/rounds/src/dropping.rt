@@ -7,8 +7,7 @@ use crate::episodes::Drops;
 use relay_log::{Cause, Logs, log_drop, log_drops};
 use std::marker::Model;
 
-/// A line that must be logged, about one drop or several. This value cannot be dropped, and only [`Owed::log`] takes
-/// it.
+/// A line that must be logged. This value cannot be dropped, and only [`Owed::log`] takes it.
 pub(crate) struct Owed {
     cause: Cause,
     /// How many drops the line counts. 0 for the line about one drop.
@@ -16,14 +15,12 @@ pub(crate) struct Owed {
 }
 
 impl Owed {
-    /// The line that counts this many more, or with 0 the line about one drop.
     pub(crate) fn new(cause: Cause, more: u64) -> Owed
         ensures { result ≡ record { cause = cause; more = more } }
     {
         Owed { cause, more }
     }
 
-    /// Logs the line.
     pub(crate) fn log<L: Logs>(self, rt: &L)
         ensures { L.logged rt.now level.Warn (Some (line_of self)) }
     {
@@ -36,9 +33,9 @@ impl Owed {
     }
 }
 
-/// An accepted connection is closed unopened. That was logged with its cause, or is counted for a later line. Nothing
-/// but [`Dropped::log`] makes this value, and only [`Poller::count_dropped`](crate::Poller::count_dropped) takes it.
-/// It cannot be dropped, so each closed connection is counted.
+/// An accepted connection is closed unopened, which was logged with its cause, or is counted for a later line. Only
+/// [`Dropped::log`] makes this value, which cannot be dropped, and only
+/// [`Poller::count_dropped`](crate::Poller::count_dropped) takes it.
 ///
 /// In a clause it is the cause.
 pub(crate) struct Dropped {
@@ -54,7 +51,6 @@ impl Model for Dropped {
 }
 
 impl Dropped {
-    /// Logs why a connection is closed unopened at this second, or counts it among these drops.
     pub(crate) fn log(rt: &impl Logs, drops: &mut Drops, cause: Cause, second: u64) -> Dropped
         ensures cause { result ≡ cause }
         ensures drops { drops.new ≡ dropped_for cause second drops.old }

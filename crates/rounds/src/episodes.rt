@@ -1,6 +1,4 @@
-//! What the errors of accept(2) mean, and what is logged of accepting. What lasts is logged once, when it begins, and
-//! not again while it lasts. Of the accepted connections that are closed unopened the first of a cause has a line of its
-//! own, and those that follow it are counted.
+//! What the errors of accept(2) mean, and what is logged of accepting.
 ghost use Rattle.std.specs.Prelude.{◌≡◌, IfSome, Some};
 ghost use Rattle.rounds.specs.Episodes.{accepted_of, all_logged_at, dropped_at, dropped_for, due_at, follows, is_counted, line_of, no_drops, no_episodes, no_tally, owed, owed_for, tally_of, logged_at, with_tally, AreLogged};
 ghost use Rattle.log.specs.declared.level.Level.TheVariants as level;
@@ -20,8 +18,8 @@ pub(crate) enum Accepted {
     Starved,
 }
 
-/// The class of an error of accept(2), by its kind. Linux passes on errors that are pending on the new socket, and
-/// accept(2) is then to be tried again.
+/// The class of an error of accept(2), by its kind. Linux passes on errors that are pending on the new socket: those are
+/// to be tried again.
 pub(crate) fn accepted_of(kind: ErrorKind) -> Accepted
     ensures { result ≡ accepted_of kind }
 {
@@ -49,7 +47,6 @@ pub struct Episodes {
 }
 
 impl Episodes {
-    /// Nothing was logged that still lasts.
     pub(crate) fn none() -> Episodes
         ensures { result ≡ no_episodes }
     {
@@ -83,7 +80,6 @@ impl Tally {
         }
     }
 
-    /// Whether a drop at this second is counted, and has no line of its own.
     fn is_counted(&self, second: u64) -> bool
         ensures { result ≡ is_counted second self.now }
     {
@@ -105,7 +101,7 @@ impl Tally {
         Some(Owed::new(cause, 0))
     }
 
-    /// Returns the line for what is counted, if anything is and this second has had no line.
+    /// Returns the line for what is counted, if this second has had no line.
     fn counted_line(&mut self, cause: Cause, second: u64) -> Option<Owed>
         ensures tally { self.new ≡ logged_at second self.old }
         ensures owed { result ≡ owed cause (due_at second self.old) }
@@ -120,7 +116,7 @@ impl Tally {
         Some(Owed::new(cause, more))
     }
 
-    /// The next drop has a line of its own again. Returns the line for what is counted until now, if anything is.
+    /// The next drop has a line of its own again. Returns the line for what is counted until now.
     fn end(&mut self, cause: Cause) -> Option<Owed>
         ensures tally { self.new ≡ no_tally }
         ensures owed { result ≡ owed cause self.old.more }
@@ -134,7 +130,6 @@ impl Tally {
     }
 }
 
-/// Whether no whole second passed between the last drop, if there was one, and this second.
 fn follows(second: u64, last: Option<u64>) -> bool
     ensures { result ≡ follows second last }
 {
@@ -154,7 +149,6 @@ pub struct Drops {
 }
 
 impl Drops {
-    /// Nothing was logged, and nothing is counted.
     pub(crate) fn none() -> Drops
         ensures { result ≡ no_drops }
     {
@@ -166,7 +160,6 @@ impl Drops {
         }
     }
 
-    /// Adds a drop for this cause at this second. Returns the line that must be logged, if the drop is not counted.
     pub(crate) fn add(&mut self, cause: Cause, second: u64) -> Option<Owed>
         ensures drops { self.new ≡ dropped_for cause second self.old }
         ensures owed { result ≡ owed_for cause second (tally_of cause self.old) }
@@ -179,7 +172,6 @@ impl Drops {
         }
     }
 
-    /// Logs at this second what is counted of each cause, unless the second has had a line of that cause.
     pub(crate) fn log_counted(&mut self, rt: &impl Logs, second: u64)
         ensures logged { self.new ≡ all_logged_at second self.old }
         ensures all { AreLogged second self.new }
@@ -190,7 +182,6 @@ impl Drops {
         log_owed(rt, self.tell_of(Cause::Address, second));
     }
 
-    /// Returns the line for what is counted of a cause, if anything is and this second has had no line of it.
     fn tell_of(&mut self, cause: Cause, second: u64) -> Option<Owed>
         ensures drops { self.new ≡ with_tally cause (logged_at second (tally_of cause self.old)) self.old }
         ensures owed { result ≡ owed cause (due_at second (tally_of cause self.old)) }
@@ -204,7 +195,6 @@ impl Drops {
         }
     }
 
-    /// Logs all that is counted. The next drop of each cause has a line of its own again.
     pub(crate) fn end(&mut self, rt: &impl Logs)
         ensures { self.new ≡ no_drops }
     {
@@ -214,8 +204,6 @@ impl Drops {
         log_owed(rt, self.end_of(Cause::Address));
     }
 
-    /// Returns the line for what is counted of a cause until now, if anything is. The next drop for it has a line of
-    /// its own.
     fn end_of(&mut self, cause: Cause) -> Option<Owed>
         ensures drops { self.new ≡ with_tally cause no_tally self.old }
         ensures owed { result ≡ owed cause (tally_of cause self.old).more }
@@ -229,7 +217,6 @@ impl Drops {
     }
 }
 
-/// Logs the line, if there is one.
 fn log_owed<L: Logs>(rt: &L, owed: Option<Owed>)
     ensures { IfSome owed (λ line. L.logged rt.now level.Warn (Some (line_of line))) }
 {

@@ -1,6 +1,7 @@
 use Rattle.std.proofs.Common.{◌<◌, ◌+◌, refl, inl, inr, arith}
 use Rattle.dispatch.specs.Hands.{ticket_room}
-use Rattle.rounds.proofs.{Rounds.{accept_both, accept_took, between_took, not_ok, passed_up, room_same, still, took_none, Lasting, Looked, begun_not_early, but_worn, ended_early, ended_still, keeps, listens_still, looked_lasts, over_before, round_ended, round_of}, Acts.{few_tickets, capacity_kept, reported_le, few_sweep}}
+use Rattle.rounds.proofs.{Rounds.{accept_both, accept_took, between_took, not_ok, passed_up, room_same, still, took_none, Lasting, begun_not_early, but_worn, ended_early, ended_still, keeps, listens_still, looked_lasts, over_before, round_ended, round_of}, Acts.{few_tickets, capacity_kept, reported_le, few_sweep}}
+use Rattle.rounds.specs.Rounds.{Looked}
 use Rattle.rounds.proofs.round.poller_round.Goals as goal
 
 pub returns-then-not-begin : goal.returns-then-not-begin
@@ -20,7 +21,7 @@ returns-then-not-begin g c =
 pub returns-in_err-look : goal.returns-in_err-look
 returns-in_err-look g c =
     let looked = c.look.ensures in
-    let same = looked_lasts c.args.timing.now.limit c.args.own.now c.args.poller.now _ _ c.begin.ensures.poller looked.poller looked.listens looked.waits in
+    let same = looked_lasts c.args.timing.now.limit c.args.own.now c.args.poller.now c.begin.ensures.poller looked.poller looked.listens looked.waits in
     let failed = c.in_err-look.ensures.failed in
     record {
       between = between_took {p = c.args.poller.now} (record { same = c.requires.same; idle = c.requires.idle; sized = c.requires.sized }) looked.took (rw (looked.poller, c.begin.ensures.poller));
@@ -36,7 +37,7 @@ pub returns-in_err-deliver_batch : goal.returns-in_err-deliver_batch
 returns-in_err-deliver_batch g c =
     let looked = c.look.ensures in
     let delivered = c.deliver_batch.ensures in
-    let same = looked_lasts c.args.timing.now.limit c.args.own.now c.args.poller.now _ _ c.begin.ensures.poller looked.poller looked.listens looked.waits in
+    let same = looked_lasts c.args.timing.now.limit c.args.own.now c.args.poller.now c.begin.ensures.poller looked.poller looked.listens looked.waits in
     let failed = c.from_residual-in_err-deliver_batch.ensures in
     record {
       between = delivered.between;
@@ -67,7 +68,7 @@ returns-in_err-keep_time g c =
     let looked = c.look.ensures in
     let delivered = c.deliver_batch.ensures in
     let timed = c.keep_time.ensures in
-    let same = looked_lasts c.args.timing.now.limit c.args.own.now c.args.poller.now _ _ c.begin.ensures.poller looked.poller looked.listens looked.waits in
+    let same = looked_lasts c.args.timing.now.limit c.args.own.now c.args.poller.now c.begin.ensures.poller looked.poller looked.listens looked.waits in
     let failed = c.from_residual-in_err-keep_time.ensures in
     record {
       between = timed.between;
@@ -103,7 +104,7 @@ returns-in_err-accept g c =
     let delivered = c.deliver_batch.ensures in
     let timed = c.keep_time.ensures in
     let accepted = c.accept.ensures in
-    let same = looked_lasts c.args.timing.now.limit c.args.own.now c.args.poller.now _ _ c.begin.ensures.poller looked.poller looked.listens looked.waits in
+    let same = looked_lasts c.args.timing.now.limit c.args.own.now c.args.poller.now c.begin.ensures.poller looked.poller looked.listens looked.waits in
     let swept = rw (delivered.poller, looked.poller, c.begin.ensures.poller) at c.in_ok-keep_time.ensures.swept.swept in
     let failed = c.from_residual-in_err-accept.ensures in
     record {
@@ -124,34 +125,34 @@ returns g c =
     let timed = c.keep_time.ensures in
     let accepted = c.accept.ensures in
     let back = c.take_back.ensures in
+    let told = c.log_counted.ensures.logged in
     let begun : Looked c.args.poller.now c.look.new.poller = rw (looked.poller, c.begin.ensures.poller) in
-    let same : Lasting c.args.timing.now.limit c.args.own.now c.args.poller.now c.accept.new.poller =
-    rw (accepted.poller, timed.poller, delivered.poller)
-    (looked_lasts _ _ c.args.poller.now _ _ c.begin.ensures.poller looked.poller looked.listens looked.waits) in
+    let same : Lasting c.args.timing.now.limit c.args.own.now c.args.poller.now c.log_counted.new.self =
+    rw (told, accepted.poller, timed.poller, delivered.poller) (looked_lasts _ _ c.args.poller.now c.begin.ensures.poller looked.poller looked.listens looked.waits) in
     let end = back.poller in
     let swept = rw (delivered.poller, looked.poller, c.begin.ensures.poller) at c.in_ok-keep_time.ensures.swept.swept in
     record {
-      between = between_took accepted.between back.took (rw end);
+      between = between_took accepted.between back.took (rw (end, told));
       early = begun_not_early _ _ _ (c.begin.ensures.room.0 c.if-not-begin.false) c.slots.ensures;
       waits = inr (rw end same.waits);
       round = λ _. round_of c.deliver_batch.new.own begun looked.took
           c.in_ok-deliver_batch.ensures.delivered delivered.ready delivered.free delivered.own delivered.poller
           c.in_ok-keep_time.ensures.swept.posted timed.queues.ready timed.queues.free timed.own timed.poller
-          (accept_both c.in_ok-accept.ensures.done (accept_took (rw end (still c.accept.new.poller)) back.took)) (rw (end, accepted.poller));
+          (accept_both c.in_ok-accept.ensures.done (accept_took (rw (end, told) (still c.accept.new.poller)) back.took)) (rw (end, told, accepted.poller));
       ended = inr (record {
-        read = rw (end, accepted.poller, timed.poller, delivered.poller) looked.batch;
-        second = rw (end, accepted.poller) c.in_ok-keep_time.ensures.told;
-        swept = rw (end, accepted.poller) swept;
-        accepted = ended_still c.in_ok-accept.ensures.ended end back.unlimited;
+        read = rw (end, told, accepted.poller, timed.poller, delivered.poller) looked.batch;
+        second = rw (end, told, accepted.poller) c.in_ok-keep_time.ensures.told;
+        swept = rw (end, told, accepted.poller) swept;
+        accepted = ended_still (rw told c.in_ok-accept.ensures.ended) end back.unlimited;
         closed = back.closed;
         back = back.all;
-        drops = rw end c.in_ok-accept.ensures.logged;
+        drops = rw end c.log_counted.ensures.all;
       });
       keeps = record {
         opening = rw end same.opening;
         most = rw end same.most;
         heavy = rw end same.heavy;
-        swept = inr (rw (end, accepted.poller) swept);
+        swept = inr (rw (end, told, accepted.poller) swept);
         listens = listens_still c.args.poller.now same.listening end back.unlimited back.closed;
         over = λ over. over_before same.over (back.over over);
         took = rw (back.took.ready, accepted.ready, timed.queues.ready, delivered.ready, looked.took.ready);

@@ -1,7 +1,7 @@
 use Rattle.std.proofs.Common.{◌≡◌, ◌+◌, ◌≤◌}
 use Rattle.dispatch.specs.Hands.{ticket_room}
 use Rattle.rounds.specs.Openings.{Between, AcceptDone, OnlyAccepted}
-use Rattle.rounds.proofs.round.accept_all.Given as goal
+use Rattle.rounds.proofs.round.accept.Given as goal
 
 -- each try takes at most one ticket in hand
 abbrev pub invariant-loop-try : goal.invariant-loop-try
