@@ -1,7 +1,7 @@
 -- What is late, the socket as it is once that has come, and what every step keeps.
-use Rattle.std.proofs.{Common.{◌≡◌, ◌⊎◌, Bool, true, false, ◌||◌, List, [], ◌∷◌, ◌++◌, ℕ, map, Option, Some, None, option_and_then, refl, ap, ◌∙◌, inl, inr}, lemmas.Bool.or_left}
-use Rattle.kernel_model.specs.{Ends.{EndState, is_readable}, Outcome.{Told, guard}}
-use Rattle.readiness.specs.{Delays.{Came, Event, IsOnItsWay, Seen, WillBeTold, came_in, event, events, replies_in}, Machine.{Bytes, Change, Error, Fin, Step, Way, answer_of, change_in, change_of}}
+use Rattle.std.proofs.{Common.{◌≡◌, ◌⊎◌, Bool, true, false, ◌||◌, List, [], ◌∷◌, ◌++◌, ℕ, map, Option, Some, refl, ap, ◌∙◌, inl, inr}, lemmas.Bool.or_left}
+use Rattle.kernel_model.specs.{Ends.{EndState, is_readable}, Outcome.{Told, guard}, declared.reply.Reply.Reply}
+use Rattle.readiness.specs.{Delays.{Came, Event, IsOnItsWay, Seen, WillBeTold, came_in, events, replies_in}, Machine.{Bytes, Call, Change, Error, Fin, Step, Way, answer_of, change_in, change_of}}
 
 -- what a test let through
 pub guarded : {X : Type 0} (b : Bool) (x y : X) → guard b x ≡ Some y → (b ≡ true) × (y ≡ x)
@@ -34,12 +34,12 @@ pub record IsBeside (f e : EndState) : Type 0 where
   pub write_armed : f.err ≡ false → e.write_armed ≡ f.write_armed
 
 beside_one : (c : Change) (e : EndState) (t : Told EndState Bool) → change_of e c ≡ Some t → IsBeside t.value e
-beside_one (Bytes bytes) e t is = rw (guarded _ _ t is).1 (record { room = refl; err = λ h. h; write_armed = λ h. refl })
-beside_one Fin e t is = rw (guarded _ _ t is).1 (record { room = refl; err = λ h. h; write_armed = λ h. refl })
+beside_one (Bytes bytes) e t is = rw (guarded _ _ t is).1 (search)
+beside_one Fin e t is = rw (guarded _ _ t is).1 (search)
 beside_one Error e t is = rw (guarded _ _ t is).1 (record { room = refl; err = λ h. absurd (cc); write_armed = λ h. absurd (cc) })
 
 pub is_beside : {e f : EndState} {late : List Change} → Settles e late f → IsBeside f e
-is_beside Settled = record { room = refl; err = λ h. h; write_armed = λ h. refl }
+is_beside Settled = search
 is_beside (After {e = e} {c = c} t is rest) =
     let a : IsBeside t.value e = beside_one c e t is in
     let b = is_beside rest in
@@ -78,38 +78,28 @@ settle_aside a may (After {e = e} {c = c} t is rest) =
 
 -- ---- what happens where no wire answers by itself
 
--- some of it gives answers: only what stands after it does
-pub replies_behind : (late : List Change) (es : List Event) → replies_in (map Came late ++ es) ≡ replies_in es
-replies_behind [] es = refl
-replies_behind (c ∷ late) es = replies_behind late es
+-- what a list of events leaves, answers and brings
+abbrev pub shown : Seen → List Event → Option Seen × List (Call × Reply) × List Change
+shown s es = (events s es, replies_in es, came_in es)
 
-pub changes_behind : (late : List Change) (es : List Event) → came_in (map Came late ++ es) ≡ late ++ came_in es
-changes_behind [] es = refl
-changes_behind (c ∷ late) es = ap (λ (xs : List Change). c ∷ xs) (changes_behind late es)
+-- all that is late comes, in order, before whatever happens then
+pub record Caught (e f : EndState) (was : Bool) (late : List Change) : Type 0 where
+  pub queued : Bool
+  pub shows : (es : List Event) → shown (record { socket = e; queued = was }) (map Came late ++ es)
+      ≡ (events (record { socket = f; queued = queued }) es, replies_in es, late ++ came_in es)
+  pub keeps : was ≡ true → queued ≡ true
+  pub same : late ≡ [] → queued ≡ was
 
--- one list of events and then another
-after_first : (es more : List Event) (o : Option Seen) → ((t : Seen) → events t (es ++ more) ≡ option_and_then (λ (u : Seen). events u more) (events t es)) →
-    option_and_then (λ (t : Seen). events t (es ++ more)) o ≡ option_and_then (λ (u : Seen). events u more) (option_and_then (λ (t : Seen). events t es) o)
-after_first es more None rest = refl
-after_first es more (Some t) rest = rest t
-
-pub events-append : (s : Seen) (es more : List Event) → events s (es ++ more) ≡ option_and_then (λ (u : Seen). events u more) (events s es)
-events-append s [] more = refl
-events-append s (e ∷ es) more = after_first es more (event s e) (λ t. events-append t es more)
-
--- all that is late comes, in order
-pub record Caught (s : Seen) (late : List Change) (f : EndState) : Type 0 where
-  pub seen : Seen
-  pub allowed : events s (map Came late) ≡ Some seen
-  pub socket : seen.socket ≡ f
-  pub keeps : s.queued ≡ true → seen.queued ≡ true
-  pub same : late ≡ [] → seen ≡ s
-
-pub caught : {e f : EndState} {late : List Change} (queued : Bool) → Settles e late f → Caught (record { socket = e; queued = queued }) late f
-caught queued (Settled {e = e}) = record { seen = record { socket = e; queued = queued }; allowed = refl; socket = refl; keeps = λ h. h; same = λ h. refl }
-caught queued (After t is rest) =
-    let r = caught (queued || t.told) rest in
-    record { seen = r.seen; allowed = rw is r.allowed; socket = r.socket; keeps = λ h. r.keeps (or_left queued t.told h); same = λ none. absurd (cc) }
+pub caught : {e f : EndState} {late : List Change} (was : Bool) → Settles e late f → Caught e f was late
+caught was Settled = record { queued = was; shows = λ es. refl; keeps = λ h. h; same = λ h. refl }
+caught was (After {c = c} t is rest) =
+    let r = caught (was || t.told) rest in
+    record {
+      queued = r.queued;
+      shows = λ es. rw is (ap (λ x. (x.0, x.1, c ∷ x.2)) (r.shows es));
+      keeps = λ h. r.keeps (or_left was t.told h);
+      same = λ none. absurd (cc);
+    }
 
 -- ---- what every step keeps, of a wire's socket and of the same socket where no wire answers by itself
 
@@ -130,10 +120,6 @@ pub data Waits (w : Way) (late : List Change) : Type 0 where
   Prompt : late ≡ [] → Waits w late
   Behind : Asleep w → Waits w late
 
-pub still_waits : {w v : Way} {late : List Change} → (Asleep w → Asleep v) → Waits w late → Waits v late
-still_waits still (Prompt none) = Prompt none
-still_waits still (Behind asleep) = Behind (still asleep)
-
 pub prompt : {w : Way} {late : List Change} → (Asleep w → ⊥) → Waits w late → late ≡ []
 prompt awake (Prompt none) = none
 prompt awake (Behind asleep) = absurd (awake asleep)
@@ -149,7 +135,7 @@ pub record Held (w : Way) (late : List Change) (s : Seen) : Type 0 where
 -- the same is kept
 pub record Goes (v : Way) (s : Seen) (late later : List Change) (happens : List Event) (made : Step) : Type 0 where
   pub next : Seen
-  pub allowed : events s happens ≡ Some next
-  pub answers : replies_in happens ≡ answer_of made
-  pub changes : came_in happens ++ later ≡ late ++ change_in made
+  pub came : List Change
+  pub shows : (more : List Event) → shown s (happens ++ more) ≡ (events next more, answer_of made ++ replies_in more, came ++ came_in more)
+  pub changes : came ++ later ≡ late ++ change_in made
   pub kept : Held v later next
