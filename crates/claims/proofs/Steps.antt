@@ -28,23 +28,27 @@ bits true true = (refl, refl, refl, refl)
 bits false true = (refl, refl, refl, refl)
 bits f h = (refl, refl, refl, refl)
 
-pub post_adds : (w : WordState) → w.pending ≤ 2 ^ 61 → (word_of w + 4) % 2 ^ 64 ≡ word_of (word_after post w)
-post_adds w few = let small = low w.free w.held in omega arith
+-- the exchange of the number is a step of this kind
+pub record Does (kind : StepKind) (f : ℕ → ℕ) : Type 0 where
+  pub does : (w : WordState) → w.pending ≤ 2 ^ 61 → f (word_of w) ≡ word_of (word_after kind w)
 
-pub claim_sets : (w : WordState) → w.pending ≤ 2 ^ 61 → bit_or (word_of w) 1 ≡ word_of (word_after claim w)
-claim_sets w few = rw (bits w.free w.held).0 at (or_low w.pending (2 * one w.free + one w.held) 1 (low w.free w.held) (omega arith))
+pub post_adds : Does post (λ n. (n + 4) % 2 ^ 64)
+post_adds = record { does = λ w few. let small = low w.free w.held in omega arith }
 
-pub take_keeps : (w : WordState) → w.pending ≤ 2 ^ 61 → bit_and (word_of w) 3 ≡ word_of (word_after take w)
-take_keeps w few = let small = low w.free w.held in and_mask (word_of w) 2 ∙ omega arith
+pub claim_sets : Does claim (λ n. bit_or n 1)
+claim_sets = record { does = λ w few. rw (bits w.free w.held).0 at (or_low w.pending (2 * one w.free + one w.held) 1 (low w.free w.held) (omega arith)) }
 
-pub release_clears : (w : WordState) → w.pending ≤ 2 ^ 61 → bit_and (word_of w) 18446744073709551614 ≡ word_of (word_after release w)
-release_clears w few = rw (bits w.free w.held).2 at (and_low w.pending (2 * one w.free + one w.held) 2 (omega arith) (low w.free w.held) (omega arith))
+pub take_keeps : Does take (λ n. bit_and n 3)
+take_keeps = record { does = λ w few. let small = low w.free w.held in and_mask (word_of w) 2 ∙ omega arith }
 
-pub retire_sets : (w : WordState) → w.pending ≤ 2 ^ 61 → bit_or (word_of w) 2 ≡ word_of (word_after retire w)
-retire_sets w few = rw (bits w.free w.held).1 at (or_low w.pending (2 * one w.free + one w.held) 2 (low w.free w.held) (omega arith))
+pub release_clears : Does release (λ n. bit_and n 18446744073709551614)
+release_clears = record { does = λ w few. rw (bits w.free w.held).2 at (and_low w.pending (2 * one w.free + one w.held) 2 (omega arith) (low w.free w.held) (omega arith)) }
 
-pub adopt_clears : (w : WordState) → w.pending ≤ 2 ^ 61 → bit_and (word_of w) 18446744073709551613 ≡ word_of (word_after adopt w)
-adopt_clears w few = rw (bits w.free w.held).3 at (and_low w.pending (2 * one w.free + one w.held) 1 (omega arith) (low w.free w.held) (omega arith))
+pub retire_sets : Does retire (λ n. bit_or n 2)
+retire_sets = record { does = λ w few. rw (bits w.free w.held).1 at (or_low w.pending (2 * one w.free + one w.held) 2 (low w.free w.held) (omega arith)) }
+
+pub adopt_clears : Does adopt (λ n. bit_and n 18446744073709551613)
+adopt_clears = record { does = λ w few. rw (bits w.free w.held).3 at (and_low w.pending (2 * one w.free + one w.held) 1 (omega arith) (low w.free w.held) (omega arith)) }
 
 -- What each kind of step asks, and that it is allowed
 
@@ -76,7 +80,7 @@ posted_by kind p f h a = omega arith
 
 -- a view's accounts after one exchange more at a slot
 pub accounts_on : (v : View) (slot : ℕ) (e : Exchange) → map account_of (set v.traces slot (trace_in slot v ++ e ∷ [])) ≡ set (accounts_of v) slot (after e (account_in slot v))
-accounts_on v slot e = rw (map-set, after_on)
+accounts_on v slot e = rw (map-set, after_both)
 
 module _ (s : WordState) (slot : ℕ) (v : View) (within : slot < length v.traces) where
   few_on : (kind : StepKind) → MayDo kind slot v → sum_by posted_of (accounts_of v) ≤ 2 ^ 56 → sum_by posted_of (accounts_of v) + posts_by kind ≤ 2 ^ 56
@@ -92,10 +96,9 @@ module _ (s : WordState) (slot : ℕ) (v : View) (within : slot < length v.trace
       let most = few_on kind may few in
       rw (accounts_on v slot (made kind s)) (omega arith)
 
-pub may_step : (kind : StepKind) (f : ℕ → ℕ) → ((w : WordState) → w.pending ≤ 2 ^ 61 → f (word_of w) ≡ word_of (word_after kind w))
-    → (slots homes id : ℕ) (m : Me (Unit {0}) View) (slot : ℕ) → slot < slots → MayDo kind slot m.0
+pub may_step : {kind : StepKind} {f : ℕ → ℕ} → Does kind f → (slots homes id : ℕ) (m : Me (Unit {0}) View) (slot : ℕ) → slot < slots → MayDo kind slot m.0
     → Allows (λ s. ClaimRule slots s.words s.views) homes id m slot f (λ n m'. (slots : ℕ) × KeepsRule kind slots slot n m.0 m'.0)
-may_step kind f exchanges slots homes id m slot within may table rule homes_are at below =
+may_step {kind} {f} exchanges slots homes id m slot within may table rule homes_are at below =
     let v = m.0 in
     let here = rule.slot_rules slot within in
     let t = trace_in slot v ++ made kind here.state ∷ [] in
@@ -104,7 +107,7 @@ may_step kind f exchanges slots homes id m slot within may table rule homes_are 
     let rule' = kept slots table.words table.views rule id v at slot within (word_of (word_after kind here.state)) t
     (history_on _ (traces_at slot table.views) here id (trace_in slot v) mine kind (inside _ id _ mine) (may_hold kind slot v may))
     (still_few here.state slot v (wide slots table.words table.views rule id v at slot within) kind may few) in
-    let becomes = ap f here.reads ∙ exchanges here.state (few_pending slots table.words table.views rule slot within) in (
+    let becomes = ap f here.reads ∙ exchanges.does here.state (few_pending slots table.words table.views rule slot within) in (
       view_after kind here.state slot v,
       keeps,
       tt,
@@ -151,20 +154,11 @@ module _ {kind : StepKind} {slot found id id' : ℕ} {v w : View} {table table' 
   abbrev pub last : Exchange
   last = made kind state
 
-  abbrev pub next : Account
-  next = after last (account_in slot v)
-
   sized : length v.traces ≡ told.0
   sized = each_at (λ (u : View). length u.traces ≡ told.0) _ _ told.1.mine told.1.before.one_trace_each
 
   wide_traces : slot < length v.traces
   wide_traces = rw sized told.1.inside
-
-  wide_accounts : slot < length (accounts_of v)
-  wide_accounts = rw length-map wide_traces
-
-  accounts : accounts_of w ≡ set (accounts_of v) slot next
-  accounts = ap accounts_of told.1.becomes ∙ accounts_on v slot last
 
   trace_here : get_or w.traces slot [] ≡ trace_in slot v ++ last ∷ []
   trace_here = ap (trace_in slot) told.1.becomes ∙ get_or-set_same v.traces slot (trace_in slot v ++ last ∷ []) [] wide_traces
@@ -196,16 +190,15 @@ module _ {kind : StepKind} {slot found id id' : ℕ} {v w : View} {table table' 
       let few = few_posts told.0 (set told.1.words slot (word_of (word_after kind state))) views told.1.after slot told.1.inside in
       omega arith
 
-  pub mark_put : (held : List Bool) {b : Bool} → b ≡ next.holds → set held slot b ≡ set held slot next.holds
-  mark_put held is = rw is
-
   module _ {posts : ℕ} {held : List Bool} (ok : SeatOk posts held table v) where
-    -- what the seat keeps beside its view
-    pub kept_beside : {posts' : ℕ} {held' : List Bool} → posts' + (account_in slot v).posted ≡ posts + next.posted → posts' ≤ 2 ^ 56 → held' ≡ set held slot next.holds
-        → SeatOk posts' held' table' w
-    kept_beside more few marks =
-        let put = sum_by-set posted_of (accounts_of v) slot next blank wide_accounts in
-        let there = ap posted_of (account_there v slot) in
+    -- what the seat keeps beside its view, by the exchange
+    pub kept_beside : {x : Exchange} {posts' : ℕ} {held' : List Bool} → last ≡ x → posts' + (account_in slot v).posted ≡ posts + (after x (account_in slot v)).posted → posts' ≤ 2 ^ 56
+        → held' ≡ set held slot (after x (account_in slot v)).holds → SeatOk posts' held' table' w
+    kept_beside {x} {held' = held'} is more few marks =
+        let next : Account = after x (account_in slot v) in
+        let accounts : accounts_of w ≡ set (accounts_of v) slot next =
+        ap accounts_of told.1.becomes ∙ accounts_on v slot last ∙ ap (λ (e : Exchange). set (accounts_of v) slot (after e (account_in slot v))) is in
+        let put = rw (account_there v slot) at (sum_by-set posted_of (accounts_of v) slot next blank (rw length-map wide_traces)) in
         let counted = ok.counted in
         let sum = ap (sum_by posted_of) accounts in
         record {
@@ -217,9 +210,9 @@ module _ {kind : StepKind} {slot found id id' : ℕ} {v w : View} {table table' 
         }
 
     -- a step that leaves who holds the slot
-    pub mark_kept : next.holds ≡ (account_in slot v).holds → held ≡ set held slot next.holds
-    mark_kept is = rw (ok.marked, ← (map-set holds_of (accounts_of v) slot next))
-        (sym (map-set_same holds_of (accounts_of v) slot next blank (is ∙ ap holds_of (sym (account_there v slot)))))
+    pub mark_kept : held ≡ set held slot (account_in slot v).holds
+    mark_kept = rw (ok.marked, ← (map-set holds_of (accounts_of v) slot (account_in slot v)))
+        (sym (map-set_same holds_of (accounts_of v) slot (account_in slot v) blank (ap holds_of (sym (account_there v slot)))))
 
     -- what the caller saw of the seat
     module _ {old : SeatState} (was : seat_state table v ≡ old) where
@@ -283,28 +276,15 @@ pub none_wait : (p : ℕ) → some_wait p ≡ false → p ≡ 0
 none_wait zero is = refl
 none_wait (suc p) is = cc
 
-module _ (w : WordState) where
-  pub makes_busy : w.held ≡ true → made claim w ≡ exchange.Busy
-  makes_busy is = rw is
+module _ (w : WordState) {read : Bool} where
+  pub makes_busy : read ≡ w.held → read ≡ true → made claim w ≡ exchange.Busy
+  makes_busy is held = rw (← is, held)
 
-  pub makes_held : w.held ≡ false → made claim w ≡ exchange.Held w.pending
-  makes_held is = rw is
+  pub makes_held : read ≡ w.held → read ≡ false → made claim w ≡ exchange.Held w.pending
+  makes_held is free = rw (← is, free)
 
-  pub makes_adopted : w.free ≡ true → made adopt w ≡ exchange.Adopted w.pending
-  makes_adopted is = rw is
+  pub makes_adopted : read ≡ w.free → read ≡ true → made adopt w ≡ exchange.Adopted w.pending
+  makes_adopted is free = rw (← is, free)
 
-  pub makes_not_free : w.free ≡ false → made adopt w ≡ exchange.NotFree
-  makes_not_free is = rw is
-
-  module _ (a : Account) where
-    pub claim_busy : w.held ≡ true → after (made claim w) a ≡ a
-    claim_busy is = rw is
-
-    pub claim_gains : w.held ≡ false → after (made claim w) a ≡ after (exchange.Held w.pending) a
-    claim_gains is = rw is
-
-    pub adopt_gains : w.free ≡ true → after (made adopt w) a ≡ after (exchange.Adopted w.pending) a
-    adopt_gains is = rw is
-
-    pub adopt_not_free : w.free ≡ false → after (made adopt w) a ≡ a
-    adopt_not_free is = rw is
+  pub makes_not_free : read ≡ w.free → read ≡ false → made adopt w ≡ exchange.NotFree
+  makes_not_free is held = rw (← is, held)

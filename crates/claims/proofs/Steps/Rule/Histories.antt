@@ -176,9 +176,9 @@ leads_on : (w v : WordState) (h : History) (s : ℕ × Exchange) → Leads w h v
 leads_on w v [] s leads is = (rw leads is, ap (word_after (kind_of s.1)) leads)
 leads_on w v (x ∷ h) s leads is = (leads.0, leads_on (word_after (kind_of x.1) w) v h s leads.1 is)
 
-pub after_on : (t : List Exchange) (e : Exchange) (a : Account) → after_all (t ++ e ∷ []) a ≡ after e (after_all t a)
-after_on [] e a = refl
-after_on (x ∷ t) e a = after_on t e (after x a)
+pub after_both : (t u : List Exchange) (a : Account) → after_all (t ++ u) a ≡ after_all u (after_all t a)
+after_both [] u a = refl
+after_both (e ∷ t) u a = after_both t u (after e a)
 
 keeps_on : (t : List Exchange) (e : Exchange) (a : Account) → Keeps a t → NeedsHolder (kind_of e) (after_all t a) → Keeps a (t ++ e ∷ [])
 keeps_on [] e a fair may = (may, tt)
