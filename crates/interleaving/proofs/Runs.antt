@@ -2,7 +2,7 @@
 pub mod Programs
 use Rattle.world.{specs.{declared.limits.Limits.Limits, Headline.EveryRunHolds, CoreLaws.CoreLaws}, proofs.{TurnsTotals.{get-replicate, get_beside}, TurnsKept.holds_after, TurnsRun.{turns_after, turns_on}}}
 use Rattle.dispatch.specs.Acts.{gone_turn, quiet_turn, again_turn}
-use Rattle.interleaving.specs.{Threads.{Adopt, Claim, ProgramsAreThese, gone, resting, run, seen, start}, Likeness.{all_outside, calls_of, exchanges, taken_word, EveryInterleavingIsARun, NoActInVain}}
+use Rattle.interleaving.specs.{Threads.{Claim, ProgramsAreThese, gone, resting, run, seen, start}, Likeness.{all_outside, calls_of, exchanges, taken_word, EveryInterleavingIsARun, NoActInVain}}
 use Rattle.std.proofs.lemmas.Option.{option_and_then_some}
 use Programs.*
 
@@ -30,7 +30,7 @@ module _ (st : System) (p : SlotState) (workers : List WorkerState) (set : Settl
       let wait : Waiting p = waiting (machine_of st p st.entry st.tickets workers) i k (ticket t.generation) p had (rw is refl) refl turns in
       rw (set.word, wait.holder) refl
   finds_settled had (IsHolder c more held is (Holds at least all)) =
-      (c, at, own_generation (facts (machine_of st p st.entry st.tickets workers) 0 p.generation) p c ((turns.each 0 p refl).connection c held.connection).stands ∙ held.generation)
+      (c, at, own_generation (facts (machine_of st p st.entry st.tickets workers) 0 p.generation) p c ((turns.each 0 p refl).connection c held.there).stands ∙ held.generation)
   finds_settled {t = t} had (IsHolder c more held is (Goes at out least)) = plan_finds st.word st.place t.generation t.left c.pair at
   finds_settled had like = tt
 
@@ -39,16 +39,16 @@ module _ (st : System) (p : SlotState) (workers : List WorkerState) (set : Settl
   follows_settled Deliver = reports set
   follows_settled Sweep = sweeps set
   follows_settled Open = kept_bind _ (slice_get st.threads 0) (λ t there. kept_guard (rests t) _ (λ r.
-      let it : WorkerFor st.limits.budget st.place p workers 0 t = set.threads 0 t there in
+      let it = set.threads 0 t there in
       begins_opening st p workers set 0 t there it.worker it.there refl it.like r))
   follows_settled (Begin i most) = kept_bind _ (slice_get st.threads i) (λ t there.
-      let it : WorkerFor st.limits.budget st.place p workers i t = set.threads i t there in
+      let it = set.threads i t there in
       begins_turn st p workers set i t there it.worker it.there it.like most)
   follows_settled (Acts i) = kept_bind _ (slice_get st.threads i) (λ t there.
-      let it : WorkerFor st.limits.budget st.place p workers i t = set.threads i t there in
+      let it = set.threads i t there in
       rw there (thread_acts st p workers set i t there it.worker it.there turns it.like))
   follows_settled (Calls i r) = kept_bind _ (slice_get st.threads i) (λ t there.
-      let it : WorkerFor st.limits.budget st.place p workers i t = set.threads i t there in
+      let it = set.threads i t there in
       thread_calls st p workers set i t there it.worker it.there it.like r)
   follows_settled s = beyond (settled_frame set) s refl
 

@@ -88,16 +88,11 @@ left_of (act ∷ rest) w = exchange w (kind_of act) ++ left_of rest (word_then w
 abbrev pub ticket : ℕ → Ticket
 ticket g = record { slot = 0; generation = g }
 
--- The thread i, whose ticket is of the generation g, holds the slot, of which the machine has p there, with this connection
-pub record Held (p : SlotState) (i g : ℕ) (c : Connection) : Type 0 where
+-- The thread i, whose ticket is of the generation g, holds the slot, of which the machine has p there, with this connection,
+-- or with none once it has closed it
+pub record Held (p : SlotState) (i g : ℕ) (connection : Option Connection) : Type 0 where
   pub holder : p.holder ≡ By i
-  pub connection : p.connection ≡ Some c
-  pub generation : p.generation ≡ g
-
--- it has closed the connection
-pub record HeldClosed (p : SlotState) (i g : ℕ) : Type 0 where
-  pub holder : p.holder ≡ By i
-  pub connection : p.connection ≡ None
+  pub there : p.connection ≡ connection
   pub generation : p.generation ≡ g
 
 -- A thread t that holds the slot p, with this rest of its program, is where the machine's worker is, which has `more` calls
@@ -116,9 +111,9 @@ pub data ThreadLike (budget : ℕ) (place : Option Connection) (p : SlotState) (
   Rests : k ≡ machine.resting → ThreadLike budget place p i t k []
   Opens : i ≡ 0 → k ≡ machine.resting → ThreadLike budget place p i t k open_slot
   Tries : t.left ≤ budget → k ≡ busy (doing.Tries (ticket t.generation)) → ThreadLike budget place p i t k turn
-  IsHolder : {todo : List Act} (c : Connection) (more : ℕ) → Held p i t.generation c → k ≡ busy (doing.Holds 0 more)
+  IsHolder : {todo : List Act} (c : Connection) (more : ℕ) → Held p i t.generation (Some c) → k ≡ busy (doing.Holds 0 more)
       → HolderLike budget place p t c more todo → ThreadLike budget place p i t k todo
-  HasClosed : HeldClosed p i t.generation → place ≡ None → k ≡ busy (doing.Closed 0) → ThreadLike budget place p i t k (drop 1 ended)
+  HasClosed : Held p i t.generation None → place ≡ None → k ≡ busy (doing.Closed 0) → ThreadLike budget place p i t k (drop 1 ended)
   HasRetired : p.generation ≡ t.generation → k ≡ busy (doing.Retired 0) → ThreadLike budget place p i t k (drop 2 ended)
 
 -- the machine has a worker that is where the thread is
@@ -168,8 +163,8 @@ abbrev pub taken_word : ℕ → WordState
 taken_word notes = record { pending = notes; free = false; held = true }
 
 -- How far the poller's thread t is with the opening of c, by the word, the place, the table's entry and the rest of its
--- program: both sockets are registered; the slot is adopted; the table has its generation; the old notes are gone; the connection is in its place;
--- the note of the opening is posted
+-- program: both sockets are registered; the slot is adopted; the table has its generation; the old notes are gone; the
+-- connection is in its place; the note of the opening is posted
 pub data Stage (word : WordState) (place : Option Connection) (entry : ℕ) (t : Thread) (c : Connection) : List Act → Type 0 where
   Registered : (notes : ℕ) → word ≡ record { pending = notes; free = true; held = true } → place ≡ None → t.out ≡ Some c
       → Stage word place entry t c (drop 1 open_slot)

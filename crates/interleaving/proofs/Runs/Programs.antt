@@ -1,11 +1,11 @@
 -- What a thread does, act by act, where no opening is half way: a turn, the first act of an opening, and how both go on.
 pub mod Frames
-pub use Rattle.std.proofs.{Common.{◌-◌, append_assoc, eq-eqb, leb-true, unwrap_or}, lemmas.List.set-set}
+pub use Rattle.std.proofs.{Common.{◌-◌, append_assoc, eq-eqb, leb-true}, lemmas.List.set-set}
 pub use Rattle.token.specs.declared.side.Side.TheVariants.{Client, Target}
 pub use Rattle.kernel_model.specs.Outcome.{Told}
 pub use Rattle.relay_core.specs.{Pairs.{fresh, noted}, Replies.fits, Idle.{is_overdue, expired}}
-pub use Rattle.world.{specs.{declared.actors.Holder.Holder, Calls.{OpenConnection, called, told_of, made}, Steps.{is_worn, may_release, token_of}, Support.worker_tickets}, proofs.{TurnsFacts.{Facts, is_shaped}, TurnsRun.{FirstFree, first_free, names_it}, TurnsTotals.total_at}}
-pub use Rattle.interleaving.specs.{Likeness.Finds, Threads.{Post, PutIn, Retire, Give, TakeNotes, after_call, calls, claimed, closed, begins, given, heard, notes_taken, planned, put_in, registered, registering, taken_out}}
+pub use Rattle.world.{specs.{declared.actors.Holder.Holder, Calls.{OpenConnection, called, told_of, made}, Steps.{is_worn, may_release, token_of}, Support.worker_tickets}, proofs.{TurnsFacts.is_shaped, TurnsRun.{FirstFree, first_free, names_it}, TurnsTotals.total_at}}
+pub use Rattle.interleaving.specs.{Likeness.Finds, Threads.{Post, Retire, Give, TakeNotes, calls, claimed, closed, begins, given, heard, notes_taken, planned, put_in, registered, registering, taken_out}}
 pub use Frames.*
 
 -- what is so of each list that a plan may be, for the pair for which it is one, is so of the plan
@@ -176,7 +176,7 @@ module _ (st : System) (p : SlotState) (workers : List WorkerState) (set : Settl
           record { worker = busier; there = rw same (get-set_same workers i k busier had); like = rw (same, it) like }
       go (inr other) =
           let apart : i ≢ j = λ same. other (sym same) in
-          let it : WorkerFor st.limits.budget st.place p workers j u = set.threads j u (sym (get-set_other st.threads i j new apart) ∙ at) in
+          let it = set.threads j u (sym (get-set_other st.threads i j new apart) ∙ at) in
           record { worker = it.worker; there = get-set_other workers i j busier apart ∙ it.there; like = others j u it.worker apart it.like }
 
   -- the thread goes on alone
@@ -207,79 +207,18 @@ module _ (st : System) (p : SlotState) (workers : List WorkerState) (set : Settl
 
   -- while it holds the slot with its connection
 
-  module _ (c : Connection) (more : ℕ) (held : Held p i t.generation c) (is : k ≡ busy (doing.Holds 0 more)) where
-    -- another connection in the slot, or notes
-    holds_on : {notes : List ℕ} {d : Connection} → Held (record p { notes = notes; connection = Some d }) i t.generation d
-    holds_on = record { holder = held.holder; connection = refl; generation = held.generation }
+  module _ (c : Connection) (more : ℕ) (held : Held p i t.generation (Some c)) (is : k ≡ busy (doing.Holds 0 more)) where
+    -- another connection in the slot, or none, or other notes
+    holds_on : {notes : List ℕ} {has : Option Connection} → Held (record p { notes = notes; connection = has }) i t.generation has
+    holds_on = record { holder = held.holder; there = refl; generation = held.generation }
 
     not_nobody : {X : Type 0} → is_by_worker p.holder ≡ false → X
     not_nobody nobody = held_by held.holder nobody
-
-    -- it takes the connection out
-    takes_out : st.place ≡ Some c → c.pair.generation ≡ t.generation → t.left ≤ st.limits.budget → more ≡ st.limits.budget → Acted [] (taken_out st i t (TakeNotes ∷ []) st.place)
-    takes_out at own least all = rw (at, eq-eqb c.pair.generation t.generation own) (follow [] p workers (record {
-      ends = set.ends;
-      word = set.word;
-      place = not_nobody;
-      threads = goes (others held.holder refl) (IsHolder c more held is (HasOut refl refl least all));
-    }) (λ es. refl))
-
-    -- it takes the notes
-    takes_notes : st.place ≡ None → t.left ≤ more → Acted (exchange_made word.take st.word ∷ []) (notes_taken st i t c)
-    takes_notes at least =
-        let next : System = notes_taken st i t c in
-        let heard_now : Connection = heard st.word.pending c in
-        let e : Connection = held_to_limit st heard_now in
-        let b : Bool = is_overdue st.second st.limits.idle heard_now.pair in
-        let count : length p.notes ≡ st.word.pending = rw set.word refl in
-        let same : machine.heard c p.notes ≡ heard_now = heard_as c p.notes ∙ rw count refl in
-        follow (event.Work i act.Take ∷ expires i b) (record p { notes = []; connection = Some e }) workers (record {
-          ends = set.ends ∙ rw (held.connection, same_ends st.word.pending c) refl;
-          word = rw set.word refl;
-          place = not_nobody;
-          threads = goes (others held.holder refl) (IsHolder e more holds_on is (Goes at refl least));
-        }) (λ es. rw (had, is, held.connection, same, count)
-        (ap (λ (x : Shown). (x.0, x.1, x.2, exchange_made word.take st.word ∷ x.3)) (limited next (record p { notes = [] }) heard_now workers i more (had ∙ ap Some is) b refl es)))
-
-    -- it makes a call
-    makes_call : st.place ≡ None → t.left ≤ more → nat_lt 0 more ≡ true
-        → (r : Reply) (line : OpenConnection) → called st.second (record { kernel = st.kernel; connection = c }) r ≡ Some line
-        → Follows [] [] w (Calls i r) (with_thread (record st { kernel = line.kernel }) i (planned st t (t.left - 1) line.connection))
-    makes_call at least some r line replied =
-        let next : System = with_thread (record st { kernel = line.kernel }) i (planned st t (t.left - 1) line.connection) in
-        let d : Connection = held_to_limit st line.connection in
-        let b : Bool = is_overdue st.second st.limits.idle line.connection.pair in
-        let busier : WorkerState = busy (doing.Holds 0 (more - 1)) in
-        let made : machine.slot_call st.second (record { kernel = st.kernel; place = p }) r
-        ≡ Some (record { kernel = line.kernel; place = record p { connection = Some line.connection } }) =
-        slot_calls st.second p st.kernel c r line held.connection replied in
-        let from : OpenConnection = record { kernel = st.kernel; connection = c } in
-        let ends : line.connection.ends ≡ c.ends = kept_at (called st.second from r) line replied (all_keep_ends st.second from r) in
-        follow (event.Work i (act.Call r) ∷ expires i b) (record p { connection = Some d }) (slice_set workers i busier) (record {
-          ends = set.ends ∙ rw (held.connection, ends) refl;
-          word = set.word;
-          place = not_nobody;
-          threads = both_go (others held.holder refl) (IsHolder d (more - 1) holds_on refl (Goes at refl (omega arith)));
-        }) (λ es. rw (had, is, some, made)
-        (ap (λ (x : Shown). (x.0, (i, r) ∷ x.1, x.2, x.3)) (limited next p line.connection (slice_set workers i busier) i (more - 1) (get-set_same workers i k busier had) b refl es)))
 
     -- the connection is back in its place
     put_back : t.out ≡ Some c → (rest : List Act) → HolderLike st.limits.budget (Some c) p (record t { out = None; todo = rest }) c more rest → Acted [] (put_in st i t rest)
     put_back out rest at = rw out (follow [] p workers
         (record { ends = set.ends; word = set.word; place = not_nobody; threads = goes (others held.holder refl) (IsHolder c more held is at) }) (λ es. refl))
-
-    -- a post by the holder, which wakes nobody
-    posts_due : st.place ≡ Some c → is_live (verdict c.pair) ≡ true → Acted (exchange_made word.post st.word ∷ []) (with_thread (posted st t.generation) i (goes_on t (Release ∷ [])))
-    posts_due at live =
-        let g : ℕ = c.pair.generation in
-        let held_word : st.word.held ≡ true = rw (set.word, held.holder) refl in
-        let woke : wakes st.word ≡ false = rw held_word refl in
-        rw woke (follow (event.Work i act.Post ∷ []) (with_note p g) workers (record {
-          ends = set.ends;
-          word = ap (word_after word.post) set.word ∙ post_word p g;
-          place = not_nobody;
-          threads = goes (others held.holder refl) (IsHolder c more (still g held) is (Leaves at (rw (some_more p.notes g) (due_now c live))));
-        }) (λ es. rw (had, is, held.connection, live, held.holder)))
 
     -- a release
 
@@ -289,7 +228,7 @@ module _ (st : System) (p : SlotState) (workers : List WorkerState) (set : Settl
     released_like at tickets = record {
       ends = set.ends;
       word = rw (set.word, held.holder) refl;
-      place = λ yes. at ∙ sym held.connection;
+      place = λ yes. at ∙ sym held.there;
       threads = both_go (others held.holder refl) (Rests refl);
     }
 
@@ -301,11 +240,11 @@ module _ (st : System) (p : SlotState) (workers : List WorkerState) (set : Settl
         let between : WorkerState = record { doing = doing.Idle; hand = ticket t.generation ∷ [] } in
         let longer : map ticket tickets ≡ map ticket st.tickets ++ ticket t.generation ∷ [] = map-append ticket st.tickets (t.generation ∷ []) in
         rw wait (follow (event.Work i act.Release ∷ event.Work i act.Put ∷ []) (record p { holder = Nobody }) (slice_set workers i machine_states.resting) (released_like at tickets)
-        (λ es. rw (had, is, held.connection, some, may, held.generation, get-set_same workers i k between had, set-set workers i between machine_states.resting, longer, some_notes p.notes ∙ some)))
+        (λ es. rw (had, is, held.there, some, may, held.generation, get-set_same workers i k between had, set-set workers i between machine_states.resting, longer, some_notes p.notes ∙ some)))
     releases at false some may =
         let wait : some_wait st.word.pending ≡ false = rw set.word (some_notes p.notes ∙ some) in
         rw wait (follow (event.Work i act.Release ∷ []) (record p { holder = Nobody }) (slice_set workers i machine_states.resting) (released_like at st.tickets)
-        (λ es. rw (had, is, held.connection, some, may, some_notes p.notes ∙ some)))
+        (λ es. rw (had, is, held.there, some, may, some_notes p.notes ∙ some)))
 
     -- the connection is closed
     closes : st.place ≡ None → is_live (verdict c.pair) ≡ false → Kept (Acted []) (closed st i t (Retire ∷ Give ∷ []) c)
@@ -314,21 +253,70 @@ module _ (st : System) (p : SlotState) (workers : List WorkerState) (set : Settl
           ends = refl;
           word = set.word;
           place = not_nobody;
-          threads = both_go (others held.holder refl) (HasClosed (record { holder = held.holder; connection = refl; generation = held.generation }) at refl);
-        }) (λ es. rw (had, is, held.connection, over, may)))
+          threads = both_go (others held.holder refl) (HasClosed holds_on at refl);
+        }) (λ es. rw (had, is, held.there, over, may)))
 
-    plan_acts : st.place ≡ None → t.out ≡ Some c → Kept (Acted (exchange st.word (first_kind (plan t.left c.pair)))) (acts st i t (plan t.left c.pair))
-    plan_acts at out = by_plan (λ todo. Kept (Acted (exchange st.word (first_kind todo))) (acts st i t todo)) t.left c.pair
+    -- the next act
+    holder_acts : {todo : List Act} → Turns w → HolderLike st.limits.budget st.place p t c more todo → Kept (Acted (exchange st.word (first_kind todo))) (acts st i t todo)
+    -- it takes the connection out, which is its ticket's own
+    holder_acts turns (Holds at least all) =
+        let own = own_generation (facts w 0 p.generation) p c ((turns.each 0 p refl).connection c held.there).stands ∙ held.generation in
+        kept_some (rw (at, eq-eqb c.pair.generation t.generation own) (follow [] p workers (record {
+          ends = set.ends;
+          word = set.word;
+          place = not_nobody;
+          threads = goes (others held.holder refl) (IsHolder c more held is (HasOut refl refl least all));
+        }) (λ es. refl)))
+    -- it takes the notes
+    holder_acts turns (HasOut at out least all) = rw out (
+        let heard_now = heard st.word.pending c in
+        let e = held_to_limit st heard_now in
+        let b = is_overdue st.second st.limits.idle heard_now.pair in
+        let count : length p.notes ≡ st.word.pending = rw set.word refl in
+        let same : machine.heard c p.notes ≡ heard_now = heard_as c p.notes ∙ rw count refl in
+        kept_some (follow (event.Work i act.Take ∷ expires i b) (record p { notes = []; connection = Some e }) workers (record {
+          ends = set.ends ∙ rw (held.there, same_ends st.word.pending c) refl;
+          word = rw set.word refl;
+          place = not_nobody;
+          threads = goes (others held.holder refl) (IsHolder e more holds_on is (Goes at refl (omega arith)));
+        }) (λ es. rw (had, is, held.there, same, count) (ap (λ (x : Shown). (x.0, x.1, x.2, exchange_made word.take st.word ∷ x.3))
+        (limited (notes_taken st i t c) (record p { notes = [] }) heard_now workers i more (had ∙ ap Some is) b refl es)))))
+    holder_acts turns (Goes at out least) = by_plan (λ todo. Kept (Acted (exchange st.word (first_kind todo))) (acts st i t todo)) t.left c.pair
         (λ live none. kept_some (put_back out (Release ∷ []) (Leaves refl (rests_now c (is_nonempty p.notes) live none))))
         (λ live. kept_some (put_back out (Post ∷ Release ∷ []) (Stays refl live)))
         (λ some. kept_none)
         (λ over. rw out (closes at over))
+    -- it posts, which wakes nobody
+    holder_acts turns (Stays at live) =
+        let g = c.pair.generation in
+        let held_word : st.word.held ≡ true = rw (set.word, held.holder) refl in
+        let woke : wakes st.word ≡ false = rw held_word refl in
+        kept_some (rw woke (follow (event.Work i act.Post ∷ []) (with_note p g) workers (record {
+          ends = set.ends;
+          word = ap (word_after word.post) set.word ∙ post_word p g;
+          place = not_nobody;
+          threads = goes (others held.holder refl) (IsHolder c more (still g held) is (Leaves at (rw (some_more p.notes g) (due_now c live))));
+        }) (λ es. rw (had, is, held.there, live, held.holder))))
+    holder_acts turns (Leaves at may) = kept_some (releases at (is_nonempty p.notes) refl may)
 
+    -- and the next call
     plan_calls : st.place ≡ None → t.out ≡ Some c → t.left ≤ more → (r : Reply) → Kept (Follows [] [] w (Calls i r)) (calls st i t r (plan t.left c.pair))
-    plan_calls at out least r = by_plan (λ todo. Kept (Follows [] [] w (Calls i r)) (calls st i t r todo)) t.left c.pair
-        (λ live none. kept_none)
-        (λ live. kept_none)
-        (λ some. rw out (kept_map _ (called st.second (record { kernel = st.kernel; connection = c }) r) (makes_call at least (some_more_left t.left more some least) r)))
+    plan_calls at out least r = by_plan (λ todo. Kept (Follows [] [] w (Calls i r)) (calls st i t r todo)) t.left c.pair (λ live none. kept_none) (λ live. kept_none)
+        (λ some. rw out (kept_map _ (called st.second (record { kernel = st.kernel; connection = c }) r) (λ line replied. (
+        let some_left = some_more_left t.left more some least in
+        let d = held_to_limit st line.connection in
+        let b = is_overdue st.second st.limits.idle line.connection.pair in
+        let busier = busy (doing.Holds 0 (more - 1)) in
+        let made = slot_calls st.second p st.kernel c r line held.there replied in
+        let ends = kept_at (called st.second (record { kernel = st.kernel; connection = c }) r) line replied (all_keep_ends st.second (record { kernel = st.kernel; connection = c }) r) in
+        follow (event.Work i (act.Call r) ∷ expires i b) (record p { connection = Some d }) (slice_set workers i busier) (record {
+          ends = set.ends ∙ rw (held.there, ends) refl;
+          word = set.word;
+          place = not_nobody;
+          threads = both_go (others held.holder refl) (IsHolder d (more - 1) holds_on refl (Goes at refl (omega arith)));
+        }) (λ es. rw (had, is, some_left, made) (ap (λ (x : Shown). (x.0, (i, r) ∷ x.1, x.2, x.3))
+        (limited (with_thread (record st { kernel = line.kernel }) i (planned st t (t.left - 1) line.connection)) p line.connection (slice_set workers i busier) i (more - 1)
+        (get-set_same workers i k busier had) b refl es)))))))
         (λ over. kept_none)
 
   -- the slot is given, or lost where its generations are used up
@@ -343,29 +331,11 @@ module _ (st : System) (p : SlotState) (workers : List WorkerState) (set : Settl
   gives own is false worn = rw worn (gives_to own is (suc st.free) (rw (had, is, own, worn, one_more st.free)))
 
   module _ (turns : Turns w) where
-    -- it claims the slot, which nobody holds
-    claims : t.left ≤ st.limits.budget → k ≡ busy (doing.Tries (ticket t.generation))
-        → Acted (exchange_made word.claim st.word ∷ []) (claimed st i t (TakeOut ∷ TakeNotes ∷ []))
-    claims least is =
-        let does : k.doing ≡ doing.Tries (ticket t.generation) = rw is refl in
-        let wait : Waiting p = waiting w i k (ticket t.generation) p had does refl turns in
-        let own : t.generation ≡ p.generation = names_it w i k (ticket t.generation) p had does refl turns in
-        let c = some_there p.connection wait.lies in
-        let free : st.word.held ≡ false = rw (set.word, wait.holder) refl in
-        let at : st.place ≡ Some c.0 = set.place (rw wait.holder refl) ∙ c.1 in
-        rw free (follow (event.Work i act.Claim ∷ []) (record p { holder = By i }) (slice_set workers i (busy (doing.Holds 0 st.limits.budget))) (record {
-          ends = set.ends;
-          word = rw (set.word, wait.holder) refl;
-          place = λ no. absurd (cc);
-          threads = both_go (λ j u v other like. apart (λ by. absurd (let no : Nobody ≡ By j = sym wait.holder ∙ by in cc)) refl like)
-              (IsHolder c.0 st.limits.budget (record { holder = refl; connection = c.1; generation = sym own }) refl (Holds at least refl));
-        }) (λ more. rw (had, is, wait.holder, set.word)))
-
     -- The machine makes an opening as soon as both sockets are registered
 
     unused : (free : ℕ) → st.free ≡ suc free → Unused st p workers
     unused free some =
-        let first : FirstFree w 0 p = first_free w 0 p refl (rw some refl) turns in
+        let first = first_free w 0 p refl (rw some refl) turns in
         let none = first.tickets in
         let gone = first.gone in
         record {
@@ -373,17 +343,18 @@ module _ (st : System) (p : SlotState) (workers : List WorkerState) (set : Settl
           connection = none_by p.holder p.connection first.holder (turns.each 0 p refl).shape;
           tickets = no_tickets st.tickets (omega arith);
           others = λ j u there other.
-              let it : WorkerFor st.limits.budget st.place p workers j u = set.threads j u there in
+              let it = set.threads j u there in
               none_here workers it.there other first.holder (omega arith) (omega arith) it.like;
         }
 
     module _ (first : i ≡ 0) (is : k ≡ machine_states.resting) where
-      registers_by : Unused st p workers → (free : ℕ) → st.free ≡ suc free → st.accepted ≡ true
-          → (client target : EndName) → token_of 0 Client (st.entry + 1) ≡ Some client → token_of 0 Target (st.entry + 1) ≡ Some target
-          → Acted [] (registered st i t (drop 1 open_slot) free (st.entry + 1) (kernel.open_both st.kernel client target))
-      registers_by un free some accepted client target one two =
-          let g : ℕ = st.entry + 1 in
-          let told : Told KernelState Descriptors = kernel.open_both st.kernel client target in
+      registers : (free : ℕ) → st.free ≡ free → Kept (Acted []) (registering st i t (drop 1 open_slot) free)
+      registers zero some = kept_none
+      registers (suc free) some =
+          let g = st.entry + 1 in
+          let un = unused free some in
+          kept_when st.accepted _ (λ accepted. kept_bind _ (token_of 0 Client g) (λ client one. kept_map _ (token_of 0 Target g) (λ target two. (
+          let told = kernel.open_both st.kernel client target in
           let c : Connection = record { pair = fresh 0 g st.limits.ring st.second st.limits.lead; ends = told.told } in
           let new : Thread = record t { generation = g; out = Some c; todo = drop 1 open_slot } in
           rw first (record {
@@ -398,29 +369,32 @@ module _ (st : System) (p : SlotState) (workers : List WorkerState) (set : Settl
               stage = Registered (length p.notes) (rw (set.word, un.holder) refl) (set.place (rw un.holder refl) ∙ un.connection) refl;
             });
             shows = λ more. rw (accepted, some, one, two, un.tickets, set.word);
-          })
-
-      registers : (free : ℕ) → st.free ≡ free → Kept (Acted []) (registering st i t (drop 1 open_slot) free)
-      registers zero some = kept_none
-      registers (suc free) some = kept_when st.accepted _ (λ accepted. kept_bind _ (token_of 0 Client (st.entry + 1)) (λ client one.
-          kept_map _ (token_of 0 Target (st.entry + 1)) (λ target two. registers_by (unused free some) free some accepted client target one two)))
+          })))))
 
     pub thread_acts : {todo : List Act} → ThreadLike st.limits.budget st.place p i t k todo → Kept (Acted (exchange st.word (first_kind todo))) (acts st i t todo)
     thread_acts (Rests is) = kept_none
     thread_acts (Opens first is) = registers first is st.free refl
-    thread_acts (Tries least is) = kept_some (claims least is)
-    thread_acts (IsHolder c more held is (Holds at least all)) = kept_some (takes_out c more held is at
-        (own_generation (facts w 0 p.generation) p c ((turns.each 0 p refl).connection c held.connection).stands ∙ held.generation) least all)
-    thread_acts (IsHolder c more held is (HasOut at out least all)) = rw out (kept_some (takes_notes c more held is at (omega arith)))
-    thread_acts (IsHolder c more held is (Goes at out least)) = plan_acts c more held is at out
-    thread_acts (IsHolder c more held is (Stays at live)) = kept_some (posts_due c more held is at live)
-    thread_acts (IsHolder c more held is (Leaves at may)) = kept_some (releases c more held is at (is_nonempty p.notes) refl may)
+    -- it claims the slot, which nobody holds
+    thread_acts (Tries least is) =
+        let does : k.doing ≡ doing.Tries (ticket t.generation) = rw is refl in
+        let wait = waiting w i k (ticket t.generation) p had does refl turns in
+        let own = names_it w i k (ticket t.generation) p had does refl turns in
+        let c = some_there p.connection wait.lies in
+        let free : st.word.held ≡ false = rw (set.word, wait.holder) refl in
+        kept_some (rw free (follow (event.Work i act.Claim ∷ []) (record p { holder = By i }) (slice_set workers i (busy (doing.Holds 0 st.limits.budget))) (record {
+          ends = set.ends;
+          word = rw (set.word, wait.holder) refl;
+          place = λ no. absurd (cc);
+          threads = both_go (λ j u v other like. apart (λ by. absurd (let no = sym wait.holder ∙ by in cc)) refl like)
+              (IsHolder c.0 st.limits.budget (record { holder = refl; there = c.1; generation = sym own }) refl (Holds (set.place (rw wait.holder refl) ∙ c.1) least refl));
+        }) (λ more. rw (had, is, wait.holder, set.word))))
+    thread_acts (IsHolder c more held is at) = holder_acts c more held is turns at
     -- the slot is retired
     thread_acts (HasClosed held at is) = kept_some
         (follow (event.Work i act.Retire ∷ []) (record p { holder = Free }) (slice_set workers i (busy (doing.Retired 0))) (record {
           ends = set.ends;
           word = rw (set.word, held.holder) refl;
-          place = λ yes. at ∙ sym held.connection;
+          place = λ yes. at ∙ sym held.there;
           threads = both_go (others held.holder refl) (HasRetired held.generation refl);
         }) (λ more. rw (had, is)))
     thread_acts (HasRetired own is) = kept_some (gives own is (is_worn t.generation) refl)

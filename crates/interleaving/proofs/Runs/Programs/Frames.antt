@@ -1,8 +1,8 @@
 -- What a step is for the machine, what the network, the kernel, the clock and the poller do between the programs, and the
 -- poller's posts. What this file imports is passed on to the files above it.
-pub use Rattle.std.{proofs.{Common.{Bool, List, None, Option, Some, [], ap, append-nil, arith, drop, false, if◌then◌else◌, inl, inr, is_some, length, lt-ltb, map, nat_le, nat_lt, not, option_and_then, option_map, refl, replicate, slice_get, slice_set, subst, suc, sym, true, zero, ℕ, ◌&&◌, ◌++◌, ◌+◌, ◌==◌, ◌∙◌, ◌∷◌, ◌≡◌, ◌≢◌, ◌≤◌, ◌⊎◌, ◌||◌, length-append, eqb-true, ne_eqb}, lemmas.{Bool.{and_parts, cases_eq}, List.{map-append, length-replicate}}}, specs.Option.is_none}
+pub use Rattle.std.{proofs.{Common.{Bool, List, None, Option, Some, [], ap, append-nil, arith, drop, false, if◌then◌else◌, inl, inr, is_some, length, lt-ltb, map, nat_le, nat_lt, not, option_map, refl, replicate, slice_get, slice_set, subst, suc, sym, true, zero, ℕ, ◌&&◌, ◌++◌, ◌+◌, ◌==◌, ◌∙◌, ◌∷◌, ◌≡◌, ◌≢◌, ◌≤◌, ◌⊎◌, ◌||◌, length-append, eqb-true, ne_eqb}, lemmas.{Bool.{and_parts, cases_eq}, List.{map-append, length-replicate}}}, specs.{Option.is_none, Cmp.second_so}}
 pub use Rattle.claims.specs.{Words.{WordState, made as exchange_made, some_wait, wakes, word_after}, declared.view.Exchange.Exchange}
-pub use Rattle.interleaving.specs.{Likeness.{exchange, exchanges_in, exchanges_of, first_kind, kind_in, left_of, Adopted, Emptied, Entered, Goes, HalfOpen, HasClosed, HasOut, HasRetired, Held, HolderLike, Holds, IsHalfOpen, IsHolder, IsSettled, Leaves, Like, Opens, Placed, Posted, Registered, Rests, Settled, Stage, Stays, ThreadLike, Tries, WorkerFor, WorkersFor, ahead, call_in, call_of, calls_in, ends_of, machine_of, opened_slot, outside_among, outside_in, outside_of, ticket, posts, here}, Threads.{Act, Call, Release, TakeOut, again, ended, open_slot, plan, quiet, turn, Accept, Acts, Begin, Calls, Connect, Deliver, Drop, Network, Open, Poll, Spurious, Step, Sweep, System, Thread, Tick, Vanish, acts, begun, goes_on, is_over, poller_rests, posted, released, rests, step, with_thread, watched_of, is_limited, delivered, delivers}}
+pub use Rattle.interleaving.specs.{Likeness.{exchange, exchanges_in, first_kind, kind_in, left_of, Adopted, Emptied, Entered, Goes, HalfOpen, HasClosed, HasOut, HasRetired, Held, HolderLike, Holds, IsHalfOpen, IsHolder, IsSettled, Leaves, Like, Opens, Placed, Posted, Registered, Rests, Settled, Stage, Stays, ThreadLike, Tries, WorkerFor, WorkersFor, ahead, call_of, calls_in, ends_of, machine_of, opened_slot, outside_among, outside_of, ticket, posts, here}, Threads.{Act, Call, Release, TakeOut, again, ended, open_slot, plan, quiet, turn, Accept, Acts, Begin, Calls, Connect, Deliver, Drop, Network, Open, Poll, Spurious, Step, Sweep, System, Thread, Tick, Vanish, acts, begun, goes_on, is_over, poller_rests, posted, released, rests, step, with_thread, watched_of, is_limited, delivered, delivers}}
 pub use Rattle.kernel_model.specs.{Ends.is_nonempty, Kernel.KernelState, declared.{both.Descriptors.Descriptors, reply.Reply.Reply, accepting.Accepting.TheVariants.{Accepted, Blocked, Again, Starved}}}
 pub use Rattle.relay_core.specs.{Order.next_call, Pairs.{PairState, is_live, verdict}}
 pub use Rattle.token.specs.{Names.EndName, declared.{name.Name.Name, side.Side.Side}}
@@ -82,9 +82,6 @@ same_watched st p entry tickets workers ends (reported.End s side) = rw ends (jo
     joined None = refl
     joined (Some c) = refl
 
-two_parts : (a b : Bool) → (a && b) ≡ true → b ≡ true
-two_parts a b h = (and_parts a b h).1
-
 -- the steps that no thread and no post makes
 abbrev pub is_beyond : Step → Bool
 is_beyond Deliver = false
@@ -121,7 +118,7 @@ module _ {st : System} {before : List Exchange} {p : SlotState} {entry : ℕ} {t
   may : (poller_rests st && (st.flag && (not st.accepted && nat_lt 0 st.free))) ≡ true → machine.may_accept w ≡ true
   may h =
       let some : is_nonempty (replicate st.free 0) ≡ nat_lt 0 st.free = rw (length-replicate {A = ℕ} st.free 0) refl in
-      rw some (two_parts (poller_rests st) _ h)
+      rw some (second_so (poller_rests st) _ h)
 
   pub beyond : (s : Step) → is_beyond s ≡ true → Kept (Follows before [] w s) (step st s)
   beyond (Tick n) is = kept_guard _ _ (λ may. alone (event.Tick n) (λ more. rw may))
@@ -138,9 +135,9 @@ module _ {st : System} {before : List Exchange} {p : SlotState} {entry : ℕ} {t
       alone (event.Listen (listening.Accept Blocked)) (λ more. rw (may b, can))))
   beyond (Accept Again) is = kept_when _ _ (λ b. kept_some (alone (event.Listen (listening.Accept Again)) (λ more. rw (may b))))
   beyond (Accept Starved) is = kept_when _ _ (λ b. kept_some (alone (event.Listen (listening.Accept Starved)) (λ more. rw (may b))))
-  beyond Drop is = kept_guard _ _ (λ b. alone (event.Listen listening.Drop) (λ more. rw (two_parts (poller_rests st) st.accepted b)))
+  beyond Drop is = kept_guard _ _ (λ b. alone (event.Listen listening.Drop) (λ more. rw (second_so (poller_rests st) st.accepted b)))
   beyond (Poll names) is = kept_when _ _ (λ b. kept_map _ (kernel.poll st.kernel names.items) (λ q can.
-      alone (event.Poll (polling.Poll names)) (λ more. rw (two_parts (poller_rests st) (length st.batch == 0) b, can))))
+      alone (event.Poll (polling.Poll names)) (λ more. rw (second_so (poller_rests st) (length st.batch == 0) b, can))))
   beyond s is = absurd (cc)
 
 -- What the word says, and what the place does
@@ -176,7 +173,7 @@ may_still : (c : Connection) (some : Bool) → may_release c some ≡ true → m
 unfolding may_release
 may_still c some may = due_now c (and_parts (is_live (verdict c.pair)) (is_none (next_call c.pair) || some) may).0
 
-pub still : {p : SlotState} {i g : ℕ} {c : Connection} (note : ℕ) → Held p i g c → Held (with_note p note) i g c
+pub still : {p : SlotState} {i g : ℕ} {has : Option Connection} (note : ℕ) → Held p i g has → Held (with_note p note) i g has
 still note held = assumption held
 
 -- with one note more each thread is where it was
@@ -195,7 +192,7 @@ noted_like g (Rests is) = Rests is
 noted_like g (Opens first is) = Opens first is
 noted_like g (Tries least is) = Tries least is
 noted_like g (IsHolder c more held is at) = IsHolder c more (still g held) is (noted_holder g at)
-noted_like g (HasClosed held at is) = HasClosed (assumption held) at is
+noted_like g (HasClosed held at is) = HasClosed (still g held) at is
 noted_like g (HasRetired own is) = HasRetired own is
 
 -- A post by the poller. A post that wakes makes a ticket, which the machine's poller puts at once
@@ -218,7 +215,7 @@ module _ {st : System} {p : SlotState} {workers : List WorkerState} (set : Settl
     word = ap (word_after word.post) set.word ∙ post_word p g;
     place = set.place;
     threads = λ i t there.
-        let it : WorkerFor st.limits.budget st.place p workers i t = set.threads i t there in
+        let it = set.threads i t there in
         record { worker = it.worker; there = it.there; like = noted_like g it.like };
   }
 
@@ -238,28 +235,22 @@ module _ {st : System} {p : SlotState} {workers : List WorkerState} (set : Settl
   abbrev Delivers : Name → List Name → Type 0
   Delivers n rest = Follows [] (exchange st.word (posts st (n ∷ rest))) world Deliver (record (delivered st n) { batch = rest })
 
-  delivers_here : (n : EndName) (rest : List Name) → st.batch ≡ name.End n ∷ rest → n.slot ≡ 0 → (b : Bool) → (st.entry == n.generation) ≡ b → Delivers (name.End n) rest
-  delivers_here n rest is first true own =
-      let same : n.generation ≡ st.entry = sym (eqb-true st.entry n.generation own) in
-      rw (first, own, same)
-      (posts_by Deliver (event.Poll polling.Deliver) st.entry rest (brings_ticket p) refl (λ more. rw (is, first, own)))
-  delivers_here n rest is first false own =
-      rw (first, own) (alone (settled_frame set) (event.Poll polling.Deliver) (λ more. rw (is, first, own)))
-
-  delivers_end : (n : EndName) (rest : List Name) → st.batch ≡ name.End n ∷ rest → (n.slot ≡ 0) ⊎ (n.slot ≢ 0) → Delivers (name.End n) rest
-  delivers_end n rest is (inl first) = delivers_here n rest is first (st.entry == n.generation) refl
-  delivers_end n rest is (inr other) = rw (ne_eqb n.slot 0 other) (alone (settled_frame set) (event.Poll polling.Deliver) (λ more. rw (is, past_one st.entry n.slot other)))
+  delivers_end : (n : EndName) (rest : List Name) → st.batch ≡ name.End n ∷ rest → (n.slot ≡ 0) ⊎ (n.slot ≢ 0) → (b : Bool) → (st.entry == n.generation) ≡ b → Delivers (name.End n) rest
+  delivers_end n rest is (inl first) true own =
+      rw (first, own, sym (eqb-true st.entry n.generation own)) (posts_by Deliver (event.Poll polling.Deliver) st.entry rest (brings_ticket p) refl (λ more. rw (is, first, own)))
+  delivers_end n rest is (inl first) false own = rw (first, own) (alone (settled_frame set) (event.Poll polling.Deliver) (λ more. rw (is, first, own)))
+  delivers_end n rest is (inr other) b own = rw (ne_eqb n.slot 0 other) (alone (settled_frame set) (event.Poll polling.Deliver) (λ more. rw (is, past_one st.entry n.slot other)))
 
   delivers_all : (batch : List Name) → st.batch ≡ batch → Kept (Follows [] (exchange st.word (posts st batch)) world Deliver) (delivers st batch)
   delivers_all [] is = kept_none
   delivers_all (name.Listener ∷ rest) is = kept_some (alone (settled_frame set) (event.Poll polling.Deliver) (λ more. rw is))
   delivers_all (name.Waker ∷ rest) is = kept_some (alone (settled_frame set) (event.Poll polling.Deliver) (λ more. rw is))
-  delivers_all (name.End n ∷ rest) is = kept_some (delivers_end n rest is (cases_eq n.slot 0))
+  delivers_all (name.End n ∷ rest) is = kept_some (delivers_end n rest is (cases_eq n.slot 0) (st.entry == n.generation) refl)
 
   pub reports : Kept (Follows [] (exchange st.word (kind_in st Deliver)) world Deliver) (step st Deliver)
   reports = kept_when (poller_rests st) _ (λ b. delivers_all st.batch refl)
 
   pub sweeps : Kept (Follows [] (exchange st.word (kind_in st Sweep)) world Sweep) (step st Sweep)
   sweeps = kept_guard _ _ (λ b.
-      let parts : (is_limited st ≡ true) × (nat_lt 0 st.entry ≡ true) = and_parts (is_limited st) (nat_lt 0 st.entry) (two_parts (poller_rests st) _ b) in
+      let parts = and_parts (is_limited st) (nat_lt 0 st.entry) (second_so (poller_rests st) _ b) in
       posts_by Sweep (event.Poll (polling.Sweep 0)) st.entry st.batch (brings_ticket p) refl (λ more. rw (parts.0, parts.1)))
