@@ -160,32 +160,21 @@ module _ {kind : StepKind} {slot found id id' : ℕ} {v w : View} {table table' 
   wide_traces : slot < length v.traces
   wide_traces = rw sized told.1.inside
 
-  trace_here : get_or w.traces slot [] ≡ trace_in slot v ++ last ∷ []
-  trace_here = ap (trace_in slot) told.1.becomes ∙ get_or-set_same v.traces slot (trace_in slot v ++ last ∷ []) [] wide_traces
-
   my_account : get_elem? (column slot told.1.views) told.1.seat ≡ some (account_in slot v)
-  my_account = at_map account_of (traces_at slot told.1.views) told.1.seat (trace_in slot v) (at_map (trace_in slot) told.1.views told.1.seat v told.1.mine)
+  my_account = at_column slot told.1.views told.1.seat v told.1.mine
 
   counts : Counts state (column slot told.1.views)
   counts = histories_count _ _ _ told.1.before slot told.1.inside state (sym told.1.read.0 ∙ told.1.read.1)
 
-  pub knows_few : (account_in slot v).known ≤ state.pending
+  knows_few : (account_in slot v).known ≤ state.pending
   knows_few = (each_at (Knows state.pending) _ _ my_account counts.known).0
-
-  -- nobody holds a slot whose word says so, nor a free one
-  pub not_mine : one state.held ≤ one state.free → (account_in slot v).holds ≡ false
-  not_mine none =
-      let term = term-le holding_of (column slot told.1.views) told.1.seat (account_in slot v) my_account in
-      let holders = counts.holders in
-      false_from_zero (account_in slot v).holds (omega arith)
 
   -- all that the seat ever took here
   pub took_few : (account_in slot w).taken ≤ 2 ^ 61
   took_few =
       let views = set told.1.views told.1.seat w in
-      let there : get_elem? views told.1.seat ≡ some w = set_here told.1.views told.1.seat w (inside told.1.views told.1.seat v told.1.mine) in
-      let term = term-le taken_of (column slot views) told.1.seat (account_in slot w)
-      (at_map account_of (traces_at slot views) told.1.seat (trace_in slot w) (at_map (trace_in slot) views told.1.seat w there)) in
+      let there = set_here told.1.views told.1.seat w (inside told.1.views told.1.seat v told.1.mine) in
+      let term = term-le taken_of (column slot views) told.1.seat (account_in slot w) (at_column slot views told.1.seat w there) in
       let notes = (counts_of _ _ (told.1.after.slot_rules slot told.1.inside)).notes in
       let few = few_posts told.0 (set told.1.words slot (word_of (word_after kind state))) views told.1.after slot told.1.inside in
       omega arith
@@ -218,7 +207,7 @@ module _ {kind : StepKind} {slot found id id' : ℕ} {v w : View} {table table' 
     module _ {old : SeatState} (was : seat_state table v ≡ old) where
       pub adds : {x : Exchange} → last ≡ x → Adds slot (x ∷ []) old (seat_state table' w)
       adds is = rw (← is, ← was) (record {
-        here = trace_here;
+        here = ap (trace_in slot) told.1.becomes ∙ get_or-set_same v.traces slot (trace_in slot v ++ last ∷ []) [] wide_traces;
         only = record { table = e.0; others = λ other ne. ap (trace_in other) told.1.becomes ∙ get_or-set_other v.traces slot other (trace_in slot v ++ last ∷ []) [] ne };
       })
 
@@ -229,8 +218,12 @@ module _ {kind : StepKind} {slot found id id' : ℕ} {v w : View} {table table' 
       pub known_few : {n : ℕ} → n ≡ state.pending → (account_at old slot).known ≤ n
       known_few is = rw (← was, is) knows_few
 
+      -- nobody holds a slot whose word says so, nor a free one
       pub held_by_none : one state.held ≤ one state.free → HoldsNot old slot
-      held_by_none none = rw (← was) (not_mine none)
+      held_by_none none = rw (← was) (
+          let term = term-le holding_of (column slot told.1.views) told.1.seat (account_in slot v) my_account in
+          let holders = counts.holders in
+          false_from_zero (account_in slot v).holds (omega arith))
 
       pub knew_none : state.pending ≡ 0 → (account_at old slot).known ≡ 0
       knew_none is = rw (← was) (let few = knows_few in omega arith)

@@ -12,8 +12,9 @@ holds_of a = a.holds
 abbrev pub account_in : ℕ → View → Account
 account_in slot v = account_of (trace_in slot v)
 
-slot_rule : {m n : ℕ} {ts us : List (List Exchange)} → m ≡ n → ts ≡ us → SlotRule n us → SlotRule m ts
-slot_rule word traces rule = rw (word, traces) rule
+-- the account of the seat k
+pub at_column : (slot : ℕ) (views : List View) (k : ℕ) (v : View) → get_elem? views k ≡ some v → get_elem? (column slot views) k ≡ some (account_in slot v)
+at_column slot views k v at = at_map account_of (traces_at slot views) k (trace_in slot v) (at_map (trace_in slot) views k v at)
 
 pub account_there : (v : View) (slot : ℕ) → get_or (accounts_of v) slot blank ≡ account_in slot v
 account_there v slot = get_or-map account_of v.traces slot []

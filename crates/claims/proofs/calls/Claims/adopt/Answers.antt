@@ -1,5 +1,5 @@
 use Rattle.std.proofs.Common.{rules, arith, refl, ap}
-use Rattle.claims.proofs.Steps.{one, adopt, adopt_clears, one_le, makes_adopted, makes_not_free, may_step, state, reads, adds, stepped, held_by_none, mark_kept, kept_beside, within}
+use Rattle.claims.proofs.Steps.{one, adopt_clears, one_le, makes_adopted, makes_not_free, may_step, state, reads, adds, stepped, held_by_none, mark_kept, kept_beside, within}
 use Rattle.claims.proofs.calls.Claims.adopt.Goals as goal
 
 pub fetch_and-found-requires : goal.fetch_and-found-requires

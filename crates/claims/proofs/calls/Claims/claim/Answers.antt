@@ -1,5 +1,5 @@
 use Rattle.std.proofs.Common.{rules, arith, refl, ap}
-use Rattle.claims.proofs.Steps.{one, claim, claim_sets, makes_busy, makes_held, may_step, state, reads, adds, stepped, held_by_none, mark_kept, kept_beside, within}
+use Rattle.claims.proofs.Steps.{one, claim_sets, makes_busy, makes_held, may_step, state, reads, adds, stepped, held_by_none, mark_kept, kept_beside, within}
 use Rattle.claims.proofs.calls.Claims.claim.Goals as goal
 
 pub fetch_or-found-requires : goal.fetch_or-found-requires

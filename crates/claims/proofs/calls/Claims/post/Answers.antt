@@ -1,5 +1,5 @@
 use Rattle.std.proofs.Common.{rules, arith, refl, ap}
-use Rattle.claims.proofs.Steps.{one, wakes, post, post_adds, post_change, wakes_no_holder, may_step, state, reads, adds, stepped, held_by_none, mark_kept, kept_beside, within}
+use Rattle.claims.proofs.Steps.{one, wakes, post_adds, post_change, wakes_no_holder, may_step, state, reads, adds, stepped, held_by_none, mark_kept, kept_beside, within}
 use Rattle.claims.proofs.calls.Claims.post.Goals as goal
 
 pub fetch_add-found-requires : goal.fetch_add-found-requires

@@ -1,5 +1,5 @@
 use Rattle.std.proofs.Common.{rules, refl}
-use Rattle.claims.proofs.Steps.{some_wait, release, release_clears, release_change, none_wait, may_step, state, reads, adds, stepped, knew_none, kept_beside, within, holds_now}
+use Rattle.claims.proofs.Steps.{some_wait, release_clears, release_change, none_wait, may_step, state, reads, adds, stepped, knew_none, kept_beside, within, holds_now}
 use Rattle.claims.proofs.calls.Claims.release.Goals as goal
 
 pub fetch_and-found-requires : goal.fetch_and-found-requires

@@ -1,5 +1,5 @@
 use Rattle.std.proofs.Common.{rules, refl}
-use Rattle.claims.proofs.Steps.{retire, retire_sets, may_step, kept_beside, adds, stepped, within, holds_now}
+use Rattle.claims.proofs.Steps.{retire_sets, may_step, kept_beside, adds, stepped, within, holds_now}
 use Rattle.claims.proofs.calls.Claims.retire.Goals as goal
 
 pub fetch_or-requires : goal.fetch_or-requires

@@ -1,5 +1,5 @@
 use Rattle.std.proofs.Common.{rules, refl, sym, ap}
-use Rattle.claims.proofs.Steps.{take, take_keeps, may_step, state, reads, took_few, mark_kept, kept_beside, adds, stepped, known_few, within, holds_now}
+use Rattle.claims.proofs.Steps.{take_keeps, may_step, state, reads, took_few, mark_kept, kept_beside, adds, stepped, known_few, within, holds_now}
 use Rattle.claims.specs.declared.view.Exchange.TheVariants as exchange
 use Rattle.claims.proofs.calls.Claims.take.Goals as goal
 
