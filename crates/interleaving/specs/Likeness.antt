@@ -1,7 +1,7 @@
 -- The exchanges of the slot's word with their answers, when a state of the threads and one of the machine are alike, and the
 -- law. Part of the promises. The machine has one slot. It makes an opening in one event where the threads make seven acts: it
 -- is ahead of them until the last of these.
-use Rattle.std.specs.Prelude.{◌≡◌, ◌≢◌, ℕ, ◌≤◌, ◌==◌, ◌&&◌, true, false, if◌then◌else◌, List, [], ◌∷◌, ◌++◌, map, replicate, slice_get, drop, Option, Some, None, option_map, option_and_then, unwrap_or, length}
+use Rattle.std.specs.{Prelude.{◌≡◌, ◌≢◌, ℕ, ◌≤◌, ◌==◌, ◌&&◌, true, false, if◌then◌else◌, List, [], ◌∷◌, ◌++◌, map, replicate, slice_get, drop, Option, Some, None, option_map, option_and_then, unwrap_or, length}, List.flat_map}
 use Rattle.token.specs.declared.name.Name.{Name}
 use Rattle.kernel_model.specs.{declared.{reply.Reply.Reply, both.Descriptors.Descriptors}, Ends.is_nonempty}
 use Rattle.relay_core.specs.Pairs.{verdict, is_live}
@@ -205,16 +205,14 @@ call_of (Calls i r) = (i, r) ∷ []
 call_of s = []
 
 abbrev pub calls_of : List Step → List (ℕ × Reply)
-calls_of [] = []
-calls_of (s ∷ steps) = call_of s ++ calls_of steps
+calls_of = flat_map call_of
 
 abbrev pub call_in : Event → List (ℕ × Reply)
 call_in (event.Work i (act.Call r)) = (i, r) ∷ []
 call_in e = []
 
 abbrev pub calls_in : List Event → List (ℕ × Reply)
-calls_in [] = []
-calls_in (e ∷ es) = call_in e ++ calls_in es
+calls_in = flat_map call_in
 
 -- What a thread with a ticket of this generation finds, if this is the rest of its program: where it claims the slot, nobody
 -- holds it; where it takes the connection out, the ticket's own is in the place; where it puts one in, the place is empty;
@@ -252,8 +250,7 @@ outside_of (Poll names) = event.Poll (polling.Poll names) ∷ []
 outside_of s = []
 
 abbrev pub all_outside : List Step → List Event
-all_outside [] = []
-all_outside (s ∷ steps) = outside_of s ++ all_outside steps
+all_outside = flat_map outside_of
 
 abbrev pub outside_in : Event → List Event
 outside_in (event.Tick n) = event.Tick n ∷ []
@@ -265,8 +262,7 @@ outside_in (event.Poll (polling.Poll names)) = event.Poll (polling.Poll names) �
 outside_in e = []
 
 abbrev pub outside_among : List Event → List Event
-outside_among [] = []
-outside_among (e ∷ es) = outside_in e ++ outside_among es
+outside_among = flat_map outside_in
 
 -- These steps of threads are a run of the machine: there are events, allowed one after the other from its opening, that
 -- lead to a like state. They have the same calls and replies in the same order; clock, network, kernel, listener and polls
