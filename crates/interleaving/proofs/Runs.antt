@@ -27,7 +27,7 @@ module _ (st : System) (p : SlotState) (workers : List WorkerState) (set : Settl
   finds_settled : {i : ℕ} {t : Thread} {k : WorkerState} {todo : List Act} → slice_get workers i ≡ Some k → ThreadLike st.limits.budget st.place p i t k todo
       → Finds st.word st.place t.generation todo
   finds_settled {i} {t} {k} had (Tries least is) =
-      let wait : Waiting p = waiting (machine_of st p st.entry st.tickets workers) i k (ticket t.generation) p had (rw is refl) refl turns in
+      let wait = waiting (machine_of st p st.entry st.tickets workers) i k (ticket t.generation) p had (rw is refl) refl turns in
       rw (set.word, wait.holder) refl
   finds_settled had (IsHolder c more held is (Holds at least all)) =
       (c, at, own_generation (facts (machine_of st p st.entry st.tickets workers) 0 p.generation) p c ((turns.each 0 p refl).connection c held.there).stands ∙ held.generation)
@@ -108,7 +108,7 @@ module _ (st : System) (t : Thread) (c : Connection) (workers : List WorkerState
           let it : u ≡ goes_on t [] = cc in
           record { worker = machine_states.resting; there = rw first half.worker; like = rw it (Rests refl) }
       over i u there (inr other) =
-          let rest : (u.todo ≡ []) × (slice_get workers i ≡ Some machine_states.resting) = after_set st (goes_on t []) workers (λ j v at other. half.others j v other at) i u other there in
+          let rest = after_set st (goes_on t []) workers (λ j v at other. half.others j v other at) i u other there in
           record { worker = machine_states.resting; there = rest.1; like = rw rest.0 (Rests refl) }
 
   goes_half : {todo : List Act} → Stage st.word st.place st.entry t c todo → Kept (Follows (left_of todo st.word) (exchange st.word (first_kind todo)) half_world (Acts 0)) (acts st 0 t todo)
@@ -127,11 +127,11 @@ module _ (st : System) (t : Thread) (c : Connection) (workers : List WorkerState
 
   acts_half : (i : ℕ) (u : Thread) → slice_get st.threads i ≡ Some u → (i ≡ 0) ⊎ (i ≢ 0)
       → Kept (Follows (left_of t.todo st.word) (exchange st.word (first_kind u.todo)) half_world (Acts i)) (acts st i u u.todo)
-  acts_half i u there (inl first) = let same : u ≡ t = this_thread i u first there in rw (first, same) (goes_half half.stage)
+  acts_half i u there (inl first) = rw (first, this_thread i u first there) (goes_half half.stage)
   acts_half i u there (inr other) = rw (half.others i u other there).0 kept_none
 
   calls_half : (i : ℕ) (u : Thread) (r : Reply) → slice_get st.threads i ≡ Some u → (i ≡ 0) ⊎ (i ≢ 0) → calls st i u r u.todo ≡ None
-  calls_half i u r there (inl first) = let same : u ≡ t = this_thread i u first there in rw (first, same) (stage_calls st r half.stage)
+  calls_half i u r there (inl first) = rw (first, this_thread i u first there) (stage_calls st r half.stage)
   calls_half i u r there (inr other) = rw (half.others i u other there).0 refl
 
   follows_half : (s : Step) → Kept (Follows (left_of t.todo st.word) (exchange st.word (kind_in st s)) half_world s) (step st s)
@@ -155,11 +155,11 @@ follows st w (IsHalfOpen t c workers is half) turns s = rw is (follows_half st t
 
 count_tickets : (xs : List ℕ) → total (of_slot 0) (map ticket xs) ≡ length xs
 count_tickets [] = refl
-count_tickets (x ∷ xs) = let rest : total (of_slot 0) (map ticket xs) ≡ length xs = count_tickets xs in omega arith
+count_tickets (x ∷ xs) = let rest = count_tickets xs in omega arith
 
 count_free : (n : ℕ) → total (is_number 0) (replicate {A = ℕ} n zero) ≡ n
 count_free zero = refl
-count_free (suc n) = let rest : total (is_number 0) (replicate {A = ℕ} n zero) ≡ n = count_free n in omega arith
+count_free (suc n) = let rest = count_free n in omega arith
 
 one_at_most : (b : Bool) → one b ≤ 1
 one_at_most true = omega arith
@@ -168,14 +168,14 @@ one_at_most false = omega arith
 few : (st : System) (p : SlotState) (entry : ℕ) (ts : List ℕ) (workers : List WorkerState) → Turns (machine_of st p entry ts workers)
     → (length ts ≤ 1) × (st.free ≤ 1)
 few st p entry ts workers turns =
-    let w : State = machine_of st p entry ts workers in
-    let sv : SlotOk (facts w 0 p.generation) p = turns.each 0 p refl in
-    let made : tickets w 0 ≡ one (not (is_held p.holder) && is_nonempty p.notes) = sv.tickets in
-    let gone : total (worker_retires 0) workers + total (is_number 0) (replicate st.free 0) ≤ one (is_free p.holder) = sv.gone in
-    let a : one (not (is_held p.holder) && is_nonempty p.notes) ≤ 1 = one_at_most _ in
-    let b : one (is_free p.holder) ≤ 1 = one_at_most _ in
-    let c : total (of_slot 0) (map ticket ts) ≡ length ts = count_tickets ts in
-    let d : total (is_number 0) (replicate {A = ℕ} st.free 0) ≡ st.free = count_free st.free in
+    let w = machine_of st p entry ts workers in
+    let sv = turns.each 0 p refl in
+    let made = sv.tickets in
+    let gone = sv.gone in
+    let a = one_at_most (not (is_held p.holder) && is_nonempty p.notes) in
+    let b = one_at_most (is_free p.holder) in
+    let c = count_tickets ts in
+    let d = count_free st.free in
     (omega arith, omega arith)
 
 no_act_in_vain : (st : System) (w : State) → Like st w → Turns w → NoActInVain st
@@ -213,7 +213,7 @@ went laws [] w st to like turns ran =
 went laws (s ∷ steps) w st to like turns ran = option_and_then_some (λ (q : System). run q steps) (step st s) to ran (λ q is rest.
     let f : Follows (ahead st w like) (exchange st.word (kind_in st s)) w s q = kept_at (step st s) q is (follows st w like turns s) in
     let led : machine_runs.run w f.events ≡ Some f.world = rw append-nil at (ap (λ (x : Shown). x.0) (f.shows [])) in
-    let now : Turns f.world = holds_after Turns (λ v e u. turns_on laws v) w f.world f.events turns led in
+    let now = holds_after Turns (λ v e u. turns_on laws v) w f.world f.events turns led in
     went_on s steps is f (went laws steps f.world q to f.like now rest))
 
 -- from the opening
@@ -224,14 +224,14 @@ at_first l one = IsSettled (machine_states.unused l.generation) (replicate l.wor
   word = refl;
   place = λ yes. refl;
   threads = λ i t there.
-      let same : resting ≡ t = get-replicate l.workers i resting t there in
+      let same = get-replicate l.workers i resting t there in
       record { worker = machine_states.resting; there = get_beside l.workers i resting t machine_states.resting there; like = rw (← same) (Rests refl) };
 })
 
 pub every_interleaving : CoreLaws → EveryRunHolds → EveryInterleavingIsARun
 unfolding at_first
 every_interleaving laws holds l steps st one ran =
-    let first : State = machine_states.opening l in
+    let first = machine_states.opening l in
     let r : Ran (start l) first [] steps st = went laws steps first (start l) st (at_first l one) (turns_after laws l [] first refl) ran in
     let led : machine_runs.run first r.events ≡ Some r.world = ap (λ (x : Shown). x.0) r.shows in
     record {

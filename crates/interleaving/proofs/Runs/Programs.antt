@@ -1,12 +1,259 @@
--- What a thread does, act by act, where no opening is half way: a turn, the first act of an opening, and how both go on.
-pub mod Frames
-pub use Rattle.std.proofs.{Common.{◌-◌, append_assoc, eq-eqb, leb-true}, lemmas.List.set-set}
-pub use Rattle.token.specs.declared.side.Side.TheVariants.{Client, Target}
-pub use Rattle.kernel_model.specs.Outcome.{Told}
-pub use Rattle.relay_core.specs.{Pairs.{fresh, noted}, Replies.fits, Idle.{is_overdue, expired}}
-pub use Rattle.world.{specs.{declared.actors.Holder.Holder, Calls.{OpenConnection, called, told_of, made}, Steps.{is_worn, may_release, token_of}, Support.worker_tickets}, proofs.{TurnsFacts.is_shaped, TurnsRun.{FirstFree, first_free, names_it}, TurnsTotals.total_at}}
-pub use Rattle.interleaving.specs.{Likeness.Finds, Threads.{Post, Retire, Give, TakeNotes, calls, claimed, closed, begins, given, heard, notes_taken, planned, put_in, registered, registering, taken_out}}
-pub use Frames.*
+-- What a step is for the machine: what the network, the kernel, the clock and the poller do between the programs, and what a
+-- thread does, act by act, where no opening is half way. What this file imports is passed on to the one above it.
+pub use Rattle.std.{proofs.{Common.{Bool, List, None, Option, Some, [], ap, append-nil, arith, drop, false, if◌then◌else◌, inl, inr, is_some, length, lt-ltb, map, nat_le, nat_lt, not, option_map, refl, replicate, slice_get, slice_set, subst, suc, sym, true, zero, ℕ, ◌&&◌, ◌++◌, ◌+◌, ◌==◌, ◌∙◌, ◌∷◌, ◌≡◌, ◌≢◌, ◌≤◌, ◌⊎◌, ◌||◌, length-append, eqb-true, ne_eqb, ◌-◌, append_assoc, eq-eqb, leb-true}, lemmas.{Bool.{and_parts, cases_eq}, List.{map-append, length-replicate, set-set}}}, specs.{Option.is_none, Cmp.second_so}}
+pub use Rattle.claims.specs.{Words.{WordState, made as exchange_made, some_wait, wakes, word_after}, declared.view.Exchange.Exchange}
+pub use Rattle.interleaving.specs.{Likeness.{exchange, exchanges_in, first_kind, kind_in, left_of, Adopted, Emptied, Entered, Goes, HalfOpen, HasClosed, HasOut, HasRetired, Held, HolderLike, Holds, IsHalfOpen, IsHolder, IsSettled, Leaves, Like, Opens, Placed, Posted, Registered, Rests, Settled, Stage, Stays, ThreadLike, Tries, WorkerFor, WorkersFor, ahead, call_of, calls_in, ends_of, machine_of, opened_slot, outside_among, outside_of, ticket, posts, here, Finds}, Threads.{Act, Call, Release, TakeOut, again, ended, open_slot, plan, quiet, turn, Accept, Acts, Begin, Calls, Connect, Deliver, Drop, Network, Open, Poll, Spurious, Step, Sweep, System, Thread, Tick, Vanish, acts, begun, goes_on, is_over, poller_rests, posted, released, rests, step, with_thread, watched_of, is_limited, delivered, delivers, Post, Retire, Give, calls, closed, begins, given, heard, notes_taken, planned, put_in, registered, registering}}
+pub use Rattle.kernel_model.specs.{Ends.is_nonempty, Kernel.KernelState, declared.{both.Descriptors.Descriptors, reply.Reply.Reply, accepting.Accepting.TheVariants.{Accepted, Blocked, Again, Starved}}}
+pub use Rattle.relay_core.specs.{Order.next_call, Pairs.{PairState, is_live, verdict, fresh, noted}, Replies.fits, Idle.{is_overdue, expired}}
+pub use Rattle.token.specs.{Names.EndName, declared.{name.Name.Name, side.Side.{Side, TheVariants.{Client, Target}}}}
+pub use Rattle.world.{proofs.{TurnsRun.{own_generation, waiting, some_more, first_free, names_it}, TurnsFacts.{Turns, facts, is_number, worker_retires, is_shaped}, TurnsKept.{Kept, kept_at, kept_bind, kept_guard, kept_map, kept_none, kept_some, kept_when}, TurnsTotals.{get-set_other, get-set_same, total_at}}, specs.{Acts.busy, Slots.{SlotState, WorkerState, is_by_worker, is_held}, States.State, Steps.{with_note, brings_ticket, may_release, is_worn, token_of}, Support.{of_slot, one, tickets, total, worker_tickets}, Words.{is_free, word_at}, declared.{actors.Holder.{Holder, TheVariants.{By, Free, Nobody}}, connection.Connection.Connection, event.{Event.Event, Change.Change, Reported.Reported}}, Calls.{descriptor, OpenConnection, called, told_of, made}}}
+pub use Rattle.claims.specs.Words as word
+pub use Rattle.kernel_model.specs.Kernel as kernel
+pub use Rattle.world.specs.Runs as machine_runs
+pub use Rattle.world.specs.States as machine_states
+pub use Rattle.world.specs.Steps as machine
+pub use Rattle.world.specs.declared.actors.Doing.TheVariants as doing
+pub use Rattle.world.specs.declared.event.Act.TheVariants as act
+pub use Rattle.world.specs.declared.event.Event.TheVariants as event
+pub use Rattle.world.specs.declared.event.Polling.TheVariants as polling
+pub use Rattle.kernel_model.specs.declared.watched.Watched.TheVariants as watched
+pub use Rattle.world.specs.declared.event.Reported.TheVariants as reported
+pub use Rattle.world.specs.declared.event.Listening.TheVariants as listening
+pub use Rattle.token.specs.declared.name.Name.TheVariants as name
+
+-- What a list of events leads to and shows, after these exchanges
+abbrev pub Shown : Type 0
+Shown = Option State × List (ℕ × Reply) × List Event × List Exchange
+
+abbrev pub shown : List Exchange → State → List Event → Shown
+shown before w events = (machine_runs.run w events, calls_in events, outside_among events, before ++ exchanges_in w events)
+
+-- with a step of the threads first, which makes these exchanges
+abbrev pub after_step : Step → List Exchange → Shown → Shown
+after_step s own x = (x.0, call_of s ++ x.1, outside_of s ++ x.2, own ++ x.3)
+
+-- One step of the threads, which makes these exchanges, and what the machine makes of it, which was ahead by those before;
+-- whatever comes next
+pub record Follows (before own : List Exchange) (w : State) (s : Step) (next : System) : Type 0 where
+  pub events : List Event
+  pub world : State
+  pub like : Like next world
+  pub shows : (more : List Event) → shown before w (events ++ more) ≡ after_step s own (shown (ahead next world like) world more)
+
+-- by these events, where no opening is half way before or after
+follow : {own : List Exchange} {w : State} {s : Step} {next : System} (events : List Event) (q : SlotState) (workers : List WorkerState) → Settled next q workers
+    → ((more : List Event) → shown [] w (events ++ more) ≡ after_step s own (shown [] (machine_of next q next.entry next.tickets workers) more)) → Follows [] own w s next
+follow {next = next} events q workers settled shows =
+    record { events = events; world = machine_of next q next.entry next.tickets workers; like = IsSettled q workers refl settled; shows = shows }
+
+-- What the network, the kernel, the clock and the poller's own values do concerns no thread
+
+pub record Beside : Type 0 where
+  pub second : ℕ
+  pub kernel : KernelState
+  pub flag : Bool
+  pub accepted : Bool
+  pub batch : List Name
+
+abbrev pub beside : System → Beside → System
+beside st b = record st { second = b.second; kernel = b.kernel; flag = b.flag; accepted = b.accepted; batch = b.batch }
+
+-- in both kinds of likeness
+pub record Frame (st : System) (before : List Exchange) (p : SlotState) (entry : ℕ) (tickets : List ℕ) (workers : List WorkerState) : Type 0 where
+  pub ends : st.ends ≡ ends_of p
+  pub like : (b : Beside) → Like (beside st b) (machine_of (beside st b) p entry tickets workers)
+  pub ahead_is : (b : Beside) → ahead (beside st b) (machine_of (beside st b) p entry tickets workers) (like b) ≡ before
+
+pub settled_frame : {st : System} {p : SlotState} {workers : List WorkerState} → Settled st p workers → Frame st [] p st.entry st.tickets workers
+settled_frame {p = p} {workers} s = record { ends = s.ends; like = λ b. IsSettled p workers refl (assumption s); ahead_is = λ b. refl }
+
+pub half_frame : {st : System} {t : Thread} {c : Connection} {workers : List WorkerState} → HalfOpen st t c workers
+    → Frame st (left_of t.todo st.word) (opened_slot t.generation c) t.generation (t.generation ∷ []) workers
+half_frame {t = t} {c} {workers} s = record { ends = s.ends; like = λ b. IsHalfOpen t c workers refl (assumption s); ahead_is = λ b. refl }
+
+same_watched : (st : System) (p : SlotState) (entry : ℕ) (tickets : List ℕ) (workers : List WorkerState) → st.ends ≡ ends_of p
+    → (who : Reported) → machine.watched_of (machine_of st p entry tickets workers) (here who) ≡ watched_of st who
+same_watched st p entry tickets workers ends reported.Listener = refl
+same_watched st p entry tickets workers ends reported.Waker = refl
+same_watched st p entry tickets workers ends (reported.End s side) = rw ends (joined p.connection)
+  where
+    joined : (o : Option Connection) → option_map (λ (c : Connection). watched.End (descriptor c.ends side)) o
+        ≡ option_map (λ (ends : Descriptors). watched.End (descriptor ends side)) (option_map (λ (c : Connection). c.ends) o)
+    joined None = refl
+    joined (Some c) = refl
+
+-- the steps that no thread and no post makes
+abbrev pub is_beyond : Step → Bool
+is_beyond Deliver = false
+is_beyond Sweep = false
+is_beyond Open = false
+is_beyond (Begin i most) = false
+is_beyond (Acts i) = false
+is_beyond (Calls i r) = false
+is_beyond s = true
+
+module _ {st : System} {before : List Exchange} {p : SlotState} {entry : ℕ} {tickets : List ℕ} {workers : List WorkerState} (fr : Frame st before p entry tickets workers) where
+  abbrev frame_world : State
+  frame_world = machine_of st p entry tickets workers
+
+  -- one event that changes nothing but these
+  pub alone : {s : Step} {b : Beside} (e : Event)
+      → ((more : List Event) → shown before frame_world (e ∷ more) ≡ after_step s [] (shown before (machine_of (beside st b) p entry tickets workers) more))
+      → Follows before [] frame_world s (beside st b)
+  alone {s} {b} e shows = record {
+    events = e ∷ [];
+    world = machine_of (beside st b) p entry tickets workers;
+    like = fr.like b;
+    shows = λ more. rw (fr.ahead_is b) (shows more);
+  }
+
+  network_at : (side : Side) (change : Change) (ends : Descriptors) (q : KernelState) → machine.change_at st.kernel (descriptor ends side) change ≡ Some q
+      → (o : Option Connection) → p.connection ≡ o → option_map (λ (c : Connection). c.ends) o ≡ Some ends
+      → Follows before [] frame_world (Network side change) (record st { kernel = q })
+  network_at side change ends q may None is there = absurd (cc)
+  network_at side change ends q may (Some c) is there =
+      let same : c.ends ≡ ends = cc in
+      alone (event.Network 0 side change) (λ more. rw (is, same, may))
+
+  may : (poller_rests st && (st.flag && (not st.accepted && nat_lt 0 st.free))) ≡ true → machine.may_accept frame_world ≡ true
+  may h =
+      let some : is_nonempty (replicate st.free 0) ≡ nat_lt 0 st.free = rw (length-replicate {A = ℕ} st.free 0) refl in
+      rw some (second_so (poller_rests st) _ h)
+
+  pub beyond : (s : Step) → is_beyond s ≡ true → Kept (Follows before [] frame_world s) (step st s)
+  beyond (Tick n) is = kept_guard _ _ (λ may. alone (event.Tick n) (λ more. rw may))
+  beyond (Network side change) is = kept_bind _ st.ends (λ ends is. kept_map _ (machine.change_at st.kernel (descriptor ends side) change) (λ q may.
+      network_at side change ends q may p.connection refl (sym fr.ends ∙ is)))
+  beyond Connect is = kept_map _ (kernel.connect_in st.kernel) (λ q may. alone (event.Listen listening.Connect) (λ more. rw may))
+  beyond (Spurious who) is = kept_bind _ (watched_of st who) (λ what is. kept_map _ (kernel.spurious st.kernel what) (λ q may.
+      alone (event.Spurious (here who)) (λ more. rw (same_watched st p entry tickets workers fr.ends who, is, may))))
+  beyond (Vanish who) is = kept_bind _ (watched_of st who) (λ what is. kept_map _ (kernel.vanish st.kernel what) (λ q may.
+      alone (event.Vanish (here who)) (λ more. rw (same_watched st p entry tickets workers fr.ends who, is, may))))
+  beyond (Accept Accepted) is = kept_when _ _ (λ b. kept_map _ (kernel.accept st.kernel Accepted) (λ q can.
+      alone (event.Listen (listening.Accept Accepted)) (λ more. rw (may b, can))))
+  beyond (Accept Blocked) is = kept_when _ _ (λ b. kept_map _ (kernel.accept st.kernel Blocked) (λ q can.
+      alone (event.Listen (listening.Accept Blocked)) (λ more. rw (may b, can))))
+  beyond (Accept Again) is = kept_when _ _ (λ b. kept_some (alone (event.Listen (listening.Accept Again)) (λ more. rw (may b))))
+  beyond (Accept Starved) is = kept_when _ _ (λ b. kept_some (alone (event.Listen (listening.Accept Starved)) (λ more. rw (may b))))
+  beyond Drop is = kept_guard _ _ (λ b. alone (event.Listen listening.Drop) (λ more. rw (second_so (poller_rests st) st.accepted b)))
+  beyond (Poll names) is = kept_when _ _ (λ b. kept_map _ (kernel.poll st.kernel names.items) (λ q can.
+      alone (event.Poll (polling.Poll names)) (λ more. rw (second_so (poller_rests st) (length st.batch == 0) b, can))))
+  beyond s is = absurd (cc)
+
+-- What the word says, and what the place does
+
+some_notes : (notes : List ℕ) → some_wait (length notes) ≡ is_nonempty notes
+some_notes [] = refl
+some_notes (n ∷ ns) = sym (lt-ltb 0 (length (n ∷ ns)) (omega arith))
+
+wakes_as : (p : SlotState) → wakes (word_at p) ≡ brings_ticket p
+wakes_as p = rw (some_notes p.notes) (by_bits (is_held p.holder) (is_nonempty p.notes))
+  where
+    by_bits : (held some : Bool) → (if held then false else (if some then false else true)) ≡ not (held || some)
+    by_bits true some = refl
+    by_bits false true = refl
+    by_bits false false = refl
+
+post_word : (p : SlotState) (g : ℕ) → word_after word.post (word_at p) ≡ word_at (with_note p g)
+post_word p g =
+    let longer : length (p.notes ++ g ∷ []) ≡ suc (length p.notes) = length-append p.notes (g ∷ []) ∙ omega arith in
+    rw longer refl
+
+-- a slot that may be released may be so with one note more
+
+due_now : (c : Connection) → is_live (verdict c.pair) ≡ true → may_release c true ≡ true
+unfolding may_release
+due_now c live = rw live (or_true _)
+  where
+    or_true : (b : Bool) → (b || true) ≡ true
+    or_true true = refl
+    or_true false = refl
+
+may_still : (c : Connection) (some : Bool) → may_release c some ≡ true → may_release c true ≡ true
+unfolding may_release
+may_still c some may = due_now c (and_parts (is_live (verdict c.pair)) (is_none (next_call c.pair) || some) may).0
+
+still : {p : SlotState} {i g : ℕ} {has : Option Connection} (note : ℕ) → Held p i g has → Held (with_note p note) i g has
+still note held = assumption held
+
+-- with one note more each thread is where it was
+
+noted_holder : {budget : ℕ} {place : Option Connection} {p : SlotState} {t : Thread} {c : Connection} {more : ℕ} {todo : List Act} (g : ℕ)
+    → HolderLike budget place p t c more todo → HolderLike budget place (with_note p g) t c more todo
+noted_holder g (Holds at least all) = Holds at least all
+noted_holder g (HasOut at out least all) = HasOut at out least all
+noted_holder g (Goes at out least) = Goes at out least
+noted_holder g (Stays at live) = Stays at live
+noted_holder {p = p} {c = c} g (Leaves at may) = Leaves at (rw (some_more p.notes g) (may_still c (is_nonempty p.notes) may))
+
+noted_like : {budget : ℕ} {place : Option Connection} {p : SlotState} {i : ℕ} {t : Thread} {k : WorkerState} {todo : List Act} (g : ℕ)
+    → ThreadLike budget place p i t k todo → ThreadLike budget place (with_note p g) i t k todo
+noted_like g (Rests is) = Rests is
+noted_like g (Opens first is) = Opens first is
+noted_like g (Tries least is) = Tries least is
+noted_like g (IsHolder c more held is at) = IsHolder c more (still g held) is (noted_holder g at)
+noted_like g (HasClosed held at is) = HasClosed (still g held) at is
+noted_like g (HasRetired own is) = HasRetired own is
+
+-- A post by the poller. A post that wakes makes a ticket, which the machine's poller puts at once
+
+-- the state here, with this batch
+abbrev with_batch : System → List Name → System
+with_batch st batch = record st { batch = batch }
+
+past_one : (x k : ℕ) → k ≢ 0 → slice_get (x ∷ []) k ≡ None
+past_one x zero not = absurd (not refl)
+past_one x (suc k) not = refl
+
+module _ {st : System} {p : SlotState} {workers : List WorkerState} (set : Settled st p workers) where
+  abbrev world : State
+  world = machine_of st p st.entry st.tickets workers
+
+  settled_post : (g : ℕ) (batch : List Name) → Settled (with_batch (posted st g) batch) (with_note p g) workers
+  settled_post g batch = record {
+    ends = set.ends;
+    word = ap (word_after word.post) set.word ∙ post_word p g;
+    place = set.place;
+    threads = λ i t there.
+        let it = set.threads i t there in
+        record { worker = it.worker; there = it.there; like = noted_like g it.like };
+  }
+
+  -- the machine's posts, by an event that does this
+  posts_by : (s : Step) (e : Event) (g : ℕ) (batch : List Name) (b : Bool) → brings_ticket p ≡ b
+      → ((more : List Event) → shown [] world (e ∷ more) ≡ after_step s (exchange_made word.post (word_at p) ∷ []) (shown [] (record (machine.posted world 0 g p) { batch = batch }) more))
+      → Follows [] (exchange_made word.post st.word ∷ []) world s (with_batch (posted st g) batch)
+  posts_by s e g batch true brings shows =
+      let longer : map ticket (st.tickets ++ g ∷ []) ≡ map ticket st.tickets ++ ticket g ∷ [] = map-append ticket st.tickets (g ∷ []) in
+      follow (e ∷ event.Poll polling.Put ∷ []) (with_note p g) workers (settled_post g batch)
+      (λ more. shows (event.Poll polling.Put ∷ more) ∙ rw (set.word, wakes_as p, brings, longer))
+  posts_by s e g batch false brings shows =
+      follow (e ∷ []) (with_note p g) workers (settled_post g batch) (λ more. shows more ∙ rw (set.word, wakes_as p, brings))
+
+  -- a report of an end
+
+  abbrev Delivers : Name → List Name → Type 0
+  Delivers n rest = Follows [] (exchange st.word (posts st (n ∷ rest))) world Deliver (record (delivered st n) { batch = rest })
+
+  delivers_end : (n : EndName) (rest : List Name) → st.batch ≡ name.End n ∷ rest → (n.slot ≡ 0) ⊎ (n.slot ≢ 0) → (b : Bool) → (st.entry == n.generation) ≡ b → Delivers (name.End n) rest
+  delivers_end n rest is (inl first) true own =
+      rw (first, own, sym (eqb-true st.entry n.generation own)) (posts_by Deliver (event.Poll polling.Deliver) st.entry rest (brings_ticket p) refl (λ more. rw (is, first, own)))
+  delivers_end n rest is (inl first) false own = rw (first, own) (alone (settled_frame set) (event.Poll polling.Deliver) (λ more. rw (is, first, own)))
+  delivers_end n rest is (inr other) b own = rw (ne_eqb n.slot 0 other) (alone (settled_frame set) (event.Poll polling.Deliver) (λ more. rw (is, past_one st.entry n.slot other)))
+
+  delivers_all : (batch : List Name) → st.batch ≡ batch → Kept (Follows [] (exchange st.word (posts st batch)) world Deliver) (delivers st batch)
+  delivers_all [] is = kept_none
+  delivers_all (name.Listener ∷ rest) is = kept_some (alone (settled_frame set) (event.Poll polling.Deliver) (λ more. rw is))
+  delivers_all (name.Waker ∷ rest) is = kept_some (alone (settled_frame set) (event.Poll polling.Deliver) (λ more. rw is))
+  delivers_all (name.End n ∷ rest) is = kept_some (delivers_end n rest is (cases_eq n.slot 0) (st.entry == n.generation) refl)
+
+  pub reports : Kept (Follows [] (exchange st.word (kind_in st Deliver)) world Deliver) (step st Deliver)
+  reports = kept_when (poller_rests st) _ (λ b. delivers_all st.batch refl)
+
+  pub sweeps : Kept (Follows [] (exchange st.word (kind_in st Sweep)) world Sweep) (step st Sweep)
+  sweeps = kept_guard _ _ (λ b.
+      let parts = and_parts (is_limited st) (nat_lt 0 st.entry) (second_so (poller_rests st) _ b) in
+      posts_by Sweep (event.Poll (polling.Sweep 0)) st.entry st.batch (brings_ticket p) refl (λ more. rw (parts.0, parts.1)))
 
 -- what is so of each list that a plan may be, for the pair for which it is one, is so of the plan
 by_plan : (P : List Act → Type 0) (left : ℕ) (p : PairState) → (is_live (verdict p) ≡ true → is_none (next_call p) ≡ true → P quiet) → (is_live (verdict p) ≡ true → P again)
