@@ -1,6 +1,6 @@
 -- What holds after any list of steps, and what no thread ever finds.
 pub mod Programs
-use Rattle.world.{specs.{declared.limits.Limits.Limits, Headline.EveryRunHolds, CoreLaws.CoreLaws}, proofs.{TurnsTotals.{get-replicate, get_beside}, TurnsKept.holds_after, TurnsRun.{turns_after, turns_on}}}
+use Rattle.world.{specs.{declared.limits.Limits.Limits, Headline.EveryRunHolds, CoreLaws.CoreLaws, States.{opening, unused as unused_place}}, proofs.{TurnsTotals.{get-replicate, get_beside}, TurnsKept.holds_after, TurnsRun.{turns_after, turns_on}}}
 use Rattle.dispatch.specs.Acts.{gone_turn, quiet_turn, again_turn}
 use Rattle.interleaving.specs.{Threads.{Claim, ProgramsAreThese, gone, resting, run, seen, start}, Likeness.{all_outside, calls_of, exchanges, taken_word, EveryInterleavingIsARun, NoActInVain}}
 use Rattle.std.proofs.lemmas.Option.{option_and_then_some}
@@ -106,10 +106,10 @@ module _ (st : System) (t : Thread) (c : Connection) (workers : List WorkerState
       over i u there (inl first) =
           let same : Some (goes_on t []) ≡ Some u = sym (get-set_same st.threads 0 t (goes_on t []) half.first) ∙ (rw first at there) in
           let it : u ≡ goes_on t [] = cc in
-          record { worker = machine_states.resting; there = rw first half.worker; like = rw it (Rests refl) }
+          record { worker = idle_worker; there = rw first half.worker; like = rw it (Rests refl) }
       over i u there (inr other) =
           let rest = after_set st (goes_on t []) workers (λ j v at other. half.others j v other at) i u other there in
-          record { worker = machine_states.resting; there = rest.1; like = rw rest.0 (Rests refl) }
+          record { worker = idle_worker; there = rest.1; like = rw rest.0 (Rests refl) }
 
   goes_half : {todo : List Act} → Stage st.word st.place st.entry t c todo → Kept (Follows (left_of todo st.word) (exchange st.word (first_kind todo)) half_world (Acts 0)) (acts st 0 t todo)
   goes_half (Registered notes is at out) = rw is (kept_some (stays_half (taken_word notes) st.place st.entry (goes_on t (drop 2 open_slot)) refl (Adopted notes refl at out) refl))
@@ -218,20 +218,20 @@ went laws (s ∷ steps) w st to like turns ran = option_and_then_some (λ (q : S
 
 -- from the opening
 
-at_first : (l : Limits) → l.slots ≡ 1 → Like (start l) (machine_states.opening l)
-at_first l one = IsSettled (machine_states.unused l.generation) (replicate l.workers machine_states.resting) (rw one refl) (record {
+at_first : (l : Limits) → l.slots ≡ 1 → Like (start l) (opening l)
+at_first l one = IsSettled (unused_place l.generation) (replicate l.workers idle_worker) (rw one refl) (record {
   ends = refl;
   word = refl;
   place = λ yes. refl;
   threads = λ i t there.
       let same = get-replicate l.workers i resting t there in
-      record { worker = machine_states.resting; there = get_beside l.workers i resting t machine_states.resting there; like = rw (← same) (Rests refl) };
+      record { worker = idle_worker; there = get_beside l.workers i resting t idle_worker there; like = rw (← same) (Rests refl) };
 })
 
 pub every_interleaving : CoreLaws → EveryRunHolds → EveryInterleavingIsARun
 unfolding at_first
 every_interleaving laws holds l steps st one ran =
-    let first = machine_states.opening l in
+    let first = opening l in
     let r : Ran (start l) first [] steps st = went laws steps first (start l) st (at_first l one) (turns_after laws l [] first refl) ran in
     let led : machine_runs.run first r.events ≡ Some r.world = ap (λ (x : Shown). x.0) r.shows in
     record {

@@ -1,16 +1,15 @@
 -- What a step is for the machine: what the network, the kernel, the clock and the poller do between the programs, and what a
 -- thread does, act by act, where no opening is half way. What this file imports is passed on to the one above it.
-pub use Rattle.std.{proofs.{Common.{Bool, List, None, Option, Some, [], ap, append-nil, arith, drop, false, if◌then◌else◌, inl, inr, is_some, length, lt-ltb, map, nat_le, nat_lt, not, option_map, refl, replicate, slice_get, slice_set, subst, suc, sym, true, zero, ℕ, ◌&&◌, ◌++◌, ◌+◌, ◌==◌, ◌∙◌, ◌∷◌, ◌≡◌, ◌≢◌, ◌≤◌, ◌⊎◌, ◌||◌, length-append, eqb-true, ne_eqb, ◌-◌, append_assoc, eq-eqb, leb-true}, lemmas.{Bool.{and_parts, cases_eq}, List.{map-append, length-replicate, set-set}}}, specs.{Option.is_none, Cmp.second_so}}
+pub use Rattle.std.{proofs.{Common.{Bool, List, None, Option, Some, [], ap, append-nil, arith, drop, false, if◌then◌else◌, inl, inr, is_some, length, lt-ltb, map, nat_le, nat_lt, not, option_map, refl, replicate, slice_get, slice_set, subst, suc, sym, true, zero, ℕ, ◌&&◌, ◌++◌, ◌+◌, ◌==◌, ◌∙◌, ◌∷◌, ◌≡◌, ◌≢◌, ◌≤◌, ◌⊎◌, ◌||◌, length-append, eqb-true, ne_eqb, ◌-◌, append_assoc, eq-eqb, leb-true}, lemmas.{Bool.{and_parts, cases_eq}, Option.get_or_from_slice_get, List.{map-append, length-replicate, set-get_or, set-set}}}, specs.{Option.is_none, Cmp.second_so}}
 pub use Rattle.claims.specs.{Words.{WordState, made as exchange_made, some_wait, wakes, word_after}, declared.view.Exchange.Exchange}
 pub use Rattle.interleaving.specs.{Likeness.{exchange, exchanges_in, first_kind, kind_in, left_of, Adopted, Emptied, Entered, Goes, HalfOpen, HasClosed, HasOut, HasRetired, Held, HolderLike, Holds, IsHalfOpen, IsHolder, IsSettled, Leaves, Like, Opens, Placed, Posted, Registered, Rests, Settled, Stage, Stays, ThreadLike, Tries, WorkerFor, WorkersFor, ahead, call_of, calls_in, ends_of, machine_of, opened_slot, outside_among, outside_of, ticket, posts, here, Finds}, Threads.{Act, Call, Release, TakeOut, again, ended, open_slot, plan, quiet, turn, Accept, Acts, Begin, Calls, Connect, Deliver, Drop, Network, Open, Poll, Spurious, Step, Sweep, System, Thread, Tick, Vanish, acts, begun, goes_on, is_over, poller_rests, posted, released, rests, step, with_thread, watched_of, is_limited, delivered, delivers, Post, Retire, Give, calls, closed, begins, given, heard, notes_taken, planned, put_in, registered, registering}}
 pub use Rattle.kernel_model.specs.{Ends.is_nonempty, Kernel.KernelState, declared.{both.Descriptors.Descriptors, reply.Reply.Reply, accepting.Accepting.TheVariants.{Accepted, Blocked, Again, Starved}}}
 pub use Rattle.relay_core.specs.{Order.next_call, Pairs.{PairState, is_live, verdict, fresh, noted}, Replies.fits, Idle.{is_overdue, expired}}
 pub use Rattle.token.specs.{Names.EndName, declared.{name.Name.Name, side.Side.{Side, TheVariants.{Client, Target}}}}
-pub use Rattle.world.{proofs.{TurnsRun.{own_generation, waiting, some_more, first_free, names_it}, TurnsFacts.{Turns, facts, is_number, worker_retires, is_shaped}, TurnsKept.{Kept, kept_at, kept_bind, kept_guard, kept_map, kept_none, kept_some, kept_when}, TurnsTotals.{get-set_other, get-set_same, total_at}}, specs.{Acts.busy, Slots.{SlotState, WorkerState, is_by_worker, is_held}, States.State, Steps.{with_note, brings_ticket, may_release, is_worn, token_of}, Support.{of_slot, one, tickets, total, worker_tickets}, Words.{is_free, word_at}, declared.{actors.Holder.{Holder, TheVariants.{By, Free, Nobody}}, connection.Connection.Connection, event.{Event.Event, Change.Change, Reported.Reported}}, Calls.{descriptor, OpenConnection, called, told_of, made}}}
+pub use Rattle.world.{proofs.{TurnsRun.{own_generation, waiting, some_more, first_free, names_it}, TurnsFacts.{Turns, facts, is_number, worker_retires, is_shaped}, TurnsKept.{Kept, kept_at, kept_bind, kept_guard, kept_map, kept_none, kept_some, kept_when}, TurnsTotals.{get-set_other, get-set_same, total_at}}, specs.{Acts.busy, Slots.{SlotState, WorkerState, is_by_worker, is_held}, States.{State, resting as idle_worker}, Steps.{with_note, brings_ticket, may_release, is_worn, token_of}, Support.{of_slot, one, tickets, total, worker_tickets}, Words.{is_free, word_at}, declared.{actors.Holder.{Holder, TheVariants.{By, Free, Nobody}}, connection.Connection.Connection, event.{Event.Event, Change.Change, Reported.Reported}}, Calls.{descriptor, OpenConnection, called, told_of, made}}}
 pub use Rattle.claims.specs.Words as word
 pub use Rattle.kernel_model.specs.Kernel as kernel
 pub use Rattle.world.specs.Runs as machine_runs
-pub use Rattle.world.specs.States as machine_states
 pub use Rattle.world.specs.Steps as machine
 pub use Rattle.world.specs.declared.actors.Doing.TheVariants as doing
 pub use Rattle.world.specs.declared.event.Act.TheVariants as act
@@ -176,8 +175,28 @@ may_still c some may = due_now c (and_parts (is_live (verdict c.pair)) (is_none 
 still : {p : SlotState} {i g : ℕ} {has : Option Connection} (note : ℕ) → Held p i g has → Held (with_note p note) i g has
 still note held = assumption held
 
--- with one note more each thread is where it was
+-- what is so of each list that a plan may be, for the pair for which it is one, is so of the plan
+by_plan : (P : List Act → Type 0) (left : ℕ) (p : PairState) → (is_live (verdict p) ≡ true → is_none (next_call p) ≡ true → P quiet) → (is_live (verdict p) ≡ true → P again)
+    → ((left == 0) ≡ false → P (Call ∷ [])) → (is_live (verdict p) ≡ false → P ended) → P (plan left p)
+by_plan P left p rests spends calls ends = go (is_live (verdict p)) (is_none (next_call p)) (left == 0) refl refl refl
+  where
+    go : (live none spent : Bool) → is_live (verdict p) ≡ live → is_none (next_call p) ≡ none → (left == 0) ≡ spent
+        → P (if live then (if none then quiet else (if spent then again else Call ∷ [])) else ended)
+    go true true spent lives rest over = rests lives rest
+    go true false true lives rest over = spends lives
+    go true false false lives rest over = calls over
+    go false none spent lives rest over = ends lives
 
+pub plan_finds : (word : WordState) (place : Option Connection) (g left : ℕ) (p : PairState) → place ≡ None → Finds word place g (plan left p)
+plan_finds word place g left p at = by_plan (Finds word place g) left p (λ live none. at) (λ live. at) (λ some. tt) (λ over. tt)
+
+held_by : {X : Type 0} {h : Holder} {i : ℕ} → h ≡ By i → is_by_worker h ≡ false → X
+held_by by nobody = cc
+
+held_free : {X : Type 0} {h : Holder} {i : ℕ} → h ≡ Free → h ≡ By i → X
+held_free free by = cc
+
+-- with one note more the holder is where it was
 noted_holder : {budget : ℕ} {place : Option Connection} {p : SlotState} {t : Thread} {c : Connection} {more : ℕ} {todo : List Act} (g : ℕ)
     → HolderLike budget place p t c more todo → HolderLike budget place (with_note p g) t c more todo
 noted_holder g (Holds at least all) = Holds at least all
@@ -186,14 +205,47 @@ noted_holder g (Goes at out least) = Goes at out least
 noted_holder g (Stays at live) = Stays at live
 noted_holder {p = p} {c = c} g (Leaves at may) = Leaves at (rw (some_more p.notes g) (may_still c (is_nonempty p.notes) may))
 
-noted_like : {budget : ℕ} {place : Option Connection} {p : SlotState} {i : ℕ} {t : Thread} {k : WorkerState} {todo : List Act} (g : ℕ)
-    → ThreadLike budget place p i t k todo → ThreadLike budget place (with_note p g) i t k todo
-noted_like g (Rests is) = Rests is
-noted_like g (Opens first is) = Opens first is
-noted_like g (Tries least is) = Tries least is
-noted_like g (IsHolder c more held is at) = IsHolder c more (still g held) is (noted_holder g at)
-noted_like g (HasClosed held at is) = HasClosed (still g held) at is
-noted_like g (HasRetired own is) = HasRetired own is
+module _ {budget : ℕ} {place : Option Connection} {p : SlotState} {i : ℕ} {t : Thread} {k : WorkerState} where
+  -- a thread without a program is like a worker with nothing to do
+  rests_like : {todo : List Act} → ThreadLike budget place p i t k todo → is_over todo ≡ true → k ≡ idle_worker
+  rests_like (Rests is) over = is
+  rests_like (Opens first is) over = is
+  rests_like (IsHolder c more held is (Goes at out least)) over =
+      let no = by_plan (λ acts. is_over acts ≡ false) t.left c.pair (λ live none. refl) (λ live. refl) (λ some. refl) (λ over. refl) in cc
+  rests_like like over = cc
+
+  -- a thread that does not hold the slot is where it was, whatever becomes of place and slot but its generation
+  apart : {next : Option Connection} {q : SlotState} {todo : List Act} → p.holder ≢ By i → q.generation ≡ p.generation → ThreadLike budget place p i t k todo
+      → ThreadLike budget next q i t k todo
+  apart other same (Rests is) = Rests is
+  apart other same (Opens first is) = Opens first is
+  apart other same (Tries least is) = Tries least is
+  apart other same (IsHolder c more held is at) = absurd (other held.holder)
+  apart other same (HasClosed held at is) = absurd (other held.holder)
+  apart other same (HasRetired own is) = HasRetired (same ∙ own) is
+
+  -- and so is each thread
+  noted_like : {todo : List Act} (g : ℕ) → ThreadLike budget place p i t k todo → ThreadLike budget place (with_note p g) i t k todo
+  noted_like g (Rests is) = Rests is
+  noted_like g (Opens first is) = Opens first is
+  noted_like g (Tries least is) = Tries least is
+  noted_like g (IsHolder c more held is at) = IsHolder c more (still g held) is (noted_holder g at)
+  noted_like g (HasClosed held at is) = HasClosed (still g held) at is
+  noted_like g (HasRetired own is) = HasRetired own is
+
+  -- a worker that has something to do counts
+  none_here : {todo : List Act} (workers : List WorkerState) → slice_get workers i ≡ Some k → i ≢ 0 → p.holder ≡ Free → total (worker_tickets 0) workers ≡ 0
+      → total (worker_retires 0) workers ≡ 0 → ThreadLike budget place p i t k todo → (todo ≡ []) × (slice_get workers i ≡ Some idle_worker)
+  none_here workers there other free none gone (Rests is) = (refl, there ∙ ap Some is)
+  none_here workers there other free none gone (Opens first is) = absurd (other first)
+  none_here workers there other free none gone (Tries least is) = absurd (
+      let least = total_at (worker_tickets 0) workers i k there in
+      let some : worker_tickets 0 k ≡ 1 = rw is refl in omega arith)
+  none_here workers there other free none gone (IsHolder c more held is at) = held_free free held.holder
+  none_here workers there other free none gone (HasClosed held at is) = held_free free held.holder
+  none_here workers there other free none gone (HasRetired own is) = absurd (
+      let least = total_at (worker_retires 0) workers i k there in
+      let some : worker_retires 0 k ≡ 1 = rw is refl in omega arith)
 
 -- A post by the poller. A post that wakes makes a ticket, which the machine's poller puts at once
 
@@ -255,54 +307,12 @@ module _ {st : System} {p : SlotState} {workers : List WorkerState} (set : Settl
       let parts = and_parts (is_limited st) (nat_lt 0 st.entry) (second_so (poller_rests st) _ b) in
       posts_by Sweep (event.Poll (polling.Sweep 0)) st.entry st.batch (brings_ticket p) refl (λ more. rw (parts.0, parts.1)))
 
--- what is so of each list that a plan may be, for the pair for which it is one, is so of the plan
-by_plan : (P : List Act → Type 0) (left : ℕ) (p : PairState) → (is_live (verdict p) ≡ true → is_none (next_call p) ≡ true → P quiet) → (is_live (verdict p) ≡ true → P again)
-    → ((left == 0) ≡ false → P (Call ∷ [])) → (is_live (verdict p) ≡ false → P ended) → P (plan left p)
-by_plan P left p rests spends calls ends = go (is_live (verdict p)) (is_none (next_call p)) (left == 0) refl refl refl
-  where
-    go : (live none spent : Bool) → is_live (verdict p) ≡ live → is_none (next_call p) ≡ none → (left == 0) ≡ spent
-        → P (if live then (if none then quiet else (if spent then again else Call ∷ [])) else ended)
-    go true true spent lives rest over = rests lives rest
-    go true false true lives rest over = spends lives
-    go true false false lives rest over = calls over
-    go false none spent lives rest over = ends lives
-
-pub plan_finds : (word : WordState) (place : Option Connection) (g left : ℕ) (p : PairState) → place ≡ None → Finds word place g (plan left p)
-plan_finds word place g left p at = by_plan (Finds word place g) left p (λ live none. at) (λ live. at) (λ some. tt) (λ over. tt)
-
--- a thread without a program is like a worker with nothing to do
-rests_like : {budget : ℕ} {place : Option Connection} {p : SlotState} {i : ℕ} {t : Thread} {k : WorkerState} {todo : List Act} → ThreadLike budget place p i t k todo
-    → is_over todo ≡ true → k ≡ machine_states.resting
-rests_like (Rests is) over = is
-rests_like (Opens first is) over = is
-rests_like {t = t} (IsHolder c more held is (Goes at out least)) over =
-    let no : is_over (plan t.left c.pair) ≡ false = by_plan (λ acts. is_over acts ≡ false) t.left c.pair (λ live none. refl) (λ live. refl) (λ some. refl) (λ over. refl) in cc
-rests_like like over = cc
-
--- a thread that does not hold the slot is where it was, whatever becomes of place and slot but its generation
-apart : {budget : ℕ} {place next : Option Connection} {p q : SlotState} {j : ℕ} {u : Thread} {k : WorkerState} {todo : List Act} → p.holder ≢ By j → q.generation ≡ p.generation
-    → ThreadLike budget place p j u k todo → ThreadLike budget next q j u k todo
-apart other same (Rests is) = Rests is
-apart other same (Opens first is) = Opens first is
-apart other same (Tries least is) = Tries least is
-apart other same (IsHolder c more held is at) = absurd (other held.holder)
-apart other same (HasClosed held at is) = absurd (other held.holder)
-apart other same (HasRetired own is) = HasRetired (same ∙ own) is
-
 set_again : {X : Type 0} (xs : List X) (i : ℕ) (x : X) → slice_get xs i ≡ Some x → slice_set xs i x ≡ xs
-set_again [] i x there = refl
-set_again {X = X} (y ∷ ys) zero x there = let same : y ≡ x = cc in ap (λ (z : X). z ∷ ys) (sym same)
-set_again {X = X} (y ∷ ys) (suc i) x there = ap (λ (zs : List X). y ∷ zs) (set_again ys i x there)
+set_again xs i x there = rw (get_or_from_slice_get xs i x x there) at (set-get_or xs i x)
 
 some_there : (o : Option Connection) → is_some o ≡ true → (c : Connection) × (o ≡ Some c)
 some_there None h = absurd (cc)
 some_there (Some c) h = (c, refl)
-
-held_by : {X : Type 0} {h : Holder} {i : ℕ} → h ≡ By i → is_by_worker h ≡ false → X
-held_by {h = h} by nobody = absurd (let yes : is_by_worker h ≡ true = rw by refl in cc)
-
-held_free : {X : Type 0} {h : Holder} {i : ℕ} → h ≡ Free → h ≡ By i → X
-held_free {i = i} free by = absurd (let no : Free ≡ By i = sym free ∙ by in cc)
 
 rests_now : (c : Connection) (some : Bool) → is_live (verdict c.pair) ≡ true → is_none (next_call c.pair) ≡ true → may_release c some ≡ true
 unfolding may_release
@@ -364,34 +374,19 @@ record Unused (st : System) (p : SlotState) (workers : List WorkerState) : Type 
   pub holder : p.holder ≡ Free
   pub connection : p.connection ≡ None
   pub tickets : st.tickets ≡ []
-  pub others : (i : ℕ) (u : Thread) → slice_get st.threads i ≡ Some u → i ≢ 0 → (u.todo ≡ []) × (slice_get workers i ≡ Some machine_states.resting)
+  pub others : (i : ℕ) (u : Thread) → slice_get st.threads i ≡ Some u → i ≢ 0 → (u.todo ≡ []) × (slice_get workers i ≡ Some idle_worker)
 
 none_by : (h : Holder) (o : Option Connection) → h ≡ Free → is_shaped h (is_some o) ≡ true → o ≡ None
 none_by h None is shape = refl
-none_by h (Some c) is shape = absurd (let no : is_shaped h true ≡ false = rw is refl in cc)
+none_by h (Some c) is shape = cc
 
 no_tickets : (xs : List ℕ) → total (of_slot 0) (map ticket xs) ≡ 0 → xs ≡ []
 no_tickets [] none = refl
 no_tickets (x ∷ xs) none = absurd (omega arith)
 
--- a worker that has something to do counts
-none_here : {budget : ℕ} {place : Option Connection} {p : SlotState} {i : ℕ} {u : Thread} {k : WorkerState} {todo : List Act} (workers : List WorkerState)
-    → slice_get workers i ≡ Some k → i ≢ 0 → p.holder ≡ Free → total (worker_tickets 0) workers ≡ 0 → total (worker_retires 0) workers ≡ 0
-    → ThreadLike budget place p i u k todo → (todo ≡ []) × (slice_get workers i ≡ Some machine_states.resting)
-none_here workers there other free none gone (Rests is) = (refl, there ∙ ap Some is)
-none_here workers there other free none gone (Opens first is) = absurd (other first)
-none_here {i = i} {k = k} workers there other free none gone (Tries least is) = absurd (
-    let least = total_at (worker_tickets 0) workers i k there in
-    let some : worker_tickets 0 k ≡ 1 = rw is refl in omega arith)
-none_here workers there other free none gone (IsHolder c more held is at) = held_free free held.holder
-none_here workers there other free none gone (HasClosed held at is) = held_free free held.holder
-none_here {i = i} {k = k} workers there other free none gone (HasRetired own is) = absurd (
-    let least = total_at (worker_retires 0) workers i k there in
-    let some : worker_retires 0 k ≡ 1 = rw is refl in omega arith)
-
 pub after_set : (st : System) (new : Thread) (workers : List WorkerState)
-    → ((i : ℕ) (u : Thread) → slice_get st.threads i ≡ Some u → i ≢ 0 → (u.todo ≡ []) × (slice_get workers i ≡ Some machine_states.resting))
-    → (i : ℕ) (u : Thread) → i ≢ 0 → slice_get (slice_set st.threads 0 new) i ≡ Some u → (u.todo ≡ []) × (slice_get workers i ≡ Some machine_states.resting)
+    → ((i : ℕ) (u : Thread) → slice_get st.threads i ≡ Some u → i ≢ 0 → (u.todo ≡ []) × (slice_get workers i ≡ Some idle_worker))
+    → (i : ℕ) (u : Thread) → i ≢ 0 → slice_get (slice_set st.threads 0 new) i ≡ Some u → (u.todo ≡ []) × (slice_get workers i ≡ Some idle_worker)
 after_set st new workers old i u other at = old i u (sym (get-set_other st.threads 0 i new (λ same. other (sym same))) ∙ at) other
 
 module _ (st : System) (p : SlotState) (workers : List WorkerState) (set : Settled st p workers) (i : ℕ) (t : Thread) (there : slice_get st.threads i ≡ Some t)
@@ -434,7 +429,7 @@ module _ (st : System) (p : SlotState) (workers : List WorkerState) (set : Settl
 
   -- it begins a turn with the oldest ticket, or an opening
 
-  begins_with : k ≡ machine_states.resting → (most : ℕ) → most ≤ st.limits.budget → (tickets : List ℕ) → st.tickets ≡ tickets
+  begins_with : k ≡ idle_worker → (most : ℕ) → most ≤ st.limits.budget → (tickets : List ℕ) → st.tickets ≡ tickets
       → Kept (Follows [] [] w (Begin i most)) (begun st i most tickets)
   begins_with is most within [] tickets = kept_none
   begins_with is most within (g ∷ rest) tickets = kept_some
@@ -471,7 +466,7 @@ module _ (st : System) (p : SlotState) (workers : List WorkerState) (set : Settl
 
     released_like : st.place ≡ Some c → (tickets : List ℕ)
         → Settled (with_thread (record st { word = word_after word.release st.word; tickets = tickets }) i (goes_on t [])) (record p { holder = Nobody })
-        (slice_set workers i machine_states.resting)
+        (slice_set workers i idle_worker)
     released_like at tickets = record {
       ends = set.ends;
       word = rw (set.word, held.holder) refl;
@@ -486,11 +481,11 @@ module _ (st : System) (p : SlotState) (workers : List WorkerState) (set : Settl
         let tickets : List ℕ = st.tickets ++ t.generation ∷ [] in
         let between : WorkerState = record { doing = doing.Idle; hand = ticket t.generation ∷ [] } in
         let longer : map ticket tickets ≡ map ticket st.tickets ++ ticket t.generation ∷ [] = map-append ticket st.tickets (t.generation ∷ []) in
-        rw wait (follow (event.Work i act.Release ∷ event.Work i act.Put ∷ []) (record p { holder = Nobody }) (slice_set workers i machine_states.resting) (released_like at tickets)
-        (λ es. rw (had, is, held.there, some, may, held.generation, get-set_same workers i k between had, set-set workers i between machine_states.resting, longer, some_notes p.notes ∙ some)))
+        rw wait (follow (event.Work i act.Release ∷ event.Work i act.Put ∷ []) (record p { holder = Nobody }) (slice_set workers i idle_worker) (released_like at tickets)
+        (λ es. rw (had, is, held.there, some, may, held.generation, get-set_same workers i k between had, set-set workers i between idle_worker, longer, some_notes p.notes ∙ some)))
     releases at false some may =
         let wait : some_wait st.word.pending ≡ false = rw set.word (some_notes p.notes ∙ some) in
-        rw wait (follow (event.Work i act.Release ∷ []) (record p { holder = Nobody }) (slice_set workers i machine_states.resting) (released_like at st.tickets)
+        rw wait (follow (event.Work i act.Release ∷ []) (record p { holder = Nobody }) (slice_set workers i idle_worker) (released_like at st.tickets)
         (λ es. rw (had, is, held.there, some, may, some_notes p.notes ∙ some)))
 
     -- the connection is closed
@@ -568,9 +563,9 @@ module _ (st : System) (p : SlotState) (workers : List WorkerState) (set : Settl
 
   -- the slot is given, or lost where its generations are used up
   gives_to : p.generation ≡ t.generation → k ≡ busy (doing.Retired 0) → (free : ℕ) → machine.step w (event.Work i act.Free)
-      ≡ Some (machine_of (with_thread (record st { free = free }) i (goes_on t [])) p st.entry st.tickets (slice_set workers i machine_states.resting))
+      ≡ Some (machine_of (with_thread (record st { free = free }) i (goes_on t [])) p st.entry st.tickets (slice_set workers i idle_worker))
       → Acted [] (with_thread (record st { free = free }) i (goes_on t []))
-  gives_to own is free can = follow (event.Work i act.Free ∷ []) p (slice_set workers i machine_states.resting)
+  gives_to own is free can = follow (event.Work i act.Free ∷ []) p (slice_set workers i idle_worker)
       (record { ends = set.ends; word = set.word; place = set.place; threads = both_go (λ j u v other like. like) (Rests refl) }) (λ more. rw (can, had))
 
   gives : p.generation ≡ t.generation → k ≡ busy (doing.Retired 0) → (b : Bool) → is_worn t.generation ≡ b → Acted [] (with_thread (given st t.generation) i (goes_on t []))
@@ -594,7 +589,7 @@ module _ (st : System) (p : SlotState) (workers : List WorkerState) (set : Settl
               none_here workers it.there other first.holder (omega arith) (omega arith) it.like;
         }
 
-    module _ (first : i ≡ 0) (is : k ≡ machine_states.resting) where
+    module _ (first : i ≡ 0) (is : k ≡ idle_worker) where
       registers : (free : ℕ) → st.free ≡ free → Kept (Acted []) (registering st i t (drop 1 open_slot) free)
       registers zero some = kept_none
       registers (suc free) some =
