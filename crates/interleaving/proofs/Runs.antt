@@ -104,8 +104,7 @@ module _ (st : System) (t : Thread) (c : Connection) (workers : List WorkerState
       over : (i : ℕ) (u : Thread) → slice_get (slice_set st.threads 0 (goes_on t [])) i ≡ Some u → (i ≡ 0) ⊎ (i ≢ 0)
           → WorkerFor st.limits.budget st.place (opened_slot t.generation c) workers i u
       over i u there (inl first) =
-          let same : Some (goes_on t []) ≡ Some u = sym (get-set_same st.threads 0 t (goes_on t []) half.first) ∙ (rw first at there) in
-          let it : u ≡ goes_on t [] = cc in
+          let it : u ≡ goes_on t [] = cc (get-set_same st.threads 0 t (goes_on t []) half.first) in
           record { worker = idle_worker; there = rw first half.worker; like = rw it (Rests refl) }
       over i u there (inr other) =
           let rest = after_set st (goes_on t []) workers (λ j v at other. half.others j v other at) i u other there in
@@ -123,7 +122,7 @@ module _ (st : System) (t : Thread) (c : Connection) (workers : List WorkerState
   poller_acts b = absurd (let no : poller_rests st ≡ false = rw half.first (stage_acts half.stage) in cc)
 
   this_thread : (i : ℕ) (u : Thread) → i ≡ 0 → slice_get st.threads i ≡ Some u → u ≡ t
-  this_thread i u first there = let both : Some u ≡ Some t = sym (rw first at there) ∙ half.first in cc
+  this_thread i u first there = cc half.first
 
   acts_half : (i : ℕ) (u : Thread) → slice_get st.threads i ≡ Some u → (i ≡ 0) ⊎ (i ≢ 0)
       → Kept (Follows (left_of t.todo st.word) (exchange st.word (first_kind u.todo)) half_world (Acts i)) (acts st i u u.todo)
@@ -209,7 +208,7 @@ went_on {st = st} s steps is f r = record {
 went : (laws : CoreLaws) (steps : List Step) (w : State) (st to : System) (like : Like st w) → Turns w → run st steps ≡ Some to → Ran st w (ahead st w like) steps to
 went laws [] w st to like turns ran =
     let same : st ≡ to = cc in
-    subst (λ (x : System). Ran st w (ahead st w like) [] x) same (record { events = []; world = w; like = like; shows = rw append-nil })
+    rw (← same) (record { events = []; world = w; like = like; shows = rw append-nil })
 went laws (s ∷ steps) w st to like turns ran = option_and_then_some (λ (q : System). run q steps) (step st s) to ran (λ q is rest.
     let f : Follows (ahead st w like) (exchange st.word (kind_in st s)) w s q = kept_at (step st s) q is (follows st w like turns s) in
     let led : machine_runs.run w f.events ≡ Some f.world = rw append-nil at (ap (λ (x : Shown). x.0) (f.shows [])) in

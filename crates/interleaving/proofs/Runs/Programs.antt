@@ -404,7 +404,7 @@ module _ (st : System) (p : SlotState) (workers : List WorkerState) (set : Settl
 
   -- who holds the slot is one thread
   others : {place : Option Connection} {q : SlotState} → p.holder ≡ By i → q.generation ≡ p.generation → Others place q
-  others by same j u v other like = apart (λ also. other (let both : By i ≡ By j = sym by ∙ also in cc)) same like
+  others by same j u v other like = apart (λ also. other (cc)) same like
 
   -- the thread and its worker go on
   both_go : {place : Option Connection} {q : SlotState} {new : Thread} {busier : WorkerState} → Others place q → ThreadLike st.limits.budget place q i new busier new.todo
@@ -413,8 +413,7 @@ module _ (st : System) (p : SlotState) (workers : List WorkerState) (set : Settl
     where
       go : (j ≡ i) ⊎ (j ≢ i) → WorkerFor st.limits.budget place q (slice_set workers i busier) j u
       go (inl same) =
-          let now : Some new ≡ Some u = sym (get-set_same st.threads i t new there) ∙ (rw same at at) in
-          let it : u ≡ new = cc in
+          let it : u ≡ new = cc (get-set_same st.threads i t new there) in
           record { worker = busier; there = rw same (get-set_same workers i k busier had); like = rw (same, it) like }
       go (inr other) =
           let apart : i ≢ j = λ same. other (sym same) in
@@ -626,8 +625,8 @@ module _ (st : System) (p : SlotState) (workers : List WorkerState) (set : Settl
         kept_some (rw free (follow (event.Work i act.Claim ∷ []) (record p { holder = By i }) (slice_set workers i (busy (doing.Holds 0 st.limits.budget))) (record {
           ends = set.ends;
           word = rw (set.word, wait.holder) refl;
-          place = λ no. absurd (cc);
-          threads = both_go (λ j u v other like. apart (λ by. absurd (let no = sym wait.holder ∙ by in cc)) refl like)
+          place = λ nobody. cc;
+          threads = both_go (λ j u v other like. apart (λ by. cc wait.holder) refl like)
               (IsHolder c.0 st.limits.budget (record { holder = refl; there = c.1; generation = sym own }) refl (Holds (set.place (rw wait.holder refl) ∙ c.1) least refl));
         }) (λ more. rw (had, is, wait.holder, set.word))))
     thread_acts (IsHolder c more held is at) = holder_acts c more held is turns at
