@@ -119,7 +119,7 @@ module _ (st : System) (t : Thread) (c : Connection) (workers : List WorkerState
   goes_half (Posted is at own) = kept_some (leaves_half is at own)
 
   poller_acts : {X : Type 0} → poller_rests st ≡ true → X
-  poller_acts b = absurd (let no : poller_rests st ≡ false = rw half.first (stage_acts half.stage) in cc)
+  poller_acts b = cc (half.first, stage_acts half.stage)
 
   this_thread : (i : ℕ) (u : Thread) → i ≡ 0 → slice_get st.threads i ≡ Some u → u ≡ t
   this_thread i u first there = cc half.first

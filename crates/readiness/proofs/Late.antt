@@ -6,7 +6,7 @@ use Rattle.readiness.specs.{Delays.{Came, Event, IsOnItsWay, Seen, WillBeTold, c
 -- what a test let through
 pub guarded : {X : Type 0} (b : Bool) (x y : X) → guard b x ≡ Some y → (b ≡ true) × (y ≡ x)
 guarded true x y h = (refl, cc)
-guarded false x y h = absurd (cc)
+guarded false x y h = cc
 
 pub allowed : {X : Type 0} (b : Bool) (x : X) → b ≡ true → guard b x ≡ Some x
 allowed b x h = rw h refl
@@ -25,7 +25,7 @@ settle_more c t (After u first rest) is = After u first (settle_more c t rest is
 -- while nothing is late, the two sockets are one
 pub same_socket : {e f : EndState} {late : List Change} → Settles e late f → late ≡ [] → e ≡ f
 same_socket Settled none = refl
-same_socket (After t is rest) none = absurd (cc)
+same_socket (After t is rest) none = cc
 
 -- What is late concerns reading: the fields of the other direction are the same before and after, if no error is late
 pub record IsBeside (f e : EndState) : Type 0 where
@@ -36,12 +36,12 @@ pub record IsBeside (f e : EndState) : Type 0 where
 beside_one : (c : Change) (e : EndState) (t : Told EndState Bool) → change_of e c ≡ Some t → IsBeside t.value e
 beside_one (Bytes bytes) e t is = rw (guarded _ _ t is).1 (search)
 beside_one Fin e t is = rw (guarded _ _ t is).1 (search)
-beside_one Error e t is = rw (guarded _ _ t is).1 (record { room = refl; err = λ h. absurd (cc); write_armed = λ h. absurd (cc) })
+beside_one Error e t is = rw (guarded _ _ t is).1 (record { room = refl; err = λ h. cc; write_armed = λ h. cc })
 
 pub is_beside : {e f : EndState} {late : List Change} → Settles e late f → IsBeside f e
 is_beside Settled = search
 is_beside (After {e = e} {c = c} t is rest) =
-    let a : IsBeside t.value e = beside_one c e t is in
+    let a = beside_one c e t is in
     let b = is_beside rest in
     record { room = a.room ∙ b.room; err = λ h. a.err (b.err h); write_armed = λ h. a.write_armed (b.err h) ∙ b.write_armed h }
 
@@ -64,7 +64,7 @@ one_aside : (a : Aside) (c : Change) (e : EndState) (t : Told EndState Bool) →
 one_aside a (Bytes bytes) e t may is = let g = guarded _ _ t is in (e.read_armed, rw (g.0, g.1) refl)
 one_aside a Fin e t may is = let g = guarded _ _ t is in (e.read_armed, rw (g.0, g.1) refl)
 one_aside a Error e t (inl none) is = let g = guarded _ _ t is in (e.read_armed || a.armed e.write_armed, rw (g.0, g.1, none) refl)
-one_aside a Error e t (inr sound) is = let g = guarded _ _ t is in absurd (let no : true ≡ false = rw g.1 at sound in cc)
+one_aside a Error e t (inr sound) is = let no = rw (guarded _ _ t is).1 at sound in cc
 
 may_before : {e f : EndState} {late : List Change} (a : Aside) → Settles e late f → MayBe a f → MayBe a e
 may_before a d (inl none) = inl none
@@ -98,7 +98,7 @@ caught was (After {c = c} t is rest) =
       queued = r.queued;
       shows = λ es. rw is (ap (λ x. (x.0, x.1, c ∷ x.2)) (r.shows es));
       keeps = λ h. r.keeps (or_left was t.told h);
-      same = λ none. absurd (cc);
+      same = λ none. cc;
     }
 
 -- ---- what every step keeps, of a wire's socket and of the same socket where no wire answers by itself

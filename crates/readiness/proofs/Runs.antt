@@ -10,7 +10,7 @@ some_is h = cc
 
 -- the value that became this one
 mapped : {X Y Z : Type 0} (f : X → Y) (o : Option X) (y : Y) → option_map f o ≡ Some y → ((x : X) → o ≡ Some x → y ≡ f x → Z) → Z
-mapped f None y h next = absurd (cc)
+mapped f None y h next = cc
 mapped f (Some x) y h next = next x refl (some_is h)
 
 both_down : (a b : Bool) → (not a && not b) ≡ true → (a ≡ false) × (b ≡ false)
@@ -21,7 +21,7 @@ both_down a b h = (not-true a (first_so (not a) (not b) h), not-true b (second_s
 some_taken : (xs : List Bool) → Contains xs true → xs ≢ []
 some_taken xs c none =
     let here : Contains {X = Bool} [] true = rw none at c in
-    let below : here.0 < length {A = Bool} [] = here.1 in
+    let below = here.1 in
     absurd (omega arith)
 
 on_its_way : (w : Way) → WillBeTold w → IsOnItsWay w
@@ -43,8 +43,8 @@ record Heard (e : EndState) (t : Told EndState Bool) : Type 0 where
 
 nonempty_more : (xs ys : List ℕ) → is_nonempty ys ≡ true → is_nonempty (xs ++ ys) ≡ true
 nonempty_more xs ys h =
-    let some : 0 < length ys = ltb-true 0 (length ys) h in
-    let all : length (xs ++ ys) ≡ length xs + length ys = length-append xs ys in
+    let some = ltb-true 0 (length ys) h in
+    let all = length-append xs ys in
     lt-ltb 0 (length (xs ++ ys)) (omega arith)
 
 heard : (c : Change) (e : EndState) (t : Told EndState Bool) → change_of e c ≡ Some t → Heard e t
@@ -61,14 +61,14 @@ failed_reads reads _ kind = refl
 -- what a poll takes names reading if there is something to read
 named : (readable names : Bool) → (not readable || names) ≡ true → readable ≡ true → names ≡ true
 named true names h is = h
-named false names h is = absurd (cc)
+named false names h is = cc
 
 some_behind : (xs : List Bool) (b : Bool) → (xs ++ b ∷ []) ≢ []
 some_behind [] b none = cc
 some_behind (x ∷ xs) b none = cc
 
 behind_first : (rest : List Bool) → Contains (false ∷ rest) true → Contains rest true
-behind_first rest (zero, below, is) = absurd (cc)
+behind_first rest (zero, below, is) = cc
 behind_first rest (suc k, below, is) = (k, omega arith, is)
 
 not_first : {X : Type 0} (taken rest : List Bool) → taken ≡ false ∷ rest → X ⊎ Contains taken true → X ⊎ Contains rest true
@@ -78,7 +78,7 @@ not_first taken rest is (inr some) = inr (behind_first rest (rw is at some))
 not_owed : {X Y : Type 0} (owed : Bool) → owed ≡ false → X ⊎ (Y ⊎ (owed ≡ true)) → X ⊎ (Y ⊎ (false ≡ true))
 not_owed owed none (inl queued) = inl queued
 not_owed owed none (inr (inl taken)) = inr (inl taken)
-not_owed owed none (inr (inr owes)) = absurd (cc)
+not_owed owed none (inr (inr owes)) = cc
 
 abbrev nothing : Aside
 nothing = record { room = λ b. b; armed = λ b. b; taken = λ bytes. bytes; shut = λ b. b }
@@ -168,7 +168,7 @@ module _ {w : Way} {late : List Change} {s : Seen} (held : Held w late s) where
       }
   -- any other comes at once
   comes c t is false awake =
-      let none : late ≡ [] = prompt (λ a. let yes : is_late w ≡ true = rw (a.reads, a.told) refl in cc) held.waits in
+      let none : late ≡ [] = prompt (λ a. cc) held.waits in
       let there : change_of s.socket c ≡ Some t = rw (same_socket held.due none) is in
       record {
         next = record { socket = t.value; queued = s.queued || t.told };
@@ -178,7 +178,7 @@ module _ {w : Way} {late : List Change} {s : Seen} (held : Held w late s) where
         kept = record {
           due = rw none Settled;
           waits = Prompt none;
-          rests = λ reads told. absurd (let yes : is_late w ≡ true = rw (reads, told) refl in cc);
+          rests = λ reads told. cc;
           queued = queued_too t.value t.told t.told (λ h. h);
           owed = λ o. or_left s.queued t.told (held.owed o);
         };
@@ -189,9 +189,9 @@ module _ {w : Way} {late : List Change} {s : Seen} (held : Held w late s) where
       let g = guarded (not w.socket.room && not w.socket.err) _ t is in
       let full = both_down w.socket.room w.socket.err g.0 in
       let b = is_beside held.due in
-      let armed : s.socket.write_armed ≡ w.socket.write_armed = b.write_armed full.1 in
-      let room : s.socket.room ≡ false = b.room ∙ full.0 in
-      let err : s.socket.err ≡ false = b.err full.1 in
+      let armed = b.write_armed full.1 in
+      let room = b.room ∙ full.0 in
+      let err = b.err full.1 in
       rw (after, g.1) (stays (record { socket = aside roomy s.socket; queued = s.queued || s.socket.write_armed }) (λ more. rw (room, err) refl) refl (record {
         due = settle_aside roomy (inl refl) held.due;
         waits = still (λ a. search still_coming);
@@ -212,13 +212,13 @@ module _ {w : Way} {late : List Change} {s : Seen} (held : Held w late s) where
       by : (b : Bool) → w.owed ≡ b → Goes (record w { queued = false }) s late late (if b then [] else Stray ∷ Gone ∷ []) Vanished
       by true owed = stays s (λ more. refl) refl (search (Prompt, none, inr))
       by false owed = stays (record s { queued = false }) (λ more. rw (same_socket held.due none, quiet) refl) refl
-          (record { due = held.due; waits = Prompt none; rests = held.rests; queued = λ q. absurd (cc); owed = λ o. absurd (cc) })
+          (record { due = held.due; waits = Prompt none; rests = held.rests; queued = λ q. cc; owed = λ o. cc })
 
   -- ---- the poller
 
   -- it passes on a report: all that is late comes if it names reading
   telling : (v : Way) (taken : List Bool) → w.taken ≡ taken → tells w taken ≡ Some v → Goes v s late (late_telling taken late) (at_telling taken late) Tells
-  telling v [] is h = absurd (cc)
+  telling v [] is h = cc
   telling v (true ∷ rest) is h = rw (some_is h) (come_first (Stray ∷ []) (record up_to_date { queued = true }) (λ more. refl) refl (record {
     due = Settled;
     waits = Prompt refl;
@@ -237,9 +237,9 @@ module _ {w : Way} {late : List Change} {s : Seen} (held : Held w late s) where
   -- what was passed on is handed over
   handing : (b : Bool) → w.owed ≡ b → Goes (record w { owed = false }) s late late (if b then Taken ∷ [] else []) Handed
   handing true owed = stays (record s { queued = false }) (λ more. rw (held.owed owed) refl) refl
-      (record { due = held.due; waits = still (λ a. search); rests = held.rests; queued = λ q. absurd (cc); owed = λ o. absurd (cc) })
+      (record { due = held.due; waits = still (λ a. search); rests = held.rests; queued = λ q. cc; owed = λ o. cc })
   handing false owed = stays s (λ more. refl) refl
-      (record { due = held.due; waits = still (λ a. search); rests = held.rests; queued = λ q. not_owed w.owed owed (held.queued q); owed = λ o. absurd (cc) })
+      (record { due = held.due; waits = still (λ a. search); rests = held.rests; queued = λ q. not_owed w.owed owed (held.queued q); owed = λ o. cc })
 
   -- ---- the wire
 
@@ -265,7 +265,7 @@ module _ {w : Way} {late : List Change} {s : Seen} (held : Held w late s) where
   read_now : {f : EndState} (most : ℕ) (r : Reply) → w.reads ≡ true → after_read w.socket most r ≡ Some f → (reads_after w.reads (Read most) r ≡ false → Rests f) →
       Goes (record w { socket = f; reads = reads_after w.reads (Read most) r }) s late late (Called (Read most) r ∷ []) (Calls (Read most) r)
   read_now most r may is rests =
-      let none : late ≡ [] = prompt (λ asleep. let no = asleep.reads in cc) held.waits in
+      let none : late ≡ [] = prompt (λ asleep. cc) held.waits in
       one_call (Read most) r (rw (same_socket held.due none) is) (rw none Settled) (Prompt none) (λ reads told. rests reads)
 
   reads : {f : EndState} (most : ℕ) (r : Reply) → w.reads ≡ true → after_read w.socket most r ≡ Some f
@@ -274,7 +274,7 @@ module _ {w : Way} {late : List Change} {s : Seen} (held : Held w late s) where
       let g = guarded (not (is_readable w.socket)) _ f is in
       read_now most reply.Blocked may is (λ _. rw g.1 (record { empty = not-true (is_readable w.socket) g.0; armed = refl }))
   reads most (reply.Failed kind) may is = fails (Read most) kind is
-  reads most other may is = read_now most other may is (λ asleep. absurd (cc))
+  reads most other may is = read_now most other may is (λ asleep. cc)
 
   -- a call that changes the other direction alone, where both sockets pass its test
   tested : {f : EndState} (call : Call) (r : Reply) (a : Aside) (test : EndState → Bool) → guard (test w.socket) (aside a w.socket) ≡ Some f
@@ -295,8 +295,8 @@ module _ {w : Way} {late : List Change} {s : Seen} (held : Held w late s) where
       tested call reply.Blocked waiting (λ e. not (is_writable e)) here
       (λ t.
       let none = or_parts w.socket.room w.socket.err (not-true (is_writable w.socket) t) in
-      let room : s.socket.room ≡ false = b.room ∙ none.0 in
-      let err : s.socket.err ≡ false = b.err none.1 in (inr none.1, rw (room, err) refl))
+      let room = b.room ∙ none.0 in
+      let err = b.err none.1 in (inr none.1, rw (room, err) refl))
       there
 
   calls : {f : EndState} (call : Call) (r : Reply) → may_call w.reads call ≡ true → after_call w.socket call r ≡ Some f
@@ -310,7 +310,7 @@ module _ {w : Way} {late : List Change} {s : Seen} (held : Held w late s) where
   calls Join reply.Blocked may is = blocks Join is (allowed _ _)
   calls Join reply.Joined may is = tested Join reply.Joined nothing (λ e. e.room) is (λ t. (inl refl, rw (is_beside held.due).room t)) (allowed _ _)
   calls Shut reply.Shut may is = tested Shut reply.Shut closed (λ _. true) is (λ t. (inl refl, refl)) (λ _. refl)
-  calls {f} call r may is = absurd (let never : None ≡ Some f = is in cc)
+  calls call r may is = cc
 
   goes : (v : Way) (made : Step) → step w made ≡ Some v → Goes v s late (late_after w late made) (meanwhile w late made) made
   goes v (Comes change) h = mapped _ _ v h (λ t is after. rw after (comes change t is (is_late w) refl))
@@ -322,7 +322,7 @@ module _ {w : Way} {late : List Change} {s : Seen} (held : Held w late s) where
   -- a poll takes the report
   goes v (Polled names) h =
       let g = guarded (w.queued && (not (is_readable w.socket) || names)) _ v h in
-      let naming : is_readable w.socket ≡ true → names ≡ true = named (is_readable w.socket) names (second_so w.queued _ g.0) in
+      let naming = named (is_readable w.socket) names (second_so w.queued _ g.0) in
       let coming : Asleep w → WillBeTold (record w { queued = false; taken = w.taken ++ names ∷ [] }) = λ a. inr (rw (naming a.readable) (Contains-push w.taken true)) in
       rw g.1 (stays s (λ more. refl) refl (record {
         due = held.due;
@@ -338,7 +338,7 @@ module _ {w : Way} {late : List Change} {s : Seen} (held : Held w late s) where
     came = late;
     shows = catches.shows;
     changes = refl;
-    kept = record { due = Settled; waits = Prompt refl; rests = λ reads told. absurd (cc); queued = still_queued; owed = λ o. catches.keeps (held.owed o) };
+    kept = record { due = Settled; waits = Prompt refl; rests = λ reads told. cc; queued = still_queued; owed = λ o. catches.keeps (held.owed o) };
   })
   goes v Handed h = rw (some_is h) (handing w.owed refl)
   goes v Looks h = rw (some_is h) (stays s (λ more. refl) refl (record {
@@ -353,7 +353,7 @@ module _ {w : Way} {late : List Change} {s : Seen} (held : Held w late s) where
   goes v (Unasked most) h =
       let g = guarded (not w.reads && not w.told) w v h in
       let none = both_down w.reads w.told g.0 in
-      let rests : Rests s.socket = held.rests none.0 none.1 in
+      let rests = held.rests none.0 none.1 in
       let again : record (s.socket) { read_armed = true } ≡ s.socket = ap (λ b. record (s.socket) { read_armed = b }) (sym rests.armed) in
       rw g.1 (stays s (λ more. rw (rests.empty, again) refl) refl held)
 
@@ -374,8 +374,8 @@ went : (steps : List Step) (w to : Way) (late : List Change) (s : Seen) → Held
 went [] w to late s held h = record { seen = s; allowed = refl; answers = refl; changes = sym (append-nil late); kept = rw (some_is h) held }
 went (st ∷ steps) w to late s held h = option_and_then_some (λ v. run v steps) (step w st) to h (λ v is ran.
     let g = goes held v st is in
-    let later : List Change = late_after w late st in
-    let more : List Event = happened v later steps in
+    let later = late_after w late st in
+    let more = happened v later steps in
     let r = went steps v to later g.next g.kept ran in
     let shows = g.shows more in
     record {
@@ -391,9 +391,9 @@ from_opening : (side : Side) (told : Bool) (steps : List Step) (w : Way) → run
 from_opening side told steps w h = went steps (opening side told) w [] (unseen side) (record {
   due = Settled;
   waits = Prompt refl;
-  rests = λ reads heard. absurd (cc);
-  queued = λ q. absurd (cc);
-  owed = λ o. absurd (cc);
+  rests = λ reads heard. cc;
+  queued = λ q. cc;
+  owed = λ o. cc;
 }) h
 
 will_be_told : {w : Way} {late : List Change} → Waits w late → late ≢ [] → WillBeTold w
@@ -418,10 +418,10 @@ misses_nothing held (Prompt none) reads told =
     let r = held.rests reads told in
     let same = same_socket held.due none in
     let empty = rw same at r.empty in
-    record { armed = λ _. rw same at r.armed; coming = λ some. absurd (cc) }
+    record { armed = λ _. rw same at r.armed; coming = λ some. cc }
 misses_nothing held (Behind asleep) reads told =
     let some = asleep.readable in
-    record { armed = λ empty. absurd (cc); coming = λ _. asleep.coming }
+    record { armed = λ empty. cc; coming = λ _. asleep.coming }
 
 pub wires_miss_nothing : WiresMissNothing
 wires_miss_nothing side told steps w h = let r = from_opening side told steps w h in misses_nothing r.kept r.kept.waits

@@ -214,7 +214,7 @@ unused_ok slots held table v marks words is = rw is (record {
 no_history : (h : History) (w : WordState) → ((seat : ℕ) → by_seat seat h ≡ []) → Leads unused h w → w ≡ unused
 no_history [] w none leads = sym leads
 no_history (s ∷ rest) w none leads =
-    absurd (let some : s.1 ∷ by_seat s.0 rest ≡ [] = rw (eq-eqb s.0 s.0 refl) at (none s.0) in cc)
+    let some : s.1 ∷ by_seat s.0 rest ≡ [] = rw (eq-eqb s.0 s.0 refl) at (none s.0) in cc
 
 -- the word that unused seats leave
 word_is_3 : (n word : ℕ) → SlotRule word (replicate n []) → word ≡ 3

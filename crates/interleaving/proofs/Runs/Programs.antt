@@ -109,7 +109,7 @@ module _ {st : System} {before : List Exchange} {p : SlotState} {entry : ℕ} {t
   network_at : (side : Side) (change : Change) (ends : Descriptors) (q : KernelState) → machine.change_at st.kernel (descriptor ends side) change ≡ Some q
       → (o : Option Connection) → p.connection ≡ o → option_map (λ (c : Connection). c.ends) o ≡ Some ends
       → Follows before [] frame_world (Network side change) (record st { kernel = q })
-  network_at side change ends q may None is there = absurd (cc)
+  network_at side change ends q may None is there = cc
   network_at side change ends q may (Some c) is there =
       let same : c.ends ≡ ends = cc in
       alone (event.Network 0 side change) (λ more. rw (is, same, may))
@@ -137,7 +137,7 @@ module _ {st : System} {before : List Exchange} {p : SlotState} {entry : ℕ} {t
   beyond Drop is = kept_guard _ _ (λ b. alone (event.Listen listening.Drop) (λ more. rw (second_so (poller_rests st) st.accepted b)))
   beyond (Poll names) is = kept_when _ _ (λ b. kept_map _ (kernel.poll st.kernel names.items) (λ q can.
       alone (event.Poll (polling.Poll names)) (λ more. rw (second_so (poller_rests st) (length st.batch == 0) b, can))))
-  beyond s is = absurd (cc)
+  beyond s is = cc
 
 -- What the word says, and what the place does
 
@@ -311,7 +311,7 @@ set_again : {X : Type 0} (xs : List X) (i : ℕ) (x : X) → slice_get xs i ≡ 
 set_again xs i x there = rw (get_or_from_slice_get xs i x x there) at (set-get_or xs i x)
 
 some_there : (o : Option Connection) → is_some o ≡ true → (c : Connection) × (o ≡ Some c)
-some_there None h = absurd (cc)
+some_there None h = cc
 some_there (Some c) h = (c, refl)
 
 rests_now : (c : Connection) (some : Bool) → is_live (verdict c.pair) ≡ true → is_none (next_call c.pair) ≡ true → may_release c some ≡ true
@@ -323,7 +323,7 @@ one_more zero = refl
 one_more (suc n) = ap (λ (xs : List ℕ). 0 ∷ xs) (one_more n)
 
 some_more_left : (n more : ℕ) → (n == 0) ≡ false → n ≤ more → nat_lt 0 more ≡ true
-some_more_left zero more h least = absurd (cc)
+some_more_left zero more h least = cc
 some_more_left (suc n) more h least = lt-ltb 0 more (omega arith)
 
 -- A worker holds the slot, and its connection fails where the idle limit has passed: by one event more, or none

@@ -35,13 +35,13 @@ retires_of a = a.retires
 
 module _ {A : Type 0} where
   pub inside : (l : List A) (k : ℕ) (v : A) → get_elem? l k ≡ some v → k < length l
-  inside [] k v at = absurd (some-ne-none v (sym at))
+  inside [] k v at = cc
   inside (x ∷ xs) zero v at = omega arith
   inside (x ∷ xs) (suc k) v at = let h = inside xs k v at in omega arith
 
   pub found : (l : List A) (k : ℕ) (v d : A) → get_elem? l k ≡ some v → get_or l k d ≡ v
-  found [] k v d at = absurd (some-ne-none v (sym at))
-  found (x ∷ xs) zero v d at = some-injective x v at
+  found [] k v d at = cc
+  found (x ∷ xs) zero v d at = cc
   found (x ∷ xs) (suc k) v d at = found xs k v d at
 
   pub at_inside : (l : List A) (i : ℕ) (d : A) → i < length l → get_elem? l i ≡ some (get_or l i d)
@@ -223,7 +223,7 @@ module _ (s : ℕ × Exchange) (rest : History) (accounts ends : List Account) w
 
   first_inside : Along (s ∷ rest) accounts ends s.0 → s.0 < length accounts
   first_inside along = dite (dec_lt s.0 (length accounts)) (λ lt. lt)
-      (λ past. absurd (let none : s.1 ∷ by_seat s.0 rest ≡ [] = rw (eq-eqb s.0 s.0 refl) at (along.among (omega arith)) in cc))
+      (λ past. let none : s.1 ∷ by_seat s.0 rest ≡ [] = rw (eq-eqb s.0 s.0 refl) at (along.among (omega arith)) in cc)
 
   rest_along : s.0 < length accounts → (seat : ℕ) → Along (s ∷ rest) accounts ends seat → Along rest (set accounts s.0 (after s.1 now)) ends seat
   rest_along inside seat along = dite (ℕ_discrete s.0 seat) (λ same. (
