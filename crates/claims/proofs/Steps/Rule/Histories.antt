@@ -1,10 +1,10 @@
 -- The history of one slot: one exchange more, and what it counts. What this file imports is passed on to those that use it.
-pub use Rattle.std.{proofs.{Common.{Bool, List, [], ap, append_assoc, arith, bit_and, bit_or, false, get_or, get_or-set_other, get_or-set_same, if◌then◌else◌, length, length-set, map, refl, replicate, set, subst, suc, sym, true, zero, ℕ, ◌%◌, ◌*◌, ◌++◌, ◌+◌, ◌-◌, ◌<◌, ◌==◌, ◌^◌, ◌∙◌, ◌∷◌, ◌≡◌, ◌≢◌, ◌≤◌}, Math.{ListN.get_or-map, Seq.map-set_same}, lemmas.{Bool.{eq-eqb, ne_eqb}, List.{append-nil, ext_get_or, get_or-replicate, get_or_default, get_or_past, length-append, length-map, length-replicate, map-append, map-set, replicate_more, Elements.{All-push, All-replicate, All-set}, Folds.sum_by-replicate, Sums.{get_or-le-sum_by, sum_by-cons, sum_by-le, sum_by-set, sum_by_push}}, Grind.get_or-set_at, Nat.{and_block, and_mask, or_block}}}, specs.{Int.Bits.or_zero_r, List.{All, sum_by}}}
+pub use Rattle.std.{proofs.{Common.{Bool, List, [], ap, append_assoc, arith, bit_and, bit_or, false, get_or, get_or-set_other, get_or-set_same, if◌then◌else◌, length, length-set, map, refl, replicate, set, subst, suc, sym, true, zero, ℕ, ◌%◌, ◌*◌, ◌++◌, ◌+◌, ◌-◌, ◌<◌, ◌^◌, ◌∙◌, ◌∷◌, ◌≡◌, ◌≢◌, ◌≤◌}, Math.{ListN.get_or-map, Seq.map-set_same}, lemmas.{Bool.{eq-eqb, ne_eqb}, List.{append-nil, ext_get_or, get_or-replicate, get_or_default, get_or_past, length-append, length-map, length-replicate, map-append, map-set, replicate_more, Elements.{All-push, All-replicate, All-set}, Folds.sum_by-replicate, Sums.{get_or-le-sum_by, sum_by-cons, sum_by-le, sum_by-set, sum_by_push}}, Grind.get_or-set_at, Nat.{and_block, and_mask, or_block}}}, specs.{Int.Bits.or_zero_r, List.{All, sum_by}}}
 pub use Rattle.atomic_table.{proofs.Lists.{at_index, at_map, set_again, set_here}, specs.Table.{Allows, Me, Splits, keeps}}
 pub use Rattle.claims.specs.{Calls.{PostChange, ReleaseChange}, Laws.{Counts, HistoriesCount, Knows, NotesAreKept, OneHolderEach, OpensLawful, TicketsAreNeeded, due}, Rule.{ClaimRule, History, Keeps, KeepsRule, Leads, NeedsHolder, SlotRule, by_seat, unused}, Seats.{Adds, Holds, HoldsNot, HoldsNothing, OnlyAt, SeatOk, SeatState, TableId, account_at, fresh_seat, seat_state, view_of}, Views.{account_of, accounts_of, after, after_all, blank, column, minted_by, trace_in, traces_at, unused_view}, Words.{StepKind, WordState, adopt, claim, kind_of, made, one, post, release, retire, some_wait, take, wakes, word_after, word_of}, declared.{answers.{Posted.{Posted, TheVariants.{Quiet, Wake, Worn}}, Released.{Released, TheVariants.{Quiet as ReleaseQuiet, Wake as ReleaseWakes}}}, view.{Account.Account, Exchange.{Exchange, TheVariants.{Adopted, Busy, Held, NotFree, Post, Release, Take}}, View.View}}}
 pub use lib.ListN.{get_elem?}
 pub use mathlib.Core.Logic.{dite}
-pub use mathlib.Core.Option.{some, some-injective, some-ne-none}
+pub use mathlib.Core.Option.{some}
 pub use native.Mathlib.Decide.{dec_lt, ℕ_discrete}
 pub use Rattle.claims.specs.declared.view.Exchange.TheVariants as exchange
 
@@ -16,20 +16,8 @@ posted_of a = a.posted
 abbrev pub taken_of : Account → ℕ
 taken_of a = a.taken
 
-abbrev pub minted_of : Account → ℕ
-minted_of a = a.minted
-
-abbrev pub redeemed_of : Account → ℕ
-redeemed_of a = a.redeemed
-
 abbrev pub holding_of : Account → ℕ
 holding_of a = one a.holds
-
-abbrev pub adopts_of : Account → ℕ
-adopts_of a = a.adopts
-
-abbrev pub retires_of : Account → ℕ
-retires_of a = a.retires
 
 -- Lists, and sums along one where one entry is replaced
 
@@ -109,17 +97,13 @@ module _ (accounts : List Account) (k : ℕ) (v : Account) (at : get_elem? accou
       → Knows t.pending w → ((j : ℕ) (d : Account) → j ≢ k → j < length accounts → Knows t.pending (get_or accounts j d))
       → Counts t (set accounts k w)
   turned w {s} {t} counts sums mine others =
-      let notes = counts.notes in
-      let holders = counts.holders in
-      let tickets = counts.tickets in
-      let freed = counts.freed in
       let taken = sum_by-put taken_of accounts k v w at in
       let posted = sum_by-put posted_of accounts k v w at in
       let holding = sum_by-put holding_of accounts k v w at in
-      let minted = sum_by-put minted_of accounts k v w at in
-      let redeemed = sum_by-put redeemed_of accounts k v w at in
-      let adopts = sum_by-put adopts_of accounts k v w at in
-      let retires = sum_by-put retires_of accounts k v w at in
+      let minted = sum_by-put (λ a. a.minted) accounts k v w at in
+      let redeemed = sum_by-put (λ a. a.redeemed) accounts k v w at in
+      let adopts = sum_by-put (λ a. a.adopts) accounts k v w at in
+      let retires = sum_by-put (λ a. a.retires) accounts k v w at in
       record { notes = omega arith; holders = omega arith; tickets = omega arith; known = all_put (Knows t.pending) accounts k w mine others; freed = omega arith }
 
   -- who holds the slot is the only one
@@ -163,12 +147,8 @@ kind_of_made kind p f h = refl
 
 by_append : (seat : ℕ) (h t : History) → by_seat seat (h ++ t) ≡ by_seat seat h ++ by_seat seat t
 by_append seat [] t = refl
-by_append seat (s ∷ h) t = by_case (s.0 == seat) (by_append seat h t)
-  where
-    by_case : (b : Bool) → by_seat seat (h ++ t) ≡ by_seat seat h ++ by_seat seat t
-        → (if b then s.1 ∷ by_seat seat (h ++ t) else by_seat seat (h ++ t)) ≡ (if b then s.1 ∷ by_seat seat h else by_seat seat h) ++ by_seat seat t
-    by_case true rest = ap (λ (es : List Exchange). s.1 ∷ es) rest
-    by_case false rest = rest
+by_append seat (s ∷ h) t =
+    dite (ℕ_discrete s.0 seat) (λ same. rw (eq-eqb s.0 seat same, by_append seat h t)) (λ other. rw (ne_eqb s.0 seat other, by_append seat h t))
 
 leads_on : (w v : WordState) (h : History) (s : ℕ × Exchange) → Leads w h v → s.1 ≡ made (kind_of s.1) v → Leads w (h ++ s ∷ []) (word_after (kind_of s.1) v)
 leads_on w v [] s leads is = (rw leads is, ap (word_after (kind_of s.1)) leads)
@@ -211,7 +191,7 @@ module _ (word : ℕ) (traces : List (List Exchange)) (rule : SlotRule word trac
 
 -- What a history makes of the accounts of all seats, one exchange after the other
 
--- by its exchanges in it the seat's account becomes what it is, and the seat keeps to what it holds; and it is one of these seats
+-- the seat is one of these, or has no exchange in the history; it keeps to what it holds; and its account becomes that in `ends`
 record Along (h : History) (accounts ends : List Account) (seat : ℕ) : Type 0 where
   pub among : length accounts ≤ seat → by_seat seat h ≡ []
   pub fair : Keeps (get_or accounts seat blank) (by_seat seat h)
@@ -254,11 +234,11 @@ counts_of_none n =
     let none : (f : Account → ℕ) → f blank ≡ 0 → sum_by f (replicate n blank) ≡ 0 = λ f is. (sum_by-replicate f n blank ∙ rw is (omega arith)) in
     let posted = none posted_of refl in
     let taken = none taken_of refl in
-    let minted = none minted_of refl in
-    let redeemed = none redeemed_of refl in
+    let minted = none (λ a. a.minted) refl in
+    let redeemed = none (λ a. a.redeemed) refl in
     let holding = none holding_of refl in
-    let adopts = none adopts_of refl in
-    let retires = none retires_of refl in
+    let adopts = none (λ a. a.adopts) refl in
+    let retires = none (λ a. a.retires) refl in
     record { notes = omega arith; holders = omega arith; tickets = omega arith; known = All-replicate (Knows 0) n blank (omega arith, (λ e. refl)); freed = omega arith }
 
 pub counts_of : (word : ℕ) (traces : List (List Exchange)) (rule : SlotRule word traces) → Counts rule.state (map account_of traces)
