@@ -106,12 +106,6 @@ histories_count slots words views rule slot within state is =
     let here = rule.slot_rules slot within in
     rw (same_word here.state state (sym here.reads ∙ is)) at (counts_of _ _ here)
 
-pub notes_are_kept : NotesAreKept
-notes_are_kept slots words views rule slot within state is = (histories_count slots words views rule slot within state is).notes
-
-pub tickets_are_needed : TicketsAreNeeded
-tickets_are_needed slots words views rule slot within state is = sym (histories_count slots words views rule slot within state is).tickets
-
 -- It holds at the start, and a seat that makes another keeps it
 
 -- the first seat, which may still make the others; and a seat that makes another, which has done nothing and makes none
