@@ -56,18 +56,8 @@ adopt_clears = record { does = λ w few. rw (bits w.free w.held).3 at (and_low w
 abbrev view_after : StepKind → WordState → ℕ → View → View
 view_after kind w slot v = record v { traces = set v.traces slot (trace_in slot v ++ made kind w ∷ []) }
 
--- what each kind of step asks of its seat
-abbrev pub MayDo : StepKind → ℕ → View → Type 0
-MayDo post slot v = sum_by posted_of (accounts_of v) < 2 ^ 56
-MayDo kind slot v = NeedsHolder kind (account_in slot v)
-
-may_hold : (kind : StepKind) (slot : ℕ) (v : View) → MayDo kind slot v → NeedsHolder kind (account_in slot v)
-may_hold post slot v may = tt
-may_hold claim slot v may = tt
-may_hold adopt slot v may = tt
-may_hold kind slot v may = may
-
-abbrev posts_by : StepKind → ℕ
+-- a post is one more
+abbrev pub posts_by : StepKind → ℕ
 posts_by post = 1
 posts_by kind = 0
 
@@ -82,31 +72,25 @@ posted_by kind p f h a = omega arith
 pub accounts_on : (v : View) (slot : ℕ) (e : Exchange) → map account_of (set v.traces slot (trace_in slot v ++ e ∷ [])) ≡ set (accounts_of v) slot (after e (account_in slot v))
 accounts_on v slot e = rw (map-set, after_both)
 
-module _ (s : WordState) (slot : ℕ) (v : View) (within : slot < length v.traces) where
-  few_on : (kind : StepKind) → MayDo kind slot v → sum_by posted_of (accounts_of v) ≤ 2 ^ 56 → sum_by posted_of (accounts_of v) + posts_by kind ≤ 2 ^ 56
-  few_on post may few = omega arith
-  few_on kind may few = omega arith
+still_few : (kind : StepKind) (s : WordState) (slot : ℕ) (v : View) → slot < length v.traces → sum_by posted_of (accounts_of v) + posts_by kind ≤ 2 ^ 56
+    → sum_by posted_of (map account_of (set v.traces slot (trace_in slot v ++ made kind s ∷ []))) ≤ 2 ^ 56
+still_few kind s slot v within few =
+    let next = after (made kind s) (account_in slot v) in
+    let put = rw (account_there v slot) at (sum_by-set posted_of (accounts_of v) slot next blank (rw length-map within)) in
+    let by = posted_by kind s.pending s.free s.held (account_in slot v) in
+    rw (accounts_on v slot (made kind s)) (omega arith)
 
-  still_few : (kind : StepKind) → MayDo kind slot v → sum_by posted_of (accounts_of v) ≤ 2 ^ 56
-      → sum_by posted_of (map account_of (set v.traces slot (trace_in slot v ++ made kind s ∷ []))) ≤ 2 ^ 56
-  still_few kind may few =
-      let next = after (made kind s) (account_in slot v) in
-      let put = rw (account_there v slot) at (sum_by-set posted_of (accounts_of v) slot next blank (rw length-map within)) in
-      let by = posted_by kind s.pending s.free s.held (account_in slot v) in
-      let most = few_on kind may few in
-      rw (accounts_on v slot (made kind s)) (omega arith)
-
-pub may_step : {kind : StepKind} {f : ℕ → ℕ} → Does kind f → (slots homes id : ℕ) (m : Me (Unit {0}) View) (slot : ℕ) → slot < slots → MayDo kind slot m.0
+pub may_step : {kind : StepKind} {f : ℕ → ℕ} → Does kind f → (slots homes id : ℕ) (m : Me (Unit {0}) View) (slot : ℕ) → slot < slots → NeedsHolder kind (account_in slot m.0)
+    → sum_by posted_of (accounts_of m.0) + posts_by kind ≤ 2 ^ 56
     → Allows (λ s. ClaimRule slots s.words s.views) homes id m slot f (λ n m'. (slots : ℕ) × KeepsRule kind slots slot n m.0 m'.0)
-may_step {kind} {f} exchanges slots homes id m slot within may table rule homes_are at below =
+may_step {kind} {f} exchanges slots homes id m slot within may few table rule homes_are at below =
     let v = m.0 in
     let here = rule.slot_rules slot within in
     let t = trace_in slot v ++ made kind here.state ∷ [] in
-    let few = each_at (λ (u : View). sum_by posted_of (accounts_of u) ≤ 2 ^ 56) _ _ at rule.unworn in
     let mine = at_map (trace_in slot) table.views id v at in
     let rule' = kept slots table.words table.views rule id v at slot within (word_of (word_after kind here.state)) t
-    (history_on _ (traces_at slot table.views) here id (trace_in slot v) mine kind (inside _ id _ mine) (may_hold kind slot v may))
-    (still_few here.state slot v (wide slots table.words table.views rule id v at slot within) kind may few) in
+    (history_on _ (traces_at slot table.views) here id (trace_in slot v) mine kind (inside _ id _ mine) may)
+    (still_few kind here.state slot v (wide slots table.words table.views rule id v at slot within) few) in
     let becomes = ap f here.reads ∙ exchanges.does here.state (few_pending slots table.words table.views rule slot within) in (
       view_after kind here.state slot v,
       keeps,

@@ -3,7 +3,7 @@ use Rattle.claims.proofs.Steps.{one, adopt_clears, one_le, makes_adopted, makes_
 use Rattle.claims.proofs.calls.Claims.adopt.Goals as goal
 
 pub fetch_and-found-requires : goal.fetch_and-found-requires
-fetch_and-found-requires c = (search rules, search rules, may_step adopt_clears _ _ _ _ _ (within c.self.invariant c.self.view_is c.requires.inside) tt)
+fetch_and-found-requires c = (search rules, search rules, may_step adopt_clears _ _ _ _ _ (within c.self.invariant c.self.view_is c.requires.inside) tt (omega arith))
 
 pub invariant_of-seat : goal.invariant_of-seat
 invariant_of-seat c =

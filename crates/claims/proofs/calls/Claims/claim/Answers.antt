@@ -3,7 +3,7 @@ use Rattle.claims.proofs.Steps.{one, claim_sets, makes_busy, makes_held, may_ste
 use Rattle.claims.proofs.calls.Claims.claim.Goals as goal
 
 pub fetch_or-found-requires : goal.fetch_or-found-requires
-fetch_or-found-requires c = (search rules, search rules, may_step claim_sets _ _ _ _ _ (within c.self.invariant c.self.view_is c.requires.inside) tt)
+fetch_or-found-requires c = (search rules, search rules, may_step claim_sets _ _ _ _ _ (within c.self.invariant c.self.view_is c.requires.inside) tt (omega arith))
 
 pub invariant_of-seat : goal.invariant_of-seat
 invariant_of-seat c =

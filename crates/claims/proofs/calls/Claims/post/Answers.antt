@@ -4,7 +4,7 @@ use Rattle.claims.proofs.calls.Claims.post.Goals as goal
 
 pub fetch_add-found-requires : goal.fetch_add-found-requires
 fetch_add-found-requires c =
-    (search rules, search rules, may_step post_adds _ _ _ _ _ (within c.self.invariant c.self.view_is c.requires.inside) (omega arith))
+    (search rules, search rules, may_step post_adds _ _ _ _ _ (within c.self.invariant c.self.view_is c.requires.inside) tt (omega arith))
 
 pub invariant_of-seat : goal.invariant_of-seat
 invariant_of-seat c =

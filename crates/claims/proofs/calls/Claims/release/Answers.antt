@@ -1,4 +1,4 @@
-use Rattle.std.proofs.Common.{rules, refl}
+use Rattle.std.proofs.Common.{rules, arith, refl}
 use Rattle.claims.proofs.Steps.{some_wait, release_clears, release_change, none_wait, may_step, state, reads, adds, stepped, knew_none, kept_beside, within, holds_now}
 use Rattle.claims.proofs.calls.Claims.release.Goals as goal
 
@@ -7,7 +7,7 @@ fetch_and-found-requires c = (
   search rules,
   search rules,
   may_step release_clears _ _ _ _ _ (within c.self.invariant c.self.view_is c.requires.inside)
-      (holds_now _ c.seat.inside.seat.me.0 c.seat.view_is c.requires.holder),
+      (holds_now _ c.seat.inside.seat.me.0 c.seat.view_is c.requires.holder) (omega arith),
 )
 
 pub invariant_of-seat : goal.invariant_of-seat

@@ -1,4 +1,4 @@
-use Rattle.std.proofs.Common.{rules, refl}
+use Rattle.std.proofs.Common.{rules, arith, refl}
 use Rattle.claims.proofs.Steps.{retire_sets, may_step, kept_beside, adds, stepped, within, holds_now}
 use Rattle.claims.proofs.calls.Claims.retire.Goals as goal
 
@@ -7,7 +7,7 @@ fetch_or-requires c = (
   search rules,
   search rules,
   may_step retire_sets _ _ _ _ _ (within c.self.invariant c.self.view_is c.requires.inside)
-      (holds_now _ c.seat.inside.seat.me.0 c.seat.view_is c.requires.holder),
+      (holds_now _ c.seat.inside.seat.me.0 c.seat.view_is c.requires.holder) (omega arith),
 )
 
 pub invariant_of-seat : goal.invariant_of-seat

@@ -1,4 +1,4 @@
-use Rattle.std.proofs.Common.{rules, refl, sym, ap}
+use Rattle.std.proofs.Common.{rules, arith, refl, sym, ap}
 use Rattle.claims.proofs.Steps.{take_keeps, may_step, state, reads, took_few, mark_kept, kept_beside, adds, stepped, known_few, within, holds_now}
 use Rattle.claims.specs.declared.view.Exchange.TheVariants as exchange
 use Rattle.claims.proofs.calls.Claims.take.Goals as goal
@@ -8,7 +8,7 @@ fetch_and-found-requires c = (
   search rules,
   search rules,
   may_step take_keeps _ _ _ _ _ (within c.self.invariant c.self.view_is c.requires.inside)
-      (holds_now _ c.seat.inside.seat.me.0 c.seat.view_is c.requires.holder),
+      (holds_now _ c.seat.inside.seat.me.0 c.seat.view_is c.requires.holder) (omega arith),
 )
 
 pub invariant_of-seat : goal.invariant_of-seat
