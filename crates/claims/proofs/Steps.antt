@@ -139,7 +139,7 @@ module _ {kind : StepKind} {slot found id id' : ℕ} {v w : View} {table table' 
   last = made kind state
 
   sized : length v.traces ≡ told.0
-  sized = each_at (λ (u : View). length u.traces ≡ told.0) _ _ told.1.mine told.1.before.one_trace_each
+  sized = each_at (Sized told.0) _ _ told.1.mine told.1.before.one_trace_each
 
   wide_traces : slot < length v.traces
   wide_traces = rw sized told.1.inside

@@ -8,6 +8,12 @@ spare_of v = v.spare
 abbrev pub holds_of : Account → Bool
 holds_of a = a.holds
 
+abbrev pub Sized : ℕ → View → Type 0
+Sized slots v = length v.traces ≡ slots
+
+abbrev pub Unworn : View → Type 0
+Unworn v = sum_by posted_of (accounts_of v) ≤ 2 ^ 56
+
 -- the account of this slot
 abbrev pub account_in : ℕ → View → Account
 account_in slot v = account_of (trace_in slot v)
@@ -43,7 +49,7 @@ module _ (slots : ℕ) (words : List ℕ) (views : List View) (rule : ClaimRule 
 
   module _ (k : ℕ) (v : View) (at : get_elem? views k ≡ some v) (slot : ℕ) (lt : slot < slots) where
     sized : length v.traces ≡ slots
-    sized = each_at (λ u. length u.traces ≡ slots) _ _ at rule.one_trace_each
+    sized = each_at (Sized slots) _ _ at rule.one_trace_each
 
     pub wide : slot < length v.traces
     wide = rw sized lt
@@ -58,7 +64,7 @@ module _ (slots : ℕ) (words : List ℕ) (views : List View) (rule : ClaimRule 
         let many = length-set views k w in
         record {
           one_word_each = rw length-set rule.one_word_each;
-          one_trace_each = All-set (λ u. length u.traces ≡ slots) views k w (rw length-set sized) rule.one_trace_each;
+          one_trace_each = All-set (Sized slots) views k w (rw length-set sized) rule.one_trace_each;
           slot_rules = λ j j_lt. dite (ℕ_discrete j slot)
               (λ same. rw (same, get_or-set_same words slot n 0 (rw rule.one_word_each lt), map-set, get_or-set_same v.traces slot t [] wide) here)
               (λ other. rw (
@@ -67,7 +73,7 @@ module _ (slots : ℕ) (words : List ℕ) (views : List View) (rule : ClaimRule 
                 get_or-set_other v.traces slot j t [] other,
                 set_again (traces_at j views) k (trace_in j v) (at_map (trace_in j) views k v at),
               ) (rule.slot_rules j j_lt));
-          unworn = All-set (λ u. sum_by posted_of (accounts_of u) ≤ 2 ^ 56) views k w few rule.unworn;
+          unworn = All-set Unworn views k w few rule.unworn;
           few_seats = omega arith;
         }
 
@@ -83,9 +89,9 @@ pub one_holder_each : OneHolderEach
 one_holder_each slots words views rule slot within seat other seat_holds other_holds =
     let here = rule.slot_rules slot within in
     let accounts = column slot views in
-    dite (ℕ_discrete other seat) sym (λ ne. absurd (
-    let no : true ≡ false = sym other_holds ∙ alone accounts seat (get_or accounts seat blank) (at_inside accounts seat blank (holds_inside accounts seat seat_holds))
-    here.state seat_holds (counts_of _ _ here).holders other blank ne (holds_inside accounts other other_holds) in cc))
+    dite (ℕ_discrete other seat) sym (λ ne. cc (
+    alone accounts seat (get_or accounts seat blank) (at_inside accounts seat blank (holds_inside accounts seat seat_holds))
+    here.state seat_holds (counts_of _ _ here).holders other blank ne (holds_inside accounts other other_holds)))
 
 -- a word says one thing
 same_word : (w v : WordState) → word_of w ≡ word_of v → w ≡ v
@@ -149,9 +155,9 @@ module _ (slots : ℕ) (spare : ℕ) where
       let many = length-replicate seats v in
       record {
         one_word_each = length-replicate slots 3;
-        one_trace_each = All-replicate (λ u. length u.traces ≡ slots) seats v (length-replicate slots []);
+        one_trace_each = All-replicate (Sized slots) seats v (length-replicate slots []);
         slot_rules = λ slot lt. rw (get_or-replicate {A = ℕ} slots slot 3 0 lt, unused_traces slots spare seats slot) (unused_slot seats);
-        unworn = All-replicate (λ u. sum_by posted_of (accounts_of u) ≤ 2 ^ 56) seats v (omega arith);
+        unworn = All-replicate Unworn seats v (omega arith);
         few_seats = omega arith;
       }
 
@@ -171,8 +177,8 @@ may_split slots id v some_spare table rule at =
     let views = table.views in
     let left = one_spare_less v in
     let right = newcomer v in
-    let sized = each_at (λ (u : View). length u.traces ≡ slots) _ _ at rule.one_trace_each in
-    let posts = each_at (λ (u : View). sum_by posted_of (accounts_of u) ≤ 2 ^ 56) _ _ at rule.unworn in
+    let sized = each_at (Sized slots) _ _ at rule.one_trace_each in
+    let posts = each_at Unworn _ _ at rule.unworn in
     let none : sum_by posted_of (accounts_of right) ≡ 0 = nothing_posted (length v.traces) in
     let spares = sum_by-put spare_of views id v left at in
     let spares' = sum_by_push spare_of (set views id left) right in
@@ -181,12 +187,12 @@ may_split slots id v some_spare table rule at =
     let many' = length-set views id left in
     record {
       one_word_each = rule.one_word_each;
-      one_trace_each = All-push (λ u. length u.traces ≡ slots) (set views id left) right (All-set (λ u. length u.traces ≡ slots) views id left sized rule.one_trace_each)
+      one_trace_each = All-push (Sized slots) (set views id left) right (All-set (Sized slots) views id left sized rule.one_trace_each)
           (length-replicate (length v.traces) [] ∙ sized);
       slot_rules = λ slot lt. rw (map-append, map-set, set_again (traces_at slot views) id (trace_in slot v) (at_map (trace_in slot) views id v at), same_at)
           (one_more (get_or table.words slot 0) (traces_at slot views) (rule.slot_rules slot lt));
-      unworn = All-push (λ u. sum_by posted_of (accounts_of u) ≤ 2 ^ 56) (set views id left) right
-          (All-set (λ u. sum_by posted_of (accounts_of u) ≤ 2 ^ 56) views id left posts rule.unworn) (omega arith);
+      unworn = All-push Unworn (set views id left) right
+          (All-set Unworn views id left posts rule.unworn) (omega arith);
       few_seats = omega arith;
     }
 
@@ -210,16 +216,14 @@ no_history [] w none leads = sym leads
 no_history (s ∷ rest) w none leads =
     let some : s.1 ∷ by_seat s.0 rest ≡ [] = rw (eq-eqb s.0 s.0 refl) at (none s.0) in cc
 
--- the word that unused seats leave
-word_is_3 : (n word : ℕ) → SlotRule word (replicate n []) → word ≡ 3
-word_is_3 n word rule = rule.reads ∙ ap word_of (no_history rule.history rule.state (λ seat. rule.mine seat ∙ same_at n seat []) rule.folds)
-
 -- the words that unused seats leave
 words_are_3 : (slots seats : ℕ) (words : List ℕ) → ClaimRule slots words (replicate seats (unused_view slots 0)) → words ≡ replicate slots 3
 words_are_3 slots seats words rule =
     ext_get_or 0 words (replicate slots 3) (rule.one_word_each ∙ sym (length-replicate slots 3)) (λ slot lt. (
     let inside : slot < slots = rw rule.one_word_each at lt in
-    rw (get_or-replicate {A = ℕ} slots slot 3 0 inside) (word_is_3 seats (get_or words slot 0) (rw (unused_traces slots 0 seats slot) at (rule.slot_rules slot inside)))))
+    let here = rule.slot_rules slot inside in
+    let none = λ (seat : ℕ). rw (unused_traces slots 0 seats slot, same_at) at (here.mine seat) in
+    rw (get_or-replicate {A = ℕ} slots slot 3 0 inside) (here.reads ∙ ap word_of (no_history here.history here.state none here.folds))))
 
 -- the rule holds of words that are all 3 and of unused seats, and of no other words
 pub opens_lawful : (slots seats : ℕ) (table : TableId) (all : List SeatState) → table.words ≡ slots → all ≡ replicate seats (fresh_seat table) → seats ≤ 32 → OpensLawful slots all
