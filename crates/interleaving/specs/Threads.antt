@@ -208,13 +208,10 @@ planned st t left c =
 abbrev pub heard : ℕ → Connection → Connection
 heard notes c = if some_wait notes then record c { pair = noted c.pair } else c
 
-abbrev pub notes_taken : System → ℕ → Thread → Connection → System
-notes_taken st i t c = with_thread (exchanged st word.take) i (planned st t t.left (heard st.word.pending c))
-
 -- without a connection out, which never happens, the notes are thrown away
 abbrev pub taking : System → ℕ → Thread → List Act → Option Connection → System
 taking st i t rest None = with_thread (exchanged st word.take) i (goes_on t rest)
-taking st i t rest (Some c) = notes_taken st i t c
+taking st i t rest (Some c) = with_thread (exchanged st word.take) i (planned st t t.left (heard st.word.pending c))
 
 abbrev pub put_in : System → ℕ → Thread → List Act → System
 put_in st i t rest = with_thread (record st { place = t.out }) i (record t { out = None; todo = rest })

@@ -1,9 +1,146 @@
--- What each step of the network, the system, the poller or the wire does, and what holds after any list of them.
-use Rattle.std.{proofs.{Common.{◌≡◌, ◌≢◌, ◌⊎◌, ◌+◌, ◌<◌, Bool, true, false, not, ◌&&◌, ◌||◌, List, [], ◌∷◌, ◌++◌, ℕ, zero, suc, map, take, length, Contains, Option, Some, None, option_map, refl, sym, ap, ◌∙◌, inl, inr, append-nil, append_assoc, length-append, lt-ltb, ltb-true, arith}, lemmas.{Bool.{not-true, or_cases, or_left, or_parts, or_right}, List.Elements.Contains-push, Option.option_and_then_some}}, specs.{Cmp.{first_so, second_so}, Prelude.if◌then◌else◌}}
-use Rattle.kernel_model.specs.{Ends.{EndState, is_nonempty, is_readable, is_writable, new_room}, Outcome.{Told, guard}, Replies.{after_read, is_count}, declared.reply.Reply.Reply}
-use Rattle.readiness.{specs.{Delays.{Called, Came, Event, Gone, GotRoom, IsOnItsWay, MissesNothing, Seen, Stray, Taken, WillBeTold, WiresAreDelayed, WiresMissNothing, at_call, at_telling, came_in, events, happened, is_late, late_after, late_call, late_telling, meanwhile, replies_in, still_late, unseen}, Machine.{Bytes, Call, Calls, Change, Comes, Error, Fin, Handed, HasRoom, Join, Looks, Old, Polled, Read, Shut, Spurious, Step, Tells, Unasked, Vanished, Way, Write, after_call, answer_of, answers_of, change_in, change_of, changes_of, is_quiet, may_call, opening, reads_after, run, step, tells}}, proofs.Late.{Aside, Asleep, Behind, Caught, Goes, Held, MayBe, Prompt, Rests, Settled, Settles, Waits, allowed, aside, caught, guarded, is_beside, prompt, same_socket, settle_aside, settle_more, shown}}
+-- What is late, the socket as it is once that has come, what every step keeps, and so what holds after any list of steps.
+use Rattle.std.{proofs.{Common.{◌≡◌, ◌⊎◌, Bool, true, false, ◌||◌, List, [], ◌∷◌, ◌++◌, ℕ, map, Option, Some, refl, ap, ◌∙◌, inl, inr, ◌≢◌, not, ◌&&◌, zero, suc, take, length, Contains, None, option_map, sym, append-nil, append_assoc, length-append, lt-ltb, ltb-true, arith}, lemmas.{Bool.{or_left, not-true, or_cases, or_parts, or_right}, List.Elements.Contains-push, Option.option_and_then_some}}, specs.{Prelude.if◌then◌else◌, Cmp.{first_so, second_so}}}
+use Rattle.kernel_model.specs.{Ends.{EndState, is_readable, is_nonempty, is_writable, new_room}, Outcome.{Told, guard}, declared.reply.Reply.Reply, Replies.{after_read, is_count}}
+use Rattle.readiness.specs.{Delays.{Came, Event, IsOnItsWay, Seen, WillBeTold, came_in, events, replies_in, Called, Gone, GotRoom, MissesNothing, Stray, Taken, WiresAreDelayed, WiresMissNothing, at_call, at_telling, happened, is_late, late_after, late_call, late_telling, meanwhile, still_late, unseen}, Machine.{Bytes, Call, Change, Error, Fin, Step, Way, answer_of, change_in, change_of, Calls, Comes, Handed, HasRoom, Join, Looks, Old, Polled, Read, Shut, Spurious, Tells, Unasked, Vanished, Write, after_call, answers_of, changes_of, is_quiet, may_call, opening, reads_after, run, step, tells}}
 use Rattle.token.specs.declared.{side.Side.Side, kind.Kind.Kind}
 use Rattle.kernel_model.specs.declared.reply.Reply.TheVariants as reply
+
+-- what a test let through
+guarded : {X : Type 0} (b : Bool) (x y : X) → guard b x ≡ Some y → (b ≡ true) × (y ≡ x)
+guarded true x y h = (refl, cc)
+guarded false x y h = cc
+
+allowed : {X : Type 0} (b : Bool) (x : X) → b ≡ true → guard b x ≡ Some x
+allowed b x h = rw h refl
+
+-- ---- the socket once these have come
+
+data Settles : EndState → List Change → EndState → Type 0 where
+  Settled : {e : EndState} → Settles e [] e
+  After : {e f : EndState} {c : Change} {late : List Change} (t : Told EndState Bool) → change_of e c ≡ Some t → Settles t.value late f → Settles e (c ∷ late) f
+
+-- one change more is late
+settle_more : {e f : EndState} {late : List Change} (c : Change) (t : Told EndState Bool) → Settles e late f → change_of f c ≡ Some t → Settles e (late ++ c ∷ []) t.value
+settle_more c t Settled is = After t is Settled
+settle_more c t (After u first rest) is = After u first (settle_more c t rest is)
+
+-- while nothing is late, the two sockets are one
+same_socket : {e f : EndState} {late : List Change} → Settles e late f → late ≡ [] → e ≡ f
+same_socket Settled none = refl
+same_socket (After t is rest) none = cc
+
+-- What is late concerns reading: the fields of the other direction are the same before and after, if no error is late
+record IsBeside (f e : EndState) : Type 0 where
+  room : e.room ≡ f.room
+  err : f.err ≡ false → e.err ≡ false
+  write_armed : f.err ≡ false → e.write_armed ≡ f.write_armed
+
+beside_one : (c : Change) (e : EndState) (t : Told EndState Bool) → change_of e c ≡ Some t → IsBeside t.value e
+beside_one (Bytes bytes) e t is = rw (guarded _ _ t is).1 (search)
+beside_one Fin e t is = rw (guarded _ _ t is).1 (search)
+beside_one Error e t is = rw (guarded _ _ t is).1 (record { room = refl; err = λ h. cc; write_armed = λ h. cc })
+
+is_beside : {e f : EndState} {late : List Change} → Settles e late f → IsBeside f e
+is_beside Settled = search
+is_beside (After {e = e} {c = c} t is rest) =
+    let a = beside_one c e t is in
+    let b = is_beside rest in
+    record { room = a.room ∙ b.room; err = λ h. a.err (b.err h); write_armed = λ h. a.write_armed (b.err h) ∙ b.write_armed h }
+
+-- What happens to the other direction: room comes, a write takes bytes or would block, or sending is shut down
+record Aside : Type 0 where
+  room : Bool → Bool
+  armed : Bool → Bool
+  taken : List ℕ → List ℕ
+  shut : Bool → Bool
+
+abbrev aside : Aside → EndState → EndState
+aside a e = record e { room = a.room e.room; write_armed = a.armed e.write_armed; taken = a.taken e.taken; shut = a.shut e.shut }
+
+-- an error leaves nobody waiting for room
+abbrev MayBe : Aside → EndState → Type 0
+MayBe a f = (a.armed false ≡ false) ⊎ (f.err ≡ false)
+
+one_aside : (a : Aside) (c : Change) (e : EndState) (t : Told EndState Bool) → MayBe a t.value → change_of e c ≡ Some t
+    → (told : Bool) × (change_of (aside a e) c ≡ Some (record { value = aside a t.value; told = told }))
+one_aside a (Bytes bytes) e t may is = let g = guarded _ _ t is in (e.read_armed, rw (g.0, g.1) refl)
+one_aside a Fin e t may is = let g = guarded _ _ t is in (e.read_armed, rw (g.0, g.1) refl)
+one_aside a Error e t (inl none) is = let g = guarded _ _ t is in (e.read_armed || a.armed e.write_armed, rw (g.0, g.1, none) refl)
+one_aside a Error e t (inr sound) is = let no = rw (guarded _ _ t is).1 at sound in cc
+
+may_before : {e f : EndState} {late : List Change} (a : Aside) → Settles e late f → MayBe a f → MayBe a e
+may_before a d (inl none) = inl none
+may_before a d (inr sound) = inr ((is_beside d).err sound)
+
+settle_aside : {e f : EndState} {late : List Change} (a : Aside) → MayBe a f → Settles e late f → Settles (aside a e) late (aside a f)
+settle_aside a may Settled = Settled
+settle_aside a may (After {e = e} {c = c} t is rest) =
+    let one = one_aside a c e t (may_before a rest may) is in
+    After (record { value = aside a t.value; told = one.0 }) one.1 (settle_aside a may rest)
+
+-- ---- what happens where no wire answers by itself
+
+-- what a list of events leaves, answers and brings
+abbrev shown : Seen → List Event → Option Seen × List (Call × Reply) × List Change
+shown s es = (events s es, replies_in es, came_in es)
+
+-- all that is late comes, in order, before whatever happens then
+record Caught (e f : EndState) (was : Bool) (late : List Change) : Type 0 where
+  queued : Bool
+  shows : (es : List Event) → shown (record { socket = e; queued = was }) (map Came late ++ es)
+      ≡ (events (record { socket = f; queued = queued }) es, replies_in es, late ++ came_in es)
+  keeps : was ≡ true → queued ≡ true
+  same : late ≡ [] → queued ≡ was
+
+caught : {e f : EndState} {late : List Change} (was : Bool) → Settles e late f → Caught e f was late
+caught was Settled = record { queued = was; shows = λ es. refl; keeps = λ h. h; same = λ h. refl }
+caught was (After {c = c} t is rest) =
+    let r = caught (was || t.told) rest in
+    record {
+      queued = r.queued;
+      shows = λ es. rw is (ap (λ x. (x.0, x.1, c ∷ x.2)) (r.shows es));
+      keeps = λ h. r.keeps (or_left was t.told h);
+      same = λ none. cc;
+    }
+
+-- ---- what every step keeps, of a wire's socket and of the same socket where no wire answers by itself
+
+-- there is nothing to read, and the system reports what comes next
+record Rests (e : EndState) : Type 0 where
+  empty : is_readable e ≡ false
+  armed : e.read_armed ≡ true
+
+-- the wire does not read, and there is something to read, whose report will be passed on to it
+record Asleep (w : Way) : Type 0 where
+  reads : w.reads ≡ false
+  told : w.told ≡ false
+  readable : is_readable w.socket ≡ true
+  coming : WillBeTold w
+
+-- nothing is late but while the wire is asleep
+data Waits (w : Way) (late : List Change) : Type 0 where
+  Prompt : late ≡ [] → Waits w late
+  Behind : Asleep w → Waits w late
+
+prompt : {w : Way} {late : List Change} → (Asleep w → ⊥) → Waits w late → late ≡ []
+prompt awake (Prompt none) = none
+prompt awake (Behind asleep) = absurd (awake asleep)
+
+record Held (w : Way) (late : List Change) (s : Seen) : Type 0 where
+  due : Settles s.socket late w.socket
+  waits : Waits w late
+  rests : w.reads ≡ false → w.told ≡ false → Rests s.socket
+  queued : s.queued ≡ true → IsOnItsWay w
+  owed : w.owed ≡ true → s.queued ≡ true
+
+-- A step, after which the wire's socket is as in v: what happens where no wire answers by itself may happen there, and
+-- the same is kept
+record Goes (v : Way) (s : Seen) (late later : List Change) (happens : List Event) (made : Step) : Type 0 where
+  next : Seen
+  came : List Change
+  shows : (more : List Event) → shown s (happens ++ more) ≡ (events next more, answer_of made ++ replies_in more, came ++ came_in more)
+  changes : came ++ later ≡ late ++ change_in made
+  kept : Held v later next
 
 some_is : {X : Type 0} {x y : X} → Some x ≡ Some y → y ≡ x
 some_is h = cc
