@@ -16,7 +16,7 @@ impl World {
     ///
     /// In a world that a run reaches, the event changes the claim word of its slot by the steps of the event's kinds
     /// in order, and no other slot's, and a ticket is made exactly when a step says so (`words`).
-    #[tactic(auto, using(crate::proofs::TurnsWords::words_met))]
+    #[tactic(auto, using(crate::proofs::Headline::words_met))]
     pub fn step(&mut self, event: &Event) -> Result<(), Refusal>
         ensures event { Meets (step self.old event.now) self.old self.new result }
         ensures memory { IsErrOf result Refusal.NoMemory → IsTrue (may_allocate self.old event.now) }
@@ -31,7 +31,7 @@ impl World {
     /// If not all of them can happen, the answer is the index of the first that fails, and why: `NotAllowed` if it
     /// cannot happen after those before it; `NoMemory` if it can, but a list could not grow for it. The world is then
     /// the one after the events before it.
-    #[tactic(auto, using(crate::proofs::Runs::run_more, std::proofs::lemmas::Option::gets, std::proofs::lemmas::Grind::common_steps))]
+    #[tactic(auto, using(crate::proofs::Headline::run_more, std::proofs::lemmas::Option::gets, std::proofs::lemmas::Grind::common_steps))]
     pub fn play(&mut self, events: &[Event]) -> Result<(), (usize, Refusal)>
         ensures world { OnOk result (run self.old events.now ≡ Some self.new) }
         ensures fails { IfErr result (λ e. FailsAt self.old self.new events.now e.0 e.1) }

@@ -25,7 +25,7 @@ impl Model for Tape {
     ghost invariant = { λ t. IsRun (record { limits = t.limits; events = t.events.items; world = t.world }) };
 }
 
-#[tactic(auto, using(crate::proofs::Runs::run_and))]
+#[tactic(auto, using(crate::proofs::Headline::run_and))]
 impl Tape {
     ghost use Rattle.std.specs.Prelude.{◌≡◌, [], ◌∷◌, ◌++◌, IfOk, OnOk, OnErr};
     ghost use Rattle.world.specs.States.{IsWithinLimits};

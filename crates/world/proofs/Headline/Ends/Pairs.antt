@@ -1,16 +1,278 @@
--- A worker's call. Its answer, for a pair and the end on which it is made: the bytes keep their order, an end comes
--- last, and a flag that goes down is covered. The kernel changes at that end, and the pair takes the answer in.
-use Rattle.world.{proofs.{Prelude.{Bool, List, None, Option, Some, [], ap, append_assoc, arith, drop, false, if◌then◌else◌, inr, le_refl, leb-true, length, ltb-true, nat_lt, not, option_map, refl, slice_get, slice_set, subst, sym, take-append-drop, true, ℕ, ◌&&◌, ◌++◌, ◌<◌, ◌||◌, ◌∙◌, ◌∷◌, ◌≡◌, ◌≤◌, drop-nil, nat_tests, nil_from_length, first_so, second_so, option_or, nat_le, take-front, waiting-dropped, Stream, closed, dropped, ended, front, taken_in, waiting, EndState, is_nonempty, is_readable, is_writable, KernelState, end_at, same, guard, after_join, after_read, after_shut, after_write, bytes_read, is_count, Sockets, Reply, AnswersNext, Standing, TellsOf, call_for, is_drained, is_open, is_waiting, next_call, offer, PairState, flags_of, is_live, stream_of, verdict, after, fits, moves, Call, Join, Read, Shut, Write, Flags, Fault, Failed, inward, opposite, Direction, Down, Up, Kind, Side, Client, Target, OpenConnection, descriptor, made, plain, replied, told_of, CoreLaws, failure, failure_by, fault_of, socket_of, SlotState, WorkerState, State, OpenSlot, call, connection_at, EndCovered, Doing, Holds, Connection}, TurnsKept.{Kept, kept_some, kept_none, kept_bind, kept_map, kept_when, kept_guard, kept_then, kept_at, kept_next}, EndsHeld.{History, same_before, DirectionOk, PairOk, token_at, is_pending, registered, ConnectionOk, SlotOk, AllOk, cover_flag, cover_armed, by_side, by_direction, with_socket, pair_more}, EndsFrame.{keep_place, ends_there, others_kept}, EndsShapes.{Continues, Stays, Shape, Changed, Calm, kept_calm, same_clock, connection_stays}}, specs.{Calls.called, Steps.slot_call}}
-use Rattle.std.proofs.Common.{take}
-use Rattle.kernel_model.specs.declared.reply.Reply.TheVariants as reply
-use Rattle.relay_core.specs.Replies as answer
-use Rattle.world.specs.declared.event.Event.TheVariants as event
-use Rattle.world.specs.declared.event.Act.TheVariants as act
-use Rattle.world.specs.Steps
+-- Pairs.
+pub mod Holders
+pub use Rattle.flow.specs.Stream.{waiting}
+unfoldable pub use Holders.*
+
+-- What is kept
+
+-- the bytes that are to go on from a side so far, by slot, generation and side: the preamble of its direction, and then
+-- those that came to it
+abbrev pub History : Type 0
+History = ℕ → ℕ → Side → List ℕ
+
+-- the preamble of the direction whose source a side is
+abbrev pub before : Limits → Side → List ℕ
+before l Client = l.lead
+before l Target = []
+
+-- the same limits have the same preambles
+pub same_before : {l m : Limits} (side : Side) → m ≡ l → before l side ≡ before m side
+same_before side same = ap (λ (k : Limits). before k side) (sym same)
+
+-- these bytes are the sent bytes, then all that wait, then the unread bytes
+abbrev pub KeepsAll : List ℕ → Stream → EndState → EndState → Type 0
+KeepsAll gave stream x y = gave ≡ y.taken ++ (waiting stream ++ x.unread)
+
+-- a direction: the bytes keep their order, the end that was seen was the source's last word, and it was
+-- passed on only after every byte
+pub record DirectionOk (gave : List ℕ) (stream : Stream) (x y : EndState) : Type 0 where
+  pub bytes : KeepsAll gave stream x y
+  pub ended : stream.end_seen ≡ true → x.fin ≡ true
+  pub read : stream.end_seen ≡ true → x.unread ≡ []
+  pub last : IsClosedLast stream
+
+-- a pair and its two ends, whatever is reported of them
+pub record PairOk (history : Side → List ℕ) (reported : Side → Bool) (pair : PairState) (ends : Sockets) : Type 0 where
+  pub covered : (side : Side) → EndCovered (flags_of pair side) (socket_of ends side) (reported side)
+  pub directions : (d : Direction) → DirectionOk (history (source d)) (stream_of pair d) (socket_of ends (source d)) (socket_of ends (destination d))
+
+-- the token of one side of the connection in slot s of generation g
+abbrev pub token_at : ℕ → Side → ℕ → EndName
+token_at s side g = record { slot = s; side = side; generation = g }
+
+-- a report of that end is queued or in the batch
+abbrev pub is_pending : State → EndName → Bool
+is_pending st n = has (name.End n) st.kernel.queue || has (name.End n) st.batch
+
+-- an end that is open under that token
+abbrev pub registered : ℕ → ℕ → Side → EndState → Registered
+registered s g side e = record { token = token_at s side g; socket = e }
+
+-- the connection in slot s, of generation g and with these notes: both of its ends are open under its
+-- tokens, and the pair fits them
+pub record EndsOk (past : History) (st : State) (s g : ℕ) (notes : List ℕ) (c : Connection) : Type 0 where
+  pub generation : c.pair.generation ≡ g
+  pub up : c.pair.up.capacity ≡ st.limits.ring
+  pub down : c.pair.down.capacity ≡ st.limits.ring
+  pub ends : Sockets
+  pub there : (side : Side) → end_of st c side ≡ Some (registered s g side (socket_of ends side))
+  pub pair : PairOk (past s g) (λ side. is_pending st (token_at s side g) || is_nonempty notes) c.pair ends
+
+-- a slot: the poller's table has its generation, a later one has its preamble alone, and its connection is in order
+pub record PlaceOk (past : History) (st : State) (s : ℕ) (p : SlotState) : Type 0 where
+  pub entry : slice_get st.table s ≡ Some p.generation
+  pub later : (g : ℕ) (side : Side) → p.generation < g → past s g side ≡ before st.limits side
+  pub connection : (c : Connection) → p.connection ≡ Some c → EndsOk past st s p.generation p.notes c
+
+pub record AllOk (past : History) (st : State) : Type 0 where
+  pub each : (s : ℕ) (p : SlotState) → slice_get st.slots s ≡ Some p → PlaceOk past st s p
+
+-- Flags
+
+-- more may be reported
+cover_more : (flag armed ready r q : Bool) → (r ≡ true → q ≡ true) → is_covered flag armed ready r ≡ true → is_covered flag armed ready q ≡ true
+cover_more true armed ready r q more h = refl
+cover_more false true true r q more h = more h
+cover_more false false true r q more h = more h
+cover_more false true false r q more h = refl
+cover_more false false false r q more h = absurd (cc)
+
+pub end_more : {flags : Flags} {e : EndState} {r q : Bool} → (r ≡ true → q ≡ true) → EndCovered flags e r → EndCovered flags e q
+end_more {flags} {e} {r} {q} more h = record {
+  read = cover_more flags.read e.read_armed (is_readable e) r q more h.read;
+  write = cover_more flags.write e.write_armed (is_writable e) r q more h.write;
+}
+
+-- it gets ready, and a report comes where it was armed
+cover_report : (flag armed ready r told now : Bool) → (armed ≡ true → told ≡ true) → now ≡ true → is_covered flag armed ready r ≡ true → is_covered flag false now (r || told) ≡ true
+cover_report flag armed ready r told false tells is h = absurd (cc)
+cover_report true armed ready r told true tells is h = refl
+cover_report false armed ready true told true tells is h = refl
+cover_report false true ready false told true tells is h = tells refl
+cover_report false false true false told true tells is h = absurd (cc)
+cover_report false false false false told true tells is h = absurd (cc)
+
+-- nothing is known of a report where it isn't ready
+cover_unready : (flag armed ready r q : Bool) → ready ≡ false → is_covered flag armed ready r ≡ true → is_covered flag armed ready q ≡ true
+cover_unready true armed ready r q none h = refl
+cover_unready false true false r q none h = refl
+cover_unready false false false r q none h = absurd (cc)
+cover_unready false armed true r q none h = absurd (cc)
+
+pub end_unready : {flags : Flags} {e : EndState} {r q : Bool} → is_readable e ≡ false → is_writable e ≡ false → EndCovered flags e r → EndCovered flags e q
+end_unready {flags} {e} {r} {q} unread unwritten h = record {
+  read = cover_unready flags.read e.read_armed (is_readable e) r q unread h.read;
+  write = cover_unready flags.write e.write_armed (is_writable e) r q unwritten h.write;
+}
+
+-- the flag is up
+pub cover_flag : (flag armed ready r : Bool) → flag ≡ true → is_covered flag armed ready r ≡ true
+cover_flag true armed ready r up = refl
+cover_flag false armed ready r up = absurd (cc)
+
+-- it is armed and not ready
+pub cover_armed : (flag ready r : Bool) → ready ≡ false → is_covered flag true ready r ≡ true
+cover_armed true ready r none = refl
+cover_armed false false r none = refl
+cover_armed false true r none = absurd (cc)
+
+-- Pairs
+
+pub by_side : (P : Side → Type 0) → P Client → P Target → (side : Side) → P side
+by_side P client target Client = client
+by_side P client target Target = target
+
+pub by_direction : (P : Direction → Type 0) → P Up → P Down → (d : Direction) → P d
+by_direction P up down Up = up
+by_direction P up down Down = down
+
+abbrev pub with_socket : Sockets → Side → EndState → Sockets
+with_socket ends Client e = record ends { client = e }
+with_socket ends Target e = record ends { target = e }
+
+-- the two ends of a direction keep what they have where the history does
+pub same_gave : {gave other : List ℕ} {stream : Stream} {x y : EndState} → other ≡ gave → DirectionOk gave stream x y → DirectionOk other stream x y
+same_gave e ok = rw e ok
+
+pub pair_more : {h i : Side → List ℕ} {r q : Side → Bool} {p : PairState} {ends : Sockets} → PairOk h r p ends → ((side : Side) → i side ≡ h side)
+    → ((side : Side) → r side ≡ true → q side ≡ true) → PairOk i q p ends
+pair_more ok same more = record {
+  covered = λ side. end_more (more side) (ok.covered side);
+  directions = λ d. same_gave (same (source d)) (ok.directions d);
+}
+
+-- nothing can be done at one side
+pub pair_unready : {h : Side → List ℕ} {r q : Side → Bool} {p : PairState} {ends : Sockets} (side : Side) → PairOk h r p ends
+    → is_readable (socket_of ends side) ≡ false → is_writable (socket_of ends side) ≡ false
+    → (r (other_side side) ≡ true → q (other_side side) ≡ true) → PairOk h q p ends
+pair_unready Client ok unread unwritten more = record {
+  covered = by_side _ (end_unready unread unwritten (ok.covered Client)) (end_more more (ok.covered Target));
+  directions = ok.directions;
+}
+pair_unready Target ok unread unwritten more = record {
+  covered = by_side _ (end_more more (ok.covered Client)) (end_unready unread unwritten (ok.covered Target));
+  directions = ok.directions;
+}
+
+-- what a change of the network, that brings these bytes, does to an end
+pub record IsChange (bytes : List ℕ) (e : EndState) (t : Told EndState Bool) : Type 0 where
+  pub unread : t.value.unread ≡ e.unread ++ bytes
+  pub taken : t.value.taken ≡ e.taken
+  pub fin : e.fin ≡ true → t.value.fin ≡ true
+  pub none : e.fin ≡ true → bytes ≡ []
+  pub covered : (flags : Flags) (r : Bool) → EndCovered flags e r → EndCovered flags t.value (r || t.told)
+
+arrived : (gave bytes : List ℕ) (stream : Stream) (x y z : EndState) → z.unread ≡ x.unread ++ bytes → KeepsAll gave stream x y
+    → KeepsAll (gave ++ bytes) stream z y
+arrived gave bytes stream x y z more kept = rw (kept, more)
+    (append_assoc y.taken (waiting stream ++ x.unread) bytes ∙ ap (λ (all : List ℕ). y.taken ++ all) (append_assoc (waiting stream) x.unread bytes))
+
+-- at the source of a direction
+source_changed : {gave bytes : List ℕ} {stream : Stream} {x y : EndState} {t : Told EndState Bool} → IsChange bytes x t
+    → DirectionOk gave stream x y → DirectionOk (gave ++ bytes) stream t.value y
+source_changed {gave} {bytes} {stream} {x} {y} {t} change ok = record {
+  bytes = arrived gave bytes stream x y t.value change.unread ok.bytes;
+  ended = λ h. change.fin (ok.ended h);
+  read = λ h. rw (change.unread, ok.read h, change.none (ok.ended h)) refl;
+  last = ok.last;
+}
+
+-- at its destination
+destination_changed : {gave bytes : List ℕ} {stream : Stream} {x y : EndState} {t : Told EndState Bool} → IsChange bytes y t
+    → DirectionOk gave stream x y → DirectionOk gave stream x t.value
+destination_changed change ok = record {
+  bytes = rw (change.taken) (ok.bytes);
+  ended = ok.ended;
+  read = ok.read;
+  last = ok.last;
+}
+
+pub pair_changed : {h i : Side → List ℕ} {r q : Side → Bool} {p : PairState} {ends : Sockets} (side : Side) {bytes : List ℕ} {t : Told EndState Bool} → PairOk h r p ends
+    → IsChange bytes (socket_of ends side) t → i side ≡ h side ++ bytes → i (other_side side) ≡ h (other_side side)
+    → ((s : Side) → r s ≡ true → q s ≡ true) → (t.told ≡ true → q side ≡ true)
+    → PairOk i q p (with_socket ends side t.value)
+pair_changed {r = r} {p = p} Client {t = t} ok change came kept more tells = record {
+  covered = by_side _
+      (end_more (or_then (r Client) t.told (more Client) tells) (change.covered p.client (r Client) (ok.covered Client)))
+      (end_more (more Target) (ok.covered Target));
+  directions = by_direction _ (same_gave came (source_changed change (ok.directions Up))) (same_gave kept (destination_changed change (ok.directions Down)));
+}
+pair_changed {r = r} {p = p} Target {t = t} ok change came kept more tells = record {
+  covered = by_side _
+      (end_more (more Client) (ok.covered Client))
+      (end_more (or_then (r Target) t.told (more Target) tells) (change.covered p.target (r Target) (ok.covered Target)));
+  directions = by_direction _ (same_gave kept (destination_changed change (ok.directions Up))) (same_gave came (source_changed change (ok.directions Down)));
+}
+
+-- What each change of the network does to an end, so that its flags stay covered
+
+-- every end that changes so does so by these bytes
+abbrev pub ChangesBy : List ℕ → (EndState → Option (Told EndState Bool)) → Type 0
+ChangesBy bytes change = (e : EndState) → Kept (IsChange bytes e) (change e)
+
+denied : (b : Bool) → not b ≡ true → b ≡ true → ⊥
+denied true n h = absurd (cc)
+denied false n h = absurd (cc)
+
+pub nonempty_more : (xs ys : List ℕ) → is_nonempty ys ≡ true → is_nonempty (xs ++ ys) ≡ true
+nonempty_more xs ys h =
+    let some : 0 < length ys = ltb-true 0 (length ys) h in
+    let all : length (xs ++ ys) ≡ length xs + length ys = length-append xs ys in
+    lt-ltb 0 (length (xs ++ ys)) (omega arith)
+
+pub arrival_changes : (bytes : List ℕ) → ChangesBy bytes (λ e. arrival e bytes)
+arrival_changes bytes e = kept_guard (is_nonempty bytes && (not e.fin && not e.err)) _ (λ may. record {
+  unread = refl;
+  taken = refl;
+  fin = λ h. h;
+  none = λ h. absurd (denied e.fin (first_so (not e.fin) (not e.err) (second_so (is_nonempty bytes) _ may)) h);
+  covered = λ flags r c. record {
+    read = cover_report flags.read e.read_armed (is_readable e) r e.read_armed _ (λ h. h)
+        (or_left _ (e.fin || e.err) (nonempty_more e.unread bytes (first_so (is_nonempty bytes) _ may))) c.read;
+    write = cover_more flags.write e.write_armed (is_writable e) r _ (or_left r e.read_armed) c.write;
+  };
+})
+
+pub finish_changes : ChangesBy [] finish
+finish_changes e = kept_guard (not e.fin && not e.err) _ (λ may. record {
+  unread = sym (append-nil e.unread);
+  taken = refl;
+  fin = λ h. refl;
+  none = λ h. refl;
+  covered = λ flags r c. record {
+    read = cover_report flags.read e.read_armed (is_readable e) r e.read_armed _ (λ h. h) (or_right (is_nonempty e.unread) true refl) c.read;
+    write = cover_more flags.write e.write_armed (is_writable e) r _ (or_left r e.read_armed) c.write;
+  };
+})
+
+pub failure_changes : ChangesBy [] model.failure
+failure_changes e = kept_guard (not e.err) _ (λ may. record {
+  unread = sym (append-nil e.unread);
+  taken = refl;
+  fin = λ h. h;
+  none = λ h. refl;
+  covered = λ flags r c. record {
+    read = cover_report flags.read e.read_armed (is_readable e) r (e.read_armed || e.write_armed) _ (or_left e.read_armed e.write_armed)
+        (or_right (is_nonempty e.unread) (e.fin || true) (or_right e.fin true refl)) c.read;
+    write = cover_report flags.write e.write_armed (is_writable e) r (e.read_armed || e.write_armed) _ (or_right e.read_armed e.write_armed) (or_right e.room true refl) c.write;
+  };
+})
+
+pub room_changes : ChangesBy [] new_room
+room_changes e = kept_guard (not e.room && not e.err) _ (λ may. record {
+  unread = sym (append-nil e.unread);
+  taken = refl;
+  fin = λ h. h;
+  none = λ h. refl;
+  covered = λ flags r c. record {
+    read = cover_more flags.read e.read_armed (is_readable e) r _ (or_left r e.write_armed) c.read;
+    write = cover_report flags.write e.write_armed (is_writable e) r e.write_armed true (λ h. h) refl c.write;
+  };
+})
 
 -- What speaks for the next call: a read's and a write's flag is up, and a shutdown comes after every byte
 
-abbrev IsAsked : PairState → Call → Type 0
+abbrev pub IsAsked : PairState → Call → Type 0
 IsAsked p (Write side) = (flags_of p side).write ≡ true
 IsAsked p (Join side) = Unit {0}
 IsAsked p (Shut side) = is_drained (stream_of p (inward side)) ≡ true
@@ -80,10 +342,10 @@ unready false h = refl
 
 -- One end x, and the other, y: the flags of x are covered, and the directions from x and to x are in order
 
-record EndOk (flags : Flags) (r : Bool) (x y : EndState) (gave back : List ℕ) (one two : Stream) : Type 0 where
-  covered : EndCovered flags x r
-  out : DirectionOk gave one x y
-  into : DirectionOk back two y x
+pub record EndOk (flags : Flags) (r : Bool) (x y : EndState) (gave back : List ℕ) (one two : Stream) : Type 0 where
+  pub covered : EndCovered flags x r
+  pub out : DirectionOk gave one x y
+  pub into : DirectionOk back two y x
 
 module _ {flags : Flags} {r : Bool} {x y : EndState} {gave back : List ℕ} {out into : Stream} (ok : EndOk flags r x y gave back out into) where
   bytes_in : (n most : ℕ) → (is_count n most && nat_le n (length x.unread)) ≡ true → flags.read ≡ true
@@ -163,11 +425,11 @@ module _ {flags : Flags} {r : Bool} {x y : EndState} {gave back : List ℕ} {out
 -- The whole pair
 
 -- after an answer the pair and its ends are in order, and it is the same connection
-record AnswerOk (h : Side → List ℕ) (r : Side → Bool) (p q : PairState) (ends : Sockets) : Type 0 where
-  pair : PairOk h r q ends
-  generation : q.generation ≡ p.generation
-  up : q.up.capacity ≡ p.up.capacity
-  down : q.down.capacity ≡ p.down.capacity
+pub record AnswerOk (h : Side → List ℕ) (r : Side → Bool) (p q : PairState) (ends : Sockets) : Type 0 where
+  pub pair : PairOk h r q ends
+  pub generation : q.generation ≡ p.generation
+  pub up : q.up.capacity ≡ p.up.capacity
+  pub down : q.down.capacity ≡ p.down.capacity
 
 module _ {h : Side → List ℕ} {r : Side → Bool} {p : PairState} {ends : Sockets} (ok : PairOk h r p ends) where
   client_of : EndOk p.client (r Client) ends.client ends.target (h Client) (h Target) p.up p.down
@@ -262,16 +524,16 @@ module _ (now : ℕ) {h : Side → List ℕ} {r : Side → Bool} {p : PairState}
 -- The kernel
 
 -- the kernel with another end at one side of a connection
-abbrev with_answer : KernelState → ℕ → ℕ → Connection → Side → EndState → KernelState
+abbrev pub with_answer : KernelState → ℕ → ℕ → Connection → Side → EndState → KernelState
 with_answer k s g c side e = record k { ends = slice_set k.ends (descriptor c.ends side) (Some (registered s g side e)) }
 
 -- after a call one end has changed in the kernel, and the pair is in order
-record LineOk (h : Side → List ℕ) (r : Side → Bool) (k : KernelState) (s g : ℕ) (c : Connection) (ends : Sockets) (line : OpenConnection) : Type 0 where
-  side : Side
-  socket : EndState
-  kernel : line.kernel ≡ with_answer k s g c side socket
-  descriptors : line.connection.ends ≡ c.ends
-  answered : AnswerOk h r c.pair line.connection.pair (with_socket ends side socket)
+pub record LineOk (h : Side → List ℕ) (r : Side → Bool) (k : KernelState) (s g : ℕ) (c : Connection) (ends : Sockets) (line : OpenConnection) : Type 0 where
+  pub side : Side
+  pub socket : EndState
+  pub kernel : line.kernel ≡ with_answer k s g c side socket
+  pub descriptors : line.connection.ends ≡ c.ends
+  pub answered : AnswerOk h r c.pair line.connection.pair (with_socket ends side socket)
 
 module _ (now : ℕ) {h : Side → List ℕ} {r : Side → Bool} (k : KernelState) (s g : ℕ) (c : Connection) {ends : Sockets}
     (there : (side : Side) → end_at k.ends (descriptor c.ends side) ≡ Some (registered s g side (socket_of ends side))) (ok : PairOk h r c.pair ends) where
@@ -298,125 +560,6 @@ module _ (now : ℕ) {h : Side → List ℕ} {r : Side → Bool} (k : KernelStat
   replied_keeps (Shut side) said drained = kept_next _ (plain said) (λ t kept. kept_when (fits c.pair (Shut side) t) _ (λ fit.
       rw (there side) (line_ok (Shut side) side t (after_shut (socket_of ends side) said) kept))) (shut_keeps now ok side said drained)
 
-  called_keeps : (said : Reply) → Kept (LineOk h r k s g c ends) (called now (record { kernel = k; connection = c }) said)
+  pub called_keeps : (said : Reply) → Kept (LineOk h r k s g c ends) (called now (record { kernel = k; connection = c }) said)
   unfolding called
   called_keeps said = kept_bind _ (next_call c.pair) (λ call next. replied_keeps call said (kept_at (next_call c.pair) call next (asked c.pair)))
-
--- the state after it: all but the kernel and the slot is as it was, for these facts
-call_lands : {past : History} {st q : State} {s : ℕ} {p place : SlotState} {c : Connection} {line : OpenConnection} → AllOk past st
-    → (ok : ConnectionOk past st s p.generation p.notes c)
-    → LineOk (past s p.generation) (λ side. is_pending st (token_at s side p.generation) || is_nonempty p.notes) st.kernel s p.generation c ok.ends line
-    → slice_get st.slots s ≡ Some p → q.table ≡ st.table → q.limits ≡ st.limits → q.batch ≡ st.batch → q.kernel ≡ line.kernel → q.slots ≡ slice_set st.slots s place
-    → place ≡ record p { connection = Some line.connection } → AllOk past q
-call_lands {past} {st} {q} {s} {p} {c = c} {line = line} all ok l here table limits batch kernel slots lands =
-    let queue : q.kernel.queue ≡ st.kernel.queue = rw (kernel, l.kernel) refl in
-    let ends : q.kernel.ends ≡ slice_set st.kernel.ends (descriptor c.ends l.side) (Some (registered s p.generation l.side l.socket)) = rw (kernel, l.kernel) refl in
-    let slot : SlotOk past st s p = all.each s p here in
-    keep_place all here slots
-    (λ i differ. record {
-      table = rw table refl;
-      limits = limits;
-      ends = λ d b there of_i. rw ends (others_kept ok l.side _ differ d b there of_i);
-      pending = λ side g entry h. rw (queue, batch) h;
-    })
-    (rw lands (record {
-      entry = rw table (slot.entry);
-      later = λ g side younger. slot.later g side younger ∙ same_before side limits;
-      connection = λ b is. (let this : line.connection ≡ b = cc in subst (λ (d : Connection). ConnectionOk past q s p.generation p.notes d) this (record {
-        generation = l.answered.generation ∙ ok.generation;
-        up = l.answered.up ∙ (ok.up ∙ rw limits refl);
-        down = l.answered.down ∙ (ok.down ∙ rw limits refl);
-        ends = with_socket ok.ends l.side l.socket;
-        there = λ side. rw (l.descriptors, ends) (ends_there st s p.generation c ok.ends l.side l.socket ok.there side);
-        pair = pair_more l.answered.pair (λ side. refl) (λ side h. rw (queue, batch) h);
-      }));
-    }))
-
--- what a lodging is after a call
-record LodgingOk (past : History) (st : State) (s : ℕ) (p : SlotState) (l : OpenSlot) : Type 0 where
-  connection : Connection
-  ok : ConnectionOk past st s p.generation p.notes connection
-  line : OpenConnection
-  kernel : l.kernel ≡ line.kernel
-  place : l.place ≡ record p { connection = Some line.connection }
-  goes : LineOk (past s p.generation) (λ side. is_pending st (token_at s side p.generation) || is_nonempty p.notes) st.kernel s p.generation connection ok.ends line
-
-lodged_keeps : (past : History) (st : State) (s : ℕ) (p : SlotState) (said : Reply) → SlotOk past st s p
-    → Kept (LodgingOk past st s p) (slot_call st.second (record { kernel = st.kernel; place = p }) said)
-unfolding slot_call
-lodged_keeps past st s p said slot = kept_bind _ p.connection (λ c lying.
-    (let ok : ConnectionOk past st s p.generation p.notes c = slot.connection c lying in
-    kept_then _ _ (λ line l. record { connection = c; ok = ok; line = line; kernel = refl; place = refl; goes = l })
-    (called_keeps st.second st.kernel s p.generation c ok.there ok.pair said)))
-
-call_keeps : {past : History} (st : State) (w : ℕ) (k : WorkerState) (d : Doing) (said : Reply) → AllOk past st → Kept (AllOk past) (Steps.call st w k d said)
-call_keeps {past} st w k (Holds s left) said all = kept_when (nat_lt 0 left) _ (λ some.
-    kept_bind _ (slice_get st.slots s) (λ p here.
-    kept_then _ _ (λ l lodging. call_lands all lodging.ok lodging.goes here refl refl refl lodging.kernel refl lodging.place)
-    (lodged_keeps past st s p said (all.each s p here))))
-call_keeps st w k _ said all = kept_none
-
--- A call that fails: a pair is given a failure where the kernel's reply was one
-
-failed_plain : (said : Reply) (kind : Kind) → plain said ≡ Some (answer.Failed kind) → said ≡ reply.Failed kind
-failed_plain (reply.Failed other) kind h = let same : other ≡ kind = cc in ap reply.Failed same
-failed_plain _ kind h = absurd (cc)
-
-no_bytes : (o : Option (List ℕ)) (kind : Kind) → option_map (λ (bytes : List ℕ). answer.Bytes bytes) o ≡ Some (answer.Failed kind) → ⊥
-no_bytes None kind h = absurd (cc)
-no_bytes (Some bytes) kind h = absurd (cc)
-
-failed_told : (l : OpenConnection) (call : Call) (said : Reply) (kind : Kind) → told_of l call said ≡ Some (answer.Failed kind) → said ≡ reply.Failed kind
-failed_told l (Read side most) (reply.Bytes n) kind h = absurd (no_bytes _ kind h)
-failed_told l _ said kind h = failed_plain said kind h
-
--- who makes the call: worker w, that holds slot s
-record Caller (st : State) (w s left : ℕ) (k : WorkerState) (c : Connection) : Type 0 where
-  there : slice_get st.workers w ≡ Some k
-  holds : k.doing ≡ Holds s left
-  lies : connection_at st s ≡ Some c
-
--- an answer does not bring the second of the last movement back
-later_or_same : (b : Bool) (m n : ℕ) → m ≤ n → (m ≤ (if b then n else m)) × ((if b then n else m) ≤ n)
-later_or_same true m n h = (h, le_refl n)
-later_or_same false m n h = (le_refl m, h)
-
-module _ (laws : CoreLaws) (st : State) (w s left : ℕ) (k : WorkerState) where
-  blames : (c : Connection) (call : Call) (said : Reply) (t : answer.AnswerValue) → Caller st w s left k c → AnswersNext c.pair call t
-      → told_of (record { kernel = st.kernel; connection = c }) call said ≡ Some t → (fault : Fault) → verdict (after st.second c.pair call t) ≡ Failed fault
-      → failure_by st (event.Work w (act.Call said)) ≡ Some (failure s c.pair.generation fault)
-  blames c call said t caller answers told fault failed =
-      let tells : TellsOf call t fault = (laws.failures st.second c.pair call t fault answers).0 failed in
-      let said_is : said ≡ reply.Failed tells.kind = failed_told (record { kernel = st.kernel; connection = c }) call said tells.kind (told
-      ∙ ap (λ (u : answer.AnswerValue). Some u) tells.failed) in
-      let fault_is : fault_of tells.kind call ≡ fault = sym tells.told in
-      rw (said_is, caller.there, caller.holds, caller.lies, answers.next) (ap (λ (f : Fault). Some (failure s c.pair.generation f)) fault_is)
-
-  called_continues : (c : Connection) (said : Reply) → Caller st w s left k c
-      → Kept (λ (line : OpenConnection). Continues st (event.Work w (act.Call said)) s c line.connection) (called st.second (record { kernel = st.kernel; connection = c }) said)
-  unfolding called
-  called_continues c said caller = kept_bind _ (next_call c.pair) (λ call next.
-      kept_bind _ (told_of (record { kernel = st.kernel; connection = c }) call said) (λ t told.
-      kept_when (fits c.pair call t) _ (λ fit.
-      kept_map _ (made (record { kernel = st.kernel; connection = c }) call said) (λ q is. record {
-        generation = ap (λ (x : Standing). x.generation) (laws.place st.second c.pair call t);
-        fails = λ fault failed. inr (blames c call said t caller (record { next = next; fit = fit }) told fault failed);
-        since = λ moved. later_or_same (moves t) c.pair.moved st.second moved;
-      }))))
-
-  lodged_stays : (p : SlotState) (said : Reply) → slice_get st.workers w ≡ Some k → k.doing ≡ Holds s left → slice_get st.slots s ≡ Some p
-      → Kept (λ (l : OpenSlot). Stays st (event.Work w (act.Call said)) s p l.place) (slot_call st.second (record { kernel = st.kernel; place = p }) said)
-  unfolding slot_call
-  lodged_stays p said there holds here = kept_bind _ p.connection (λ c lying. kept_then _ _ (λ line goes. connection_stays lying goes)
-      (called_continues c said (record { there = there; holds = holds; lies = rw here lying })))
-
-call_shape : (laws : CoreLaws) (st : State) (w : ℕ) (k : WorkerState) (d : Doing) (said : Reply) → slice_get st.workers w ≡ Some k → k.doing ≡ d
-    → Kept (Shape st (event.Work w (act.Call said))) (Steps.call st w k d said)
-call_shape laws st w k (Holds s left) said there holds = kept_when (nat_lt 0 left) _ (λ some.
-    kept_bind _ (slice_get st.slots s) (λ p here.
-    kept_then _ _ (λ l stays. Changed s p l.place here refl refl (same_clock refl refl) stays) (lodged_stays laws st w s left k p said there holds here)))
-call_shape laws st w k _ said there holds = kept_none
-
-pub call_calm : (laws : CoreLaws) (st : State) (w : ℕ) (k : WorkerState) (said : Reply) → slice_get st.workers w ≡ Some k
-    → Kept (Calm st (event.Work w (act.Call said))) (Steps.call st w k k.doing said)
-call_calm laws st w k said there = kept_calm _ (call_shape laws st w k k.doing said there refl) (λ past all. call_keeps st w k k.doing said all)

@@ -1,81 +1,6 @@
--- What holds of the value that a step leaves, if it leaves one; and what each event found and left, case by case. A
--- claim about every step is proved by these cases.
-use Rattle.std.proofs.Common.{Vec, Global}
-use Rattle.world.{proofs.Prelude.{◌≡◌, ℕ, ◌+◌, ◌-◌, ◌==◌, true, false, nat_lt, List, [], ◌∷◌, ◌++◌, length, slice_get, drop, Option, Some, None, refl, Side, Client, Target, Name, Listener, Waker, End, EndName, same, Accepting, Reply, Sockets, Watched, Told, KernelState, is_nonempty, Connection, Ticket, Nobody, Free, Doing, Idle, Tries, Holds, Closed, Retired, Event, Change, Reported, Listening, Polling, Act, SlotState, WorkerState, State, OpenConnection, descriptor, connection_at, over_kernel, change_at, watched_of, may_accept, after_accept, listen, opened_world, token_of, with_note, posted, post_at, delivered_at, delivered, put_by_poller, polled, is_limited, with_worker, with_place, doing, put_by_worker, popped, pop, claimed, claim, heard, take, call, post, with_ticket, release, expired, expire, closed_world, close, retire, freed, free, acted, step, run, delivery_steps, Bool, option_map, option_and_then, if◌then◌else◌, guard, when, is_overdue, timed_out, expired_place}, specs.{Calls.called, Steps.{slot_call, may_release}}}
-use Rattle.kernel_model.specs.Kernel as kernel
-use Rattle.world.specs.declared.event.Event.TheVariants as event
-use Rattle.world.specs.declared.event.Listening.TheVariants as listening
-use Rattle.world.specs.declared.event.Polling.TheVariants as polling
-use Rattle.world.specs.declared.event.Act.TheVariants as act
-
-abbrev pub OfSome : {X : Type 0} → (X → Type 0) → Option X → Type 0
-OfSome P None = Unit {0}
-OfSome P (Some x) = P x
-
-pub record Kept {X : Type 0} (P : X → Type 0) (o : Option X) : Type 0 where
-  pub kept : OfSome P o
-
-pub kept_some : {X : Type 0} {P : X → Type 0} {x : X} → P x → Kept P (Some x)
-kept_some h = record { kept = h }
-
-pub kept_none : {X : Type 0} {P : X → Type 0} → Kept P None
-kept_none = record { kept = tt }
-
-pub kept_bind : {X Y : Type 0} {P : Y → Type 0} (f : X → Option Y) (o : Option X) → ((x : X) → o ≡ Some x → Kept P (f x)) → Kept P (option_and_then f o)
-kept_bind f None next = record { kept = tt }
-kept_bind f (Some x) next = next x refl
-
-pub kept_map : {X Y : Type 0} {P : Y → Type 0} (f : X → Y) (o : Option X) → ((x : X) → o ≡ Some x → P (f x)) → Kept P (option_map f o)
-kept_map f None next = record { kept = tt }
-kept_map f (Some x) next = record { kept = next x refl }
-
-pub kept_when : {X : Type 0} {P : X → Type 0} (b : Bool) (o : Option X) → (b ≡ true → Kept P o) → Kept P (when b o)
-kept_when false o next = record { kept = tt }
-kept_when true o next = next refl
-
-pub kept_guard : {X : Type 0} {P : X → Type 0} (b : Bool) (x : X) → (b ≡ true → P x) → Kept P (guard b x)
-kept_guard false x next = record { kept = tt }
-kept_guard true x next = record { kept = next refl }
-
-pub kept_if : {X : Type 0} {P : X → Type 0} (b : Bool) (x y : Option X) → (b ≡ true → Kept P x) → (b ≡ false → Kept P y) → Kept P (if b then x else y)
-kept_if true x y first second = first refl
-kept_if false x y first second = second refl
-
--- where the step before left what is kept
-pub kept_then : {X Y : Type 0} {P : X → Type 0} {Q : Y → Type 0} (f : X → Y) (o : Option X) → ((x : X) → P x → Q (f x)) → Kept P o → Kept Q (option_map f o)
-kept_then f None next k = record { kept = tt }
-kept_then f (Some x) next k = record { kept = next x k.kept }
-
--- what was left has what is kept
-pub kept_at : {X : Type 0} {P : X → Type 0} (o : Option X) (x : X) → o ≡ Some x → Kept P o → P x
-kept_at o x is k = (rw is at k).kept
-
--- two steps, of which neither refuses
-pub kept_map_map : {X Y Z : Type 0} {P : Z → Type 0} (f : Y → Z) (g : X → Y) (o : Option X) → ((x : X) → o ≡ Some x → P (f (g x))) → Kept P (option_map f (option_map g o))
-kept_map_map f g None next = record { kept = tt }
-kept_map_map f g (Some x) next = record { kept = next x refl }
-
--- a step of what two made, of which either may refuse
-pub kept_map_bind : {X Y Z : Type 0} {P : Z → Type 0} (f : Y → Z) (g : X → Option Y) (o : Option X) → ((x : X) → o ≡ Some x → Kept P (option_map f (g x)))
-    → Kept P (option_map f (option_and_then g o))
-kept_map_bind f g None next = record { kept = tt }
-kept_map_bind f g (Some x) next = next x refl
-
--- and then a step that may refuse
-pub kept_next : {X Y : Type 0} {P : X → Type 0} {Q : Y → Type 0} (f : X → Option Y) (o : Option X) → ((x : X) → P x → Kept Q (f x)) → Kept P o → Kept Q (option_and_then f o)
-kept_next f None next k = record { kept = tt }
-kept_next f (Some x) next k = next x k.kept
-
--- a step that may refuse, of what another made
-pub kept_bind_map : {X Y Z : Type 0} {P : Z → Type 0} (f : Y → Option Z) (g : X → Y) (o : Option X) → ((x : X) → o ≡ Some x → Kept P (f (g x)))
-    → Kept P (option_and_then f (option_map g o))
-kept_bind_map f g None next = record { kept = tt }
-kept_bind_map f g (Some x) next = next x refl
-
--- either of two values
-pub either_of : {X : Type 0} (P : X → Type 0) (b : Bool) (x y : X) → P x → P y → P (if b then x else y)
-either_of P true x y a b = a
-either_of P false x y a b = b
+-- What each event found and left, case by case. And the listener.
+pub mod Lists
+unfoldable pub use Lists.*
 
 -- the connection of p was overdue, and in q it has failed
 pub record Expired (now limit : ℕ) (p q : SlotState) : Type 0 where
@@ -195,69 +120,69 @@ module _ (st : State) where
   polls polling.Put = puts st.hand refl
 
   module _ (w : ℕ) (k : WorkerState) (there : slice_get st.workers w ≡ Some k) where
-    abbrev By : Act → Option State → Type 0
-    By a o = Kept (Happens st (event.Work w a)) o
+    abbrev Leaves : Act → Option State → Type 0
+    Leaves a o = Kept (Happens st (event.Work w a)) o
 
-    hands_in : (hand : List Ticket) → k.hand ≡ hand → By act.Put (put_by_worker st w k hand)
+    hands_in : (hand : List Ticket) → k.hand ≡ hand → Leaves act.Put (put_by_worker st w k hand)
     hands_in [] is = kept_none
     hands_in (t ∷ rest) is = kept_some (HandsIn w k t rest there is)
 
-    takes_ticket : (ready : List Ticket) → k.doing ≡ Idle → st.ready ≡ ready → By act.Pop (popped st w k ready)
+    takes_ticket : (ready : List Ticket) → k.doing ≡ Idle → st.ready ≡ ready → Leaves act.Pop (popped st w k ready)
     takes_ticket [] does is = kept_none
     takes_ticket (t ∷ rest) does is = kept_some (Pops w k t rest there does is)
 
-    pops : (d : Doing) → k.doing ≡ d → By act.Pop (pop st w k d)
+    pops : (d : Doing) → k.doing ≡ d → Leaves act.Pop (pop st w k d)
     pops Idle does = kept_when _ _ (λ none. takes_ticket st.ready does refl)
     pops _ does = kept_none
 
-    claims : (d : Doing) → k.doing ≡ d → By act.Claim (claim st w k d)
-    claims (Tries t) does = kept_map _ (slice_get st.slots t.slot) (λ p lies. Claims w k t p there does lies)
-    claims _ does = kept_none
+    claims_slot : (d : Doing) → k.doing ≡ d → Leaves act.Claim (claim st w k d)
+    claims_slot (Tries t) does = kept_map _ (slice_get st.slots t.slot) (λ p lies. Claims w k t p there does lies)
+    claims_slot _ does = kept_none
 
     abbrev holding : (s left : ℕ) (p : SlotState) (c : Connection) → k.doing ≡ Holds s left → slice_get st.slots s ≡ Some p → p.connection ≡ Some c → Holding st w
     holding s left p c does lies is = record { k = k; s = s; left = left; p = p; c = c; there = there; does = does; lies = lies; is = is }
 
-    takes : (d : Doing) → k.doing ≡ d → By act.Take (take st d)
-    takes (Holds s left) does = kept_bind _ (slice_get st.slots s) (λ p lies. kept_map_map _ _ p.connection (λ c is. Takes w (holding s left p c does lies is)))
-    takes _ does = kept_none
+    takes_notes : (d : Doing) → k.doing ≡ d → Leaves act.Take (Steps.take st d)
+    takes_notes (Holds s left) does = kept_bind _ (slice_get st.slots s) (λ p lies. kept_map_map _ _ p.connection (λ c is. Takes w (holding s left p c does lies is)))
+    takes_notes _ does = kept_none
 
-    calls : (d : Doing) (r : Reply) → k.doing ≡ d → By (act.Call r) (call st w k d r)
+    calls : (d : Doing) (r : Reply) → k.doing ≡ d → Leaves (act.Call r) (call st w k d r)
     unfolding slot_call
     calls (Holds s left) r does = kept_when (nat_lt 0 left) _ (λ some. kept_bind _ (slice_get st.slots s) (λ p lies. kept_map_bind _ _ p.connection (λ c is.
         kept_map_map _ _ (called st.second (record { kernel = st.kernel; connection = c }) r) (λ l so. Calls w (holding s left p c does lies is) r l so))))
     calls _ r does = kept_none
 
-    posts : (d : Doing) → k.doing ≡ d → By act.Post (post st d)
+    posts : (d : Doing) → k.doing ≡ d → Leaves act.Post (post st d)
     posts (Holds s left) does = kept_bind _ (slice_get st.slots s) (λ p lies. kept_bind _ p.connection (λ c is. kept_guard _ _ (λ live. Posts w (holding s left p c does lies is))))
     posts _ does = kept_none
 
-    releases : (d : Doing) → k.doing ≡ d → By act.Release (release st w k d)
+    releases : (d : Doing) → k.doing ≡ d → Leaves act.Release (release st w k d)
     releases (Holds s left) does = kept_bind _ (slice_get st.slots s) (λ p lies. kept_bind _ p.connection (λ c is. kept_guard _ _ (λ may.
         Releases w (holding s left p c does lies is) may)))
     releases _ does = kept_none
 
-    expires : (d : Doing) → k.doing ≡ d → By act.Expire (expire st d)
+    expires : (d : Doing) → k.doing ≡ d → Leaves act.Expire (expire st d)
     expires (Holds s left) does = kept_bind _ (slice_get st.slots s) (λ p lies. kept_map_bind _ _ p.connection (λ c is. kept_map_map _ _ (expired st.second st.limits.idle c) (λ d so. Expires w (holding s left p c does lies is) d so)))
     expires _ does = kept_none
 
-    closes : (d : Doing) → k.doing ≡ d → By act.Close (close st w k d)
+    closes : (d : Doing) → k.doing ≡ d → Leaves act.Close (close st w k d)
     closes (Holds s left) does = kept_bind _ (slice_get st.slots s) (λ p lies. kept_bind _ p.connection (λ c is. kept_when _ _ (λ dead.
         kept_map _ (kernel.close_both st.kernel c.ends) (λ t both. Closes w (holding s left p c does lies is) t both))))
     closes _ does = kept_none
 
-    retires : (d : Doing) → k.doing ≡ d → By act.Retire (retire st w k d)
+    retires : (d : Doing) → k.doing ≡ d → Leaves act.Retire (retire st w k d)
     retires (Closed s) does = kept_map _ (slice_get st.slots s) (λ p lies. Retires w k s p there does lies)
     retires _ does = kept_none
 
-    frees : (d : Doing) → k.doing ≡ d → By act.Free (free st w k d)
+    frees : (d : Doing) → k.doing ≡ d → Leaves act.Free (free st w k d)
     frees (Retired s) does = kept_map _ (slice_get st.slots s) (λ p lies. Frees w k s p there does)
     frees _ does = kept_none
 
-    acts : (a : Act) → By a (acted st w k a)
+    acts : (a : Act) → Leaves a (acted st w k a)
     acts act.Put = hands_in k.hand refl
     acts act.Pop = pops k.doing refl
-    acts act.Claim = claims k.doing refl
-    acts act.Take = takes k.doing refl
+    acts act.Claim = claims_slot k.doing refl
+    acts act.Take = takes_notes k.doing refl
     acts (act.Call r) = calls k.doing r refl
     acts act.Post = posts k.doing refl
     acts act.Release = releases k.doing refl
@@ -283,3 +208,164 @@ run_kept P each st (e ∷ events) here = kept_next _ (step st e) (λ q h. run_ke
 pub holds_after : (P : State → Type 0) → ((st : State) (e : Event) (q : State) → P st → Happens st e q → P q) → (st w : State) (events : List Event) → P st
     → run st events ≡ Some w → P w
 holds_after P each st w events here ran = kept_at (run st events) w ran (run_kept P each st events here)
+
+abbrev hears : List Name → Bool
+hears names = has Listener names
+
+pub record Listens (st : State) : Type 0 where
+  pub covered : is_covered st.flag st.kernel.armed (nat_lt 0 st.kernel.backlog) (hears st.kernel.queue || hears st.batch) ≡ true
+
+more_reported : (flag armed ready a b : Bool) → (a ≡ true → b ≡ true) → is_covered flag armed ready a ≡ true → is_covered flag armed ready b ≡ true
+more_reported true armed ready a b more h = refl
+more_reported false true true a b more h = more h
+more_reported false false true a b more h = more h
+more_reported false true false a b more h = refl
+more_reported false false false a b more h = absurd (cc)
+
+-- the name is queued or in the batch where it was before
+goes_on : {st next : State} → next.flag ≡ st.flag → next.kernel.armed ≡ st.kernel.armed → next.kernel.backlog ≡ st.kernel.backlog
+    → (hears st.kernel.queue ≡ true → (hears next.kernel.queue || hears next.batch) ≡ true) → (hears st.batch ≡ true → (hears next.kernel.queue || hears next.batch) ≡ true)
+    → Listens st → Listens next
+goes_on {st} {next} flag armed backlog queue batch l = record {
+  covered = rw (flag, armed, backlog) (more_reported st.flag st.kernel.armed (nat_lt 0 st.kernel.backlog) (hears st.kernel.queue || hears st.batch)
+      (hears next.kernel.queue || hears next.batch) (or_then (hears st.kernel.queue) (hears st.batch) queue batch) l.covered);
+}
+
+-- a kernel that has the listener as it was, and its name at least where it was queued
+record HearsOn (k q : KernelState) : Type 0 where
+  armed : q.armed ≡ k.armed
+  backlog : q.backlog ≡ k.backlog
+  queue : hears k.queue ≡ true → hears q.queue ≡ true
+
+hears_on : {st next : State} → next.flag ≡ st.flag → next.batch ≡ st.batch → HearsOn st.kernel next.kernel → Listens st → Listens next
+hears_on {st} {next} flag batch on l = goes_on flag on.armed on.backlog (λ h. or_left (hears next.kernel.queue) (hears next.batch) (on.queue h))
+    (λ h. or_right (hears next.kernel.queue) (hears next.batch) (rw batch h)) l
+
+with_flag : {st : State} → st.flag ≡ true → Listens st
+with_flag up = record { covered = rw up refl }
+
+-- calls on the kernel
+
+changed_hears : (k : KernelState) (d : ℕ) (f : EndState → Option (Told EndState Bool)) → Kept (HearsOn k) (kernel.changed k d f)
+changed_hears k d f = kept_bind _ (end_at k.ends d) (λ r there. kept_map _ (f r.socket) (λ t now. record {
+  armed = refl;
+  backlog = refl;
+  queue = has_reported Listener (End r.token) t.told k.queue;
+}))
+
+change_hears : (k : KernelState) (d : ℕ) (c : Change) → Kept (HearsOn k) (change_at k d c)
+change_hears k d (Arrive bytes) = kept_when _ (kernel.arrive k d bytes.items) (λ few. changed_hears k d _)
+change_hears k d _ = changed_hears k d _
+
+on_end_hears : (k : KernelState) (d : ℕ) (f : EndState → Option EndState) → Kept (HearsOn k) (kernel.called k d f)
+on_end_hears k d f = kept_bind _ (end_at k.ends d) (λ r there. kept_map _ (f r.socket) (λ e now. record { armed = refl; backlog = refl; queue = λ h. h }))
+
+made_hears : (l : OpenConnection) (call : Call) (r : Reply) → Kept (HearsOn l.kernel) (made l call r)
+made_hears l (Read side most) r = on_end_hears l.kernel (descriptor l.connection.ends side) _
+made_hears l (Write side) r = on_end_hears l.kernel (descriptor l.connection.ends side) _
+made_hears l (Join side) r = on_end_hears l.kernel (descriptor l.connection.ends side) _
+made_hears l (Shut side) r = on_end_hears l.kernel (descriptor l.connection.ends side) _
+
+called_hears : (now : ℕ) (l : OpenConnection) (r : Reply) → Kept (λ (m : OpenConnection). HearsOn l.kernel m.kernel) (called now l r)
+unfolding called
+called_hears now l r = kept_bind _ (next_call l.connection.pair) (λ c next. kept_bind _ (told_of l c r) (λ t is. kept_when (fits l.connection.pair c t) _ (λ fit.
+    kept_map _ (made l c r) (λ k done. kept_at (made l c r) k done (made_hears l c r)))))
+
+closed_hears : (k : KernelState) (d : ℕ) → Kept (λ (t : Told KernelState EndState). HearsOn k t.value) (kernel.close k d)
+closed_hears k d = kept_map _ (end_at k.ends d) (λ r there. record { armed = refl; backlog = refl; queue = has_without Listener (End r.token) k.queue refl })
+
+both_hear : (k : KernelState) (ends : Descriptors) → Kept (λ (t : Told KernelState Sockets). HearsOn k t.value) (kernel.close_both k ends)
+both_hear k ends = kept_next _ (kernel.close k ends.client) (λ one a. kept_then _ (kernel.close one.value ends.target)
+    (λ two b. record { armed = b.armed ∙ a.armed; backlog = b.backlog ∙ a.backlog; queue = λ h. b.queue (a.queue h) })
+    (closed_hears one.value ends.target)) (closed_hears k ends.client)
+
+spurious_hears : (k : KernelState) (x : Watched) → Kept (HearsOn k) (kernel.spurious k x)
+spurious_hears k x = kept_map _ (kernel.name_of k x) (λ n named. record { armed = refl; backlog = refl; queue = has_with Listener n k.queue })
+
+-- the listener's own report may vanish, since nobody waits
+
+not_ready : (flag armed a b : Bool) → is_covered flag armed false a ≡ true → is_covered flag armed false b ≡ true
+not_ready true armed a b h = refl
+not_ready false true a b h = refl
+not_ready false false a b h = absurd (cc)
+
+vanish_listens : (st : State) (x : Watched) → Listens st → Kept (λ (q : KernelState). Listens (record st { kernel = q })) (kernel.vanish st.kernel x)
+vanish_listens st watched.Listener l = kept_guard _ _ (λ may.
+    let none = eqb-true st.kernel.backlog 0 (and_parts (hears st.kernel.queue) (st.kernel.backlog == 0) may).1 in
+    record {
+      covered = rw none (not_ready st.flag st.kernel.armed (hears st.kernel.queue || hears st.batch)
+          (hears (without_name Listener st.kernel.queue) || hears st.batch) (rw none at l.covered));
+    })
+vanish_listens st watched.Waker l =
+    kept_guard _ _ (λ may. hears_on refl refl (record { armed = refl; backlog = refl; queue = has_without Listener Waker st.kernel.queue refl }) l)
+vanish_listens st (watched.End d) l = kept_bind_map _ (λ (r : Registered). End r.token) (end_at st.kernel.ends d) (λ r there.
+    kept_guard _ _ (λ may. hears_on refl refl (record { armed = refl; backlog = refl; queue = has_without Listener (End r.token) st.kernel.queue refl }) l))
+
+connected : (flag armed ready : Bool) (queue : List Name) (r : Bool) → is_covered flag armed ready (hears queue || r) ≡ true
+    → is_covered flag false true (hears (kernel.reported queue Listener armed) || r) ≡ true
+connected true armed ready queue r h = refl
+connected false true ready queue r h = or_left (hears (kernel.reported queue Listener true)) r (reported_has Listener true queue refl)
+connected false false true queue r h = h
+connected false false false queue r h = absurd (cc)
+
+connect_listens : (st : State) → Listens st → Kept (λ (q : KernelState). Listens (record st { kernel = q })) (kernel.connect_in st.kernel)
+connect_listens st l = kept_guard _ _ (λ room. record {
+  covered =
+      let some : nat_lt 0 (st.kernel.backlog + 1) ≡ true = lt-ltb 0 (st.kernel.backlog + 1) (omega arith) in
+      rw some (connected st.flag st.kernel.armed (nat_lt 0 st.kernel.backlog) st.kernel.queue (hears st.batch) l.covered);
+})
+
+blocked_listens : (st : State) → Kept (λ (q : KernelState). Listens (record st { flag = false; kernel = q })) (kernel.accept st.kernel Blocked)
+blocked_listens st = kept_guard _ _ (λ may. record { covered = rw (eqb-true st.kernel.backlog 0 may) refl })
+
+unheard : (xs : List Name) → (length xs == 0) ≡ true → hears xs ≡ false
+unheard [] none = refl
+unheard (x ∷ xs) none = absurd (let empty = eqb-true (length (x ∷ xs)) 0 none in omega arith)
+
+poll_listens : (st : State) (names : List Name) → (length st.batch == 0) ≡ true → Listens st
+    → Kept (λ (q : KernelState). Listens (record st { batch = names; kernel = q })) (kernel.poll st.kernel names)
+poll_listens st names none l = kept_guard _ _ (λ may. goes_on refl refl refl (has_polled Listener names st.kernel.queue)
+    (λ h. absurd (cc (unheard st.batch none))) l)
+
+-- a name that is not the listener's leaves the batch
+rest_hears : (xs : List Name) (n : Name) → slice_get xs 0 ≡ Some n → same Listener n ≡ false → hears xs ≡ true → hears (drop 1 xs) ≡ true
+rest_hears [] n first other h = absurd (cc)
+rest_hears (x ∷ xs) n first other h = let is : x ≡ n = (cc) in let away : same Listener x ≡ false = rw is other in rw away at h
+
+shorter_listens : {st next : State} (n : Name) → slice_get st.batch 0 ≡ Some n → same Listener n ≡ false → next.flag ≡ st.flag → next.kernel ≡ st.kernel → next.batch ≡ drop 1 st.batch
+    → Listens st → Listens next
+shorter_listens {st} {next} n first other flag same batch l = goes_on flag (rw same) (rw same) (λ h. or_left (hears next.kernel.queue) (hears next.batch) (rw same h))
+    (λ h. or_right (hears next.kernel.queue) (hears next.batch) (rw batch (rest_hears st.batch n first other h))) l
+
+-- every event
+
+listens_on : (st : State) {e : Event} {q : State} → Listens st → Happens st e q → Listens q
+listens_on st l (Changes s side change c k is) =
+    hears_on refl refl (kept_at (change_at st.kernel (descriptor c.ends side) change) k is (change_hears st.kernel (descriptor c.ends side) change)) l
+listens_on st l (Reports who x k is) = hears_on refl refl (kept_at (kernel.spurious st.kernel x) k is (spurious_hears st.kernel x)) l
+listens_on st l (Vanishes who x k is) = kept_at (kernel.vanish st.kernel x) k is (vanish_listens st x l)
+listens_on st l (Connects k is) = kept_at (kernel.connect_in st.kernel) k is (connect_listens st l)
+listens_on st l (Accepts Blocked k may is) = kept_at (kernel.accept st.kernel Blocked) k is (blocked_listens st)
+listens_on st l (Accepts _ k may is) = with_flag (and_parts st.flag _ may).0
+listens_on st l (Polls names k none is) = kept_at (kernel.poll st.kernel names.items) k is (poll_listens st names.items none l)
+listens_on st l (Hears first) = with_flag refl
+listens_on st l (Passes n first other none) = shorter_listens n first other refl refl refl l
+listens_on st l (Delivers n g p first entry own lies) = shorter_listens (End n) first refl refl refl refl l
+listens_on st l (Claims w k t p there does lies) = either_of Listens (is_held p.holder) _ _ (record { covered = l.covered }) (record { covered = l.covered })
+listens_on st l (Calls w h r m so) = hears_on refl refl (kept_at (called st.second (record { kernel = st.kernel; connection = h.c }) r) m so
+    (called_hears st.second (record { kernel = st.kernel; connection = h.c }) r)) l
+listens_on st l (Closes w h t both) = hears_on refl refl (kept_at (kernel.close_both st.kernel h.c.ends) t both (both_hear st.kernel h.c.ends)) l
+listens_on st l _ = record { covered = l.covered }
+
+tells : (armed ready rep none : Bool) → (ready ≡ false → none ≡ true) → is_covered false armed ready rep ≡ true → (none || rep) ≡ true
+tells armed false rep none waits h = rw (waits refl) refl
+tells true true rep none waits h = or_right none rep h
+tells false true rep none waits h = or_right none rep h
+
+listener_holds : (st : State) → Listens st → ListenerHolds st
+listener_holds st l = λ down. tells st.kernel.armed (nat_lt 0 st.kernel.backlog) (hears st.kernel.queue || hears st.batch) (st.kernel.backlog == 0)
+    (λ none. eq-eqb st.kernel.backlog 0 (omega (arith, ltb-false 0 st.kernel.backlog none))) (rw down at l.covered)
+
+-- so the listener's clause holds after every run from the opening world
+pub listener_after : (l : Limits) (events : List Event) (w : State) → run (opening l) events ≡ Some w → ListenerHolds w
+listener_after l events w ran = listener_holds w (holds_after Listens (λ st e q. listens_on st) (opening l) w events (record { covered = refl }) ran)
