@@ -36,10 +36,6 @@ pub record PairOk (history : Side → List ℕ) (reported : Side → Bool) (pair
   pub covered : (side : Side) → EndCovered (flags_of pair side) (socket_of ends side) (reported side)
   pub directions : (d : Direction) → DirectionOk (history (source d)) (stream_of pair d) (socket_of ends (source d)) (socket_of ends (destination d))
 
--- the token of one side of the connection in slot s of generation g
-abbrev pub token_at : ℕ → Side → ℕ → EndName
-token_at s side g = record { slot = s; side = side; generation = g }
-
 -- a report of that end is queued or in the batch
 abbrev pub is_pending : State → EndName → Bool
 is_pending st n = has (name.End n) st.kernel.queue || has (name.End n) st.batch
@@ -52,8 +48,6 @@ registered s g side e = record { token = token_at s side g; socket = e }
 -- tokens, and the pair fits them
 pub record EndsOk (past : History) (st : State) (s g : ℕ) (notes : List ℕ) (c : Connection) : Type 0 where
   pub generation : c.pair.generation ≡ g
-  pub up : c.pair.up.capacity ≡ st.limits.ring
-  pub down : c.pair.down.capacity ≡ st.limits.ring
   pub ends : Sockets
   pub there : (side : Side) → end_of st c side ≡ Some (registered s g side (socket_of ends side))
   pub pair : PairOk (past s g) (λ side. is_pending st (token_at s side g) || is_nonempty notes) c.pair ends
@@ -204,12 +198,6 @@ pair_changed {r = r} {p = p} Target {t = t} ok change came kept more tells = rec
   directions = by_direction _ (same_gave kept (destination_changed change (ok.directions Up))) (same_gave came (source_changed change (ok.directions Down)));
 }
 
--- What each change of the network does to an end, so that its flags stay covered
-
--- every end that changes so does so by these bytes
-abbrev pub ChangesBy : List ℕ → (EndState → Option (Told EndState Bool)) → Type 0
-ChangesBy bytes change = (e : EndState) → Kept (IsChange bytes e) (change e)
-
 denied : (b : Bool) → not b ≡ true → b ≡ true → ⊥
 denied true n h = absurd (cc)
 denied false n h = absurd (cc)
@@ -220,21 +208,25 @@ nonempty_more xs ys h =
     let all : length (xs ++ ys) ≡ length xs + length ys = length-append xs ys in
     lt-ltb 0 (length (xs ++ ys)) (omega arith)
 
-pub arrival_changes : (bytes : List ℕ) → ChangesBy bytes (λ e. arrival e bytes)
-arrival_changes bytes e = kept_guard (is_nonempty bytes && (not e.fin && not e.err)) _ (λ may. record {
+-- the bytes that a change brings
+abbrev pub brought : Change → List ℕ
+brought (Arrive bytes) = bytes.items
+brought _ = []
+
+-- each change leaves the flags covered
+pub changed_end : (change : Change) (e : EndState) → Kept (IsChange (brought change) e) (change_of change e)
+changed_end (Arrive bytes) e = kept_guard (is_nonempty bytes.items && (not e.fin && not e.err)) _ (λ may. record {
   unread = refl;
   taken = refl;
   fin = λ h. h;
-  none = λ h. absurd (denied e.fin (first_so (not e.fin) (not e.err) (second_so (is_nonempty bytes) _ may)) h);
+  none = λ h. absurd (denied e.fin (first_so (not e.fin) (not e.err) (second_so (is_nonempty bytes.items) _ may)) h);
   covered = λ flags r c. record {
     read = cover_report flags.read e.read_armed (is_readable e) r e.read_armed _ (λ h. h)
-        (or_left _ (e.fin || e.err) (nonempty_more e.unread bytes (first_so (is_nonempty bytes) _ may))) c.read;
+        (or_left _ (e.fin || e.err) (nonempty_more e.unread bytes.items (first_so (is_nonempty bytes.items) _ may))) c.read;
     write = cover_more flags.write e.write_armed (is_writable e) r _ (or_left r e.read_armed) c.write;
   };
 })
-
-pub finish_changes : ChangesBy [] finish
-finish_changes e = kept_guard (not e.fin && not e.err) _ (λ may. record {
+changed_end Fin e = kept_guard (not e.fin && not e.err) _ (λ may. record {
   unread = sym (append-nil e.unread);
   taken = refl;
   fin = λ h. refl;
@@ -244,9 +236,7 @@ finish_changes e = kept_guard (not e.fin && not e.err) _ (λ may. record {
     write = cover_more flags.write e.write_armed (is_writable e) r _ (or_left r e.read_armed) c.write;
   };
 })
-
-pub failure_changes : ChangesBy [] model.failure
-failure_changes e = kept_guard (not e.err) _ (λ may. record {
+changed_end Reset e = kept_guard (not e.err) _ (λ may. record {
   unread = sym (append-nil e.unread);
   taken = refl;
   fin = λ h. h;
@@ -257,9 +247,7 @@ failure_changes e = kept_guard (not e.err) _ (λ may. record {
     write = cover_report flags.write e.write_armed (is_writable e) r (e.read_armed || e.write_armed) _ (or_right e.read_armed e.write_armed) (or_right e.room true refl) c.write;
   };
 })
-
-pub room_changes : ChangesBy [] new_room
-room_changes e = kept_guard (not e.room && not e.err) _ (λ may. record {
+changed_end Room e = kept_guard (not e.room && not e.err) _ (λ may. record {
   unread = sym (append-nil e.unread);
   taken = refl;
   fin = λ h. h;
@@ -272,7 +260,7 @@ room_changes e = kept_guard (not e.room && not e.err) _ (λ may. record {
 
 -- What speaks for the next call: a read's and a write's flag is up, and a shutdown comes after every byte
 
-abbrev pub IsAsked : PairState → Call → Type 0
+abbrev IsAsked : PairState → Call → Type 0
 IsAsked p (Write side) = (flags_of p side).write ≡ true
 IsAsked p (Join side) = Unit {0}
 IsAsked p (Shut side) = is_drained (stream_of p (inward side)) ≡ true
@@ -342,10 +330,10 @@ unready false h = refl
 
 -- One end x, and the other, y: the flags of x are covered, and the directions from x and to x are in order
 
-pub record EndOk (flags : Flags) (r : Bool) (x y : EndState) (gave back : List ℕ) (one two : Stream) : Type 0 where
-  pub covered : EndCovered flags x r
-  pub out : DirectionOk gave one x y
-  pub into : DirectionOk back two y x
+record EndOk (flags : Flags) (r : Bool) (x y : EndState) (gave back : List ℕ) (one two : Stream) : Type 0 where
+  covered : EndCovered flags x r
+  out : DirectionOk gave one x y
+  into : DirectionOk back two y x
 
 module _ {flags : Flags} {r : Bool} {x y : EndState} {gave back : List ℕ} {out into : Stream} (ok : EndOk flags r x y gave back out into) where
   bytes_in : (n most : ℕ) → (is_count n most && nat_le n (length x.unread)) ≡ true → flags.read ≡ true
@@ -424,142 +412,92 @@ module _ {flags : Flags} {r : Bool} {x y : EndState} {gave back : List ℕ} {out
 
 -- The whole pair
 
--- after an answer the pair and its ends are in order, and it is the same connection
-pub record AnswerOk (h : Side → List ℕ) (r : Side → Bool) (p q : PairState) (ends : Sockets) : Type 0 where
-  pub pair : PairOk h r q ends
-  pub generation : q.generation ≡ p.generation
-  pub up : q.up.capacity ≡ p.up.capacity
-  pub down : q.down.capacity ≡ p.down.capacity
-
 module _ {h : Side → List ℕ} {r : Side → Bool} {p : PairState} {ends : Sockets} (ok : PairOk h r p ends) where
-  client_of : EndOk p.client (r Client) ends.client ends.target (h Client) (h Target) p.up p.down
-  client_of = record { covered = ok.covered Client; out = ok.directions Up; into = ok.directions Down }
+  of_client : EndOk p.client (r Client) ends.client ends.target (h Client) (h Target) p.up p.down
+  of_client = record { covered = ok.covered Client; out = ok.directions Up; into = ok.directions Down }
 
-  target_of : EndOk p.target (r Target) ends.target ends.client (h Target) (h Client) p.down p.up
-  target_of = record { covered = ok.covered Target; out = ok.directions Down; into = ok.directions Up }
+  of_target : EndOk p.target (r Target) ends.target ends.client (h Target) (h Client) p.down p.up
+  of_target = record { covered = ok.covered Target; out = ok.directions Down; into = ok.directions Up }
 
-  at_client : {q : PairState} {e : EndState} → q.generation ≡ p.generation → q.up.capacity ≡ p.up.capacity → q.down.capacity ≡ p.down.capacity → q.target ≡ p.target
-      → EndOk q.client (r Client) e ends.target (h Client) (h Target) q.up q.down → AnswerOk h r p q (record ends { client = e })
-  at_client generation up down same e = record {
-    pair = record { covered = by_side _ e.covered (rw same (ok.covered Target)); directions = by_direction _ e.out e.into };
-    generation = generation;
-    up = up;
-    down = down;
-  }
+  at_client : {q : PairState} {e : EndState} → q.target ≡ p.target → EndOk q.client (r Client) e ends.target (h Client) (h Target) q.up q.down
+      → PairOk h r q (record ends { client = e })
+  at_client same e = record { covered = by_side _ e.covered (rw same (ok.covered Target)); directions = by_direction _ e.out e.into }
 
-  at_target : {q : PairState} {e : EndState} → q.generation ≡ p.generation → q.up.capacity ≡ p.up.capacity → q.down.capacity ≡ p.down.capacity → q.client ≡ p.client
-      → EndOk q.target (r Target) e ends.client (h Target) (h Client) q.down q.up → AnswerOk h r p q (record ends { target = e })
-  at_target generation up down same e = record {
-    pair = record { covered = by_side _ (rw same (ok.covered Client)) e.covered; directions = by_direction _ e.into e.out };
-    generation = generation;
-    up = up;
-    down = down;
-  }
+  at_target : {q : PairState} {e : EndState} → q.client ≡ p.client → EndOk q.target (r Target) e ends.client (h Target) (h Client) q.down q.up
+      → PairOk h r q (record ends { target = e })
+  at_target same e = record { covered = by_side _ (rw same (ok.covered Client)) e.covered; directions = by_direction _ e.into e.out }
 
   -- an answer by which nothing moves
   unmoved : (side : Side) {turn : Direction} {failed : Option Fault} {moved : ℕ}
-      → AnswerOk h r p (record p { turn = turn; failure = failed; moved = moved }) (with_socket ends side (socket_of ends side))
-  unmoved Client = at_client refl refl refl refl client_of
-  unmoved Target = at_target refl refl refl refl target_of
+      → PairOk h r (record p { turn = turn; failure = failed; moved = moved }) (with_socket ends side (socket_of ends side))
+  unmoved Client = at_client refl of_client
+  unmoved Target = at_target refl of_target
 
--- What the pair is given, and the end after the call
-
--- for each answer that the pair may be given and each end after it, the pair is in order
-abbrev Answered : ℕ → (Side → List ℕ) → (Side → Bool) → PairState → Sockets → Call → Side → Option answer.AnswerValue → Option EndState → Type 0
-Answered now h r p ends call side told replies =
-    Kept (λ (t : answer.AnswerValue). Kept (λ (e : EndState). AnswerOk h r p (after now p call t) (with_socket ends side e)) replies) told
-
-kept_map_guard : {X Y : Type 0} {P : Y → Type 0} (f : X → Y) (b : Bool) (x : X) → (b ≡ true → P (f x)) → Kept P (option_map f (guard b x))
-kept_map_guard f true x h = kept_some (h refl)
-kept_map_guard f false x h = kept_none
+-- what the pair is given of a reply of this end
+abbrev told_by : EndState → Call → Reply → Option answer.AnswerValue
+told_by x (Read side most) (reply.Bytes n) = option_map (λ (bytes : List ℕ). answer.Bytes bytes) (bytes_read x most n)
+told_by x call said = plain said
 
 refused : {X Y : Type 0} {P : X → Y → Type 0} (o : Option X) → Kept (λ (t : X). Kept (P t) None) o
 refused None = kept_none
 refused (Some x) = kept_some kept_none
 
-abbrev told_read : EndState → ℕ → Reply → Option answer.AnswerValue
-told_read x most (reply.Bytes n) = option_map (λ (bytes : List ℕ). answer.Bytes bytes) (bytes_read x most n)
-told_read x most r = plain r
-
 module _ (now : ℕ) {h : Side → List ℕ} {r : Side → Bool} {p : PairState} {ends : Sockets} (ok : PairOk h r p ends) where
-  read_keeps : (side : Side) (most : ℕ) (said : Reply) → (flags_of p side).read ≡ true
-      → Answered now h r p ends (Read side most) side (told_read (socket_of ends side) most said) (after_read (socket_of ends side) most said)
-  read_keeps Client most (reply.Bytes n) up = kept_map_guard _ _ _ (λ told. kept_guard _ _ (λ may. at_client ok refl refl refl refl (bytes_in (client_of ok) n most may up)))
-  read_keeps Target most (reply.Bytes n) up = kept_map_guard _ _ _ (λ told. kept_guard _ _ (λ may. at_target ok refl refl refl refl (bytes_in (target_of ok) n most may up)))
-  read_keeps Client most reply.End up = kept_some (kept_guard _ _ (λ may. at_client ok refl refl refl refl (end_met (client_of ok) may)))
-  read_keeps Target most reply.End up = kept_some (kept_guard _ _ (λ may. at_target ok refl refl refl refl (end_met (target_of ok) may)))
-  read_keeps Client most reply.Blocked up = kept_some (kept_guard _ _ (λ may. at_client ok refl refl refl refl (read_blocked (client_of ok) may)))
-  read_keeps Target most reply.Blocked up = kept_some (kept_guard _ _ (λ may. at_target ok refl refl refl refl (read_blocked (target_of ok) may)))
-  read_keeps side most reply.Interrupted up = kept_some (kept_some (unmoved ok side))
-  read_keeps side most (reply.Failed kind) up = kept_some (kept_guard _ _ (λ may. unmoved ok side))
-  read_keeps side most said up = refused _
+  -- for each answer that the pair may be given and each end after it, the pair is in order
+  answered : (call : Call) (said : Reply) → IsAsked p call
+      → Kept (λ (t : answer.AnswerValue). Kept (λ (e : EndState). PairOk h r (after now p call t) (with_socket ends (side_of call) e))
+      (end_after p call said (socket_of ends (side_of call)))) (told_by (socket_of ends (side_of call)) call said)
+  answered (Read Client most) (reply.Bytes n) up = kept_over _ _ (kept_guard _ _ (λ told. kept_guard _ _ (λ may. at_client ok refl (bytes_in (of_client ok) n most may up))))
+  answered (Read Target most) (reply.Bytes n) up = kept_over _ _ (kept_guard _ _ (λ told. kept_guard _ _ (λ may. at_target ok refl (bytes_in (of_target ok) n most may up))))
+  answered (Read Client most) reply.End up = kept_some (kept_guard _ _ (λ may. at_client ok refl (end_met (of_client ok) may)))
+  answered (Read Target most) reply.End up = kept_some (kept_guard _ _ (λ may. at_target ok refl (end_met (of_target ok) may)))
+  answered (Read Client most) reply.Blocked up = kept_some (kept_guard _ _ (λ may. at_client ok refl (read_blocked (of_client ok) may)))
+  answered (Read Target most) reply.Blocked up = kept_some (kept_guard _ _ (λ may. at_target ok refl (read_blocked (of_target ok) may)))
+  answered (Write Client) (reply.Wrote n full) up = kept_some (kept_guard _ _ (λ may. at_client ok refl (wrote_out (of_client ok) n (not full) may up)))
+  answered (Write Target) (reply.Wrote n full) up = kept_some (kept_guard _ _ (λ may. at_target ok refl (wrote_out (of_target ok) n (not full) may up)))
+  answered (Write Client) reply.Blocked up = kept_some (kept_guard _ _ (λ may. at_client ok refl (write_blocked (of_client ok) may)))
+  answered (Write Target) reply.Blocked up = kept_some (kept_guard _ _ (λ may. at_target ok refl (write_blocked (of_target ok) may)))
+  answered (Join Client) reply.Joined asked = kept_some (kept_guard _ _ (λ may. at_client ok refl (of_client ok)))
+  answered (Join Target) reply.Joined asked = kept_some (kept_guard _ _ (λ may. at_target ok refl (of_target ok)))
+  answered (Join Client) reply.Blocked asked = kept_some (kept_guard _ _ (λ may. at_client ok refl (write_blocked (of_client ok) may)))
+  answered (Join Target) reply.Blocked asked = kept_some (kept_guard _ _ (λ may. at_target ok refl (write_blocked (of_target ok) may)))
+  answered (Shut Client) reply.Shut drained = kept_some (kept_some (at_client ok refl (passed_on (of_client ok) drained)))
+  answered (Shut Target) reply.Shut drained = kept_some (kept_some (at_target ok refl (passed_on (of_target ok) drained)))
+  answered (Write side) (reply.Failed kind) up = kept_some (kept_some (unmoved ok side))
+  answered call reply.Interrupted asked = kept_some (kept_some (unmoved ok (side_of call)))
+  answered call (reply.Failed kind) asked = kept_some (kept_guard _ _ (λ may. unmoved ok (side_of call)))
+  answered call said asked = refused _
 
-  write_keeps : (side : Side) (said : Reply) → (flags_of p side).write ≡ true
-      → Answered now h r p ends (Write side) side (plain said) (after_write (socket_of ends side) (offer p side) said)
-  write_keeps Client (reply.Wrote n full) up = kept_some (kept_guard _ _ (λ may. at_client ok refl refl refl refl (wrote_out (client_of ok) n (not full) may up)))
-  write_keeps Target (reply.Wrote n full) up = kept_some (kept_guard _ _ (λ may. at_target ok refl refl refl refl (wrote_out (target_of ok) n (not full) may up)))
-  write_keeps Client reply.Blocked up = kept_some (kept_guard _ _ (λ may. at_client ok refl refl refl refl (write_blocked (client_of ok) may)))
-  write_keeps Target reply.Blocked up = kept_some (kept_guard _ _ (λ may. at_target ok refl refl refl refl (write_blocked (target_of ok) may)))
-  write_keeps side reply.Interrupted up = kept_some (kept_some (unmoved ok side))
-  write_keeps side (reply.Failed kind) up = kept_some (kept_some (unmoved ok side))
-  write_keeps side said up = refused _
+module _ {past : History} {st : State} {s g : ℕ} {notes : List ℕ} {c : Connection} (ok : EndsOk past st s g notes c) where
+  -- what lies at the descriptor of a side
+  pub its_end : (side : Side) (r : Registered) → end_of st c side ≡ Some r → r ≡ registered s g side (socket_of ok.ends side)
+  its_end side r there = cc (ok.there side)
 
-  join_keeps : (side : Side) (said : Reply) → Answered now h r p ends (Join side) side (plain said) (after_join (socket_of ends side) said)
-  join_keeps Client reply.Joined = kept_some (kept_guard _ _ (λ may. at_client ok refl refl refl refl (client_of ok)))
-  join_keeps Target reply.Joined = kept_some (kept_guard _ _ (λ may. at_target ok refl refl refl refl (target_of ok)))
-  join_keeps Client reply.Blocked = kept_some (kept_guard _ _ (λ may. at_client ok refl refl refl refl (write_blocked (client_of ok) may)))
-  join_keeps Target reply.Blocked = kept_some (kept_guard _ _ (λ may. at_target ok refl refl refl refl (write_blocked (target_of ok) may)))
-  join_keeps side reply.Interrupted = kept_some (kept_some (unmoved ok side))
-  join_keeps side (reply.Failed kind) = kept_some (kept_guard _ _ (λ may. unmoved ok side))
-  join_keeps side said = refused _
+  told_is : (call : Call) (said : Reply) → told_of (record { kernel = st.kernel; connection = c }) call said ≡ told_by (socket_of ok.ends (side_of call)) call said
+  told_is (Read side most) (reply.Bytes n) = rw (ok.there side)
+  told_is _ _ = refl
 
-  shut_keeps : (side : Side) (said : Reply) → is_drained (stream_of p (inward side)) ≡ true
-      → Answered now h r p ends (Shut side) side (plain said) (after_shut (socket_of ends side) said)
-  shut_keeps Client reply.Shut drained = kept_some (kept_some (at_client ok refl refl refl refl (passed_on (client_of ok) drained)))
-  shut_keeps Target reply.Shut drained = kept_some (kept_some (at_target ok refl refl refl refl (passed_on (target_of ok) drained)))
-  shut_keeps side reply.Interrupted drained = kept_some (kept_some (unmoved ok side))
-  shut_keeps side (reply.Failed kind) drained = kept_some (kept_guard _ _ (λ may. unmoved ok side))
-  shut_keeps side said drained = refused _
+  -- after a call the pair and its ends are in order
+  pub pair_called : {r : Reply} (m : Made st c r)
+      → PairOk (past s g) (λ side. is_pending st (token_at s side g) || is_nonempty notes) (after st.second c.pair m.call m.value) (with_socket ok.ends (side_of m.call) m.socket)
+  pair_called {r} m =
+      let is = its_end (side_of m.call) m.old m.there in
+      kept_at (end_after c.pair m.call r (socket_of ok.ends (side_of m.call))) m.socket (rw is at m.replied)
+      (kept_at (told_by (socket_of ok.ends (side_of m.call)) m.call r) m.value (sym (told_is m.call r) ∙ m.told)
+      (answered st.second ok.pair m.call r (kept_at (next_call c.pair) m.call m.next (asked c.pair))))
 
--- The kernel
+  -- the end of the other side is left, and this one changes
+  pub ends_there : (side : Side) (e : EndState) (other : Side) → end_at (ends_with st c side (Some (registered s g side e))) (descriptor c.ends other)
+      ≡ Some (registered s g other (socket_of (with_socket ok.ends side e) other))
+  ends_there Client e Client = end_same st.kernel.ends c.ends.client (registered s g Client ok.ends.client) _ (ok.there Client)
+  ends_there Client e Target = end_kept st.kernel.ends c.ends.client c.ends.target _ (ok.there Client) (ok.there Target)
+      (λ same. let sides : Target ≡ Client = ap (λ (n : EndName). n.side) same in absurd (cc))
+  ends_there Target e Client = end_kept st.kernel.ends c.ends.target c.ends.client _ (ok.there Target) (ok.there Client)
+      (λ same. let sides : Client ≡ Target = ap (λ (n : EndName). n.side) same in absurd (cc))
+  ends_there Target e Target = end_same st.kernel.ends c.ends.target (registered s g Target ok.ends.target) _ (ok.there Target)
 
--- the kernel with another end at one side of a connection
-abbrev pub with_answer : KernelState → ℕ → ℕ → Connection → Side → EndState → KernelState
-with_answer k s g c side e = record k { ends = slice_set k.ends (descriptor c.ends side) (Some (registered s g side e)) }
-
--- after a call one end has changed in the kernel, and the pair is in order
-pub record LineOk (h : Side → List ℕ) (r : Side → Bool) (k : KernelState) (s g : ℕ) (c : Connection) (ends : Sockets) (line : OpenConnection) : Type 0 where
-  pub side : Side
-  pub socket : EndState
-  pub kernel : line.kernel ≡ with_answer k s g c side socket
-  pub descriptors : line.connection.ends ≡ c.ends
-  pub answered : AnswerOk h r c.pair line.connection.pair (with_socket ends side socket)
-
-module _ (now : ℕ) {h : Side → List ℕ} {r : Side → Bool} (k : KernelState) (s g : ℕ) (c : Connection) {ends : Sockets}
-    (there : (side : Side) → end_at k.ends (descriptor c.ends side) ≡ Some (registered s g side (socket_of ends side))) (ok : PairOk h r c.pair ends) where
-  line_ok : (call : Call) (side : Side) (t : answer.AnswerValue) (replies : Option EndState)
-      → Kept (λ (e : EndState). AnswerOk h r c.pair (after now c.pair call t) (with_socket ends side e)) replies
-      → Kept (LineOk h r k s g c ends) (option_map (λ (q : KernelState). record { kernel = q; connection = record c { pair = after now c.pair call t } })
-      (option_map (λ (e : EndState). with_answer k s g c side e) replies))
-  line_ok call side t None kept = kept_none
-  line_ok call side t (Some e) kept = kept_some (record { side = side; socket = e; kernel = refl; descriptors = refl; answered = kept.kept })
-
-  told_is : (side : Side) (most : ℕ) (said : Reply)
-      → told_of (record { kernel = k; connection = c }) (Read side most) said ≡ told_read (socket_of ends side) most said
-  told_is side most (reply.Bytes n) = rw (there side) refl
-  told_is side most _ = refl
-
-  replied_keeps : (call : Call) (said : Reply) → IsAsked c.pair call → Kept (LineOk h r k s g c ends) (replied now (record { kernel = k; connection = c }) call said)
-  replied_keeps (Read side most) said up = kept_bind _ (told_of (record { kernel = k; connection = c }) (Read side most) said) (λ t told.
-      kept_when (fits c.pair (Read side most) t) _ (λ fit. rw (there side) (line_ok (Read side most) side t (after_read (socket_of ends side) most said)
-      (kept_at (told_read (socket_of ends side) most said) t (sym (told_is side most said) ∙ told) (read_keeps now ok side most said up)))))
-  replied_keeps (Write side) said up = kept_next _ (plain said) (λ t kept. kept_when (fits c.pair (Write side) t) _ (λ fit.
-      rw (there side) (line_ok (Write side) side t (after_write (socket_of ends side) (offer c.pair side) said) kept))) (write_keeps now ok side said up)
-  replied_keeps (Join side) said up = kept_next _ (plain said) (λ t kept. kept_when (fits c.pair (Join side) t) _ (λ fit.
-      rw (there side) (line_ok (Join side) side t (after_join (socket_of ends side) said) kept))) (join_keeps now ok side said)
-  replied_keeps (Shut side) said drained = kept_next _ (plain said) (λ t kept. kept_when (fits c.pair (Shut side) t) _ (λ fit.
-      rw (there side) (line_ok (Shut side) side t (after_shut (socket_of ends side) said) kept))) (shut_keeps now ok side said drained)
-
-  pub called_keeps : (said : Reply) → Kept (LineOk h r k s g c ends) (called now (record { kernel = k; connection = c }) said)
-  unfolding called
-  called_keeps said = kept_bind _ (next_call c.pair) (λ call next. replied_keeps call said (kept_at (next_call c.pair) call next (asked c.pair)))
+  -- a change at one end leaves the ends of other slots
+  pub others_kept : {i : ℕ} (side : Side) (o : Option Registered) → (i ≡ s → ⊥) → (d : ℕ) (r : Registered) → end_at st.kernel.ends d ≡ Some r → r.token.slot ≡ i
+      → end_at (ends_with st c side o) d ≡ Some r
+  others_kept side o differ d r there of_i = end_kept st.kernel.ends (descriptor c.ends side) d o (ok.there side) there
+      (λ same. differ (let slots : r.token.slot ≡ s = ap (λ (n : EndName). n.slot) same in cc))

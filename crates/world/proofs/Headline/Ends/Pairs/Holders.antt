@@ -388,7 +388,10 @@ module _ (st : State) (w : ℕ) (k : WorkerState) (t : Ticket) (p : SlotState) (
       let parts = unheld p.holder (is_nonempty p.notes) (omega arith) in
       record { holder = parts.0; some = parts.1; lies = rw (parts.0) at sv.shape }
 
-  claimed_turns : Turns (claimed st w k t.slot p)
+  unheld_so : is_held p.holder ≡ true → ⊥
+  unheld_so held = let is : is_held Nobody ≡ true = rw waiting.holder at held in absurd (cc)
+
+  claimed_turns : Turns (doing (with_place st t.slot (record p { holder = By w })) w k (Holds t.slot st.limits.budget))
   claimed_turns =
       let s : ℕ = t.slot in
       let sv = turns.each s p lies in
@@ -400,15 +403,14 @@ module _ (st : State) (w : ℕ) (k : WorkerState) (t : Ticket) (p : SlotState) (
       let holding = rw wait.holder at sv.holding in
       let closing = rw wait.holder at sv.closing in
       let gone = rw wait.holder at sv.gone in
-      let none : is_held p.holder ≡ false = rw wait.holder refl in
-      rw none (keep_others s turns lies refl
+      keep_others s turns lies refl
       (λ j g apart. let away = one_other s j apart in turned_elsewhere st w (Holds s st.limits.budget) j g there does (omega arith) (omega arith)) (record {
         entry = sv.entry;
         notes = sv.notes;
         counts = record { tickets = omega arith; right = omega arith; holding = rw wait.lies (omega arith); closing = rw wait.lies (omega arith); gone = omega arith };
         shape = refl;
         connection = λ c is. record { stands = (sv.connection c is).stands; live = λ h. absurd (cc); rest = λ h n. absurd (cc) };
-      }))
+      })
 
   pub names_it : t.generation ≡ p.generation
   names_it =
@@ -494,27 +496,10 @@ heard_stands : (c : Connection) (some : Bool) → place_of (if some then record 
 heard_stands c true = refl
 heard_stands c false = refl
 
--- a connection's call with its reply leaves it what it is: the same slot, generation and rings
-
-abbrev StandsAs : Connection → OpenConnection → Type 0
-StandsAs c line = place_of line.connection.pair ≡ place_of c.pair
-
-replied_stands : (laws : CoreLaws) (now : ℕ) (l : OpenConnection) (call : Call) (r : Reply) → Kept (StandsAs l.connection) (replied now l call r)
-replied_stands laws now l call r = kept_bind _ (told_of l call r) (λ t is. kept_when _ _ (λ fit. kept_map _ (made l call r) (λ k done. laws.place now l.connection.pair call t)))
-
-called_stands : (laws : CoreLaws) (now : ℕ) (l : OpenConnection) (r : Reply) → Kept (StandsAs l.connection) (called now l r)
-unfolding called
-called_stands laws now l r = kept_bind _ (next_call l.connection.pair) (λ call next. replied_stands laws now l call r)
-
-call_turns : (laws : CoreLaws) (st : State) (w : ℕ) (h : Holding st w) (r : Reply) (l : OpenConnection)
-    → called st.second (record { kernel = st.kernel; connection = h.c }) r ≡ Some l → Turns st → Turns (called_on h l)
-call_turns laws st w h r l so turns = keeps_held h h.p.notes l.connection turns refl
+call_turns : (laws : CoreLaws) {st : State} {w : ℕ} (h : Holding st w) {r : Reply} (m : Made st h.c r) → Turns st → Turns (called_on h m)
+call_turns laws {st} {w} h m turns = keeps_held h h.p.notes (after_call m) turns refl
     (λ j g. let m = turned st w (Holds h.s (h.left - 1)) j g h.there h.does in record { entry = refl; counts = omega arith })
-    (turns.each h.s h.p h.lies).notes
-    (kept_at (called st.second (record { kernel = st.kernel; connection = h.c }) r) l so (called_stands laws st.second (record { kernel = st.kernel; connection = h.c }) r))
-
-expired_stands : (now limit : ℕ) (c : Connection) → Kept (λ (d : Connection). place_of d.pair ≡ place_of c.pair) (expired now limit c)
-expired_stands now limit c = kept_guard _ _ (λ over. refl)
+    (turns.each h.s h.p h.lies).notes (laws.place st.second h.c.pair m.call m.value)
 
 post_turns : {st : State} {w : ℕ} (h : Holding st w) → Turns st → Turns (with_place st h.s (with_note h.p h.c.pair.generation))
 post_turns {st} h turns =
@@ -613,9 +598,8 @@ freed_most i slots s p = elim (is_worn p.generation) as (λ b. total (is_number 
 
 -- each event keeps it
 pub turns_on : (laws : CoreLaws) (st : State) {e : Event} {q : State} → Turns st → Happens st e q → Turns q
-turns_on laws st turns (Accepts Accepted k may is) = record { each = turns.each }
-turns_on laws st turns (Opens s g p client target first lies) = opened_turns st s g p (kernel.open_both st.kernel client target) first lies turns
-turns_on laws st turns (Delivers n g p first entry own lies) = record { each = (posted_turns st n.slot g p entry lies turns).each }
+turns_on laws st turns (Opens s g p first lies entry) = opened_turns st s (g + 1) p _ first lies turns
+turns_on laws st turns (Delivers n p first entry lies) = record { each = (posted_turns st n.slot n.generation p entry lies turns).each }
 turns_on laws st turns (Sweeps s g p entry lies) = posted_turns st s g p entry lies turns
 turns_on laws st turns (Puts t rest is) = keep_slots turns refl (λ s g.
     let a = total_moved (of_slot s) st.ready st.hand rest t is in let b = total_moved (names s g) st.ready st.hand rest t is in record { entry = refl; counts = omega arith })
@@ -625,13 +609,13 @@ turns_on laws st turns (HandsIn w k t rest there is) = keep_slots turns refl (λ
 turns_on laws st turns (Pops w k t rest there idle is) = keep_slots turns refl (λ s g.
     let r = turned st w (Tries t) s g there idle in let a = ap (total (of_slot s)) is in let b = ap (total (names s g)) is in record { entry = refl; counts = omega arith })
 turns_on laws st turns (Claims w k t p there does lies) = claimed_turns st w k t p there does lies turns
+turns_on laws st turns (Leaves w k t p there does lies held) = absurd (unheld_so st w k t p there does lies turns held)
 turns_on laws st turns (Takes w h) = keeps_held h [] (heard h.c h.p.notes) turns refl (λ j g. same_self) refl (heard_stands h.c (is_nonempty h.p.notes))
-turns_on laws st turns (Calls w h r l so) = call_turns laws st w h r l so turns
+turns_on laws st turns (Calls w h r m) = call_turns laws h m turns
 turns_on laws st turns (Posts w h) = post_turns h turns
 turns_on laws st turns (Releases w h may) = released_turns h may turns
-turns_on laws st turns (Expires w h d so) = keeps_held h h.p.notes d turns refl (λ j g. same_self) (turns.each h.s h.p h.lies).notes
-    (kept_at (expired st.second st.limits.idle h.c) d so (expired_stands st.second st.limits.idle h.c))
-turns_on laws st turns (Closes w h t both) = closed_turns h t turns
+turns_on laws st turns (Expires w h over) = keeps_held h h.p.notes _ turns refl (λ j g. same_self) (turns.each h.s h.p h.lies).notes refl
+turns_on laws st turns (Closes w h one two at as_well) = closed_turns h _ turns
 turns_on laws st turns (Retires w k s p there does lies) = retired_turns st w k s p there does lies turns
 turns_on laws st turns (Frees w k s p there does) = keep_slots turns refl (λ i g.
     let r = turned st w Idle i g there does in let most = freed_most i st.free s p in record { entry = refl; counts = omega arith })
@@ -699,6 +683,7 @@ takes_own st _ turns = tt
 tried_own : (st : State) {e : Event} {q : State} → Turns st → Happens st e q → TriedOnOwn st e
 tried_own st turns (Takes w h) = λ k there. takes_own st k.doing turns
 tried_own st turns (Claims w k t p there does lies) = λ j at. let same : j ≡ k = cc (at, there) in rw (same, does) (claims_own st w k t p there does lies turns)
+tried_own st turns (Leaves w k t p there does lies held) = absurd (unheld_so st w k t p there does lies turns held)
 tried_own st turns _ = tt
 
 tried_first : (st : State) (e : Event) (events : List Event) (w : State) (o : Option State) → Turns st → Kept (Happens st e) o → option_and_then (λ (q : State). run q events) o ≡ Some w
@@ -794,18 +779,17 @@ posted_words st s g p made there all like =
 -- each event
 
 words_on : (st : State) {e : Event} {q : State} → Turns st → Happens st e q → WordsMove st e q
-words_on st turns (Accepts Accepted k may is) = untouched refl (λ s. refl) (λ s. refl)
-words_on st turns (Opens s g p client target first lies) =
+words_on st turns (Opens s g p first lies entry) =
     let f = first_free st s p lies first turns in
-    let new : Ticket = record { slot = s; generation = g } in
+    let new : Ticket = record { slot = s; generation = g + 1 } in
     let more = total_push (of_slot s) st.hand new in
     let this = one_same s in
-    let t : Told KernelState Descriptors = kernel.open_both st.kernel client target in
-    touched s (opened_place s g st.limits st.second t.told) (words.adopt ∷ words.take ∷ words.post ∷ words.release ∷ []) lies refl (λ i. rw first) refl (rw f.holder (omega arith))
+    touched s (opened_place s (g + 1) st.limits st.second (open_both st.kernel (token_at s Client (g + 1)) (token_at s Target (g + 1))).told) (words.adopt ∷ words.take ∷ words.post ∷ words.release ∷ []) lies refl (λ i. rw first) refl (rw f.holder (omega arith))
     (λ i apart. let other = one_other s i apart in let same = total_push (of_slot i) st.hand new in omega arith)
 words_on st turns (Hears first) = untouched refl (λ s. rw first) (λ s. refl)
-words_on st turns (Passes n first other none) = untouched refl (λ s. rw first (none s)) (λ s. refl)
-words_on st turns (Delivers n g p first entry own lies) = posted_words st n.slot g p (λ i. rw (first, entry, own)) lies refl (λ i. refl)
+words_on st turns (Wakes first) = untouched refl (λ s. rw first) (λ s. refl)
+words_on st turns (Passes n first other) = untouched refl (λ s. rw (first, other)) (λ s. refl)
+words_on st turns (Delivers n p first entry lies) = posted_words st n.slot n.generation p (λ i. rw (first, entry, eq-eqb n.generation n.generation refl)) lies refl (λ i. refl)
 words_on st turns (Sweeps s g p entry lies) = posted_words st s g p (λ i. refl) lies refl (λ i. refl)
 words_on st turns (Puts t rest is) = untouched refl (λ s. refl) (λ s. omega (arith, total_push (of_slot s) st.ready t, ap (total (of_slot s)) is))
 words_on st turns (HandsIn w k t rest there is) = untouched refl (λ s. rw there) (λ s.
@@ -815,13 +799,13 @@ words_on st turns (Pops w k t rest there idle is) = untouched refl (λ s. rw the
 words_on st turns (Claims w k t p there does lies) =
     let s : ℕ = t.slot in
     let wait = waiting st w k t p there does lies turns in
-    let none : is_held p.holder ≡ false = rw wait.holder refl in
     let this = one_same s in
     let m = turned st w (Holds s st.limits.budget) s 0 there does in
-    rw none (touched s (record p { holder = By w }) (words.claim ∷ []) lies refl (λ i. rw (there, does)) (rw wait.holder) (rw wait.holder (omega arith)) (λ i apart.
-    let away = one_other s i apart in let n = turned st w (Holds s st.limits.budget) i 0 there does in omega arith))
+    touched s (record p { holder = By w }) (words.claim ∷ []) lies refl (λ i. rw (there, does)) (rw wait.holder) (rw wait.holder (omega arith)) (λ i apart.
+    let away = one_other s i apart in let n = turned st w (Holds s st.limits.budget) i 0 there does in omega arith)
+words_on st turns (Leaves w k t p there does lies held) = absurd (unheld_so st w k t p there does lies turns held)
 words_on st turns (Takes w h) = touched h.s (record h.p { notes = []; connection = Some (heard h.c h.p.notes) }) (words.take ∷ []) h.lies refl (λ i. rw (h.there, h.does)) refl refl (λ i apart. refl)
-words_on st turns (Calls w h r l so) = stays h.s (record h.p { connection = Some l.connection }) h.lies refl (λ i. rw h.there) refl
+words_on st turns (Calls w h r m) = stays h.s (record h.p { connection = Some (after_call m) }) h.lies refl (λ i. rw h.there) refl
     (λ i. let m = turned st w (Holds h.s (h.left - 1)) i 0 h.there h.does in omega arith)
 words_on st turns (Posts w h) =
     touched h.s (with_note h.p h.c.pair.generation) (words.post ∷ []) h.lies refl (λ i. rw (h.there, h.does)) (noted_word h.p h.c.pair.generation) (rw (held_slot h turns).holder) (λ i apart. refl)
@@ -838,8 +822,8 @@ words_on st turns (Releases w h may) =
     let a = doing_so i 0 h.does in
     let x = handed (of_slot i) (is_nonempty h.p.notes) s h.p.generation h.k.hand (one_other s i apart) in
     omega arith)
-words_on st turns (Expires w h d so) = stays h.s (record h.p { connection = Some d }) h.lies refl (λ i. rw h.there) refl (λ i. refl)
-words_on st turns (Closes w h t both) = stays h.s (record h.p { connection = None }) h.lies refl (λ i. rw h.there) refl
+words_on st turns (Expires w h over) = stays h.s _ h.lies refl (λ i. rw h.there) refl (λ i. refl)
+words_on st turns (Closes w h one two at as_well) = stays h.s (record h.p { connection = None }) h.lies refl (λ i. rw h.there) refl
     (λ i. let m = turned st w (Closed h.s) i 0 h.there h.does in omega arith)
 words_on st turns (Retires w k s p there does lies) =
     let held = closed_by st w k s p there does lies turns in

@@ -1,19 +1,7 @@
--- What each event found and left, case by case. And the listener.
+-- What each event found and left, case by case: a claim about every event is proved by these cases. So is the listener's:
+-- while the accept flag is down, it is armed and nobody waits, or somebody waits and its name is queued or in the batch.
 pub mod Lists
 unfoldable pub use Lists.*
-
--- the connection of p was overdue, and in q it has failed
-pub record Expired (now limit : ℕ) (p q : SlotState) : Type 0 where
-  pub connection : Connection
-  pub was : p.connection ≡ Some connection
-  pub overdue : is_overdue now limit connection.pair ≡ true
-  pub is : q ≡ record p { connection = Some (record connection { pair = timed_out connection.pair }) }
-
-pub expired_so : (now limit : ℕ) (p : SlotState) → Kept (Expired now limit p) (expired_place now limit p)
-expired_so now limit p = kept_bind _ p.connection (λ c was. kept_then (λ (d : Connection). record p { connection = Some d }) (expired now limit c)
-    (λ d x. x)
-    (kept_guard {P = λ (d : Connection). Expired now limit p (record p { connection = Some d })} (is_overdue now limit c.pair) (record c { pair = timed_out c.pair })
-    (λ overdue. record { connection = c; was = was; overdue = overdue; is = refl })))
 
 -- a worker that holds a slot, and the connection that lies there
 pub record Holding (st : State) (w : ℕ) : Type 0 where
@@ -27,12 +15,54 @@ pub record Holding (st : State) (w : ℕ) : Type 0 where
   pub lies : slice_get st.slots s ≡ Some p
   pub is : p.connection ≡ Some c
 
--- the worlds that it leaves: it took the notes, made a call, or released the slot
+-- the token of one side of the connection in slot s of generation g
+abbrev pub token_at : ℕ → Side → ℕ → EndName
+token_at s side g = record { slot = s; side = side; generation = g }
+
+-- what a change of the network does to an end
+abbrev pub change_of : Change → EndState → Option (Told EndState Bool)
+change_of (Arrive bytes) e = arrival e bytes.items
+change_of Fin e = finish e
+change_of Reset e = model.failure e
+change_of Room e = new_room e
+
+-- the end after a call on it, which got this reply
+abbrev pub end_after : PairState → Call → Reply → EndState → Option EndState
+end_after p (Read side most) r e = after_read e most r
+end_after p (Write side) r e = after_write e (offer p side) r
+end_after p (Join side) r e = after_join e r
+end_after p (Shut side) r e = after_shut e r
+
+-- a connection's call with its reply
+pub record Made (st : State) (c : Connection) (r : Reply) : Type 0 where
+  pub call : Call
+  pub value : answer.AnswerValue
+  pub old : Registered
+  pub socket : EndState
+  pub next : next_call c.pair ≡ Some call
+  pub told : told_of (record { kernel = st.kernel; connection = c }) call r ≡ Some value
+  pub fit : fits c.pair call value ≡ true
+  pub there : end_of st c (side_of call) ≡ Some old
+  pub replied : end_after c.pair call r old.socket ≡ Some socket
+
+-- the ends with another at one side of a connection
+abbrev pub ends_with : State → Connection → Side → Option Registered → List (Option Registered)
+ends_with st c side o = slice_set st.kernel.ends (descriptor c.ends side) o
+
+-- the worlds that it leaves: it took the notes, made a call, released the slot, or closed the connection
 abbrev pub taken : {st : State} {w : ℕ} → Holding st w → State
 taken {st} h = with_place st h.s (record h.p { notes = []; connection = Some (heard h.c h.p.notes) })
 
-abbrev pub called_on : {st : State} {w : ℕ} → Holding st w → OpenConnection → State
-called_on {st} {w} h l = doing (with_place (record st { kernel = l.kernel }) h.s (record h.p { connection = Some l.connection })) w h.k (Holds h.s (h.left - 1))
+abbrev pub after_call : {st : State} {c : Connection} {r : Reply} → Made st c r → Connection
+after_call {st} {c} m = record c { pair = after st.second c.pair m.call m.value }
+
+abbrev pub called_on : {st : State} {w : ℕ} (h : Holding st w) {r : Reply} → Made st h.c r → State
+called_on {st} {w} h m = doing (with_place (record st {
+  kernel = record st.kernel {
+    ends = ends_with st h.c (side_of m.call) (Some (record m.old { socket = m.socket }));
+  };
+}) h.s (record h.p { connection = Some (after_call m) }))
+    w h.k (Holds h.s (h.left - 1))
 
 abbrev pub hand_after : {st : State} {w : ℕ} → Holding st w → List Ticket
 hand_after h = with_ticket (is_nonempty h.p.notes) h.s h.p.generation h.k.hand
@@ -40,25 +70,58 @@ hand_after h = with_ticket (is_nonempty h.p.notes) h.s h.p.generation h.k.hand
 abbrev pub released : {st : State} {w : ℕ} → Holding st w → State
 released {st} {w} h = with_worker (with_place st h.s (record h.p { holder = Nobody })) w (record { doing = Idle; hand = hand_after h })
 
+abbrev pub closed_on : {st : State} {w : ℕ} → Holding st w → Registered → Registered → State
+closed_on {st} {w} h one two = closed_world st w h.k h.s h.p h.c (record {
+  value = record st.kernel {
+    ends = slice_set (ends_with st h.c Client None) h.c.ends.target None;
+    queue = without_name (End two.token) (without_name (End one.token) st.kernel.queue);
+  };
+  told = record { client = one.socket; target = two.socket };
+})
+
+-- the world with a fresh connection
+abbrev pub fresh_world : State → ℕ → ℕ → State
+fresh_world st s g = opened_world st s g (open_both st.kernel (token_at s Client g) (token_at s Target g))
+
+-- the world without the first name of its batch
+abbrev pub behind : State → State
+behind st = record st { batch = drop 1 st.batch }
+
 pub data Happens (st : State) : Event → State → Type 0 where
   Ticks : (n : ℕ) → Happens st (event.Tick n) (record st { second = st.second + n })
-  Changes : (s : ℕ) (side : Side) (change : Change) (c : Connection) (k : KernelState) → change_at st.kernel (descriptor c.ends side) change ≡ Some k
-      → Happens st (event.Network s side change) (record st { kernel = k })
-  Reports : (who : Reported) (x : Watched) (k : KernelState) → kernel.spurious st.kernel x ≡ Some k → Happens st (event.Spurious who) (record st { kernel = k })
-  Vanishes : (who : Reported) (x : Watched) (k : KernelState) → kernel.vanish st.kernel x ≡ Some k → Happens st (event.Vanish who) (record st { kernel = k })
-  Connects : (k : KernelState) → kernel.connect_in st.kernel ≡ Some k → Happens st (event.Listen listening.Connect) (record st { kernel = k })
-  Accepts : (reply : Accepting) (k : KernelState) → may_accept st ≡ true → kernel.accept st.kernel reply ≡ Some k
-      → Happens st (event.Listen (listening.Accept reply)) (record (after_accept st reply) { kernel = k })
+  Changes : (s : ℕ) (side : Side) (change : Change) (c : Connection) (r : Registered) (t : Told EndState Bool) → connection_at st s ≡ Some c → end_of st c side ≡ Some r
+      → change_of change r.socket ≡ Some t → Happens st (event.Network s side change) (record st {
+        kernel = record st.kernel {
+          ends = ends_with st c side (Some (record r { socket = t.value }));
+          queue = reported st.kernel.queue (End r.token) t.told;
+        };
+      })
+  Reports : (who : Reported) (n : Name) → Happens st (event.Spurious who) (record st { kernel = record st.kernel { queue = with_name n st.kernel.queue } })
+  WithdrawsListener : (st.kernel.backlog == 0) ≡ true
+      → Happens st (event.Vanish reports.Listener) (record st { kernel = record st.kernel { queue = without_name Listener st.kernel.queue } })
+  WithdrawsWaker : Happens st (event.Vanish reports.Waker) (record st { kernel = record st.kernel { queue = without_name Waker st.kernel.queue } })
+  Withdraws : (s : ℕ) (side : Side) (c : Connection) (r : Registered) → connection_at st s ≡ Some c → end_of st c side ≡ Some r → is_quiet_end (Some r) ≡ true
+      → Happens st (event.Vanish (reports.End s side)) (record st { kernel = record st.kernel { queue = without_name (End r.token) st.kernel.queue } })
+  Connects : Happens st (event.Listen listening.Connect) (record st {
+    kernel = record st.kernel {
+      backlog = st.kernel.backlog + 1;
+      queue = reported st.kernel.queue Listener st.kernel.armed;
+      armed = false;
+    };
+  })
+  Accepts : st.flag ≡ true → Happens st (event.Listen (listening.Accept Accepted)) (record st { accepted = true; kernel = record st.kernel { backlog = st.kernel.backlog - 1 } })
+  Blocks : (st.kernel.backlog == 0) ≡ true → Happens st (event.Listen (listening.Accept Blocked)) (record st { flag = false; kernel = record st.kernel { armed = true } })
+  Misses : (reply : Accepting) → Happens st (event.Listen (listening.Accept reply)) st
   Drops : Happens st (event.Listen listening.Drop) (record st { accepted = false })
-  Opens : (s g : ℕ) (p : SlotState) (client target : EndName) → slice_get st.free 0 ≡ Some s → slice_get st.slots s ≡ Some p
-      → Happens st (event.Poll polling.Open) (opened_world st s g (kernel.open_both st.kernel client target))
-  Polls : (names : Vec Name Global) (k : KernelState) → (length st.batch == 0) ≡ true → kernel.poll st.kernel names.items ≡ Some k
-      → Happens st (event.Poll (polling.Poll names)) (record st { batch = names.items; kernel = k })
-  Hears : slice_get st.batch 0 ≡ Some Listener → Happens st (event.Poll polling.Deliver) (record st { flag = true; batch = drop 1 st.batch })
-  Passes : (n : Name) → slice_get st.batch 0 ≡ Some n → same Listener n ≡ false → ((i : ℕ) → delivery_steps st (Some n) i ≡ [])
-      → Happens st (event.Poll polling.Deliver) (record st { batch = drop 1 st.batch })
-  Delivers : (n : EndName) (g : ℕ) (p : SlotState) → slice_get st.batch 0 ≡ Some (End n) → slice_get st.table n.slot ≡ Some g → (g == n.generation) ≡ true
-      → slice_get st.slots n.slot ≡ Some p → Happens st (event.Poll polling.Deliver) (record (posted st n.slot g p) { batch = drop 1 st.batch })
+  Opens : (s g : ℕ) (p : SlotState) → slice_get st.free 0 ≡ Some s → slice_get st.slots s ≡ Some p → slice_get st.table s ≡ Some g
+      → Happens st (event.Poll polling.Open) (fresh_world st s (g + 1))
+  Polls : (names : Vec Name Global) → (length st.batch == 0) ≡ true
+      → Happens st (event.Poll (polling.Poll names)) (record st { batch = names.items; kernel = record st.kernel { queue = without_names names.items st.kernel.queue } })
+  Hears : slice_get st.batch 0 ≡ Some Listener → Happens st (event.Poll polling.Deliver) (record (behind st) { flag = true })
+  Wakes : slice_get st.batch 0 ≡ Some Waker → Happens st (event.Poll polling.Deliver) (behind st)
+  Passes : (n : EndName) → slice_get st.batch 0 ≡ Some (End n) → is_entry (slice_get st.table n.slot) n.generation ≡ false → Happens st (event.Poll polling.Deliver) (behind st)
+  Delivers : (n : EndName) (p : SlotState) → slice_get st.batch 0 ≡ Some (End n) → slice_get st.table n.slot ≡ Some n.generation → slice_get st.slots n.slot ≡ Some p
+      → Happens st (event.Poll polling.Deliver) (behind (posted st n.slot n.generation p))
   Sweeps : (s g : ℕ) (p : SlotState) → slice_get st.table s ≡ Some g → slice_get st.slots s ≡ Some p → Happens st (event.Poll (polling.Sweep s)) (posted st s g p)
   Puts : (t : Ticket) (rest : List Ticket) → st.hand ≡ t ∷ rest → Happens st (event.Poll polling.Put) (record st { hand = rest; ready = st.ready ++ t ∷ [] })
   HandsIn : (w : ℕ) (k : WorkerState) (t : Ticket) (rest : List Ticket) → slice_get st.workers w ≡ Some k → k.hand ≡ t ∷ rest
@@ -66,148 +129,148 @@ pub data Happens (st : State) : Event → State → Type 0 where
   Pops : (w : ℕ) (k : WorkerState) (t : Ticket) (rest : List Ticket) → slice_get st.workers w ≡ Some k → k.doing ≡ Idle → st.ready ≡ t ∷ rest
       → Happens st (event.Work w act.Pop) (doing (record st { ready = rest }) w k (Tries t))
   Claims : (w : ℕ) (k : WorkerState) (t : Ticket) (p : SlotState) → slice_get st.workers w ≡ Some k → k.doing ≡ Tries t → slice_get st.slots t.slot ≡ Some p
-      → Happens st (event.Work w act.Claim) (claimed st w k t.slot p)
+      → Happens st (event.Work w act.Claim) (doing (with_place st t.slot (record p { holder = By w })) w k (Holds t.slot st.limits.budget))
+  Leaves : (w : ℕ) (k : WorkerState) (t : Ticket) (p : SlotState) → slice_get st.workers w ≡ Some k → k.doing ≡ Tries t → slice_get st.slots t.slot ≡ Some p
+      → is_held p.holder ≡ true → Happens st (event.Work w act.Claim) (doing st w k Idle)
   Takes : (w : ℕ) (h : Holding st w) → Happens st (event.Work w act.Take) (taken h)
-  Calls : (w : ℕ) (h : Holding st w) (r : Reply) (l : OpenConnection) → called st.second (record { kernel = st.kernel; connection = h.c }) r ≡ Some l
-      → Happens st (event.Work w (act.Call r)) (called_on h l)
+  Calls : (w : ℕ) (h : Holding st w) (r : Reply) (m : Made st h.c r) → Happens st (event.Work w (act.Call r)) (called_on h m)
   Posts : (w : ℕ) (h : Holding st w) → Happens st (event.Work w act.Post) (with_place st h.s (with_note h.p h.c.pair.generation))
   Releases : (w : ℕ) (h : Holding st w) → may_release h.c (is_nonempty h.p.notes) ≡ true → Happens st (event.Work w act.Release) (released h)
-  Expires : (w : ℕ) (h : Holding st w) (d : Connection) → expired st.second st.limits.idle h.c ≡ Some d
-      → Happens st (event.Work w act.Expire) (with_place st h.s (record h.p { connection = Some d }))
-  Closes : (w : ℕ) (h : Holding st w) (t : Told KernelState Sockets) → kernel.close_both st.kernel h.c.ends ≡ Some t
-      → Happens st (event.Work w act.Close) (closed_world st w h.k h.s h.p h.c t)
+  Expires : (w : ℕ) (h : Holding st w) → is_overdue st.second st.limits.idle h.c.pair ≡ true
+      → Happens st (event.Work w act.Expire) (with_place st h.s (record h.p { connection = Some (record h.c { pair = timed_out h.c.pair }) }))
+  Closes : (w : ℕ) (h : Holding st w) (one two : Registered) → end_of st h.c Client ≡ Some one → end_at (ends_with st h.c Client None) h.c.ends.target ≡ Some two
+      → Happens st (event.Work w act.Close) (closed_on h one two)
   Retires : (w : ℕ) (k : WorkerState) (s : ℕ) (p : SlotState) → slice_get st.workers w ≡ Some k → k.doing ≡ Closed s → slice_get st.slots s ≡ Some p
       → Happens st (event.Work w act.Retire) (doing (with_place st s (record p { holder = Free })) w k (Retired s))
   Frees : (w : ℕ) (k : WorkerState) (s : ℕ) (p : SlotState) → slice_get st.workers w ≡ Some k → k.doing ≡ Retired s
       → Happens st (event.Work w act.Free) (doing (record st { free = freed st.free s p }) w k Idle)
 
 module _ (st : State) where
-  over : {e : Event} (o : Option KernelState) → ((k : KernelState) → o ≡ Some k → Happens st e (record st { kernel = k })) → Kept (Happens st e) (over_kernel st o)
-  over o each = kept_map _ o each
+  abbrev On : Event → Option State → Type 0
+  On e o = Kept (Happens st e) o
 
-  listens : (l : Listening) → Kept (Happens st (event.Listen l)) (listen st l)
-  listens listening.Connect = over (kernel.connect_in st.kernel) Connects
-  listens (listening.Accept reply) = kept_when _ _ (λ may. kept_map _ (kernel.accept st.kernel reply) (λ k is. Accepts reply k may is))
+  changes : (s : ℕ) (side : Side) (change : Change) (c : Connection) → connection_at st s ≡ Some c → (f : EndState → Option (Told EndState Bool))
+      → ((e : EndState) → f e ≡ change_of change e) → On (event.Network s side change) (over_kernel st (changed st.kernel (descriptor c.ends side) f))
+  changes s side change c lies f is = kept_over _ _ (kept_bind _ (end_of st c side) (λ r there. kept_map _ (f r.socket) (λ t now.
+      Changes s side change c r t lies there (sym (is r.socket) ∙ now))))
+
+  network_does : (s : ℕ) (side : Side) (change : Change) (c : Connection) → connection_at st s ≡ Some c
+      → On (event.Network s side change) (over_kernel st (change_at st.kernel (descriptor c.ends side) change))
+  network_does s side (Arrive bytes) c lies = kept_over _ _ (kept_when _ _ (λ few. kept_bind _ (end_of st c side) (λ r there. kept_map _ (arrival r.socket bytes.items) (λ t now.
+      Changes s side (Arrive bytes) c r t lies there now))))
+  network_does s side Fin c lies = changes s side Fin c lies _ (λ e. refl)
+  network_does s side Reset c lies = changes s side Reset c lies _ (λ e. refl)
+  network_does s side Room c lies = changes s side Room c lies _ (λ e. refl)
+
+  listens : (l : Listening) → On (event.Listen l) (listen st l)
+  listens listening.Connect = kept_over _ _ (kept_guard _ _ (λ room. Connects))
+  listens (listening.Accept Accepted) = kept_when (may_accept st) _ (λ may. kept_over _ (kernel.accept st.kernel Accepted) (kept_guard _ _ (λ some. Accepts (and_parts st.flag (not st.accepted && is_nonempty st.free) may).0)))
+  listens (listening.Accept Blocked) = kept_when (may_accept st) _ (λ may. kept_over _ (kernel.accept st.kernel Blocked) (kept_guard _ _ (λ none. Blocks none)))
+  listens (listening.Accept reply) = kept_when (may_accept st) _ (λ may. kept_some (Misses reply))
   listens listening.Drop = kept_guard _ _ (λ had. Drops)
-
-  opens : Kept (Happens st (event.Poll polling.Open)) (polled st polling.Open)
-  opens = kept_when _ _ (λ had. kept_bind _ (slice_get st.free 0) (λ s first. kept_bind _ (slice_get st.slots s) (λ p lies. kept_bind _ (slice_get st.table s) (λ g entry.
-      kept_bind _ (token_of s Client (g + 1)) (λ client may. kept_map _ (token_of s Target (g + 1)) (λ target so. Opens s (g + 1) p client target first lies))))))
 
   delivers_at : (n : EndName) (entry : Option ℕ) → slice_get st.batch 0 ≡ Some (End n) → slice_get st.table n.slot ≡ entry
       → Kept (λ (q : State). Happens st (event.Poll polling.Deliver) (record q { batch = drop 1 st.batch })) (delivered_at st n entry)
-  delivers_at n None first is = kept_some (Passes (End n) first refl (λ i. rw is))
+  delivers_at n None first is = kept_some (Passes n first (rw is))
   delivers_at n (Some g) first is = kept_if (g == n.generation) (post_at st n.slot g) (Some st)
-      (λ own. kept_map _ (slice_get st.slots n.slot) (λ p lies. Delivers n g p first is own lies))
-      (λ other. kept_some (Passes (End n) first refl (λ i. rw (is, other))))
+      (λ own. let same = eqb-true g n.generation own in rw same (kept_map _ (slice_get st.slots n.slot) (λ p lies. Delivers n p first (is ∙ ap Some same) lies)))
+      (λ other. kept_some (Passes n first (rw is other)))
 
-  delivers_one : (n : Name) → slice_get st.batch 0 ≡ Some n
+  delivers : (n : Name) → slice_get st.batch 0 ≡ Some n
       → Kept (λ (q : State). Happens st (event.Poll polling.Deliver) (record q { batch = drop 1 st.batch })) (delivered st n)
-  delivers_one Listener first = kept_some (Hears first)
-  delivers_one Waker first = kept_some (Passes Waker first refl (λ i. refl))
-  delivers_one (End n) first = delivers_at n (slice_get st.table n.slot) first refl
+  delivers Listener first = kept_some (Hears first)
+  delivers Waker first = kept_some (Wakes first)
+  delivers (End n) first = delivers_at n (slice_get st.table n.slot) first refl
 
-  puts : (hand : List Ticket) → st.hand ≡ hand → Kept (Happens st (event.Poll polling.Put)) (put_by_poller st hand)
+  puts : (hand : List Ticket) → st.hand ≡ hand → On (event.Poll polling.Put) (put_by_poller st hand)
   puts [] is = kept_none
   puts (t ∷ rest) is = kept_some (Puts t rest is)
 
-  polls : (p : Polling) → Kept (Happens st (event.Poll p)) (polled st p)
-  polls polling.Open = opens
-  polls (polling.Poll names) = kept_when _ _ (λ none. kept_map _ (kernel.poll st.kernel names.items) (λ k is. Polls names k none is))
-  polls polling.Deliver = kept_bind _ (slice_get st.batch 0) (λ n first. kept_then _ (delivered st n) (λ q h. h) (delivers_one n first))
+  polls : (p : Polling) → On (event.Poll p) (polled st p)
+  polls polling.Open = kept_when st.accepted _ (λ had. kept_bind _ (slice_get st.free 0) (λ s first. kept_bind _ (slice_get st.slots s) (λ p lies. kept_bind _ (slice_get st.table s) (λ g entry.
+      kept_through _ (token_of s Client (g + 1)) (kept_guard _ _ (λ client. kept_over _ (token_of s Target (g + 1)) (kept_guard _ _ (λ target. Opens s g p first lies entry))))))))
+  polls (polling.Poll names) = kept_when _ _ (λ none. kept_over _ _ (kept_guard _ _ (λ may. Polls names none)))
+  polls polling.Deliver = kept_bind _ (slice_get st.batch 0) (λ n first. kept_over _ (delivered st n) (delivers n first))
   polls (polling.Sweep s) = kept_when (is_limited st) _ (λ limited. kept_bind _ (slice_get st.table s) (λ g entry. kept_when (nat_lt 0 g) (post_at st s g) (λ over.
       kept_map _ (slice_get st.slots s) (λ p lies. Sweeps s g p entry lies))))
   polls polling.Put = puts st.hand refl
 
-  module _ (w : ℕ) (k : WorkerState) (there : slice_get st.workers w ≡ Some k) where
-    abbrev Leaves : Act → Option State → Type 0
-    Leaves a o = Kept (Happens st (event.Work w a)) o
+  made_is : (l : OpenConnection) (call : Call) (r : Reply) → made l call r ≡ kernel.called l.kernel (descriptor l.connection.ends (side_of call)) (end_after l.connection.pair call r)
+  made_is l (Read side most) r = refl
+  made_is l (Write side) r = refl
+  made_is l (Join side) r = refl
+  made_is l (Shut side) r = refl
 
-    hands_in : (hand : List Ticket) → k.hand ≡ hand → Leaves act.Put (put_by_worker st w k hand)
-    hands_in [] is = kept_none
-    hands_in (t ∷ rest) is = kept_some (HandsIn w k t rest there is)
+  abbrev worker : Doing → List Ticket → WorkerState
+  worker d hand = record { doing = d; hand = hand }
 
-    takes_ticket : (ready : List Ticket) → k.doing ≡ Idle → st.ready ≡ ready → Leaves act.Pop (popped st w k ready)
-    takes_ticket [] does is = kept_none
-    takes_ticket (t ∷ rest) does is = kept_some (Pops w k t rest there does is)
+  pops : (w : ℕ) (hand ready : List Ticket) → slice_get st.workers w ≡ Some (worker Idle hand) → st.ready ≡ ready → On (event.Work w act.Pop) (popped st w (worker Idle hand) ready)
+  pops w hand [] there is = kept_none
+  pops w hand (t ∷ rest) there is = kept_some (Pops w _ t rest there refl is)
 
-    pops : (d : Doing) → k.doing ≡ d → Leaves act.Pop (pop st w k d)
-    pops Idle does = kept_when _ _ (λ none. takes_ticket st.ready does refl)
-    pops _ does = kept_none
+  claims_at : (w : ℕ) (t : Ticket) (hand : List Ticket) (p : SlotState) (held : Bool) → slice_get st.workers w ≡ Some (worker (Tries t) hand) → slice_get st.slots t.slot ≡ Some p
+      → is_held p.holder ≡ held → Happens st (event.Work w act.Claim) (if held then doing st w (worker (Tries t) hand) Idle
+      else doing (with_place st t.slot (record p { holder = By w })) w (worker (Tries t) hand) (Holds t.slot st.limits.budget))
+  claims_at w t hand p true there lies held = Leaves w _ t p there refl lies held
+  claims_at w t hand p false there lies held = Claims w _ t p there refl lies
 
-    claims_slot : (d : Doing) → k.doing ≡ d → Leaves act.Claim (claim st w k d)
-    claims_slot (Tries t) does = kept_map _ (slice_get st.slots t.slot) (λ p lies. Claims w k t p there does lies)
-    claims_slot _ does = kept_none
+  module _ (w s left : ℕ) (hand : List Ticket) (there : slice_get st.workers w ≡ Some (worker (Holds s left) hand)) where
+    abbrev holding : (p : SlotState) (c : Connection) → slice_get st.slots s ≡ Some p → p.connection ≡ Some c → Holding st w
+    holding p c lies is = record { k = worker (Holds s left) hand; s = s; left = left; p = p; c = c; there = there; does = refl; lies = lies; is = is }
 
-    abbrev holding : (s left : ℕ) (p : SlotState) (c : Connection) → k.doing ≡ Holds s left → slice_get st.slots s ≡ Some p → p.connection ≡ Some c → Holding st w
-    holding s left p c does lies is = record { k = k; s = s; left = left; p = p; c = c; there = there; does = does; lies = lies; is = is }
+    calls : (p : SlotState) (c : Connection) → slice_get st.slots s ≡ Some p → p.connection ≡ Some c → (r : Reply)
+        → Kept (λ (l : OpenConnection). Happens st (event.Work w (act.Call r)) (doing (with_place (record st { kernel = l.kernel }) s
+        (record p { connection = Some l.connection })) w (worker (Holds s left) hand) (Holds s (left - 1)))) (called st.second (record { kernel = st.kernel; connection = c }) r)
+    unfolding called
+    calls p c lies is r = kept_bind _ (next_call c.pair) (λ call next. kept_bind _ (told_of (record { kernel = st.kernel; connection = c }) call r) (λ t told. kept_when (fits c.pair call t) _ (λ fit.
+        kept_over _ _ (rw (made_is (record { kernel = st.kernel; connection = c }) call r) (kept_bind _ (end_of st c (side_of call)) (λ old at. kept_map _ (end_after c.pair call r old.socket)
+        (λ e replied. Calls w (holding p c lies is) r
+        (record { call = call; value = t; old = old; socket = e; next = next; told = told; fit = fit; there = at; replied = replied }))))))))
 
-    takes_notes : (d : Doing) → k.doing ≡ d → Leaves act.Take (Steps.take st d)
-    takes_notes (Holds s left) does = kept_bind _ (slice_get st.slots s) (λ p lies. kept_map_map _ _ p.connection (λ c is. Takes w (holding s left p c does lies is)))
-    takes_notes _ does = kept_none
+  acts : (w : ℕ) (a : Act) (d : Doing) (hand : List Ticket) → slice_get st.workers w ≡ Some (worker d hand) → On (event.Work w a) (acted st w (worker d hand) a)
+  unfolding slot_call
+  acts w act.Put d [] there = kept_none
+  acts w act.Put d (t ∷ rest) there = kept_some (HandsIn w _ t rest there refl)
+  acts w act.Pop Idle hand there = kept_when _ _ (λ none. pops w hand st.ready there refl)
+  acts w act.Claim (Tries t) hand there = kept_map _ (slice_get st.slots t.slot) (λ p lies. claims_at w t hand p (is_held p.holder) there lies refl)
+  acts w act.Take (Holds s left) hand there = kept_bind _ (slice_get st.slots s) (λ p lies. kept_over _ _ (kept_map _ p.connection (λ c is. Takes w (holding w s left hand there p c lies is))))
+  acts w (act.Call r) (Holds s left) hand there = kept_when (nat_lt 0 left) _ (λ some. kept_bind _ (slice_get st.slots s) (λ p lies. kept_over _ _ (kept_bind _ p.connection (λ c is.
+      kept_over _ _ (calls w s left hand there p c lies is r)))))
+  acts w act.Post (Holds s left) hand there = kept_bind _ (slice_get st.slots s) (λ p lies. kept_bind _ p.connection (λ c is.
+      kept_guard _ _ (λ live. Posts w (holding w s left hand there p c lies is))))
+  acts w act.Release (Holds s left) hand there = kept_bind _ (slice_get st.slots s) (λ p lies. kept_bind _ p.connection (λ c is.
+      kept_guard _ _ (λ may. Releases w (holding w s left hand there p c lies is) may)))
+  acts w act.Expire (Holds s left) hand there = kept_bind _ (slice_get st.slots s) (λ p lies. kept_over _ _ (kept_bind _ p.connection (λ c is. kept_over _ _
+      (kept_guard _ _ (λ over. Expires w (holding w s left hand there p c lies is) over)))))
+  acts w act.Close (Holds s left) hand there = kept_bind _ (slice_get st.slots s) (λ p lies. kept_bind _ p.connection (λ c is. kept_when (not (is_live (verdict c.pair))) _ (λ dead. kept_over _ _ (kept_through _ _
+      (kept_map _ (end_of st c Client) (λ one at. kept_over _ _ (kept_map _ (end_at (ends_with st c Client None) c.ends.target) (λ two as_well.
+      Closes w (holding w s left hand there p c lies is) one two at as_well))))))))
+  acts w act.Retire (Closed s) hand there = kept_map _ (slice_get st.slots s) (λ p lies. Retires w _ s p there refl lies)
+  acts w act.Free (Retired s) hand there = kept_map _ (slice_get st.slots s) (λ p lies. Frees w _ s p there refl)
+  acts w a d hand there = kept_none
 
-    calls : (d : Doing) (r : Reply) → k.doing ≡ d → Leaves (act.Call r) (call st w k d r)
-    unfolding slot_call
-    calls (Holds s left) r does = kept_when (nat_lt 0 left) _ (λ some. kept_bind _ (slice_get st.slots s) (λ p lies. kept_map_bind _ _ p.connection (λ c is.
-        kept_map_map _ _ (called st.second (record { kernel = st.kernel; connection = c }) r) (λ l so. Calls w (holding s left p c does lies is) r l so))))
-    calls _ r does = kept_none
-
-    posts : (d : Doing) → k.doing ≡ d → Leaves act.Post (post st d)
-    posts (Holds s left) does = kept_bind _ (slice_get st.slots s) (λ p lies. kept_bind _ p.connection (λ c is. kept_guard _ _ (λ live. Posts w (holding s left p c does lies is))))
-    posts _ does = kept_none
-
-    releases : (d : Doing) → k.doing ≡ d → Leaves act.Release (release st w k d)
-    releases (Holds s left) does = kept_bind _ (slice_get st.slots s) (λ p lies. kept_bind _ p.connection (λ c is. kept_guard _ _ (λ may.
-        Releases w (holding s left p c does lies is) may)))
-    releases _ does = kept_none
-
-    expires : (d : Doing) → k.doing ≡ d → Leaves act.Expire (expire st d)
-    expires (Holds s left) does = kept_bind _ (slice_get st.slots s) (λ p lies. kept_map_bind _ _ p.connection (λ c is. kept_map_map _ _ (expired st.second st.limits.idle c) (λ d so. Expires w (holding s left p c does lies is) d so)))
-    expires _ does = kept_none
-
-    closes : (d : Doing) → k.doing ≡ d → Leaves act.Close (close st w k d)
-    closes (Holds s left) does = kept_bind _ (slice_get st.slots s) (λ p lies. kept_bind _ p.connection (λ c is. kept_when _ _ (λ dead.
-        kept_map _ (kernel.close_both st.kernel c.ends) (λ t both. Closes w (holding s left p c does lies is) t both))))
-    closes _ does = kept_none
-
-    retires : (d : Doing) → k.doing ≡ d → Leaves act.Retire (retire st w k d)
-    retires (Closed s) does = kept_map _ (slice_get st.slots s) (λ p lies. Retires w k s p there does lies)
-    retires _ does = kept_none
-
-    frees : (d : Doing) → k.doing ≡ d → Leaves act.Free (free st w k d)
-    frees (Retired s) does = kept_map _ (slice_get st.slots s) (λ p lies. Frees w k s p there does)
-    frees _ does = kept_none
-
-    acts : (a : Act) → Leaves a (acted st w k a)
-    acts act.Put = hands_in k.hand refl
-    acts act.Pop = pops k.doing refl
-    acts act.Claim = claims_slot k.doing refl
-    acts act.Take = takes_notes k.doing refl
-    acts (act.Call r) = calls k.doing r refl
-    acts act.Post = posts k.doing refl
-    acts act.Release = releases k.doing refl
-    acts act.Expire = expires k.doing refl
-    acts act.Close = closes k.doing refl
-    acts act.Retire = retires k.doing refl
-    acts act.Free = frees k.doing refl
-
-  pub happens : (e : Event) → Kept (Happens st e) (step st e)
+  pub happens : (e : Event) → On e (step st e)
   happens (event.Tick n) = kept_guard _ _ (λ may. Ticks n)
-  happens (event.Network s side change) = kept_bind _ (connection_at st s) (λ c is. over (change_at st.kernel (descriptor c.ends side) change) (Changes s side change c))
-  happens (event.Spurious who) = kept_bind _ (watched_of st who) (λ x is. over (kernel.spurious st.kernel x) (Reports who x))
-  happens (event.Vanish who) = kept_bind _ (watched_of st who) (λ x is. over (kernel.vanish st.kernel x) (Vanishes who x))
+  happens (event.Network s side change) = kept_bind _ (connection_at st s) (λ c lies. network_does s side change c lies)
+  happens (event.Spurious who) = kept_bind _ (watched_of st who) (λ x is. kept_over _ _ (kept_map _ (name_of st.kernel x) (λ n named. Reports who n)))
+  happens (event.Vanish reports.Listener) = kept_over _ _ (kept_guard _ _ (λ may. WithdrawsListener (second_so (has Listener st.kernel.queue) _ may)))
+  happens (event.Vanish reports.Waker) = kept_over _ _ (kept_guard _ _ (λ may. WithdrawsWaker))
+  happens (event.Vanish (reports.End s side)) = kept_through _ _ (kept_map _ (connection_at st s) (λ c lies. kept_over _ _ (kept_through _ _ (kept_map _ (end_of st c side) (λ r there.
+      kept_guard _ _ (λ may. Withdraws s side c r lies there (let quiet = second_so (has (End r.token) st.kernel.queue) _ may in rw there at quiet)))))))
   happens (event.Listen l) = listens l
   happens (event.Poll p) = polls p
-  happens (event.Work w a) = kept_bind _ (slice_get st.workers w) (λ k there. acts w k there a)
+  happens (event.Work w a) = kept_bind _ (slice_get st.workers w) (λ k there. acts w a k.doing k.hand there)
 
 run_kept : (P : State → Type 0) → ((st : State) (e : Event) (q : State) → P st → Happens st e q → P q) → (st : State) (events : List Event) → P st → Kept P (run st events)
 run_kept P each st [] here = kept_some here
-run_kept P each st (e ∷ events) here = kept_next _ (step st e) (λ q h. run_kept P each q events (each st e q here h)) (happens st e)
+run_kept P each st (e ∷ events) here = kept_bind _ (step st e) (λ q is. run_kept P each q events (each st e q here (kept_at (step st e) q is (happens st e))))
 
 -- what each event keeps holds after a run
 pub holds_after : (P : State → Type 0) → ((st : State) (e : Event) (q : State) → P st → Happens st e q → P q) → (st w : State) (events : List Event) → P st
     → run st events ≡ Some w → P w
 holds_after P each st w events here ran = kept_at (run st events) w ran (run_kept P each st events here)
+
+-- The listener
 
 abbrev hears : List Name → Bool
 hears names = has Listener names
@@ -231,130 +294,58 @@ goes_on {st} {next} flag armed backlog queue batch l = record {
       (hears next.kernel.queue || hears next.batch) (or_then (hears st.kernel.queue) (hears st.batch) queue batch) l.covered);
 }
 
--- a kernel that has the listener as it was, and its name at least where it was queued
-record HearsOn (k q : KernelState) : Type 0 where
-  armed : q.armed ≡ k.armed
-  backlog : q.backlog ≡ k.backlog
-  queue : hears k.queue ≡ true → hears q.queue ≡ true
-
-hears_on : {st next : State} → next.flag ≡ st.flag → next.batch ≡ st.batch → HearsOn st.kernel next.kernel → Listens st → Listens next
-hears_on {st} {next} flag batch on l = goes_on flag on.armed on.backlog (λ h. or_left (hears next.kernel.queue) (hears next.batch) (on.queue h))
-    (λ h. or_right (hears next.kernel.queue) (hears next.batch) (rw batch h)) l
-
-with_flag : {st : State} → st.flag ≡ true → Listens st
-with_flag up = record { covered = rw up refl }
-
--- calls on the kernel
-
-changed_hears : (k : KernelState) (d : ℕ) (f : EndState → Option (Told EndState Bool)) → Kept (HearsOn k) (kernel.changed k d f)
-changed_hears k d f = kept_bind _ (end_at k.ends d) (λ r there. kept_map _ (f r.socket) (λ t now. record {
-  armed = refl;
-  backlog = refl;
-  queue = has_reported Listener (End r.token) t.told k.queue;
-}))
-
-change_hears : (k : KernelState) (d : ℕ) (c : Change) → Kept (HearsOn k) (change_at k d c)
-change_hears k d (Arrive bytes) = kept_when _ (kernel.arrive k d bytes.items) (λ few. changed_hears k d _)
-change_hears k d _ = changed_hears k d _
-
-on_end_hears : (k : KernelState) (d : ℕ) (f : EndState → Option EndState) → Kept (HearsOn k) (kernel.called k d f)
-on_end_hears k d f = kept_bind _ (end_at k.ends d) (λ r there. kept_map _ (f r.socket) (λ e now. record { armed = refl; backlog = refl; queue = λ h. h }))
-
-made_hears : (l : OpenConnection) (call : Call) (r : Reply) → Kept (HearsOn l.kernel) (made l call r)
-made_hears l (Read side most) r = on_end_hears l.kernel (descriptor l.connection.ends side) _
-made_hears l (Write side) r = on_end_hears l.kernel (descriptor l.connection.ends side) _
-made_hears l (Join side) r = on_end_hears l.kernel (descriptor l.connection.ends side) _
-made_hears l (Shut side) r = on_end_hears l.kernel (descriptor l.connection.ends side) _
-
-called_hears : (now : ℕ) (l : OpenConnection) (r : Reply) → Kept (λ (m : OpenConnection). HearsOn l.kernel m.kernel) (called now l r)
-unfolding called
-called_hears now l r = kept_bind _ (next_call l.connection.pair) (λ c next. kept_bind _ (told_of l c r) (λ t is. kept_when (fits l.connection.pair c t) _ (λ fit.
-    kept_map _ (made l c r) (λ k done. kept_at (made l c r) k done (made_hears l c r)))))
-
-closed_hears : (k : KernelState) (d : ℕ) → Kept (λ (t : Told KernelState EndState). HearsOn k t.value) (kernel.close k d)
-closed_hears k d = kept_map _ (end_at k.ends d) (λ r there. record { armed = refl; backlog = refl; queue = has_without Listener (End r.token) k.queue refl })
-
-both_hear : (k : KernelState) (ends : Descriptors) → Kept (λ (t : Told KernelState Sockets). HearsOn k t.value) (kernel.close_both k ends)
-both_hear k ends = kept_next _ (kernel.close k ends.client) (λ one a. kept_then _ (kernel.close one.value ends.target)
-    (λ two b. record { armed = b.armed ∙ a.armed; backlog = b.backlog ∙ a.backlog; queue = λ h. b.queue (a.queue h) })
-    (closed_hears one.value ends.target)) (closed_hears k ends.client)
-
-spurious_hears : (k : KernelState) (x : Watched) → Kept (HearsOn k) (kernel.spurious k x)
-spurious_hears k x = kept_map _ (kernel.name_of k x) (λ n named. record { armed = refl; backlog = refl; queue = has_with Listener n k.queue })
-
--- the listener's own report may vanish, since nobody waits
-
-not_ready : (flag armed a b : Bool) → is_covered flag armed false a ≡ true → is_covered flag armed false b ≡ true
-not_ready true armed a b h = refl
-not_ready false true a b h = refl
-not_ready false false a b h = absurd (cc)
-
-vanish_listens : (st : State) (x : Watched) → Listens st → Kept (λ (q : KernelState). Listens (record st { kernel = q })) (kernel.vanish st.kernel x)
-vanish_listens st watched.Listener l = kept_guard _ _ (λ may.
-    let none = eqb-true st.kernel.backlog 0 (and_parts (hears st.kernel.queue) (st.kernel.backlog == 0) may).1 in
-    record {
-      covered = rw none (not_ready st.flag st.kernel.armed (hears st.kernel.queue || hears st.batch)
-          (hears (without_name Listener st.kernel.queue) || hears st.batch) (rw none at l.covered));
-    })
-vanish_listens st watched.Waker l =
-    kept_guard _ _ (λ may. hears_on refl refl (record { armed = refl; backlog = refl; queue = has_without Listener Waker st.kernel.queue refl }) l)
-vanish_listens st (watched.End d) l = kept_bind_map _ (λ (r : Registered). End r.token) (end_at st.kernel.ends d) (λ r there.
-    kept_guard _ _ (λ may. hears_on refl refl (record { armed = refl; backlog = refl; queue = has_without Listener (End r.token) st.kernel.queue refl }) l))
-
-connected : (flag armed ready : Bool) (queue : List Name) (r : Bool) → is_covered flag armed ready (hears queue || r) ≡ true
-    → is_covered flag false true (hears (kernel.reported queue Listener armed) || r) ≡ true
-connected true armed ready queue r h = refl
-connected false true ready queue r h = or_left (hears (kernel.reported queue Listener true)) r (reported_has Listener true queue refl)
-connected false false true queue r h = h
-connected false false false queue r h = absurd (cc)
-
-connect_listens : (st : State) → Listens st → Kept (λ (q : KernelState). Listens (record st { kernel = q })) (kernel.connect_in st.kernel)
-connect_listens st l = kept_guard _ _ (λ room. record {
-  covered =
-      let some : nat_lt 0 (st.kernel.backlog + 1) ≡ true = lt-ltb 0 (st.kernel.backlog + 1) (omega arith) in
-      rw some (connected st.flag st.kernel.armed (nat_lt 0 st.kernel.backlog) st.kernel.queue (hears st.batch) l.covered);
-})
-
-blocked_listens : (st : State) → Kept (λ (q : KernelState). Listens (record st { flag = false; kernel = q })) (kernel.accept st.kernel Blocked)
-blocked_listens st = kept_guard _ _ (λ may. record { covered = rw (eqb-true st.kernel.backlog 0 may) refl })
-
-unheard : (xs : List Name) → (length xs == 0) ≡ true → hears xs ≡ false
-unheard [] none = refl
-unheard (x ∷ xs) none = absurd (let empty = eqb-true (length (x ∷ xs)) 0 none in omega arith)
-
-poll_listens : (st : State) (names : List Name) → (length st.batch == 0) ≡ true → Listens st
-    → Kept (λ (q : KernelState). Listens (record st { batch = names; kernel = q })) (kernel.poll st.kernel names)
-poll_listens st names none l = kept_guard _ _ (λ may. goes_on refl refl refl (has_polled Listener names st.kernel.queue)
-    (λ h. absurd (cc (unheard st.batch none))) l)
+-- another queue has it where this one has
+queues_on : {st : State} {ends : List (Option Registered)} {queue : List Name} {slots : List SlotState} {workers : List WorkerState} {past : List Past} → (hears st.kernel.queue ≡ true → hears queue ≡ true)
+    → Listens st → Listens (record st { kernel = record st.kernel { ends = ends; queue = queue }; slots = slots; workers = workers; past = past })
+queues_on {st} {queue = queue} more l = goes_on refl refl refl (λ h. or_left (hears queue) _ (more h)) (λ h. or_right (hears queue) _ h) l
 
 -- a name that is not the listener's leaves the batch
 rest_hears : (xs : List Name) (n : Name) → slice_get xs 0 ≡ Some n → same Listener n ≡ false → hears xs ≡ true → hears (drop 1 xs) ≡ true
 rest_hears [] n first other h = absurd (cc)
 rest_hears (x ∷ xs) n first other h = let is : x ≡ n = (cc) in let away : same Listener x ≡ false = rw is other in rw away at h
 
-shorter_listens : {st next : State} (n : Name) → slice_get st.batch 0 ≡ Some n → same Listener n ≡ false → next.flag ≡ st.flag → next.kernel ≡ st.kernel → next.batch ≡ drop 1 st.batch
-    → Listens st → Listens next
-shorter_listens {st} {next} n first other flag same batch l = goes_on flag (rw same) (rw same) (λ h. or_left (hears next.kernel.queue) (hears next.batch) (rw same h))
-    (λ h. or_right (hears next.kernel.queue) (hears next.batch) (rw batch (rest_hears st.batch n first other h))) l
+shorter : {st : State} {hand : List Ticket} {slots : List SlotState} (n : Name) → slice_get st.batch 0 ≡ Some n → same Listener n ≡ false → Listens st
+    → Listens (record (behind st) { hand = hand; slots = slots })
+shorter {st} n first other l = goes_on refl refl refl (or_left (hears st.kernel.queue) _) (λ h. or_right (hears st.kernel.queue) _ (rest_hears st.batch n first other h)) l
 
--- every event
+-- the listener's own report may vanish, since nobody waits
+not_ready : (flag armed a b : Bool) → is_covered flag armed false a ≡ true → is_covered flag armed false b ≡ true
+not_ready true armed a b h = refl
+not_ready false true a b h = refl
+not_ready false false a b h = absurd (cc)
+
+connected : (flag armed ready : Bool) (queue : List Name) (r : Bool) → is_covered flag armed ready (hears queue || r) ≡ true
+    → is_covered flag false true (hears (reported queue Listener armed) || r) ≡ true
+connected true armed ready queue r h = refl
+connected false true ready queue r h = or_left (hears (reported queue Listener true)) r (reported_has Listener true queue refl)
+connected false false true queue r h = h
+connected false false false queue r h = absurd (cc)
+
+unheard : (xs : List Name) → (length xs == 0) ≡ true → hears xs ≡ false
+unheard [] none = refl
+unheard (x ∷ xs) none = absurd (let empty = eqb-true (length (x ∷ xs)) 0 none in omega arith)
 
 listens_on : (st : State) {e : Event} {q : State} → Listens st → Happens st e q → Listens q
-listens_on st l (Changes s side change c k is) =
-    hears_on refl refl (kept_at (change_at st.kernel (descriptor c.ends side) change) k is (change_hears st.kernel (descriptor c.ends side) change)) l
-listens_on st l (Reports who x k is) = hears_on refl refl (kept_at (kernel.spurious st.kernel x) k is (spurious_hears st.kernel x)) l
-listens_on st l (Vanishes who x k is) = kept_at (kernel.vanish st.kernel x) k is (vanish_listens st x l)
-listens_on st l (Connects k is) = kept_at (kernel.connect_in st.kernel) k is (connect_listens st l)
-listens_on st l (Accepts Blocked k may is) = kept_at (kernel.accept st.kernel Blocked) k is (blocked_listens st)
-listens_on st l (Accepts _ k may is) = with_flag (and_parts st.flag _ may).0
-listens_on st l (Polls names k none is) = kept_at (kernel.poll st.kernel names.items) k is (poll_listens st names.items none l)
-listens_on st l (Hears first) = with_flag refl
-listens_on st l (Passes n first other none) = shorter_listens n first other refl refl refl l
-listens_on st l (Delivers n g p first entry own lies) = shorter_listens (End n) first refl refl refl refl l
-listens_on st l (Claims w k t p there does lies) = either_of Listens (is_held p.holder) _ _ (record { covered = l.covered }) (record { covered = l.covered })
-listens_on st l (Calls w h r m so) = hears_on refl refl (kept_at (called st.second (record { kernel = st.kernel; connection = h.c }) r) m so
-    (called_hears st.second (record { kernel = st.kernel; connection = h.c }) r)) l
-listens_on st l (Closes w h t both) = hears_on refl refl (kept_at (kernel.close_both st.kernel h.c.ends) t both (both_hear st.kernel h.c.ends)) l
+listens_on st l (Changes s side change c r t lies there now) = queues_on (has_reported Listener (End r.token) t.told st.kernel.queue) l
+listens_on st l (Reports who n) = queues_on (has_with Listener n st.kernel.queue) l
+listens_on st l (WithdrawsListener none) =
+    let none = eqb-true st.kernel.backlog 0 none in
+    record { covered = rw none (not_ready st.flag st.kernel.armed (hears st.kernel.queue || hears st.batch) (hears (without_name Listener st.kernel.queue) || hears st.batch) (rw none at l.covered)) }
+listens_on st l WithdrawsWaker = queues_on (has_without Listener Waker st.kernel.queue refl) l
+listens_on st l (Withdraws s side c r lies there quiet) = queues_on (has_without Listener (End r.token) st.kernel.queue refl) l
+listens_on st l Connects = record {
+  covered =
+      let some : nat_lt 0 (st.kernel.backlog + 1) ≡ true = lt-ltb 0 (st.kernel.backlog + 1) (omega arith) in
+      rw some (connected st.flag st.kernel.armed (nat_lt 0 st.kernel.backlog) st.kernel.queue (hears st.batch) l.covered);
+}
+listens_on st l (Accepts up) = record { covered = rw up refl }
+listens_on st l (Blocks none) = record { covered = rw (eqb-true st.kernel.backlog 0 none) refl }
+listens_on st l (Polls names none) = goes_on refl refl refl (has_polled Listener names.items st.kernel.queue) (λ h. absurd (cc (unheard st.batch none))) l
+listens_on st l (Hears first) = record { covered = refl }
+listens_on st l (Wakes first) = shorter Waker first refl l
+listens_on st l (Passes n first other) = shorter (End n) first refl l
+listens_on st l (Delivers n p first entry lies) = shorter (End n) first refl l
+listens_on st l (Closes w h one two at as_well) = queues_on (λ h. has_without Listener (End two.token) (without_name (End one.token) st.kernel.queue) refl (has_without Listener (End one.token) st.kernel.queue refl h)) l
 listens_on st l _ = record { covered = l.covered }
 
 tells : (armed ready rep none : Bool) → (ready ≡ false → none ≡ true) → is_covered false armed ready rep ≡ true → (none || rep) ≡ true

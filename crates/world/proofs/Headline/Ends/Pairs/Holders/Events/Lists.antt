@@ -3,9 +3,9 @@ pub use Rattle.std.{proofs.{Common.{Bool, Err, Global, IfOk, List, None, Ok, Opt
 pub use Rattle.claims.specs.Words.{StepKind, some_wait}
 pub use Rattle.flow.{proofs.Front.{take-front, waiting-dropped, waiting_ends}, specs.Stream.{Stream, closed, dropped, empty_stream, ended, front, taken_in, waiting}}
 pub use Rattle.kernel_model.specs.{Ends.{EndState, arrival, finish, is_nonempty, is_readable, is_writable, new_room, opened}, Kernel.{KernelState, Registered, changed, end_at, is_quiet_end, lowest_free, name_of, open_both, reported, with_end}, Names.{has, same, same_end, with_name, without_name, without_names}, Outcome.{Meets, Told, guard}, Replies.{after_join, after_read, after_shut, after_write, bytes_read, is_count, is_zero}, declared.{accepting.Accepting.{Accepting, TheVariants.{Accepted, Again, Blocked, Starved}}, both.{Descriptors.Descriptors, Sockets.Sockets}, refusal.Refusal.{Refusal, TheVariants.{NoMemory, NotAllowed}}, reply.Reply.Reply, watched.Watched.Watched}}
-pub use Rattle.relay_core.specs.{Idle.{is_overdue, timed_out}, Laws.{AnswersNext, IsAtRest, IsClosedLast, IsDrained, IsOverdue, Place as Standing, TellsOf, place_of}, Order.{call_for, is_drained, is_open, is_waiting, next_call, offer, read_most}, Pairs.{PairState, flags_of, fresh, is_joined, is_live, noted, stream_of, verdict, verdict_of}, Replies.{after, fits, moves}, declared.{call.Call.{Call, TheVariants.{Join, Read, Shut, Write}}, flags.Flags.Flags, verdict.{Fault.{Fault, TheVariants.Broken}, Verdict.{Verdict, TheVariants.{Done, Failed, Live}}}}}
+pub use Rattle.relay_core.specs.{Idle.{is_overdue, timed_out}, Calls.side_of, Laws.{AnswersNext, IsAtRest, IsClosedLast, IsDrained, IsOverdue, Place as Standing, TellsOf, place_of}, Order.{call_for, is_drained, is_open, is_waiting, next_call, offer, read_most}, Pairs.{PairState, flags_of, fresh, is_joined, is_live, noted, stream_of, verdict, verdict_of}, Replies.{after, fits, moves}, declared.{call.Call.{Call, TheVariants.{Join, Read, Shut, Write}}, flags.Flags.Flags, verdict.{Fault.{Fault, TheVariants.Broken}, Verdict.{Verdict, TheVariants.{Done, Failed, Live}}}}}
 pub use Rattle.token.specs.{Names.EndName, Sides.{destination, inward, opposite, other_side, side_number, source}, declared.{direction.Direction.{Direction, TheVariants.{Down, Up}}, kind.Kind.Kind, name.Name.{Name, TheVariants.{End, Listener, Waker}}, side.Side.{Side, TheVariants.{Client, Target}}}}
-pub use Rattle.world.specs.{Acts.busy, Calls.{OpenConnection, descriptor, made, plain, replied, told_of, when}, CoreLaws.CoreLaws, Due.{due, due_at, due_place, flows, gives, has_place, has_ticket, is_report, is_reported, is_ticket, is_ticketed, movable, movable_at, moves as could_move, moves_if_any, takes, tries}, Headline.{BytesAndEndsHold, ClaimsByOwnTicket, ClosedHold, ConnectionHolds, DirectionHolds, FailedAfter, FailedBy, Failure, FailuresHold, HeadlineHolds, LiesBack, ListenerHolds, Named, TakesOwnNotes, Throughout, TriedOnOwn, end_of, failure, failure_by, fault_of, given, given_by, has_generation, held_by, held_connection, is_movement, moved_by, named, next_fails, next_opened, preamble, socket_of}, LeadLaws.is_padded, Memory.{free_length, grows}, Runs.run, Slots.{SlotState, WorkerState, is_by_worker, is_held}, States.{State, numbers_below, opening, resting, unused}, Steps.{OpenSlot, acted, after_accept, batched, brings_ticket, call, change_at, claim, claimed, close, closed_world, connection_at, deliver, delivered, delivered_at, doing, expire, expired, expired_place, free, freed, heard, is_limited, is_worn, listen, may_accept, network, noted_slot, opened_place, opened_world, opening_of, over_kernel, polled, pop, popped, post, post_at, posted, put_by_poller, put_by_worker, release, retire, spurious, step, sweep, tick, token_of, vanish, watched_of, with_note, with_place, with_ticket, with_worker, worked}, Support.{EdgesHold, EndCovered, SupportHolds, has_report, is_covered, of_slot, one, tickets, total, tried, worker_tickets}, Words.{WordMoves, WordsMove, WordsMoveInRuns, after_all, at_slot, claims, count_wakes, delivery_steps, is_free, steps, word_at}, declared.{actors.{Doing.{Doing, TheVariants.{Closed, Holds, Idle, Retired, Tries}}, Holder.{Holder, TheVariants.{By, Free, Nobody}}, Ticket.Ticket}, connection.Connection.Connection, event.{Act.Act, Change.{Change, TheVariants.{Arrive, Fin, Reset, Room}}, Event.Event, Listening.Listening, Polling.Polling, Reported.Reported}, limits.Limits.Limits, past.Past.Past}}
+pub use Rattle.world.specs.{Acts.busy, Calls.{OpenConnection, descriptor, made, plain, replied, told_of, when}, CoreLaws.CoreLaws, Due.{due, due_at, due_place, flows, gives, has_place, has_ticket, is_report, is_reported, is_ticket, is_ticketed, movable, movable_at, moves as could_move, moves_if_any, takes, tries}, Headline.{BytesAndEndsHold, ClaimsByOwnTicket, ClosedHold, ConnectionHolds, DirectionHolds, FailedAfter, FailedBy, Failure, FailuresHold, HeadlineHolds, LiesBack, ListenerHolds, Named, TakesOwnNotes, Throughout, TriedOnOwn, end_of, failure, failure_by, fault_of, given, given_by, has_generation, held_by, held_connection, is_movement, moved_by, named, next_fails, next_opened, preamble, socket_of}, LeadLaws.is_padded, Memory.{free_length, grows}, Runs.run, Slots.{SlotState, WorkerState, is_by_worker, is_held}, States.{State, is_entry, numbers_below, opening, resting, unused}, Steps.{OpenSlot, acted, after_accept, batched, brings_ticket, call, change_at, claim, claimed, close, closed_world, connection_at, deliver, delivered, delivered_at, doing, expire, expired, expired_place, free, freed, heard, is_limited, is_worn, listen, may_accept, network, noted_slot, opened_place, opened_world, opening_of, over_kernel, polled, pop, popped, post, post_at, posted, put_by_poller, put_by_worker, release, retire, spurious, step, sweep, tick, token_of, vanish, watched_of, with_note, with_place, with_ticket, with_worker, worked}, Support.{EdgesHold, EndCovered, SupportHolds, TableHolds, has_report, is_covered, of_slot, one, tickets, total, tried, worker_tickets}, Words.{WordMoves, WordsMove, WordsMoveInRuns, after_all, at_slot, claims, count_wakes, delivery_steps, is_free, steps, word_at}, declared.{actors.{Doing.{Doing, TheVariants.{Closed, Holds, Idle, Retired, Tries}}, Holder.{Holder, TheVariants.{By, Free, Nobody}}, Ticket.Ticket}, connection.Connection.Connection, event.{Act.Act, Change.{Change, TheVariants.{Arrive, Fin, Reset, Room}}, Event.Event, Listening.Listening, Polling.Polling, Reported.Reported}, limits.Limits.Limits, past.Past.Past}}
 unfoldable pub use Rattle.world.specs.{Calls.called, Steps.{may_release, slot_call}}
 pub use Rattle.claims.specs.Words as words
 pub use Rattle.kernel_model.specs.Ends as model
@@ -36,60 +36,37 @@ pub kept_none : {X : Type 0} {P : X → Type 0} → Kept P None
 kept_none = record { kept = tt }
 
 pub kept_bind : {X Y : Type 0} {P : Y → Type 0} (f : X → Option Y) (o : Option X) → ((x : X) → o ≡ Some x → Kept P (f x)) → Kept P (option_and_then f o)
-kept_bind f None next = record { kept = tt }
+kept_bind f None next = kept_none
 kept_bind f (Some x) next = next x refl
 
 pub kept_map : {X Y : Type 0} {P : Y → Type 0} (f : X → Y) (o : Option X) → ((x : X) → o ≡ Some x → P (f x)) → Kept P (option_map f o)
-kept_map f None next = record { kept = tt }
-kept_map f (Some x) next = record { kept = next x refl }
+kept_map f None next = kept_none
+kept_map f (Some x) next = kept_some (next x refl)
 
 pub kept_when : {X : Type 0} {P : X → Type 0} (b : Bool) (o : Option X) → (b ≡ true → Kept P o) → Kept P (when b o)
-kept_when false o next = record { kept = tt }
+kept_when false o next = kept_none
 kept_when true o next = next refl
 
 pub kept_guard : {X : Type 0} {P : X → Type 0} (b : Bool) (x : X) → (b ≡ true → P x) → Kept P (guard b x)
-kept_guard false x next = record { kept = tt }
-kept_guard true x next = record { kept = next refl }
+kept_guard false x next = kept_none
+kept_guard true x next = kept_some (next refl)
 
 pub kept_if : {X : Type 0} {P : X → Type 0} (b : Bool) (x y : Option X) → (b ≡ true → Kept P x) → (b ≡ false → Kept P y) → Kept P (if b then x else y)
 kept_if true x y first second = first refl
 kept_if false x y first second = second refl
 
--- where the step before left what is kept
-pub kept_then : {X Y : Type 0} {P : X → Type 0} {Q : Y → Type 0} (f : X → Y) (o : Option X) → ((x : X) → P x → Q (f x)) → Kept P o → Kept Q (option_map f o)
-kept_then f None next k = record { kept = tt }
-kept_then f (Some x) next k = record { kept = next x k.kept }
-
 -- what was left has what is kept
 pub kept_at : {X : Type 0} {P : X → Type 0} (o : Option X) (x : X) → o ≡ Some x → Kept P o → P x
 kept_at o x is k = (rw is at k).kept
 
--- two steps, of which neither refuses
-pub kept_map_map : {X Y Z : Type 0} {P : Z → Type 0} (f : Y → Z) (g : X → Y) (o : Option X) → ((x : X) → o ≡ Some x → P (f (g x))) → Kept P (option_map f (option_map g o))
-kept_map_map f g None next = record { kept = tt }
-kept_map_map f g (Some x) next = record { kept = next x refl }
+-- where another step follows
+pub kept_over : {X Y : Type 0} {P : Y → Type 0} (f : X → Y) (o : Option X) → Kept (λ (x : X). P (f x)) o → Kept P (option_map f o)
+kept_over f None k = kept_none
+kept_over f (Some x) k = kept_some k.kept
 
--- a step of what two made, of which either may refuse
-pub kept_map_bind : {X Y Z : Type 0} {P : Z → Type 0} (f : Y → Z) (g : X → Option Y) (o : Option X) → ((x : X) → o ≡ Some x → Kept P (option_map f (g x)))
-    → Kept P (option_map f (option_and_then g o))
-kept_map_bind f g None next = record { kept = tt }
-kept_map_bind f g (Some x) next = next x refl
-
--- and then a step that may refuse
-pub kept_next : {X Y : Type 0} {P : X → Type 0} {Q : Y → Type 0} (f : X → Option Y) (o : Option X) → ((x : X) → P x → Kept Q (f x)) → Kept P o → Kept Q (option_and_then f o)
-kept_next f None next k = record { kept = tt }
-kept_next f (Some x) next k = next x k.kept
-
--- a step that may refuse, of what another made
-pub kept_bind_map : {X Y Z : Type 0} {P : Z → Type 0} (f : Y → Option Z) (g : X → Y) (o : Option X) → ((x : X) → o ≡ Some x → Kept P (f (g x)))
-    → Kept P (option_and_then f (option_map g o))
-kept_bind_map f g None next = record { kept = tt }
-kept_bind_map f g (Some x) next = next x refl
-
--- either of two values
-pub either_of : {X : Type 0} (P : X → Type 0) (b : Bool) (x y : X) → P x → P y → P (if b then x else y)
-either_of P true x y a b = a
-either_of P false x y a b = b
+pub kept_through : {X Y : Type 0} {P : Y → Type 0} (f : X → Option Y) (o : Option X) → Kept (λ (x : X). Kept P (f x)) o → Kept P (option_and_then f o)
+kept_through f None k = kept_none
+kept_through f (Some x) k = k.kept
 
 -- one element more at the end
 pub total_push : {X : Type 0} (f : X → ℕ) (xs : List X) (x : X) → total f (xs ++ x ∷ []) ≡ total f xs + f x
