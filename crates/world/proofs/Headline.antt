@@ -64,7 +64,7 @@ reported st a notes none h = or_then (has (End a) st.kernel.queue || has (End a)
     (λ some. or_then (has (End a) st.kernel.queue) (has (End a) st.batch)
     (λ queued. or_left (list_any (is_report a.slot a.generation) st.kernel.queue) _ (reports_one a st.kernel.queue queued))
     (λ taken. or_right (list_any (is_report a.slot a.generation) st.kernel.queue) _ (reports_one a st.batch taken)) some)
-    (λ noted. absurd (let never : is_nonempty [] ≡ true = rw none at noted in (cc))) h
+    (λ noted. absurd (let never = rw none at noted in (cc))) h
 
 -- a flag that is down at an end that is ready is reported
 uncovered : (flag armed ready rep : Bool) → flag ≡ false → ready ≡ true → is_covered flag armed ready rep ≡ true → rep ≡ true
@@ -173,7 +173,7 @@ held_due : (laws : CoreLaws) (st : State) (s : ℕ) (p : SlotState) (c : Connect
     → (is_by_worker h || (is_reported st s c.pair.generation || is_ticketed st s c.pair.generation)) ≡ true
 held_due laws st s p c Nobody held lies is sv edges moving = unheld_due laws st s p c (is_nonempty p.notes) refl held lies is sv edges moving
 held_due laws st s p c (By w) held lies is sv edges moving = refl
-held_due laws st s p c Free held lies is sv edges moving = absurd (let none : is_shaped Free true ≡ true = rw (held, is) at sv.shape in (cc))
+held_due laws st s p c Free held lies is sv edges moving = absurd (let none = rw (held, is) at sv.shape in (cc))
 
 due_there : (laws : CoreLaws) (st : State) (s : ℕ) (p : SlotState) (o : Option Connection) → p.connection ≡ o → slice_get st.slots s ≡ Some p → Turns st → EdgesHold st
     → moves_if_any st.limits.ring st.kernel o ≡ true → due_place st s p o ≡ true
@@ -205,7 +205,7 @@ throughout_further : (Each : State → Event → Type 0) (first st : State) (don
     → Throughout Each first (done ++ e ∷ [])
 throughout_further Each first st [] e ran now all = (let same : first ≡ st = cc in rw same now, λ q is. tt)
 throughout_further Each first st (d ∷ done) e ran now all =
-    (all.0, λ q is. (let rest : run q done ≡ Some st = rw is at ran in throughout_further Each q st done e rest now (all.1 q is)))
+    (all.0, λ q is. (let rest = rw is at ran in throughout_further Each q st done e rest now (all.1 q is)))
 
 -- an event comes by this second
 abbrev ComesBy : ℕ → State → Event → Type 0
@@ -369,7 +369,7 @@ module _ (laws : CoreLaws) (l : Limits) {st : State} (done : List Event) (ran : 
         let later = on.1 in record {
           limits = on.0 ∙ all.times.limits;
           past = throughout_further (ComesBy q.second) (opening l) st done e ran later
-              (throughout_more {Each = ComesBy st.second} (opening l) done all.times.past (λ m d by. (let before : m.second ≤ st.second = by in omega arith)));
+              (throughout_more {Each = ComesBy st.second} (opening l) done all.times.past (λ m d by. (let before = by in omega arith)));
           moved = λ i p c here lying.
               let last = lasts i p c here lying in
               let now = last.now in record {

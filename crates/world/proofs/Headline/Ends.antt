@@ -120,10 +120,10 @@ module _ (past : History) (st : State) (s : ℕ) (side : Side) (change : Change)
         };
       })
   network_keeps r t at_r now all =
-      let p : SlotState = l.place in
+      let p = l.place in
       let slot = all.each s p l.there in
       let ok = slot.connection c l.connection in
-      let n : Name = End (token_at s side p.generation) in
+      let n = End (token_at s side p.generation) in
       let is = its_end ok side r at_r in
       let done = kept_at (change_of change (socket_of ok.ends side)) t (rw is at now) (changed_end change (socket_of ok.ends side)) in
       rw is (keep_next all l.there (set_same st.slots s p l.there) (λ i differ g other. elsewhere i g other differ)
@@ -168,10 +168,10 @@ module _ {past : History} {st : State} (all : AllOk past st) where
   withdrawn : (s : ℕ) (side : Side) (c : Connection) (r : Registered) → Lies (slice_get st.slots s) c → end_of st c side ≡ Some r → is_quiet_end (Some r) ≡ true
       → AllOk past (record st { kernel = record st.kernel { queue = without_name (End r.token) st.kernel.queue } })
   withdrawn s side c r l there quiet =
-      let p : SlotState = l.place in
+      let p = l.place in
       let slot = all.each s p l.there in
       let ok = slot.connection c l.connection in
-      let n : EndName = token_at s side p.generation in
+      let n = token_at s side p.generation in
       let is = its_end ok side r there in
       let still = neither _ _ (rw is at quiet) in
       rw is (keep_place all l.there (set_same st.slots s p l.there)
@@ -212,8 +212,8 @@ batch_left n m (x ∷ batch) first apart h =
 
 not_this : (st : State) (m n : EndName) → slice_get st.table m.slot ≡ Some m.generation → is_entry (slice_get st.table n.slot) n.generation ≡ false → same (End m) (End n) ≡ false
 not_this st m n entry other = elim (tell (same (End m) (End n))) [
-  | Yes h ↦ (let is = same_end_is m n h in let now : slice_get st.table n.slot ≡ Some n.generation = rw is at entry in
-      let never : (n.generation == n.generation) ≡ false = rw now at other in let always = eq-eqb n.generation n.generation refl in absurd (cc))
+  | Yes h ↦ (let is = same_end_is m n h in let now = rw is at entry in
+      let never = rw now at other in let always = eq-eqb n.generation n.generation refl in absurd (cc))
   | No h ↦ h
 ]
 
@@ -234,7 +234,7 @@ heard_ok true some ok = renewed ok refl refl refl (record {
   covered = by_side _ (record { read = refl; write = refl }) (record { read = refl; write = refl });
   directions = by_direction _ (ok.pair.directions Up) (ok.pair.directions Down);
 })
-heard_ok false none ok = renewed ok refl refl refl (pair_more ok.pair (λ side. refl) (λ side. or_then _ _ (λ k. or_left _ false k) (λ k. absurd (let never : false ≡ true = sym none ∙ k in cc))))
+heard_ok false none ok = renewed ok refl refl refl (pair_more ok.pair (λ side. refl) (λ side. or_then _ _ (λ k. or_left _ false k) (λ k. absurd (let never = sym none ∙ k in cc))))
 
 -- an overdue connection fails, and keeps all else
 timed_out_ok : {past : History} {st : State} {s g : ℕ} {notes : List ℕ} {c : Connection} → EndsOk past st s g notes c → EndsOk past st s g notes (record c { pair = timed_out c.pair })
@@ -247,7 +247,7 @@ call_keeps : (laws : CoreLaws) {past : History} {st : State} {w : ℕ} (h : Hold
 call_keeps laws {past} {st} h m all =
     let slot = all.each h.s h.p h.lies in
     let ok = slot.connection h.c h.is in
-    let side : Side = side_of m.call in
+    let side = side_of m.call in
     rw (its_end ok side m.old m.there) (keep_place all h.lies refl
     (λ i differ. record { table = refl; limits = refl; ends = others_kept ok side _ differ; pending = λ side g entry h. h })
     (record {
@@ -318,7 +318,7 @@ module _ {past : History} {st : State} {w : ℕ} (h : Holding st w) (all : AllOk
 
   target_left : end_at (ends_with st h.c Client None) h.c.ends.target ≡ Some (registered h.s h.p.generation Target closing_ok.ends.target)
   target_left = end_kept st.kernel.ends h.c.ends.client h.c.ends.target None (closing_ok.there Client) (closing_ok.there Target)
-      (λ same. let sides : Target ≡ Client = ap (λ (n : EndName). n.side) same in absurd (cc))
+      (λ same. let sides = ap (λ (n : EndName). n.side) same in absurd (cc))
 
   are_both : (one two : Registered) → end_of st h.c Client ≡ Some one → end_at (ends_with st h.c Client None) h.c.ends.target ≡ Some two
       → (one ≡ registered h.s h.p.generation Client closing_ok.ends.client) × (two ≡ registered h.s h.p.generation Target closing_ok.ends.target)
@@ -326,8 +326,8 @@ module _ {past : History} {st : State} {w : ℕ} (h : Holding st w) (all : AllOk
 
   close_keeps : (one two : Registered) → end_of st h.c Client ≡ Some one → end_at (ends_with st h.c Client None) h.c.ends.target ≡ Some two → AllOk past (closed_on h one two)
   close_keeps one two at as_well =
-      let s : ℕ = h.s in
-      let g : ℕ = h.p.generation in
+      let s = h.s in
+      let g = h.p.generation in
       let slot = all.each s h.p h.lies in
       let are = are_both one two at as_well in
       rw (are.0, are.1) (keep_place all h.lies refl
@@ -335,8 +335,8 @@ module _ {past : History} {st : State} {w : ℕ} (h : Holding st w) (all : AllOk
         table = refl;
         limits = refl;
         ends = λ d b there of_i. end_kept (ends_with st h.c Client None) h.c.ends.target d None target_left (others_kept closing_ok Client None differ d b there of_i)
-            (λ same. differ (let slots : b.token.slot ≡ s = ap (λ (n : EndName). n.slot) same in cc));
-        pending = λ side h entry. or_more _ _ _ (λ queued. let n : EndName = token_at i side h in
+            (λ same. differ (let slots = ap (λ (n : EndName). n.slot) same in cc));
+        pending = λ side h entry. or_more _ _ _ (λ queued. let n = token_at i side h in
             has_without (End n) (End (token_at s Target g)) (without_name (End (token_at s Client g)) st.kernel.queue) (other_slot (token_at s Target g) n (λ same. differ (sym same)))
             (has_without (End n) (End (token_at s Client g)) st.kernel.queue (other_slot (token_at s Client g) n (λ same. differ (sym same))) queued));
       })
@@ -522,7 +522,7 @@ module _ (laws : CoreLaws) {past : History} {st : State} (all : AllOk past st) w
   still_closed {ev} {q} e h ok =
       let same : (side : Side) → after_event past st ev e.slot e.generation side ≡ past e.slot e.generation side =
       (λ side. rw (none_given e side h ok) (append-nil (past e.slot e.generation side))) in
-      let was : (p : SlotState) → slice_get q.slots e.slot ≡ Some p → Was st ev e.slot p = was_in laws (λ s p there. (all.each s p there).entry) h e.slot in
+      let was = was_in laws (λ s p there. (all.each s p there).entry) h e.slot in
       record {
         older = λ p here. let w = was p here in let old = ok.older w.old w.there in let more = w.older in omega arith;
         over = λ p c here is. let w = was p here in let old = ok.older w.old w.there in let more = w.older in ⊎_elim

@@ -38,7 +38,7 @@ pub record PairOk (history : Side → List ℕ) (reported : Side → Bool) (pair
 
 -- a report of that end is queued or in the batch
 abbrev pub is_pending : State → EndName → Bool
-is_pending st n = has (name.End n) st.kernel.queue || has (name.End n) st.batch
+is_pending st n = has (End n) st.kernel.queue || has (End n) st.batch
 
 -- an end that is open under that token
 abbrev pub registered : ℕ → ℕ → Side → EndState → Registered
@@ -204,8 +204,8 @@ denied false n h = absurd (cc)
 
 pub nonempty_more : (xs ys : List ℕ) → is_nonempty ys ≡ true → is_nonempty (xs ++ ys) ≡ true
 nonempty_more xs ys h =
-    let some : 0 < length ys = ltb-true 0 (length ys) h in
-    let all : length (xs ++ ys) ≡ length xs + length ys = length-append xs ys in
+    let some = ltb-true 0 (length ys) h in
+    let all = length-append xs ys in
     lt-ltb 0 (length (xs ++ ys)) (omega arith)
 
 -- the bytes that a change brings
@@ -339,9 +339,9 @@ module _ {flags : Flags} {r : Bool} {x y : EndState} {gave back : List ℕ} {out
   bytes_in : (n most : ℕ) → (is_count n most && nat_le n (length x.unread)) ≡ true → flags.read ≡ true
       → EndOk flags r (record x { unread = drop n x.unread }) y gave back (taken_in out (take n x.unread)) into
   bytes_in n most may up =
-      let count : is_count n most ≡ true = first_so (is_count n most) (nat_le n (length x.unread)) may in
-      let some : 0 < n = ltb-true 0 n (first_so (nat_lt 0 n) (nat_le n most) count) in
-      let within : n ≤ length x.unread = leb-true n (length x.unread) (second_so (is_count n most) (nat_le n (length x.unread)) may) in
+      let count = first_so (is_count n most) (nat_le n (length x.unread)) may in
+      let some = ltb-true 0 n (first_so (nat_lt 0 n) (nat_le n most) count) in
+      let within = leb-true n (length x.unread) (second_so (is_count n most) (nat_le n (length x.unread)) may) in
       let open_end : out.end_seen ≡ true → ⊥ = λ h. not_empty n x.unread some within (ok.out.read h) in record {
         covered = record { read = cover_flag flags.read _ _ r up; write = ok.covered.write };
         out = record {
@@ -382,8 +382,8 @@ module _ {flags : Flags} {r : Bool} {x y : EndState} {gave back : List ℕ} {out
   wrote_out : (n : ℕ) (room : Bool) → (x.room && is_count n (length (front into))) ≡ true → flags.write ≡ true
       → EndOk flags r (record x { taken = x.taken ++ take n (front into); room = room }) y gave back out (dropped into n)
   wrote_out n room may up =
-      let most : ℕ = length (front into) in
-      let within : n ≤ most = leb-true n most (second_so (nat_lt 0 n) (nat_le n most) (second_so x.room (is_count n most) may)) in record {
+      let most = length (front into) in
+      let within = leb-true n most (second_so (nat_lt 0 n) (nat_le n most) (second_so x.room (is_count n most) may)) in record {
         covered = record { read = ok.covered.read; write = cover_flag flags.write _ _ r up };
         out = again refl refl refl ok.out;
         into = record {
@@ -396,7 +396,7 @@ module _ {flags : Flags} {r : Bool} {x y : EndState} {gave back : List ℕ} {out
 
   passed_on : is_drained into ≡ true → EndOk flags r (record x { shut = true }) y gave back out (closed into)
   passed_on drained =
-      let both : (into.end_seen && not (is_waiting into)) ≡ true = first_so (into.end_seen && not (is_waiting into)) (not into.shut) drained in record {
+      let both = first_so (into.end_seen && not (is_waiting into)) (not into.shut) drained in record {
         covered = record { read = ok.covered.read; write = ok.covered.write };
         out = again refl refl refl ok.out;
         into = record {
@@ -491,13 +491,13 @@ module _ {past : History} {st : State} {s g : ℕ} {notes : List ℕ} {c : Conne
       ≡ Some (registered s g other (socket_of (with_socket ok.ends side e) other))
   ends_there Client e Client = end_same st.kernel.ends c.ends.client (registered s g Client ok.ends.client) _ (ok.there Client)
   ends_there Client e Target = end_kept st.kernel.ends c.ends.client c.ends.target _ (ok.there Client) (ok.there Target)
-      (λ same. let sides : Target ≡ Client = ap (λ (n : EndName). n.side) same in absurd (cc))
+      (λ same. let sides = ap (λ (n : EndName). n.side) same in absurd (cc))
   ends_there Target e Client = end_kept st.kernel.ends c.ends.target c.ends.client _ (ok.there Target) (ok.there Client)
-      (λ same. let sides : Client ≡ Target = ap (λ (n : EndName). n.side) same in absurd (cc))
+      (λ same. let sides = ap (λ (n : EndName). n.side) same in absurd (cc))
   ends_there Target e Target = end_same st.kernel.ends c.ends.target (registered s g Target ok.ends.target) _ (ok.there Target)
 
   -- a change at one end leaves the ends of other slots
   pub others_kept : {i : ℕ} (side : Side) (o : Option Registered) → (i ≡ s → ⊥) → (d : ℕ) (r : Registered) → end_at st.kernel.ends d ≡ Some r → r.token.slot ≡ i
       → end_at (ends_with st c side o) d ≡ Some r
   others_kept side o differ d r there of_i = end_kept st.kernel.ends (descriptor c.ends side) d o (ok.there side) there
-      (λ same. differ (let slots : r.token.slot ≡ s = ap (λ (n : EndName). n.slot) same in cc))
+      (λ same. differ (let slots = ap (λ (n : EndName). n.slot) same in cc))

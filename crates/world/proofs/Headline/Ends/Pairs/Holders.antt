@@ -206,16 +206,10 @@ pub record Does (c d : Doing) (s g : ℕ) : Type 0 where
 pub doing_so : {c d : Doing} (s g : ℕ) → c ≡ d → Does c d s g
 doing_so s g does = record { tickets = ap (tried s) does; right = ap (tried_right s g) does; holding = ap (holds s) does; closing = ap (closes s) does; gone = ap (retires s) does }
 
--- the numbers of a slot where one worker, that does d, goes on to e
-pub record Turned (st : State) (w : ℕ) (k : WorkerState) (d e : Doing) (s g : ℕ) : Type 0 where
-  pub tickets : total (worker_tickets s) (slice_set st.workers w (record k { doing = e })) + tried s d ≡ total (worker_tickets s) st.workers + tried s e
-  pub right : total (worker_right s g) (slice_set st.workers w (record k { doing = e })) + tried_right s g d ≡ total (worker_right s g) st.workers + tried_right s g e
-  pub holding : total (worker_holds s) (slice_set st.workers w (record k { doing = e })) + holds s d ≡ total (worker_holds s) st.workers + holds s e
-  pub closing : total (worker_closes s) (slice_set st.workers w (record k { doing = e })) + closes s d ≡ total (worker_closes s) st.workers + closes s e
-  pub gone : total (worker_retires s) (slice_set st.workers w (record k { doing = e })) + retires s d ≡ total (worker_retires s) st.workers + retires s e
-
-pub turned : (st : State) (w : ℕ) {k : WorkerState} {d : Doing} (e : Doing) (s g : ℕ) → slice_get st.workers w ≡ Some k → k.doing ≡ d → Turned st w k d e s g
-turned st w {k} e s g there does = let r = replaced st w (record k { doing = e }) s g there in let m = doing_so s g does in omega arith
+-- where one worker, that does d, goes on to e
+pub turned : (st : State) (w : ℕ) {k : WorkerState} {d : Doing} (e : Doing) (s g : ℕ) → slice_get st.workers w ≡ Some k → k.doing ≡ d
+    → Replaced st w k (record k { doing = e }) s g × Does k.doing d s g
+turned st w {k} e s g there does = (replaced st w (record k { doing = e }) s g there, doing_so s g does)
 
 -- where neither has a part in slot i, its numbers stay
 pub turned_elsewhere : (st : State) (w : ℕ) {k : WorkerState} {d : Doing} (e : Doing) (i g : ℕ) → slice_get st.workers w ≡ Some k → k.doing ≡ d
@@ -389,11 +383,11 @@ module _ (st : State) (w : ℕ) (k : WorkerState) (t : Ticket) (p : SlotState) (
       record { holder = parts.0; some = parts.1; lies = rw (parts.0) at sv.shape }
 
   unheld_so : is_held p.holder ≡ true → ⊥
-  unheld_so held = let is : is_held Nobody ≡ true = rw waiting.holder at held in absurd (cc)
+  unheld_so held = let is = rw waiting.holder at held in absurd (cc)
 
   claimed_turns : Turns (doing (with_place st t.slot (record p { holder = By w })) w k (Holds t.slot st.limits.budget))
   claimed_turns =
-      let s : ℕ = t.slot in
+      let s = t.slot in
       let sv = turns.each s p lies in
       let wait = waiting in
       let r = turned st w (Holds s st.limits.budget) s p.generation there does in
@@ -414,8 +408,8 @@ module _ (st : State) (w : ℕ) (k : WorkerState) (t : Ticket) (p : SlotState) (
 
   pub names_it : t.generation ≡ p.generation
   names_it =
-      let s : ℕ = t.slot in
-      let g : ℕ = p.generation in
+      let s = t.slot in
+      let g = p.generation in
       let sv = turns.each s p lies in
       let ready = total_le (names s g) (of_slot s) st.ready (names_of_slot s g) in
       let hand = total_le (names s g) (of_slot s) st.hand (names_of_slot s g) in
@@ -521,8 +515,8 @@ lets_go c some may = let parts = and_parts (is_live (verdict c.pair)) (is_none (
 
 released_turns : {st : State} {w : ℕ} (h : Holding st w) → may_release h.c (is_nonempty h.p.notes) ≡ true → Turns st → Turns (released h)
 released_turns {st} {w} h may turns =
-    let s : ℕ = h.s in
-    let g : ℕ = h.p.generation in
+    let s = h.s in
+    let g = h.p.generation in
     let sv = turns.each s h.p h.lies in
     let held = held_slot h turns in
     let free = lets_go h.c (is_nonempty h.p.notes) may in
@@ -626,7 +620,7 @@ turns_on laws st turns _ = record { each = turns.each }
 numbers_past : (n s : ℕ) → n ≤ s → total (is_number s) (numbers_below n) ≡ 0
 numbers_past zero s past = refl
 numbers_past (suc n) s past =
-    let other : one (n == s) ≡ 0 = one_other n s (λ same. absurd (omega arith)) in
+    let other = one_other n s (λ same. absurd (omega arith)) in
     omega (arith, total_push (is_number s) (numbers_below n) n, numbers_past n s (omega arith))
 
 last_number : (n s : ℕ) → (n ≡ s) ⊎ (n ≢ s) → total (is_number s) (numbers_below n) ≤ 1 → total (is_number s) (numbers_below n) + one (n == s) ≤ 1
@@ -654,7 +648,7 @@ unused_ok l s entry =
 opening_turns : (l : Limits) → Turns (opening l)
 opening_turns l = record {
   each = λ s p there.
-      let same : unused l.generation ≡ p = get-replicate l.slots s (unused l.generation) p there in
+      let same = get-replicate l.slots s (unused l.generation) p there in
       subst (λ (q : SlotState). SlotOk (facts (opening l) s q.generation) q) same (unused_ok l s (get_beside l.slots s (unused l.generation) p l.generation there));
 }
 
@@ -797,7 +791,7 @@ words_on st turns (HandsIn w k t rest there is) = untouched refl (λ s. rw there
 words_on st turns (Pops w k t rest there idle is) = untouched refl (λ s. rw there) (λ s.
     let r = turned st w (Tries t) s 0 there idle in omega (arith, ap (total (of_slot s)) is))
 words_on st turns (Claims w k t p there does lies) =
-    let s : ℕ = t.slot in
+    let s = t.slot in
     let wait = waiting st w k t p there does lies turns in
     let this = one_same s in
     let m = turned st w (Holds s st.limits.budget) s 0 there does in
@@ -810,7 +804,7 @@ words_on st turns (Calls w h r m) = stays h.s (record h.p { connection = Some (a
 words_on st turns (Posts w h) =
     touched h.s (with_note h.p h.c.pair.generation) (words.post ∷ []) h.lies refl (λ i. rw (h.there, h.does)) (noted_word h.p h.c.pair.generation) (rw (held_slot h turns).holder) (λ i apart. refl)
 words_on st turns (Releases w h may) =
-    let s : ℕ = h.s in
+    let s = h.s in
     let next : WorkerState = record { doing = Idle; hand = hand_after h } in
     let held = held_slot h turns in
     let r = replaced st w next s 0 h.there in

@@ -335,7 +335,7 @@ listens_on st l WithdrawsWaker = queues_on (has_without Listener Waker st.kernel
 listens_on st l (Withdraws s side c r lies there quiet) = queues_on (has_without Listener (End r.token) st.kernel.queue refl) l
 listens_on st l Connects = record {
   covered =
-      let some : nat_lt 0 (st.kernel.backlog + 1) ≡ true = lt-ltb 0 (st.kernel.backlog + 1) (omega arith) in
+      let some = lt-ltb 0 (st.kernel.backlog + 1) (omega arith) in
       rw some (connected st.flag st.kernel.armed (nat_lt 0 st.kernel.backlog) st.kernel.queue (hears st.batch) l.covered);
 }
 listens_on st l (Accepts up) = record { covered = rw up refl }

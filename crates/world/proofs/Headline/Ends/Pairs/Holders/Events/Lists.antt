@@ -2,20 +2,17 @@
 pub use Rattle.std.{proofs.{Common.{Bool, Err, Global, IfOk, List, None, Ok, Option, Result, Some, [], ap, append-nil, append_assoc, arith, cond, drop, eq-eqb, eqb-true, false, if◌then◌else◌, inl, inr, is_none, is_some, le_refl, leb-true, length, length-append, lt-ltb, ltb-false, ltb-true, nat_lt, ne_eqb, not, one-add, option_and_then, option_map, refl, replicate, slice_get, slice_set, subst, suc, sym, take, take-append-drop, Vec, true, unwrap_or, zero, ℕ, ⊎_elim, ◌&&◌, ◌*◌, ◌++◌, ◌+◌, ◌-◌, ◌<◌, ◌==◌, ◌||◌, ◌∙◌, ◌∷◌, ◌≡◌, ◌≢◌, ◌≤◌, ◌⊎◌}, Math.Seq.{drop-nil, take-append_seam}, lemmas.{Bool.{and_parts, cases_eq, lt-leb, Decides.nat_tests}, Grind.common_steps, List.{nil_from_length, take_more}, Option.{get_or_from_slice_get, gets, slice_get_within}}}, specs.{Cmp.{first_so, second_so}, List.{list_all, list_any, position_or_len}, Option.{option_flatten, option_or}, Prelude.nat_le}}
 pub use Rattle.claims.specs.Words.{StepKind, some_wait}
 pub use Rattle.flow.{proofs.Front.{take-front, waiting-dropped, waiting_ends}, specs.Stream.{Stream, closed, dropped, empty_stream, ended, front, taken_in, waiting}}
-pub use Rattle.kernel_model.specs.{Ends.{EndState, arrival, finish, is_nonempty, is_readable, is_writable, new_room, opened}, Kernel.{KernelState, Registered, changed, end_at, is_quiet_end, lowest_free, name_of, open_both, reported, with_end}, Names.{has, same, same_end, with_name, without_name, without_names}, Outcome.{Meets, Told, guard}, Replies.{after_join, after_read, after_shut, after_write, bytes_read, is_count, is_zero}, declared.{accepting.Accepting.{Accepting, TheVariants.{Accepted, Again, Blocked, Starved}}, both.{Descriptors.Descriptors, Sockets.Sockets}, refusal.Refusal.{Refusal, TheVariants.{NoMemory, NotAllowed}}, reply.Reply.Reply, watched.Watched.Watched}}
-pub use Rattle.relay_core.specs.{Idle.{is_overdue, timed_out}, Calls.side_of, Laws.{AnswersNext, IsAtRest, IsClosedLast, IsDrained, IsOverdue, Place as Standing, TellsOf, place_of}, Order.{call_for, is_drained, is_open, is_waiting, next_call, offer, read_most}, Pairs.{PairState, flags_of, fresh, is_joined, is_live, noted, stream_of, verdict, verdict_of}, Replies.{after, fits, moves}, declared.{call.Call.{Call, TheVariants.{Join, Read, Shut, Write}}, flags.Flags.Flags, verdict.{Fault.{Fault, TheVariants.Broken}, Verdict.{Verdict, TheVariants.{Done, Failed, Live}}}}}
+pub use Rattle.kernel_model.specs.{Ends.{EndState, arrival, finish, is_nonempty, is_readable, is_writable, new_room, opened}, Kernel.{KernelState, Registered, changed, end_at, is_quiet_end, lowest_free, name_of, open_both, reported, with_end}, Names.{has, same, same_end, with_name, without_name, without_names}, Outcome.{Meets, Told, guard}, Replies.{after_join, after_read, after_shut, after_write, bytes_read, is_count}, declared.{accepting.Accepting.{Accepting, TheVariants.{Accepted, Blocked}}, both.{Descriptors.Descriptors, Sockets.Sockets}, refusal.Refusal.{Refusal, TheVariants.{NoMemory, NotAllowed}}, reply.Reply.Reply}}
+pub use Rattle.relay_core.specs.{Idle.{is_overdue, timed_out}, Calls.side_of, Laws.{IsAtRest, IsClosedLast, IsDrained, IsOverdue, Place as Standing, TellsOf, place_of}, Order.{call_for, is_drained, is_open, is_waiting, next_call, offer}, Pairs.{PairState, flags_of, fresh, is_joined, is_live, noted, stream_of, verdict, verdict_of}, Replies.{after, fits, moves}, declared.{call.Call.{Call, TheVariants.{Join, Read, Shut, Write}}, flags.Flags.Flags, verdict.{Fault.{Fault, TheVariants.Broken}, Verdict.{Verdict, TheVariants.{Done, Failed, Live}}}}}
 pub use Rattle.token.specs.{Names.EndName, Sides.{destination, inward, opposite, other_side, side_number, source}, declared.{direction.Direction.{Direction, TheVariants.{Down, Up}}, kind.Kind.Kind, name.Name.{Name, TheVariants.{End, Listener, Waker}}, side.Side.{Side, TheVariants.{Client, Target}}}}
-pub use Rattle.world.specs.{Acts.busy, Calls.{OpenConnection, descriptor, made, plain, replied, told_of, when}, CoreLaws.CoreLaws, Due.{due, due_at, due_place, flows, gives, has_place, has_ticket, is_report, is_reported, is_ticket, is_ticketed, movable, movable_at, moves as could_move, moves_if_any, takes, tries}, Headline.{BytesAndEndsHold, ClaimsByOwnTicket, ClosedHold, ConnectionHolds, DirectionHolds, FailedAfter, FailedBy, Failure, FailuresHold, HeadlineHolds, LiesBack, ListenerHolds, Named, TakesOwnNotes, Throughout, TriedOnOwn, end_of, failure, failure_by, fault_of, given, given_by, has_generation, held_by, held_connection, is_movement, moved_by, named, next_fails, next_opened, preamble, socket_of}, LeadLaws.is_padded, Memory.{free_length, grows}, Runs.run, Slots.{SlotState, WorkerState, is_by_worker, is_held}, States.{State, is_entry, numbers_below, opening, resting, unused}, Steps.{OpenSlot, acted, after_accept, batched, brings_ticket, call, change_at, claim, claimed, close, closed_world, connection_at, deliver, delivered, delivered_at, doing, expire, expired, expired_place, free, freed, heard, is_limited, is_worn, listen, may_accept, network, noted_slot, opened_place, opened_world, opening_of, over_kernel, polled, pop, popped, post, post_at, posted, put_by_poller, put_by_worker, release, retire, spurious, step, sweep, tick, token_of, vanish, watched_of, with_note, with_place, with_ticket, with_worker, worked}, Support.{EdgesHold, EndCovered, SupportHolds, TableHolds, has_report, is_covered, of_slot, one, tickets, total, tried, worker_tickets}, Words.{WordMoves, WordsMove, WordsMoveInRuns, after_all, at_slot, claims, count_wakes, delivery_steps, is_free, steps, word_at}, declared.{actors.{Doing.{Doing, TheVariants.{Closed, Holds, Idle, Retired, Tries}}, Holder.{Holder, TheVariants.{By, Free, Nobody}}, Ticket.Ticket}, connection.Connection.Connection, event.{Act.Act, Change.{Change, TheVariants.{Arrive, Fin, Reset, Room}}, Event.Event, Listening.Listening, Polling.Polling, Reported.Reported}, limits.Limits.Limits, past.Past.Past}}
+pub use Rattle.world.specs.{Acts.busy, Calls.{OpenConnection, descriptor, made, plain, replied, told_of, when}, CoreLaws.CoreLaws, Due.{due, due_at, due_place, flows, gives, has_place, has_ticket, is_report, is_reported, is_ticket, is_ticketed, movable, movable_at, moves as could_move, moves_if_any, takes, tries}, Headline.{BytesAndEndsHold, ClaimsByOwnTicket, ClosedHold, DirectionHolds, FailedAfter, FailedBy, Failure, FailuresHold, HeadlineHolds, ListenerHolds, Named, TakesOwnNotes, Throughout, TriedOnOwn, end_of, failure, failure_by, fault_of, given, given_by, has_generation, held_connection, is_movement, moved_by, named, next_opened, preamble, socket_of}, LeadLaws.is_padded, Memory.{free_length, grows}, Runs.run, Slots.{SlotState, WorkerState, is_by_worker, is_held}, States.{State, is_entry, numbers_below, opening, resting, unused}, Steps.{acted, brings_ticket, call, change_at, claim, closed_world, connection_at, delivered, delivered_at, doing, free, freed, heard, is_limited, is_worn, listen, may_accept, opened_place, opened_world, over_kernel, polled, popped, post, post_at, posted, put_by_poller, release, retire, step, token_of, watched_of, with_note, with_place, with_ticket, with_worker}, Support.{EdgesHold, EndCovered, SupportHolds, TableHolds, has_report, is_covered, of_slot, one, tickets, total, tried, worker_tickets}, Words.{WordMoves, WordsMove, WordsMoveInRuns, after_all, at_slot, claims, count_wakes, is_free, steps, word_at}, declared.{actors.{Doing.{Doing, TheVariants.{Closed, Holds, Idle, Retired, Tries}}, Holder.{Holder, TheVariants.{By, Free, Nobody}}, Ticket.Ticket}, connection.Connection.Connection, event.{Act.Act, Change.{Change, TheVariants.{Arrive, Fin, Reset, Room}}, Event.Event, Listening.Listening, Polling.Polling, Reported.Reported}, limits.Limits.Limits, past.Past.Past}}
 unfoldable pub use Rattle.world.specs.{Calls.called, Steps.{may_release, slot_call}}
 pub use Rattle.claims.specs.Words as words
 pub use Rattle.kernel_model.specs.Ends as model
 pub use Rattle.kernel_model.specs.Kernel as kernel
 pub use Rattle.kernel_model.specs.declared.reply.Reply.TheVariants as reply
-pub use Rattle.kernel_model.specs.declared.watched.Watched.TheVariants as watched
 pub use Rattle.relay_core.specs.Replies as answer
 pub use Rattle.relay_core.specs.declared.verdict.Fault.TheVariants as reason
-pub use Rattle.token.specs.declared.name.Name.TheVariants as name
-pub use Rattle.world.specs.Steps
 pub use Rattle.world.specs.declared.event.Act.TheVariants as act
 pub use Rattle.world.specs.declared.event.Event.TheVariants as event
 pub use Rattle.world.specs.declared.event.Listening.TheVariants as listening
@@ -71,31 +68,31 @@ kept_through f (Some x) k = k.kept
 -- one element more at the end
 pub total_push : {X : Type 0} (f : X → ℕ) (xs : List X) (x : X) → total f (xs ++ x ∷ []) ≡ total f xs + f x
 total_push f [] x = omega arith
-total_push f (y ∷ ys) x = let more : total f (ys ++ x ∷ []) ≡ total f ys + f x = total_push f ys x in omega arith
+total_push f (y ∷ ys) x = let more = total_push f ys x in omega arith
 
 -- the first element of a list goes to the end of another
 pub total_moved : {X : Type 0} (f : X → ℕ) (xs ys rest : List X) (x : X) → ys ≡ x ∷ rest → total f (xs ++ x ∷ []) + total f rest ≡ total f xs + total f ys
-total_moved f xs ys rest x is = let more : total f (xs ++ x ∷ []) ≡ total f xs + f x = total_push f xs x in let had : total f ys ≡ f x + total f rest = ap (total f) is in
+total_moved f xs ys rest x is = let more = total_push f xs x in let had = ap (total f) is in
     omega arith
 
 -- an element that is replaced gives up its part for the new one's
 pub total-set : {X : Type 0} (f : X → ℕ) (xs : List X) (w : ℕ) (old new : X) → slice_get xs w ≡ Some old → total f (slice_set xs w new) + f old ≡ total f xs + f new
 total-set f [] w old new there = absurd (cc)
-total-set f (x ∷ xs) zero old new there = let same : x ≡ old = cc in let parts : f x ≡ f old = ap f same in omega arith
-total-set f (x ∷ xs) (suc w) old new there = let more : total f (slice_set xs w new) + f old ≡ total f xs + f new = total-set f xs w old new there in omega arith
+total-set f (x ∷ xs) zero old new there = let same : x ≡ old = cc in let parts = ap f same in omega arith
+total-set f (x ∷ xs) (suc w) old new there = let more = total-set f xs w old new there in omega arith
 
 pub total_at : {X : Type 0} (f : X → ℕ) (xs : List X) (w : ℕ) (x : X) → slice_get xs w ≡ Some x → f x ≤ total f xs
 total_at f [] w x there = absurd (cc)
-total_at f (y ∷ ys) zero x there = let same : y ≡ x = cc in let part : f y ≡ f x = ap f same in omega arith
-total_at f (y ∷ ys) (suc w) x there = let more : f x ≤ total f ys = total_at f ys w x there in omega arith
+total_at f (y ∷ ys) zero x there = let same : y ≡ x = cc in let part = ap f same in omega arith
+total_at f (y ∷ ys) (suc w) x there = let more = total_at f ys w x there in omega arith
 
 pub total_le : {X : Type 0} (f g : X → ℕ) (xs : List X) → ((x : X) → f x ≤ g x) → total f xs ≤ total g xs
 total_le f g [] each = omega arith
-total_le f g (x ∷ xs) each = let more : total f xs ≤ total g xs = total_le f g xs each in let here : f x ≤ g x = each x in omega arith
+total_le f g (x ∷ xs) each = let more = total_le f g xs each in let here = each x in omega arith
 
 pub total_none : {X : Type 0} (f : X → ℕ) (n : ℕ) (x : X) → f x ≡ 0 → total f (replicate n x) ≡ 0
 total_none f zero x none = refl
-total_none f (suc n) x none = let more : total f (replicate n x) ≡ 0 = total_none f n x none in omega arith
+total_none f (suc n) x none = let more = total_none f n x none in omega arith
 
 pub get-set_same : {X : Type 0} (xs : List X) (i : ℕ) (old new : X) → slice_get xs i ≡ Some old → slice_get (slice_set xs i new) i ≡ Some new
 get-set_same [] i old new there = absurd (cc)
@@ -125,13 +122,13 @@ pub total_le_at : {X : Type 0} (f g : X → ℕ) (xs : List X) (w : ℕ) (x : X)
 total_le_at f g [] w x each there = absurd (cc)
 total_le_at f g (y ∷ ys) zero x each there =
     let same : y ≡ x = (cc) in
-    let a : f y ≡ f x = ap f same in
-    let b : g y ≡ g x = ap g same in
-    let rest : total f ys ≤ total g ys = total_le f g ys each in
+    let a = ap f same in
+    let b = ap g same in
+    let rest = total_le f g ys each in
     omega arith
 total_le_at f g (y ∷ ys) (suc w) x each there =
-    let more : total f ys + g x ≤ total g ys + f x = total_le_at f g ys w x each there in
-    let here : f y ≤ g y = each y in
+    let more = total_le_at f g ys w x each there in
+    let here = each y in
     omega arith
 
 pub data Tell (b : Bool) : Type 0 where
@@ -145,15 +142,15 @@ tell false = No refl
 pub same_or : (i s : ℕ) → (i ≡ s) ⊎ (i ≡ s → ⊥)
 same_or i s = elim (tell (i == s)) [
   | Yes h ↦ inl (eqb-true i s h)
-  | No h ↦ inr (λ same. (let is : (s == s) ≡ false = rw same at h in let is_not : (s == s) ≡ true = eq-eqb s s refl in absurd (cc)))
+  | No h ↦ inr (λ same. (let is = rw same at h in let is_not = eq-eqb s s refl in absurd (cc)))
 ]
 
 -- what lies in a list after one element was replaced: the new one, or what lay there
 pub at_one : {X : Type 0} (xs : List X) {ys : List X} {s : ℕ} (i : ℕ) {old new x : X} → slice_get xs s ≡ Some old → ys ≡ slice_set xs s new → slice_get ys i ≡ Some x
     → ((i ≡ s) × (x ≡ new)) ⊎ ((i ≡ s → ⊥) × (slice_get xs i ≡ Some x))
 at_one xs {s = s} i {old} {new} {x} was set here = elim (same_or i s) [
-  | inl same ↦ (let is : slice_get (slice_set xs s new) s ≡ Some new = get-set_same xs s old new was in
-      let stands : slice_get (slice_set xs s new) s ≡ Some x = rw (same, set) at here in
+  | inl same ↦ (let is = get-set_same xs s old new was in
+      let stands = rw (same, set) at here in
       inl (same, cc))
   | inr differ ↦ inr (differ, sym (get-set_other xs s i new (λ same. differ (sym same))) ∙ (rw set at here))
 ]
@@ -258,12 +255,12 @@ reported_has n false xs h = absurd (cc)
 left_if : (n x : Name) (b : Bool) (xs ys : List Name) → (same n x ≡ true → b ≡ true) → (has n xs ≡ true → has n ys ≡ true)
     → (same n x || has n xs) ≡ true → has n (cond b (x ∷ ys) ys) ≡ true
 left_if n x true xs ys keep rest h = or_both (same n x) (has n xs) (same n x) (has n ys) (λ k. k) rest h
-left_if n x false xs ys keep rest h = or_then (same n x) (has n xs) (λ k. let e : false ≡ true = keep k in absurd (cc)) rest h
+left_if n x false xs ys keep rest h = or_then (same n x) (has n xs) (λ k. let e = keep k in absurd (cc)) rest h
 
 pub has_without : (n m : Name) (xs : List Name) → same m n ≡ false → has n xs ≡ true → has n (without_name m xs) ≡ true
 has_without n m [] apart h = absurd (cc)
 has_without n m (x ∷ xs) apart h = left_if n x (not (same m x)) xs (without_name m xs)
-    (λ k. let is : n ≡ x = same_is n x k in let other : same m x ≡ false = rw is at apart in rw other refl)
+    (λ k. let is = same_is n x k in let other = rw is at apart in rw other refl)
     (has_without n m xs apart) h
 
 -- a name that is queued stays so, or is among those that a poll takes
@@ -277,7 +274,7 @@ polled_if n x false t xs ys taken rest h = or_then (same n x) (has n xs)
 pub has_polled : (n : Name) (names xs : List Name) → has n xs ≡ true → (has n (without_names names xs) || has n names) ≡ true
 has_polled n names [] h = absurd (cc)
 has_polled n names (x ∷ xs) h = polled_if n x (has x names) (has n names) xs (without_names names xs)
-    (λ k taken. let is : n ≡ x = same_is n x k in rw is taken) (has_polled n names xs) h
+    (λ k taken. let is = same_is n x k in rw is taken) (has_polled n names xs) h
 
 -- The ends by descriptor
 
@@ -289,7 +286,7 @@ flattened (Some p) x e = ap Some e
 pub end_same : (ends : List (Option Registered)) (d : ℕ) (r : Registered) (o : Option Registered)
     → end_at ends d ≡ Some r → end_at (slice_set ends d o) d ≡ o
 end_same ends d r o here =
-    let there : slice_get (slice_set ends d o) d ≡ Some o = get-set_same ends d (Some r) o (flattened (slice_get ends d) r here) in
+    let there = get-set_same ends d (Some r) o (flattened (slice_get ends d) r here) in
     rw there refl
 
 end_other : (ends : List (Option Registered)) (d other : ℕ) (o : Option Registered) → (other ≡ d → ⊥) → end_at (slice_set ends d o) other ≡ end_at ends other
@@ -299,7 +296,7 @@ end_other ends d other o apart = ap option_flatten (get-set_other ends d other o
 pub end_kept : (ends : List (Option Registered)) (d other : ℕ) {a b : Registered} (o : Option Registered)
     → end_at ends d ≡ Some a → end_at ends other ≡ Some b → (b.token ≡ a.token → ⊥) → end_at (slice_set ends d o) other ≡ Some b
 end_kept ends d other {a} {b} o one two differ = end_other ends d other o
-    (λ same. (let there : end_at ends d ≡ Some b = rw same at two in
+    (λ same. (let there = rw same at two in
     let is : b ≡ a = cc in
     differ (ap (λ (r : Registered). r.token) is))) ∙ two
 
@@ -319,7 +316,7 @@ first_free (None ∷ ends) = Hole refl
 first_free (Some r ∷ ends) = lower ends r (position_or_len is_none ends) (first_free ends)
 
 irreflexive : (n : ℕ) → nat_lt n n ≡ false
-irreflexive n = elim (tell (nat_lt n n)) [ Yes h ↦ (let less : n < n = ltb-true n n h in absurd (omega arith)) | No h ↦ h ]
+irreflexive n = elim (tell (nat_lt n n)) [ Yes h ↦ (let less = ltb-true n n h in absurd (omega arith)) | No h ↦ h ]
 
 found : (ends : List (Option Registered)) (k : ℕ) → IsFree ends k → unwrap_or (cond (nat_lt k (length ends)) (Some k) None) (length ends) ≡ k
 found ends k (Hole h) = rw (lt-ltb k (length ends) (slice_get_within ends k None h)) refl
@@ -338,10 +335,10 @@ here_if ends d r (Behind h) = rw (h, irreflexive (length ends), last_get ends (S
 
 other_if : (ends : List (Option Registered)) (d other : ℕ) (r b : Registered) → IsFree ends d → end_at ends other ≡ Some b → end_at (with_end ends d r) other ≡ Some b
 other_if ends d other r b (Hole h) two =
-    let differ : other ≡ d → ⊥ = λ same. (let there : end_at ends d ≡ Some b = rw same at two in let none : end_at ends d ≡ None = rw h refl in absurd (cc)) in
+    let differ : other ≡ d → ⊥ = λ same. (let there = rw same at two in let none : end_at ends d ≡ None = rw h refl in absurd (cc)) in
     rw (lt-ltb d (length ends) (slice_get_within ends d None h)) (end_other ends d other (Some r) differ ∙ two)
 other_if ends d other r b (Behind h) two =
-    let there : slice_get (ends ++ Some r ∷ []) other ≡ Some (Some b) = append_get ends (Some r ∷ []) other (Some b) (flattened (slice_get ends other) b two) in
+    let there = append_get ends (Some r ∷ []) other (Some b) (flattened (slice_get ends other) b two) in
     rw (h, irreflexive (length ends), there) refl
 
 -- the end that is opened there, and every other
