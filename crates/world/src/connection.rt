@@ -14,7 +14,6 @@ pub struct Connection {
     pub ends: Descriptors,
 }
 
-#[tactic(auto, using(std::proofs::lemmas::Option::gets, std::proofs::lemmas::Grind::common_steps))]
 impl Connection {
     ghost use Rattle.std.specs.Prelude.{◌≡◌, if◌then◌else◌, IsErrOf, IsTrue};
     ghost use Rattle.relay_core.specs.{Pairs.noted, Replies.reply_of};
@@ -85,7 +84,6 @@ impl Connection {
     }
 
     /// A read that brings bytes, if a read is the next call.
-    #[tactic(auto, using(std::proofs::lemmas::Option::gets, std::proofs::lemmas::Grind::common_steps))]
     fn read(
         &mut self,
         kernel: &mut Kernel,

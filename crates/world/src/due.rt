@@ -12,7 +12,6 @@ use kernel_model::{Kernel, Open};
 use relay_core::Pair;
 use token::{Direction, Name};
 
-#[tactic(auto, using(std::proofs::lemmas::Option::gets, std::proofs::lemmas::Grind::common_steps))]
 impl World {
     /// Whether the connection in a slot could move: it is done or failed and not closed yet; or it is live, and in
     /// some direction bytes or an end of input could come in, bytes could go out, or the end could be passed on.

@@ -31,7 +31,7 @@
 //! the claim words in `Words.antt`. Only private functions use those of
 //! `Acts.antt`. The lemmas are in `proofs/`: `Turns*.antt` about who has a slot, its notes and its tickets, and
 //! `Ends*.antt` about the bytes, the ends and the flags.
-#![tactic(auto)]
+#![tactic(auto, using(std::proofs::lemmas::Option::gets, std::proofs::lemmas::Grind::common_steps))]
 
 mod actors;
 mod connection;

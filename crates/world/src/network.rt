@@ -10,7 +10,6 @@ use crate::world::World;
 use kernel_model::{Accepting, Kernel, Refusal, Watched};
 use token::Side;
 
-#[tactic(auto, using(std::proofs::lemmas::Option::gets, std::proofs::lemmas::Grind::common_steps))]
 impl World {
     ghost use Rattle.std.specs.{Prelude.{◌≡◌, IsErrOf, IsTrue}, Option.option_copied};
     ghost use Rattle.kernel_model.specs.Outcome.{Meets, MeetsAlways};

@@ -12,7 +12,6 @@ use relay_core::Pair;
 use std::alloc::AllocError;
 use token::{MAX_GENERATION, Name, Side, Token};
 
-#[tactic(auto, using(std::proofs::lemmas::Option::gets, std::proofs::lemmas::Grind::common_steps))]
 impl World {
     ghost use Rattle.std.specs.Prelude.{◌≡◌, ◌<◌, length, slice_get, Some, IfOk, IsErrOf, IsTrue};
     ghost use Rattle.kernel_model.specs.{Outcome.Meets, Kernel.open_both};
@@ -130,7 +129,6 @@ impl World {
     }
 
     /// It delivers the first name of its batch.
-    #[tactic(auto, using(std::proofs::lemmas::Option::gets, std::proofs::lemmas::Grind::common_steps))]
     fn deliver(&mut self) -> Result<(), Refusal>
         ensures event { Meets (deliver self.old) self.old self.new result }
         ensures memory { IsErrOf result Refusal.NoMemory → IsTrue (becomes_note self.old (slice_get self.old.batch 0)) }
@@ -182,7 +180,6 @@ impl World {
     }
 
     /// It posts to a slot, and takes in hand the ticket that this may create.
-    #[tactic(auto, using(std::proofs::lemmas::Option::gets, std::proofs::lemmas::Grind::common_steps))]
     fn post_at(&mut self, slot: usize, generation: u64) -> Result<(), Refusal>
         ensures event { Meets (post_at self.old slot generation) self.old self.new result }
         ensures batch { self.new.batch ≡ self.old.batch }
@@ -211,7 +208,6 @@ impl World {
     }
 
     /// It puts the first ticket in its hand into the ready queue.
-    #[tactic(auto, using(std::proofs::lemmas::Option::gets, std::proofs::lemmas::Grind::common_steps))]
     fn put_by_poller(&mut self) -> Result<(), Refusal>
         ensures { Meets (put_by_poller self.old self.old.hand) self.old self.new result }
     {

@@ -32,7 +32,6 @@ use std::alloc::Global;
 /// make (`rest`); the poller's table has each slot's generation (`table`); and if a pair's flag says that a call is not
 /// worth trying, its end is armed for it and not ready, or it is ready and a report of it is queued, in the batch or
 /// noted (`edges`).
-#[tactic(auto, using(std::proofs::lemmas::Grind::common_steps))]
 pub fn replay(alloc: Global, limits: Limits, events: &[Event]) -> Result<World, (usize, Refusal)>
     requires { IsWithinLimits limits }
     ensures world { IfOk result (λ world. run (opening limits) events.now ≡ Some world) }

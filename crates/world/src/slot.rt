@@ -22,7 +22,6 @@ impl Model for Slot {
     ghost view = { λ p. record { generation = p.generation; connection = p.connection; holder = p.holder; notes = p.notes.items } };
 }
 
-#[tactic(auto, using(std::proofs::lemmas::Option::gets, std::proofs::lemmas::Grind::common_steps))]
 impl Slot {
     ghost use Rattle.std.specs.{Prelude.{◌≡◌, OnOk, OnErr, IsErrOf, IsTrue, Some, None}, Option.option_copied};
     ghost use Rattle.kernel_model.specs.{Ends.is_nonempty, Outcome.{Meets, MeetsAlways, Tells}, Replies.needs_memory};

@@ -20,14 +20,12 @@ pub fn is_live(verdict: Verdict) -> bool
     }
 }
 
-#[tactic(auto, using(std::proofs::lemmas::Option::gets, std::proofs::lemmas::Grind::common_steps))]
 impl World {
     ghost use Rattle.std.specs.Prelude.{◌≡◌, ◌<◌, length, slice_get, option_map, Some, IsErrOf, IsTrue};
     ghost use Rattle.kernel_model.specs.{Outcome.{Meets, MeetsAlways}, Replies.needs_memory};
     ghost use Rattle.world.specs.{Acts.{busy, MeetsIn}, Memory.{act_allocates, grows, free_length}, Slots.WorkerState, Steps.{of_worker, claim, take, call, post, release, expire, close, retire, free, pop, worked}};
 
     /// A worker does something.
-    #[tactic(auto, using(std::proofs::lemmas::Option::gets, std::proofs::lemmas::Grind::common_steps))]
     pub(crate) fn work(&mut self, worker: usize, act: Act) -> Result<(), Refusal>
         ensures { MeetsIn (act_allocates self.old worker act) (worked self.old worker act) self.old self.new result }
     {
@@ -111,7 +109,6 @@ impl World {
     }
 
     /// It puts the first ticket in its hand into the ready queue.
-    #[tactic(auto, using(std::proofs::lemmas::Option::gets, std::proofs::lemmas::Grind::common_steps))]
     fn put_by_worker(&mut self, worker: usize) -> Result<(), Refusal>
         requires { worker < length self.old.workers }
         ensures { Meets (worked self.old worker Act.Put) self.old self.new result }
@@ -126,7 +123,6 @@ impl World {
     }
 
     /// With nothing to put, it takes the first ticket from the ready queue.
-    #[tactic(auto, using(std::proofs::lemmas::Option::gets, std::proofs::lemmas::Grind::common_steps))]
     fn pop(&mut self, worker: usize) -> Result<(), Refusal>
         requires { worker < length self.old.workers }
         ensures { MeetsAlways (of_worker self.old worker (λ (k : WorkerState). pop self.old worker k Doing.Idle)) self.old self.new result }
@@ -140,7 +136,6 @@ impl World {
     }
 
     /// It takes hold of its ticket's slot, or drops the ticket if the slot is held.
-    #[tactic(auto, using(std::proofs::lemmas::Option::gets, std::proofs::lemmas::Grind::common_steps))]
     fn claim(&mut self, worker: usize, ticket: Ticket) -> Result<(), Refusal>
         requires { slice_get self.old.workers worker ≡ Some (busy (Doing.Tries ticket)) }
         ensures { MeetsAlways (claim self.old worker (busy (Doing.Tries ticket)) (Doing.Tries ticket)) self.old self.new result }
@@ -158,7 +153,6 @@ impl World {
     }
 
     /// It takes the notes of its slot.
-    #[tactic(auto, using(std::proofs::lemmas::Option::gets, std::proofs::lemmas::Grind::common_steps))]
     fn take(&mut self, slot: usize, left: usize) -> Result<(), Refusal>
         ensures { MeetsAlways (take self.old (Doing.Holds slot left)) self.old self.new result }
     {
@@ -170,7 +164,6 @@ impl World {
     }
 
     /// It makes the connection's next call, and gets this reply.
-    #[tactic(auto, using(std::proofs::lemmas::Option::gets, std::proofs::lemmas::Grind::common_steps))]
     fn call(&mut self, worker: usize, slot: usize, left: usize, reply: Reply) -> Result<(), Refusal>
         requires { slice_get self.old.workers worker ≡ Some (busy (Doing.Holds slot left)) }
         ensures { MeetsIn (needs_memory reply) (call self.old worker (busy (Doing.Holds slot left)) (Doing.Holds slot left)
@@ -190,7 +183,6 @@ impl World {
     }
 
     /// It posts a note to its own slot.
-    #[tactic(auto, using(std::proofs::lemmas::Option::gets, std::proofs::lemmas::Grind::common_steps))]
     fn post(&mut self, slot: usize, left: usize) -> Result<(), Refusal>
         ensures { Meets (post self.old (Doing.Holds slot left)) self.old self.new result }
     {
@@ -206,7 +198,6 @@ impl World {
     }
 
     /// It releases its slot, and takes in hand the ticket that the notes create.
-    #[tactic(auto, using(std::proofs::lemmas::Option::gets))]
     fn release(&mut self, worker: usize, slot: usize, left: usize) -> Result<(), Refusal>
         requires { slice_get self.old.workers worker ≡ Some (busy (Doing.Holds slot left)) }
         ensures { MeetsAlways (release self.old worker (busy (Doing.Holds slot left)) (Doing.Holds slot left)) self.old self.new result }
@@ -225,7 +216,6 @@ impl World {
     }
 
     /// It fails the connection of its slot, which moved nothing for the idle limit.
-    #[tactic(auto, using(std::proofs::lemmas::Option::gets, std::proofs::lemmas::Grind::common_steps))]
     fn expire(&mut self, slot: usize, left: usize) -> Result<(), Refusal>
         ensures { MeetsAlways (expire self.old (Doing.Holds slot left)) self.old self.new result }
     {
@@ -237,7 +227,6 @@ impl World {
     }
 
     /// It closes the connection of its slot, which is done or failed.
-    #[tactic(auto, using(std::proofs::lemmas::Option::gets))]
     fn close(&mut self, worker: usize, slot: usize, left: usize) -> Result<(), Refusal>
         requires { slice_get self.old.workers worker ≡ Some (busy (Doing.Holds slot left)) }
         ensures { Meets (close self.old worker (busy (Doing.Holds slot left)) (Doing.Holds slot left)) self.old self.new result }
@@ -266,7 +255,6 @@ impl World {
     }
 
     /// It retires its slot, which is free from then on.
-    #[tactic(auto, using(std::proofs::lemmas::Option::gets, std::proofs::lemmas::Grind::common_steps))]
     fn retire(&mut self, worker: usize, slot: usize) -> Result<(), Refusal>
         requires { slice_get self.old.workers worker ≡ Some (busy (Doing.Closed slot)) }
         ensures { MeetsAlways (retire self.old worker (busy (Doing.Closed slot)) (Doing.Closed slot)) self.old self.new result }
@@ -280,7 +268,6 @@ impl World {
     }
 
     /// It puts the slot that it retired into the free queue, unless the slot's last generation was used.
-    #[tactic(auto, using(std::proofs::lemmas::Option::gets))]
     fn free(&mut self, worker: usize, slot: usize) -> Result<(), Refusal>
         requires { slice_get self.old.workers worker ≡ Some (busy (Doing.Retired slot)) }
         ensures event { Meets (free self.old worker (busy (Doing.Retired slot)) (Doing.Retired slot)) self.old self.new result }

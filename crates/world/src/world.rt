@@ -86,7 +86,6 @@ impl World {
     }
 }
 
-#[tactic(auto, using(std::proofs::lemmas::Grind::common_steps))]
 fn numbers_below(alloc: Global, count: usize) -> Result<Vec<usize>, AllocError>
     ensures { IfOk result (λ numbers. numbers.items ≡ numbers_below count) }
 {
@@ -97,7 +96,6 @@ fn numbers_below(alloc: Global, count: usize) -> Result<Vec<usize>, AllocError>
     Ok(numbers)
 }
 
-#[tactic(auto, using(std::proofs::lemmas::Grind::common_steps))]
 fn unused_slots(alloc: Global, count: usize, generation: u64) -> Result<Vec<Slot>, AllocError>
     ensures { IfOk result (λ slots. slots.items ≡ replicate count (unused generation)) }
 {
@@ -108,7 +106,6 @@ fn unused_slots(alloc: Global, count: usize, generation: u64) -> Result<Vec<Slot
     Ok(slots)
 }
 
-#[tactic(auto, using(std::proofs::lemmas::Grind::common_steps))]
 fn resting_workers(alloc: Global, count: usize) -> Result<Vec<Worker>, AllocError>
     ensures { IfOk result (λ workers. workers.items ≡ replicate count resting) }
 {
