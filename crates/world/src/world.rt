@@ -60,9 +60,8 @@ impl World {
     ghost use Rattle.std.specs.Prelude.{◌≡◌, IfOk, replicate};
     ghost use Rattle.world.specs.States.{IsWithinLimits, opening};
 
-    /// A world as it starts, at second 0: every slot is free and has the generation of the limits.
-    ///
-    /// Fails only if there is no memory for its slots, workers and queues; then no world is made.
+    /// A world as it starts, at second 0: every slot is free and has the generation of the limits. Fails only for want
+    /// of memory.
     pub fn new(alloc: Global, limits: Limits) -> Result<World, AllocError>
         requires { IsWithinLimits limits }
         ensures { IfOk result (λ world. world ≡ opening limits) }
