@@ -1,6 +1,6 @@
 -- What holds after any list of steps, and what no thread ever finds.
 pub mod Programs
-use Rattle.world.{specs.{declared.limits.Limits.Limits, Headline.EveryRunHolds, CoreLaws.CoreLaws}, proofs.{TurnsTotals.{get-replicate, get_beside}, TurnsRun.turns_after}}
+use Rattle.world.{specs.{declared.limits.Limits.Limits, Headline.EveryRunHolds, CoreLaws.CoreLaws}, proofs.Headline.Ends.Pairs.Holders.{Events.Lists.{get-replicate, get_beside}, turns_after}}
 use Rattle.dispatch.specs.Acts.{gone_turn, quiet_turn, again_turn}
 use Rattle.interleaving.specs.{Threads.{Adopt, Claim, ProgramsAreThese, gone, resting, run, seen, start}, Likeness.{all_outside, calls_of, exchanges, taken_word, EveryInterleavingIsARun, NoActInVain}}
 use Programs.*

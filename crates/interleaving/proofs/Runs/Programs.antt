@@ -4,7 +4,7 @@ pub use Rattle.std.proofs.{Common.{◌-◌, append_assoc, eq-eqb, leb-true, unwr
 pub use Rattle.token.specs.declared.side.Side.TheVariants.{Client, Target}
 pub use Rattle.kernel_model.specs.Outcome.{Told}
 pub use Rattle.relay_core.specs.{Pairs.{fresh, noted}, Replies.fits, Idle.{is_overdue, expired}}
-pub use Rattle.world.{specs.{declared.actors.Holder.Holder, Calls.{OpenConnection, called, told_of, made}, Steps.{is_worn, may_release, token_of}, Support.worker_tickets}, proofs.{TurnsFacts.{Facts, is_shaped}, TurnsRun.names_it, TurnsTotals.total_at}}
+pub use Rattle.world.{specs.{declared.actors.Holder.Holder, Calls.{OpenConnection, called, told_of, made}, Steps.{is_worn, may_release, token_of}, Support.worker_tickets}, proofs.Headline.Ends.Pairs.Holders.{Events.Lists.total_at, Facts, is_shaped, names_it}}
 pub use Rattle.interleaving.specs.Threads.{Post, PutIn, Retire, Give, TakeNotes, after_call, calls, claimed, closed, begins, given, heard, notes_taken, planned, put_in, registered, registering, taken_out}
 pub use Frames.*
 

@@ -6,7 +6,7 @@ pub use Rattle.interleaving.specs.{Likeness.{exchange, exchanges_in, exchanges_o
 pub use Rattle.kernel_model.specs.{Ends.is_nonempty, Kernel.KernelState, declared.{both.Descriptors.Descriptors, reply.Reply.Reply, accepting.Accepting.TheVariants.{Accepted, Blocked, Again, Starved}}}
 pub use Rattle.relay_core.specs.{Order.next_call, Pairs.{PairState, is_live, verdict}}
 pub use Rattle.token.specs.{Names.EndName, declared.{name.Name.Name, side.Side.Side}}
-pub use Rattle.world.{proofs.{TurnsRun.{own_generation, Waiting, waiting, some_more}, TurnsFacts.{SlotOk, Turns, facts, is_number, worker_retires}, TurnsKept.{Kept, kept_at, kept_bind, kept_guard, kept_map, kept_none, kept_some, kept_when}, TurnsTotals.{get-set_other, get-set_same}}, specs.{Acts.busy, Slots.{SlotState, WorkerState, is_by_worker, is_held}, States.State, Steps.{with_note, brings_ticket, may_release}, Support.{of_slot, one, tickets, total}, Words.{is_free, word_at}, declared.{actors.Holder.TheVariants.{By, Free, Nobody}, connection.Connection.Connection, event.{Event.Event, Change.Change, Reported.Reported}}, Calls.descriptor}}
+pub use Rattle.world.{proofs.Headline.Ends.Pairs.Holders.{Events.Lists.{Kept, get-set_other, get-set_same, kept_at, kept_bind, kept_guard, kept_map, kept_none, kept_some, kept_when}, SlotOk, Turns, Waiting, facts, is_number, own_generation, some_more, waiting, worker_retires}, specs.{Acts.busy, Slots.{SlotState, WorkerState, is_by_worker, is_held}, States.State, Steps.{with_note, brings_ticket, may_release}, Support.{of_slot, one, tickets, total}, Words.{is_free, word_at}, declared.{actors.Holder.TheVariants.{By, Free, Nobody}, connection.Connection.Connection, event.{Event.Event, Change.Change, Reported.Reported}}, Calls.descriptor}}
 pub use Rattle.claims.specs.Words as word
 pub use Rattle.kernel_model.specs.Kernel as kernel
 pub use Rattle.world.specs.Runs as machine_runs

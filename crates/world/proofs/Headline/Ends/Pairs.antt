@@ -1,7 +1,8 @@
--- Pairs.
+-- A pair and its two ends: the bytes keep their order, an end comes last, and each flag that is down is covered. A change
+-- of the network and a worker's call keep that.
 pub mod Holders
-pub use Rattle.flow.specs.Stream.{waiting}
 unfoldable pub use Holders.*
+pub use Rattle.flow.specs.Stream.{waiting}
 
 -- What is kept
 

@@ -1,4 +1,5 @@
--- Who has a slot.
+-- Who has a slot: what the rest of the machine has of it, as numbers, and what a slot has to do with them. Every event
+-- keeps that, and so every run; and each moves the claim words as it says.
 pub mod Events
 unfoldable pub use Events.*
 
