@@ -12,8 +12,7 @@ run_both st [] ys = refl
 run_both st (x ∷ xs) ys = both_if xs ys (step st x) (λ q. run_both q xs ys)
 
 one_step : (o : Option State) → option_and_then (λ (p : State). Some p) o ≡ o
-one_step None = refl
-one_step (Some p) = refl
+one_step o = grind arith
 
 -- where the events lead to a world in which one more can happen
 pub run_and : (st q r : State) (events : List Event) (e : Event)
@@ -29,8 +28,7 @@ run_more st q events i e ran here =
 -- a ticket that counts is there
 
 either_counts : (a b : Bool) (n m : ℕ) → (1 ≤ n → a ≡ true) → (1 ≤ m → b ≡ true) → 1 ≤ n + m → (a || b) ≡ true
-either_counts a b zero m first second some = or_right a b (second (omega arith))
-either_counts a b (suc n) m first second some = or_left a b (first (omega arith))
+either_counts a b n m first second some = grind arith
 
 any_of : {X : Type 0} (f : X → ℕ) (test : X → Bool) (xs : List X) → ((x : X) → 1 ≤ f x → test x ≡ true) → 1 ≤ total f xs → list_any test xs ≡ true
 any_of f test [] each some = absurd (omega arith)
@@ -68,33 +66,23 @@ reported st a notes none h = or_then (has (End a) st.kernel.queue || has (End a)
 
 -- a flag that is down at an end that is ready is reported
 uncovered : (flag armed ready rep : Bool) → flag ≡ false → ready ≡ true → is_covered flag armed ready rep ≡ true → rep ≡ true
-uncovered true armed ready rep down is h = absurd (cc)
-uncovered false armed false rep down is h = absurd (cc)
-uncovered false true true rep down is h = h
-uncovered false false true rep down is h = h
+uncovered flag armed ready rep down is h = grind arith
 
 open_one : (o : Option Registered) → gives o ≡ true → (x : Registered) × (o ≡ Some x) × (is_readable x.socket ≡ true)
-open_one None h = absurd (cc)
-open_one (Some x) h = (x, refl, h)
+open_one o h = grind arith
 
 room_one : (o : Option Registered) → takes o ≡ true → (x : Registered) × (o ≡ Some x) × (is_writable x.socket ≡ true)
-room_one None h = absurd (cc)
-room_one (Some x) h = (x, refl, h)
+room_one o h = grind arith
 
 -- the rings are as long as the limits say
 capacity_of : (p : PairState) (s g r : ℕ) (d : Direction) → place_of p ≡ record { slot = s; generation = g; up_capacity = r; down_capacity = r } → (stream_of p d).capacity ≡ r
-capacity_of p s g r Up e = ap (λ (x : Standing). x.up_capacity) e
-capacity_of p s g r Down e = ap (λ (x : Standing). x.down_capacity) e
+capacity_of p s g r d e = grind arith
 
 empty_so : (xs : List ℕ) → nat_lt 0 (length xs) ≡ false → xs ≡ []
-empty_so [] h = refl
-empty_so (x ∷ xs) h = absurd (omega (arith, ltb-false 0 (length (x ∷ xs)) h))
+empty_so xs h = nil_from_length xs (grind (arith, nat_tests))
 
 drained : (s : Stream) → is_drained s ≡ true → IsDrained s
-drained s h =
-    let parts = and_parts (s.end_seen && not (is_waiting s)) (not s.shut) h in
-    let seen = and_parts s.end_seen (not (is_waiting s)) parts.0 in
-    record { ended = seen.0; empty = empty_so (waiting s) (unless (is_waiting s) seen.1); kept = unless s.shut parts.1 }
+drained s h = record { ended = grind arith; empty = empty_so (waiting s) (grind arith); kept = grind arith }
 
 both : {C : Type 0} (a b : Bool) → (a ≡ true → b ≡ true → C) → (a && b) ≡ true → C
 both a b each h = let parts = and_parts a b h in each parts.0 parts.1
@@ -149,9 +137,7 @@ module _ (st : State) (s : ℕ) (p : SlotState) (c : Connection) (r : Rests st s
 -- by who holds the slot
 
 live_is : (v : Verdict) → is_live v ≡ true → v ≡ Live
-live_is Live h = refl
-live_is Done h = absurd (cc)
-live_is (Failed fault) h = absurd (cc)
+live_is v h = grind arith
 
 -- nobody holds it: with notes there is a ticket, and without notes the connection rests
 unheld_due : (laws : CoreLaws) (st : State) (s : ℕ) (p : SlotState) (c : Connection) (some : Bool) → is_nonempty p.notes ≡ some → p.holder ≡ Nobody → slice_get st.slots s ≡ Some p
@@ -193,8 +179,7 @@ movable_is_due laws st turns edges s moving = due_from laws st s (slice_get st.s
 -- the first event happened, and then the others
 goes_on : (o : Option State) (q : State) (events : List Event) {p : Option State} → p ≡ o → option_and_then (λ (m : State). run m events) o ≡ Some q → (m : State)
     × (p ≡ Some m) × (run m events ≡ Some q)
-goes_on None q events is ran = absurd (cc)
-goes_on (Some m) q events is ran = (m, is, ran)
+goes_on o q events is ran = grind arith
 
 throughout_more : {Each Other : State → Event → Type 0} (st : State) (events : List Event) → Throughout Each st events → ((st : State) (e : Event) → Each st e → Other st e)
     → Throughout Other st events
@@ -233,20 +218,14 @@ record FailuresOk (failed : Failure → Type 0) (st : State) : Type 0 where
 -- The connection that an event opens or moves has moved now
 
 plain_moves : (r : Reply) → is_movement r ≡ true → Kept (λ (t : answer.AnswerValue). moves t ≡ true) (plain r)
-plain_moves reply.End is = kept_some refl
-plain_moves (reply.Wrote n full) is = kept_some refl
-plain_moves reply.Joined is = kept_some refl
-plain_moves reply.Shut is = kept_some refl
-plain_moves (reply.Bytes n) is = kept_none
-plain_moves _ is = absurd (cc)
+plain_moves r is = grind arith
 
 told_moves : (l : OpenConnection) (call : Call) (r : Reply) → is_movement r ≡ true → Kept (λ (t : answer.AnswerValue). moves t ≡ true) (told_of l call r)
 told_moves l (Read side most) (reply.Bytes n) is = kept_map _ _ (λ bytes was. refl)
 told_moves l _ r is = plain_moves r is
 
 only_if : {X : Type 0} (b : Bool) (o : Option X) (x : X) → (if b then o else None) ≡ Some x → (b ≡ true) × (o ≡ Some x)
-only_if true o x h = (refl, h)
-only_if false o x h = absurd (cc)
+only_if b o x h = grind arith
 
 -- a slot changed, and has a connection that moved now
 here_now : (xs : List SlotState) (now s g : ℕ) {old : SlotState} (new : SlotState) {b : Connection} → slice_get xs s ≡ Some old → new.connection ≡ Some b → b.pair.moved ≡ now

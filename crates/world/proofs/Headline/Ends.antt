@@ -73,16 +73,13 @@ abbrev pub after_event : History → State → Event → History
 after_event past st e = λ s g side. past s g side ++ given_by st s g side e
 
 none_after : (a : Bool) → (a && false) ≡ false
-none_after true = refl
-none_after false = refl
+none_after a = grind arith
 
 other_number : (side : Side) → (side_number side == side_number (other_side side)) ≡ false
-other_number Client = refl
-other_number Target = refl
+other_number side = grind arith
 
 nothing : (b : Bool) → ◌≡◌ {A = List ℕ} (if b then [] else []) []
-nothing true = refl
-nothing false = refl
+nothing b = grind arith
 
 -- the bytes that a change brings, to whom it brings them
 given_if : (st : State) (s : ℕ) (side : Side) (change : Change) (i g : ℕ) (t : Side) → given_by st i g t (event.Network s side change)
@@ -149,9 +146,7 @@ module _ (past : History) (st : State) (s : ℕ) (side : Side) (change : Change)
 -- A report is taken back
 
 neither : (a b : Bool) → not (a || b) ≡ true → (a ≡ false) × (b ≡ false)
-neither true b h = absurd (cc)
-neither false true h = absurd (cc)
-neither false false h = (refl, refl)
+neither a b h = grind arith
 
 differs : (s g : ℕ) (side : Side) → same (End (token_at s side g)) (End (token_at s (other_side side) g)) ≡ false
 differs s g Client = none_after (s == s)
@@ -200,22 +195,13 @@ noted_ok {q} {s} {p} g table limits ends ok = record {
 }
 
 none_in : (n : Name) (names : List Name) → names ≡ [] → has n names ≡ true → ⊥
-none_in n [] e h = absurd (cc)
-none_in n (m ∷ names) e h = absurd (cc)
+none_in n names e h = grind arith
 
 batch_left : (n m : Name) (batch : List Name) → slice_get batch 0 ≡ Some m → same n m ≡ false → has n batch ≡ true → has n (drop 1 batch) ≡ true
-batch_left n m [] first apart h = absurd (cc)
-batch_left n m (x ∷ batch) first apart h =
-    let is : x ≡ m = cc in
-    let differs : same n x ≡ false = rw is apart in
-    or_then (same n x) (has n batch) (λ k. absurd (cc)) (λ k. k) h
+batch_left n m batch first apart h = grind arith
 
 not_this : (st : State) (m n : EndName) → slice_get st.table m.slot ≡ Some m.generation → is_entry (slice_get st.table n.slot) n.generation ≡ false → same (End m) (End n) ≡ false
-not_this st m n entry other = elim (tell (same (End m) (End n))) [
-  | Yes h ↦ (let is = same_end_is m n h in let now = rw is at entry in
-      let never = rw now at other in let always = eq-eqb n.generation n.generation refl in absurd (cc))
-  | No h ↦ h
-]
+not_this st m n entry other = grind (arith, same_end_is m n)
 
 module _ {past : History} {st : State} {s : ℕ} {p : SlotState} {c d : Connection} {notes : List ℕ} (is : p.connection ≡ Some c) (ok : EndsOk past st s p.generation p.notes c → EndsOk past st s p.generation notes d) where
   connected_ok : PlaceOk past st s p → PlaceOk past st s (record p { notes = notes; connection = Some d })
@@ -440,12 +426,10 @@ heard_continues c false = continues refl refl refl
 -- a pair is given a failure where the kernel's reply was one
 
 failed_plain : (said : Reply) (kind : Kind) → plain said ≡ Some (answer.Failed kind) → said ≡ reply.Failed kind
-failed_plain (reply.Failed other) kind h = let same : other ≡ kind = cc in ap reply.Failed same
-failed_plain _ kind h = absurd (cc)
+failed_plain said kind h = grind arith
 
 no_bytes : (o : Option (List ℕ)) (kind : Kind) → option_map (λ (bytes : List ℕ). answer.Bytes bytes) o ≡ Some (answer.Failed kind) → ⊥
-no_bytes None kind h = absurd (cc)
-no_bytes (Some bytes) kind h = absurd (cc)
+no_bytes o kind h = grind arith
 
 failed_told : (l : OpenConnection) (call : Call) (said : Reply) (kind : Kind) → told_of l call said ≡ Some (answer.Failed kind) → said ≡ reply.Failed kind
 failed_told l (Read side most) (reply.Bytes n) kind h = absurd (no_bytes _ kind h)
@@ -453,8 +437,7 @@ failed_told l _ said kind h = failed_plain said kind h
 
 -- an answer does not bring the second of the last movement back
 later_or_same : (b : Bool) (m n : ℕ) → m ≤ n → (m ≤ (if b then n else m)) × ((if b then n else m) ≤ n)
-later_or_same true m n h = (h, le_refl n)
-later_or_same false m n h = (le_refl m, h)
+later_or_same b m n h = grind arith
 
 call_continues : (laws : CoreLaws) {st : State} {w : ℕ} (h : Holding st w) {r : Reply} (m : Made st h.c r) → Continues st (event.Work w (act.Call r)) h.s h.c (after_call m)
 call_continues laws {st} h {r} m = record {
@@ -532,13 +515,10 @@ module _ (laws : CoreLaws) {past : History} {st : State} (all : AllOk past st) w
       }
 
 done_when : (o : Option Fault) (b : Bool) → verdict_of o b ≡ Done → b ≡ true
-done_when None true h = refl
-done_when None false h = absurd (cc)
-done_when (Some fault) b h = absurd (cc)
+done_when o b h = grind arith
 
 both_shut : (p : PairState) → verdict p ≡ Done → (d : Direction) → (stream_of p d).shut ≡ true
-both_shut p done Up = first_so p.up.shut p.down.shut (done_when p.failure (p.up.shut && p.down.shut) done)
-both_shut p done Down = second_so p.up.shut p.down.shut (done_when p.failure (p.up.shut && p.down.shut) done)
+both_shut p done d = grind (arith, done_when)
 
 wholly_sent : {gave : List ℕ} {s : Stream} {x y : EndState} → DirectionOk gave s x y → s.shut ≡ true → gave ≡ y.taken
 wholly_sent {y = y} ok shut = ok.bytes ∙ rw (ok.last.empty shut, ok.read (ok.last.ended shut)) (append-nil y.taken)
@@ -617,8 +597,7 @@ opening_ok l = record {
 }
 
 preamble_is : (l : Limits) (d : Direction) → before l (source d) ≡ preamble l d
-preamble_is l Up = refl
-preamble_is l Down = refl
+preamble_is l d = grind arith
 
 direction_holds : (first gave : List ℕ) {s : Stream} {x y : EndState} → DirectionOk (first ++ gave) s x y → DirectionHolds first gave s x y
 direction_holds first gave {s} {x} {y} ok = record {

@@ -62,16 +62,6 @@ pub record PlaceOk (past : History) (st : State) (s : ℕ) (p : SlotState) : Typ
 pub record AllOk (past : History) (st : State) : Type 0 where
   pub each : (s : ℕ) (p : SlotState) → slice_get st.slots s ≡ Some p → PlaceOk past st s p
 
--- Flags
-
--- more may be reported
-cover_more : (flag armed ready r q : Bool) → (r ≡ true → q ≡ true) → is_covered flag armed ready r ≡ true → is_covered flag armed ready q ≡ true
-cover_more true armed ready r q more h = refl
-cover_more false true true r q more h = more h
-cover_more false false true r q more h = more h
-cover_more false true false r q more h = refl
-cover_more false false false r q more h = absurd (cc)
-
 pub end_more : {flags : Flags} {e : EndState} {r q : Bool} → (r ≡ true → q ≡ true) → EndCovered flags e r → EndCovered flags e q
 end_more {flags} {e} {r} {q} more h = record {
   read = cover_more flags.read e.read_armed (is_readable e) r q more h.read;
@@ -80,19 +70,7 @@ end_more {flags} {e} {r} {q} more h = record {
 
 -- it gets ready, and a report comes where it was armed
 cover_report : (flag armed ready r told now : Bool) → (armed ≡ true → told ≡ true) → now ≡ true → is_covered flag armed ready r ≡ true → is_covered flag false now (r || told) ≡ true
-cover_report flag armed ready r told false tells is h = absurd (cc)
-cover_report true armed ready r told true tells is h = refl
-cover_report false armed ready true told true tells is h = refl
-cover_report false true ready false told true tells is h = tells refl
-cover_report false false true false told true tells is h = absurd (cc)
-cover_report false false false false told true tells is h = absurd (cc)
-
--- nothing is known of a report where it isn't ready
-cover_unready : (flag armed ready r q : Bool) → ready ≡ false → is_covered flag armed ready r ≡ true → is_covered flag armed ready q ≡ true
-cover_unready true armed ready r q none h = refl
-cover_unready false true false r q none h = refl
-cover_unready false false false r q none h = absurd (cc)
-cover_unready false armed true r q none h = absurd (cc)
+cover_report flag armed ready r told now tells is h = grind arith
 
 pub end_unready : {flags : Flags} {e : EndState} {r q : Bool} → is_readable e ≡ false → is_writable e ≡ false → EndCovered flags e r → EndCovered flags e q
 end_unready {flags} {e} {r} {q} unread unwritten h = record {
@@ -102,14 +80,11 @@ end_unready {flags} {e} {r} {q} unread unwritten h = record {
 
 -- the flag is up
 pub cover_flag : (flag armed ready r : Bool) → flag ≡ true → is_covered flag armed ready r ≡ true
-cover_flag true armed ready r up = refl
-cover_flag false armed ready r up = absurd (cc)
+cover_flag flag armed ready r up = grind arith
 
 -- it is armed and not ready
 pub cover_armed : (flag ready r : Bool) → ready ≡ false → is_covered flag true ready r ≡ true
-cover_armed true ready r none = refl
-cover_armed false false r none = refl
-cover_armed false true r none = absurd (cc)
+cover_armed flag ready r none = grind arith
 
 -- Pairs
 
@@ -301,8 +276,7 @@ again unread fin taken ok = record {
 }
 
 not_empty : (n : ℕ) (xs : List ℕ) → 0 < n → n ≤ length xs → xs ≡ [] → ⊥
-not_empty n [] some within none = (let is : length {A = ℕ} [] ≡ 0 = refl in omega arith)
-not_empty n (x ∷ xs) some within none = absurd (cc)
+not_empty n xs some within none = grind arith
 
 -- the first n bytes go into the ring, after all that wait
 moved_in : (lead ring unread : List ℕ) (n : ℕ) → (lead ++ ring) ++ unread ≡ (lead ++ (ring ++ take n unread)) ++ drop n unread
@@ -311,8 +285,7 @@ moved_in lead ring unread n = ap (λ (all : List ℕ). (lead ++ ring) ++ all) (s
     ∙ ap (λ (all : List ℕ). all ++ drop n unread) (append_assoc lead ring (take n unread)))
 
 unread_none : (xs : List ℕ) → not (is_nonempty xs) ≡ true → xs ≡ []
-unread_none [] h = refl
-unread_none (x ∷ xs) h = nil_from_length (x ∷ xs) (grind (arith, nat_tests))
+unread_none xs h = nil_from_length xs (grind (arith, nat_tests))
 
 -- all that wait, after the first n of them
 taken_out : (taken waits left unread : List ℕ) (n : ℕ) → left ≡ drop n waits → taken ++ (waits ++ unread) ≡ (taken ++ take n waits) ++ (left ++ unread)
@@ -324,10 +297,6 @@ taken_out taken waits left unread n same = rw same
 -- none wait after a write, where none did before
 none_left : (s : Stream) (n : ℕ) → waiting s ≡ [] → waiting (dropped s n) ≡ []
 none_left s n none = waiting-dropped s n ∙ (ap (λ (all : List ℕ). drop n all) none ∙ drop-nil n)
-
-unready : (b : Bool) → not b ≡ true → b ≡ false
-unready true h = absurd (cc)
-unready false h = refl
 
 -- One end x, and the other, y: the flags of x are covered, and the directions from x and to x are in order
 
@@ -368,14 +337,14 @@ module _ {flags : Flags} {r : Bool} {x y : EndState} {gave back : List ℕ} {out
 
   read_blocked : not (is_readable x) ≡ true → EndOk (record flags { read = false }) r (record x { read_armed = true }) y gave back out into
   read_blocked may = record {
-    covered = record { read = cover_armed false (is_readable x) r (unready (is_readable x) may); write = ok.covered.write };
+    covered = record { read = cover_armed false (is_readable x) r (unless (is_readable x) may); write = ok.covered.write };
     out = again refl refl refl ok.out;
     into = again refl refl refl ok.into;
   }
 
   write_blocked : not (is_writable x) ≡ true → EndOk (record flags { write = false }) r (record x { write_armed = true }) y gave back out into
   write_blocked may = record {
-    covered = record { read = ok.covered.read; write = cover_armed false (is_writable x) r (unready (is_writable x) may) };
+    covered = record { read = ok.covered.read; write = cover_armed false (is_writable x) r (unless (is_writable x) may) };
     out = again refl refl refl ok.out;
     into = again refl refl refl ok.into;
   }

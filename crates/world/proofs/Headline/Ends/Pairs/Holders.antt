@@ -173,28 +173,25 @@ replaced st w {k} j s g there = record {
 }
 
 pub one_same : (s : ℕ) → one (s == s) ≡ 1
-one_same s = rw (eq-eqb s s refl) refl
+one_same s = grind arith
 
 pub one_other : (s i : ℕ) → s ≢ i → one (s == i) ≡ 0
-one_other s i apart = rw (ne_eqb s i apart) refl
+one_other s i apart = grind arith
 
 one_left : (a b : Bool) → one (a && b) ≤ one a
-one_left true true = omega arith
-one_left true false = omega arith
-one_left false b = omega arith
+one_left a b = grind arith
 
 pub names_of_slot : (s g : ℕ) (t : Ticket) → names s g t ≤ of_slot s t
-names_of_slot s g t = one_left (t.slot == s) (t.generation == g)
+names_of_slot s g t = grind arith
 
 pub names_other : (s g : ℕ) (t : Ticket) → t.slot ≢ s → names s g t ≡ 0
-names_other s g t apart = rw (ne_eqb t.slot s apart) refl
+names_other s g t apart = grind arith
 
 pub names_own : (s g : ℕ) → names s g (record { slot = s; generation = g }) ≡ 1
-names_own s g = rw (eq-eqb s s refl, eq-eqb g g refl) refl
+names_own s g = grind arith
 
 pub tried_less : (s g : ℕ) (d : Doing) → tried_right s g d ≤ tried s d
-tried_less s g (Tries t) = names_of_slot s g t
-tried_less s g _ = omega arith
+tried_less s g d = grind arith
 
 -- the parts of a worker in the numbers of a slot, by what it does
 pub record Does (c d : Doing) (s g : ℕ) : Type 0 where
@@ -223,12 +220,10 @@ turned_elsewhere st w {k} {d} e i g there does before after =
 
 -- a test that counts holds
 pub sure : (b : Bool) → 1 ≤ one b → b ≡ true
-sure true some = refl
-sure false some = absurd (omega arith)
+sure b some = grind arith
 
 pub unless : (b : Bool) → not b ≡ true → b ≡ false
-unless true h = absurd (cc)
-unless false h = refl
+unless b h = grind arith
 
 -- a note more, and the ticket that it brings
 
@@ -244,9 +239,7 @@ are_own_more g [] own = rw (eq-eqb g g refl) refl
 are_own_more g (x ∷ xs) own = let parts = and_parts (x == g) (are_own g xs) own in rw (parts.0) (are_own_more g xs parts.1)
 
 noted_tickets : (held some : Bool) (n m : ℕ) → n ≡ one (not held && some) → m ≡ n + one (not (held || some)) → m ≡ one (not held && true)
-noted_tickets true some n m was more = omega arith
-noted_tickets false true n m was more = omega arith
-noted_tickets false false n m was more = omega arith
+noted_tickets held some n m was more = grind arith
 
 -- a hand that may get one more ticket
 pub handed : (f : Ticket → ℕ) (b : Bool) (s g : ℕ) (hand : List Ticket) {n : ℕ} → f (record { slot = s; generation = g }) ≡ n
@@ -290,9 +283,7 @@ total_first f [] x first = absurd (cc)
 total_first f (y ∷ ys) x first = let same : y ≡ x = (cc) in let part = ap f same in omega arith
 
 free_so : (h : Holder) → is_free h ≡ true → h ≡ Free
-free_so Nobody free = absurd (cc)
-free_so (By w) free = absurd (cc)
-free_so Free free = refl
+free_so h free = grind arith
 
 pub right_is_less : (s g : ℕ) (k : WorkerState) → worker_right s g k ≤ worker_tickets s k
 right_is_less s g k = omega (arith, total_le (names s g) (of_slot s) k.hand (names_of_slot s g), tried_less s g k.doing)
@@ -360,17 +351,13 @@ pub record Waiting (p : SlotState) : Type 0 where
   pub lies : is_some p.connection ≡ true
 
 unheld : (h : Holder) (some : Bool) → 1 ≤ one (not (is_held h) && some) → (h ≡ Nobody) × (some ≡ true)
-unheld Nobody true n = (refl, refl)
-unheld Nobody false n = absurd (omega arith)
-unheld (By w) some n = absurd (omega arith)
-unheld Free some n = absurd (omega arith)
+unheld h some n = grind arith
 
 pub own_generation : (f : Facts) (p : SlotState) (c : Connection) → place_of c.pair ≡ standing f p.generation → c.pair.generation ≡ p.generation
 own_generation f p c stands = ap (λ (x : Standing). x.generation) stands
 
 there_is : {X : Type 0} (o : Option X) → is_some o ≡ true → (x : X) × (o ≡ Some x)
-there_is None h = absurd (cc)
-there_is (Some x) h = (x, refl)
+there_is o h = grind arith
 
 module _ (st : State) (w : ℕ) (k : WorkerState) (t : Ticket) (p : SlotState) (there : slice_get st.workers w ≡ Some k) (does : k.doing ≡ Tries t)
     (lies : slice_get st.slots t.slot ≡ Some p) (turns : Turns st) where
@@ -439,10 +426,7 @@ pub record Held (f : Facts) (p : SlotState) (has : Bool) : Type 0 where
   pub gone : f.gone ≤ 0
 
 by_one : (h : Holder) (b : Bool) → 1 ≤ one (is_by_worker h && b) → (w : ℕ) × (h ≡ By w) × (b ≡ true)
-by_one (By w) true n = (w, refl, refl)
-by_one (By w) false n = absurd (omega arith)
-by_one Nobody b n = absurd (omega arith)
-by_one Free b n = absurd (omega arith)
+by_one h b n = grind arith
 
 held_so : {f : Facts} {p : SlotState} {has : Bool} (by : ℕ) → SlotOk f p → p.holder ≡ By by → is_some p.connection ≡ has → Held f p has
 held_so by sv holder some =
@@ -488,8 +472,7 @@ keeps_held {st} {next} h notes c turns all same own stands =
     })
 
 heard_stands : (c : Connection) (some : Bool) → place_of (if some then record c { pair = noted c.pair } else c).pair ≡ place_of c.pair
-heard_stands c true = refl
-heard_stands c false = refl
+heard_stands c some = grind arith
 
 call_turns : (laws : CoreLaws) {st : State} {w : ℕ} (h : Holding st w) {r : Reply} (m : Made st h.c r) → Turns st → Turns (called_on h m)
 call_turns laws {st} {w} h m turns = keeps_held h h.p.notes (after_call m) turns refl
@@ -507,8 +490,7 @@ post_turns {st} h turns =
 -- it lets the slot go
 
 or_none : {X : Type 0} (o : Option X) (some : Bool) → (is_none o || some) ≡ true → some ≡ false → o ≡ None
-or_none None some h none = refl
-or_none (Some x) some h none = absurd (cc)
+or_none o some h none = grind arith
 
 lets_go : (c : Connection) (some : Bool) → may_release c some ≡ true → (is_live (verdict c.pair) ≡ true) × (some ≡ false → next_call c.pair ≡ None)
 unfolding may_release
@@ -588,8 +570,7 @@ module _ (st : State) (w : ℕ) (k : WorkerState) (s : ℕ) (p : SlotState) (the
       })
 
 freed_most : (i : ℕ) (slots : List ℕ) (s : ℕ) (p : SlotState) → total (is_number i) (freed slots s p) ≤ total (is_number i) slots + one (s == i)
-freed_most i slots s p = elim (is_worn p.generation) as (λ b. total (is_number i) (if b then slots else slots ++ s ∷ []) ≤ total (is_number i) slots + one (s == i))
-    [ true ↦ omega arith | false ↦ omega (arith, total_push (is_number i) slots s) ]
+freed_most i slots s p = grind (arith, total_push (is_number i) slots s)
 
 -- each event keeps it
 pub turns_on : (laws : CoreLaws) (st : State) {e : Event} {q : State} → Turns st → Happens st e q → Turns q
@@ -625,11 +606,7 @@ numbers_past (suc n) s past =
     omega (arith, total_push (is_number s) (numbers_below n) n, numbers_past n s (omega arith))
 
 last_number : (n s : ℕ) → (n ≡ s) ⊎ (n ≢ s) → total (is_number s) (numbers_below n) ≤ 1 → total (is_number s) (numbers_below n) + one (n == s) ≤ 1
-last_number n s (inl same) before =
-    let none = numbers_past n s (omega arith) in
-    let this : one (n == s) ≡ 1 = rw (eq-eqb n s same) refl in
-    omega arith
-last_number n s (inr other) before = let none = one_other n s other in omega arith
+last_number n s h before = grind (arith, numbers_past)
 
 -- no number stands twice among the free slots
 numbers_once : (n s : ℕ) → total (is_number s) (numbers_below n) ≤ 1
@@ -752,13 +729,10 @@ noted_word : (p : SlotState) (g : ℕ) → word_at (with_note p g) ≡ after_all
 noted_word p g = let more : length (p.notes ++ g ∷ []) ≡ suc (length p.notes) = omega (arith, length-append p.notes (g ∷ [])) in rw more
 
 waits : (n : ℕ) → some_wait n ≡ nat_lt 0 n
-waits zero = refl
-waits (suc n) = rw (lt-ltb 0 (suc n) (omega arith))
+waits n = grind (arith, nat_tests)
 
 wakes_so : (held : Bool) (n : ℕ) → (if held then false else (if some_wait n then false else true)) ≡ not (held || nat_lt 0 n)
-wakes_so true n = refl
-wakes_so false zero = refl
-wakes_so false (suc n) = rw (lt-ltb 0 (suc n) (omega arith))
+wakes_so held n = grind (arith, nat_tests)
 
 posted_words : (st : State) {next : State} {e : Event} (s g : ℕ) (p : SlotState) → ((i : ℕ) → steps st e i ≡ at_slot i s (words.post ∷ [])) → slice_get st.slots s ≡ Some p
     → next.slots ≡ slice_set st.slots s (with_note p g) → ((i : ℕ) → tickets next i ≡ tickets (posted st s g p) i) → WordsMove st e next

@@ -278,19 +278,20 @@ hears names = has Listener names
 pub record Listens (st : State) : Type 0 where
   pub covered : is_covered st.flag st.kernel.armed (nat_lt 0 st.kernel.backlog) (hears st.kernel.queue || hears st.batch) ≡ true
 
-more_reported : (flag armed ready a b : Bool) → (a ≡ true → b ≡ true) → is_covered flag armed ready a ≡ true → is_covered flag armed ready b ≡ true
-more_reported true armed ready a b more h = refl
-more_reported false true true a b more h = more h
-more_reported false false true a b more h = more h
-more_reported false true false a b more h = refl
-more_reported false false false a b more h = absurd (cc)
+-- more may be reported
+pub cover_more : (flag armed ready r q : Bool) → (r ≡ true → q ≡ true) → is_covered flag armed ready r ≡ true → is_covered flag armed ready q ≡ true
+cover_more flag armed ready r q more h = grind arith
+
+-- nothing is known of a report where it isn't ready
+pub cover_unready : (flag armed ready r q : Bool) → ready ≡ false → is_covered flag armed ready r ≡ true → is_covered flag armed ready q ≡ true
+cover_unready flag armed ready r q none h = grind arith
 
 -- the name is queued or in the batch where it was before
 goes_on : {st next : State} → next.flag ≡ st.flag → next.kernel.armed ≡ st.kernel.armed → next.kernel.backlog ≡ st.kernel.backlog
     → (hears st.kernel.queue ≡ true → (hears next.kernel.queue || hears next.batch) ≡ true) → (hears st.batch ≡ true → (hears next.kernel.queue || hears next.batch) ≡ true)
     → Listens st → Listens next
 goes_on {st} {next} flag armed backlog queue batch l = record {
-  covered = rw (flag, armed, backlog) (more_reported st.flag st.kernel.armed (nat_lt 0 st.kernel.backlog) (hears st.kernel.queue || hears st.batch)
+  covered = rw (flag, armed, backlog) (cover_more st.flag st.kernel.armed (nat_lt 0 st.kernel.backlog) (hears st.kernel.queue || hears st.batch)
       (hears next.kernel.queue || hears next.batch) (or_then (hears st.kernel.queue) (hears st.batch) queue batch) l.covered);
 }
 
@@ -308,18 +309,9 @@ shorter : {st : State} {hand : List Ticket} {slots : List SlotState} (n : Name) 
     → Listens (record (behind st) { hand = hand; slots = slots })
 shorter {st} n first other l = goes_on refl refl refl (or_left (hears st.kernel.queue) _) (λ h. or_right (hears st.kernel.queue) _ (rest_hears st.batch n first other h)) l
 
--- the listener's own report may vanish, since nobody waits
-not_ready : (flag armed a b : Bool) → is_covered flag armed false a ≡ true → is_covered flag armed false b ≡ true
-not_ready true armed a b h = refl
-not_ready false true a b h = refl
-not_ready false false a b h = absurd (cc)
-
 connected : (flag armed ready : Bool) (queue : List Name) (r : Bool) → is_covered flag armed ready (hears queue || r) ≡ true
     → is_covered flag false true (hears (reported queue Listener armed) || r) ≡ true
-connected true armed ready queue r h = refl
-connected false true ready queue r h = or_left (hears (reported queue Listener true)) r (reported_has Listener true queue refl)
-connected false false true queue r h = h
-connected false false false queue r h = absurd (cc)
+connected flag armed ready queue r h = grind (arith, reported_has Listener true queue)
 
 unheard : (xs : List Name) → (length xs == 0) ≡ true → hears xs ≡ false
 unheard [] none = refl
@@ -330,7 +322,7 @@ listens_on st l (Changes s side change c r t lies there now) = queues_on (has_re
 listens_on st l (Reports who n) = queues_on (has_with Listener n st.kernel.queue) l
 listens_on st l (WithdrawsListener none) =
     let none = eqb-true st.kernel.backlog 0 none in
-    record { covered = rw none (not_ready st.flag st.kernel.armed (hears st.kernel.queue || hears st.batch) (hears (without_name Listener st.kernel.queue) || hears st.batch) (rw none at l.covered)) }
+    record { covered = rw none (cover_unready st.flag st.kernel.armed false (hears st.kernel.queue || hears st.batch) (hears (without_name Listener st.kernel.queue) || hears st.batch) refl (rw none at l.covered)) }
 listens_on st l WithdrawsWaker = queues_on (has_without Listener Waker st.kernel.queue refl) l
 listens_on st l (Withdraws s side c r lies there quiet) = queues_on (has_without Listener (End r.token) st.kernel.queue refl) l
 listens_on st l Connects = record {
@@ -349,9 +341,7 @@ listens_on st l (Closes w h one two at as_well) = queues_on (λ h. has_without L
 listens_on st l _ = record { covered = l.covered }
 
 tells : (armed ready rep none : Bool) → (ready ≡ false → none ≡ true) → is_covered false armed ready rep ≡ true → (none || rep) ≡ true
-tells armed false rep none waits h = rw (waits refl) refl
-tells true true rep none waits h = or_right none rep h
-tells false true rep none waits h = or_right none rep h
+tells armed ready rep none waits h = grind arith
 
 listener_holds : (st : State) → Listens st → ListenerHolds st
 listener_holds st l = λ down. tells st.kernel.armed (nat_lt 0 st.kernel.backlog) (hears st.kernel.queue || hears st.batch) (st.kernel.backlog == 0)

@@ -140,20 +140,12 @@ tell true = Yes refl
 tell false = No refl
 
 pub same_or : (i s : ℕ) → (i ≡ s) ⊎ (i ≡ s → ⊥)
-same_or i s = elim (tell (i == s)) [
-  | Yes h ↦ inl (eqb-true i s h)
-  | No h ↦ inr (λ same. (let is = rw same at h in let is_not = eq-eqb s s refl in absurd (cc)))
-]
+same_or i s = grind arith
 
 -- what lies in a list after one element was replaced: the new one, or what lay there
 pub at_one : {X : Type 0} (xs : List X) {ys : List X} {s : ℕ} (i : ℕ) {old new x : X} → slice_get xs s ≡ Some old → ys ≡ slice_set xs s new → slice_get ys i ≡ Some x
     → ((i ≡ s) × (x ≡ new)) ⊎ ((i ≡ s → ⊥) × (slice_get xs i ≡ Some x))
-at_one xs {s = s} i {old} {new} {x} was set here = elim (same_or i s) [
-  | inl same ↦ (let is = get-set_same xs s old new was in
-      let stands = rw (same, set) at here in
-      inl (same, cc))
-  | inr differ ↦ inr (differ, sym (get-set_other xs s i new (λ same. differ (sym same))) ∙ (rw set at here))
-]
+at_one xs i was set here = grind (arith, get-set_same, get-set_other)
 
 -- an element that is replaced by itself
 pub set_same : {X : Type 0} (xs : List X) (i : ℕ) (x : X) → slice_get xs i ≡ Some x → xs ≡ slice_set xs i x
@@ -186,10 +178,7 @@ end_is : (s t g h : ℕ) (a b : Side) → s ≡ t → a ≡ b → g ≡ h
 end_is s t g h a b e f i = rw (e, f, i) refl
 
 pub same_end_is : (n m : EndName) → same_end n m ≡ true → n ≡ m
-same_end_is n m h = end_is n.slot m.slot n.generation m.generation n.side m.side
-    (eqb-true n.slot m.slot (first_so _ _ h))
-    (side_of_number n.side m.side (eqb-true (side_number n.side) (side_number m.side) (first_so _ _ (second_so _ _ h))))
-    (eqb-true n.generation m.generation (second_so _ _ (second_so _ _ h)))
+same_end_is n m h = grind arith
 
 same_is : (n m : Name) → same n m ≡ true → n ≡ m
 same_is Listener Listener h = refl
@@ -198,9 +187,7 @@ same_is (End a) (End b) h = ap End (same_end_is a b h)
 same_is _ _ h = absurd (cc)
 
 same_self : (n : Name) → same n n ≡ true
-same_self Listener = refl
-same_self Waker = refl
-same_self (End a) = rw (eq-eqb a.slot a.slot refl, eq-eqb (side_number a.side) (side_number a.side) refl, eq-eqb a.generation a.generation refl) refl
+same_self n = grind arith
 
 -- names of two slots are different
 pub other_slot : (n m : EndName) → (n.slot ≡ m.slot → ⊥) → same (End n) (End m) ≡ false
@@ -208,21 +195,18 @@ other_slot n m apart = rw (ne_eqb n.slot m.slot apart) refl
 
 -- one of two holds
 pub or_left : (a b : Bool) → a ≡ true → (a || b) ≡ true
-or_left true b h = refl
-or_left false b h = absurd (cc)
+or_left a b h = grind arith
 
 pub or_right : (a b : Bool) → b ≡ true → (a || b) ≡ true
-or_right true b h = refl
-or_right false b h = h
+or_right a b h = grind arith
 
 -- from either of two
 pub or_then : (a b : Bool) {c : Bool} → (a ≡ true → c ≡ true) → (b ≡ true → c ≡ true) → (a || b) ≡ true → c ≡ true
-or_then true b f g h = f refl
-or_then false b f g h = g h
+or_then a b f g h = grind arith
 
 -- of each of two
 pub or_both : (a b c d : Bool) → (a ≡ true → c ≡ true) → (b ≡ true → d ≡ true) → (a || b) ≡ true → (c || d) ≡ true
-or_both a b c d f g = or_then a b (λ h. or_left c d (f h)) (λ h. or_right c d (g h))
+or_both a b c d f g h = grind arith
 
 has_more : (n : Name) (xs ys : List Name) → has n xs ≡ true → has n (xs ++ ys) ≡ true
 has_more n [] ys h = absurd (cc)
@@ -254,8 +238,7 @@ reported_has n false xs h = absurd (cc)
 -- a name stays where another leaves
 left_if : (n x : Name) (b : Bool) (xs ys : List Name) → (same n x ≡ true → b ≡ true) → (has n xs ≡ true → has n ys ≡ true)
     → (same n x || has n xs) ≡ true → has n (cond b (x ∷ ys) ys) ≡ true
-left_if n x true xs ys keep rest h = or_both (same n x) (has n xs) (same n x) (has n ys) (λ k. k) rest h
-left_if n x false xs ys keep rest h = or_then (same n x) (has n xs) (λ k. let e = keep k in absurd (cc)) rest h
+left_if n x b xs ys keep rest h = grind arith
 
 pub has_without : (n m : Name) (xs : List Name) → same m n ≡ false → has n xs ≡ true → has n (without_name m xs) ≡ true
 has_without n m [] apart h = absurd (cc)
@@ -266,10 +249,7 @@ has_without n m (x ∷ xs) apart h = left_if n x (not (same m x)) xs (without_na
 -- a name that is queued stays so, or is among those that a poll takes
 polled_if : (n x : Name) (b t : Bool) (xs ys : List Name) → (same n x ≡ true → b ≡ true → t ≡ true) → (has n xs ≡ true → (has n ys || t) ≡ true)
     → (same n x || has n xs) ≡ true → (has n (cond (not b) (x ∷ ys) ys) || t) ≡ true
-polled_if n x true t xs ys taken rest h = or_then (same n x) (has n xs) (λ k. or_right (has n ys) t (taken k refl)) rest h
-polled_if n x false t xs ys taken rest h = or_then (same n x) (has n xs)
-    (λ k. or_left (same n x || has n ys) t (or_left (same n x) (has n ys) k))
-    (λ k. or_both (has n ys) t (same n x || has n ys) t (or_right (same n x) (has n ys)) (λ a. a) (rest k)) h
+polled_if n x b t xs ys taken rest h = grind arith
 
 pub has_polled : (n : Name) (names xs : List Name) → has n xs ≡ true → (has n (without_names names xs) || has n names) ≡ true
 has_polled n names [] h = absurd (cc)
@@ -279,8 +259,7 @@ has_polled n names (x ∷ xs) h = polled_if n x (has x names) (has n names) xs (
 -- The ends by descriptor
 
 flattened : {X : Type 0} (o : Option (Option X)) (x : X) → option_flatten o ≡ Some x → o ≡ Some (Some x)
-flattened None x e = absurd (cc)
-flattened (Some p) x e = ap Some e
+flattened o x e = grind arith
 
 -- the end that a write puts at an open descriptor
 pub end_same : (ends : List (Option Registered)) (d : ℕ) (r : Registered) (o : Option Registered)
@@ -295,10 +274,7 @@ end_other ends d other o apart = ap option_flatten (get-set_other ends d other o
 -- two open ends with different tokens have different descriptors, so a write at one leaves the other
 pub end_kept : (ends : List (Option Registered)) (d other : ℕ) {a b : Registered} (o : Option Registered)
     → end_at ends d ≡ Some a → end_at ends other ≡ Some b → (b.token ≡ a.token → ⊥) → end_at (slice_set ends d o) other ≡ Some b
-end_kept ends d other {a} {b} o one two differ = end_other ends d other o
-    (λ same. (let there = rw same at two in
-    let is : b ≡ a = cc in
-    differ (ap (λ (r : Registered). r.token) is))) ∙ two
+end_kept ends d other o one two differ = grind (arith, end_other)
 
 -- Opening: the lowest free descriptor is one that is not in use, or the one after all others
 
@@ -307,8 +283,7 @@ data IsFree (ends : List (Option Registered)) (d : ℕ) : Type 0 where
   Behind : d ≡ length ends → IsFree ends d
 
 lower : (ends : List (Option Registered)) (r : Registered) (k : ℕ) → IsFree ends k → IsFree (Some r ∷ ends) (1 + k)
-lower ends r k (Hole h) = Hole (rw one-add h)
-lower ends r k (Behind h) = Behind (rw (one-add, h) refl)
+lower ends r k h = grind (arith, Hole, Behind)
 
 first_free : (ends : List (Option Registered)) → IsFree ends (position_or_len is_none ends)
 first_free [] = Behind refl
@@ -316,7 +291,7 @@ first_free (None ∷ ends) = Hole refl
 first_free (Some r ∷ ends) = lower ends r (position_or_len is_none ends) (first_free ends)
 
 irreflexive : (n : ℕ) → nat_lt n n ≡ false
-irreflexive n = elim (tell (nat_lt n n)) [ Yes h ↦ (let less = ltb-true n n h in absurd (omega arith)) | No h ↦ h ]
+irreflexive n = grind (arith, nat_tests)
 
 found : (ends : List (Option Registered)) (k : ℕ) → IsFree ends k → unwrap_or (cond (nat_lt k (length ends)) (Some k) None) (length ends) ≡ k
 found ends k (Hole h) = rw (lt-ltb k (length ends) (slice_get_within ends k None h)) refl
