@@ -10,7 +10,6 @@ use crate::world::World;
 use kernel_model::{Accepting, Kernel, Refusal, Watched};
 use token::Side;
 
-#[tactic(auto, using(std::proofs::lemmas::Option::gets, std::proofs::lemmas::Grind::common_steps))]
 impl World {
     ghost use Rattle.std.specs.{Prelude.{◌≡◌, IsErrOf, IsTrue}, Option.option_copied};
     ghost use Rattle.kernel_model.specs.Outcome.{Meets, MeetsAlways};
@@ -27,7 +26,6 @@ impl World {
         }
     }
 
-    /// Some seconds pass, if there is an idle limit.
     pub(crate) fn tick(&mut self, seconds: u64) -> Result<(), Refusal>
         ensures { MeetsAlways (tick self.old seconds) self.old self.new result }
     {
@@ -41,7 +39,6 @@ impl World {
         Ok(())
     }
 
-    /// The network changes something at one end of the connection in a slot.
     pub(crate) fn network(
         &mut self,
         slot: usize,
@@ -58,7 +55,6 @@ impl World {
         change_at(&mut self.kernel, descriptor, change)
     }
 
-    /// A report is queued without cause.
     pub(crate) fn spurious(&mut self, who: Reported) -> Result<(), Refusal>
         ensures event { Meets (spurious self.old who) self.old self.new result }
         ensures memory { IsErrOf result Refusal.NoMemory → IsTrue (grows queue_length self.old (spurious self.old who)) }
@@ -69,7 +65,6 @@ impl World {
         }
     }
 
-    /// A queued report is withdrawn.
     pub(crate) fn vanish(&mut self, who: Reported) -> Result<(), Refusal>
         ensures { MeetsAlways (vanish self.old who) self.old self.new result }
     {
@@ -79,7 +74,6 @@ impl World {
         }
     }
 
-    /// Something happens at the listener.
     pub(crate) fn listen(&mut self, event: Listening) -> Result<(), Refusal>
         ensures event { Meets (listen self.old event) self.old self.new result }
         ensures memory { IsErrOf result Refusal.NoMemory → IsTrue (grows queue_length self.old (listen self.old event)) }
@@ -112,15 +106,12 @@ impl World {
         Ok(())
     }
 
-    /// Whether the poller may call accept(2): the flag is up, no accepted connection is in hand, and there
-    /// is a slot to open.
     fn may_accept(&self) -> bool
         ensures { result ≡ may_accept self.now }
     {
         self.flag && !self.accepted && !self.free.is_empty()
     }
 
-    /// What a report is about, as the kernel knows it.
     fn watched(&self, who: Reported) -> Option<Watched>
         ensures { result ≡ watched_of self.now who }
     {
@@ -135,7 +126,6 @@ impl World {
     }
 }
 
-/// The network changes something at the end of a descriptor.
 fn change_at(kernel: &mut Kernel, descriptor: usize, change: &Change) -> Result<(), Refusal>
     ensures event { Meets (change_at kernel.old descriptor change.now) kernel.old kernel.new result }
     ensures memory { IsErrOf result Refusal.NoMemory

@@ -1,4 +1,3 @@
-// A worker.
 use crate::actors::{Doing, Ticket};
 use std::marker::Model;
 
@@ -23,7 +22,6 @@ impl Model for Worker {
     ghost invariant = { λ w. (w.doing ≡ Idle) ⊎ (w.hand ≡ None) };
 }
 
-#[tactic(auto, using(std::proofs::lemmas::Option::gets, std::proofs::lemmas::Grind::common_steps))]
 impl Worker {
     ghost use Rattle.std.specs.{Prelude.{◌≡◌, ◌==◌, ◌⊎◌, [], length}, Option.option_to_list};
     ghost use Rattle.world.specs.{States.resting, Steps.with_ticket};
@@ -53,21 +51,18 @@ impl Worker {
         self.hand.as_slice()
     }
 
-    /// The ticket that it has to put.
     pub(crate) fn ticket(&self) -> Option<Ticket>
         ensures { self.now.hand ≡ option_to_list result }
     {
         self.hand
     }
 
-    /// It has put its ticket.
     pub(crate) fn put(&mut self)
         ensures { self.new ≡ record self.old { hand = [] } }
     {
         self.hand = None;
     }
 
-    /// It does something else.
     pub(crate) fn turn_to(&mut self, doing: Doing)
         requires { (doing ≡ Doing.Idle) ⊎ (self.old.hand ≡ []) }
         ensures { self.new ≡ record self.old { doing = doing } }
@@ -75,7 +70,6 @@ impl Worker {
         self.doing = doing;
     }
 
-    /// It is idle again. If there are notes in the slot that it held, it takes a ticket for it in hand.
     pub(crate) fn release(&mut self, noted: bool, slot: usize, generation: u64)
         requires { self.old.hand ≡ [] }
         ensures { self.new ≡ record { doing = Doing.Idle; hand = with_ticket noted slot generation self.old.hand } }

@@ -6,7 +6,7 @@ pub use Rattle.interleaving.specs.{Likeness.{exchange, exchanges_in, first_kind,
 pub use Rattle.kernel_model.specs.{Ends.is_nonempty, Kernel.KernelState, declared.{both.Descriptors.Descriptors, reply.Reply.Reply, accepting.Accepting.TheVariants.{Accepted, Blocked, Again, Starved}}}
 pub use Rattle.relay_core.specs.{Order.next_call, Pairs.{PairState, is_live, verdict, fresh, noted}, Replies.fits, Idle.{is_overdue, expired}}
 pub use Rattle.token.specs.{Names.EndName, declared.{name.Name.Name, side.Side.{Side, TheVariants.{Client, Target}}}}
-pub use Rattle.world.{proofs.{TurnsRun.{own_generation, waiting, some_more, first_free, names_it}, TurnsFacts.{Turns, facts, is_number, worker_retires, is_shaped}, TurnsKept.{Kept, kept_at, kept_bind, kept_guard, kept_map, kept_none, kept_some, kept_when}, TurnsTotals.{get-set_other, get-set_same, total_at}}, specs.{Acts.busy, Slots.{SlotState, WorkerState, is_by_worker, is_held}, States.{State, resting as idle_worker}, Steps.{with_note, brings_ticket, may_release, is_worn, token_of}, Support.{of_slot, one, tickets, total, worker_tickets}, Words.{is_free, word_at}, declared.{actors.Holder.{Holder, TheVariants.{By, Free, Nobody}}, connection.Connection.Connection, event.{Event.Event, Change.Change, Reported.Reported}}, Calls.{descriptor, OpenConnection, called, told_of, made}}}
+pub use Rattle.world.{proofs.Headline.Ends.Pairs.Holders.{Events.Lists.{Kept, get-set_other, get-set_same, kept_at, kept_bind, kept_guard, kept_map, kept_none, kept_some, kept_when, total_at}, Turns, facts, first_free, is_number, is_shaped, names_it, own_generation, some_more, waiting, worker_retires}, specs.{Acts.busy, Slots.{SlotState, WorkerState, is_by_worker, is_held}, States.{State, resting as idle_worker}, Steps.{with_note, brings_ticket, may_release, is_worn, token_of}, Support.{of_slot, one, tickets, total, worker_tickets}, Words.{is_free, word_at}, declared.{actors.Holder.{Holder, TheVariants.{By, Free, Nobody}}, connection.Connection.Connection, event.{Event.Event, Change.Change, Reported.Reported}}, Calls.{descriptor, OpenConnection, called, told_of, made}}}
 pub use Rattle.claims.specs.Words as word
 pub use Rattle.kernel_model.specs.Kernel as kernel
 pub use Rattle.world.specs.Runs as machine_runs

@@ -1,16 +1,229 @@
--- Who has a slot, through every event, and so after any list of events.
-use Rattle.std.proofs.Common.{◌*◌}
-use Rattle.world.{proofs.{Prelude.{◌≡◌, ◌∙◌, ℕ, ◌+◌, ◌-◌, ◌≤◌, ◌==◌, Bool, true, false, not, ◌&&◌, ◌||◌, List, [], ◌∷◌, ◌++◌, length, slice_get, slice_set, drop, Option, Some, None, is_some, is_none, refl, ap, sym, subst, arith, eq-eqb, lt-ltb, length-append, if◌then◌else◌, and_parts, Descriptors, Sockets, Told, KernelState, Accepted, verdict, is_live, next_call, fresh, Standing, place_of, noted, is_nonempty, Reply, Connection, Ticket, Holder, Nobody, By, Free, Doing, Idle, Tries, Holds, Closed, Retired, Event, SlotState, WorkerState, is_held, is_by_worker, State, OpenConnection, expired, with_note, brings_ticket, with_ticket, posted, opened_place, opened_world, with_place, doing, claimed, heard, closed_world, is_worn, freed, one, total, of_slot, worker_tickets, tickets, ◌≢◌, ◌⊎◌, inl, inr, zero, suc, replicate, eqb-true, option_and_then, cases_eq, Limits, opening, unused, resting, numbers_below, step, run, Throughout, TakesOwnNotes, ClaimsByOwnTicket, TriedOnOwn, EdgesHold, SupportHolds, CoreLaws, Call, told_of, made, replied}, TurnsTotals.{total_push, total_moved, total_none, total_le, total_le_at, total_at, get-set_same, get-set_other, get-replicate, get_beside}, TurnsKept.{Kept, kept_bind, kept_map, kept_when, kept_guard, kept_at, Holding, called_on, hand_after, released, Happens, Accepts, Opens, Delivers, Sweeps, Puts, HandsIn, Pops, Claims, Takes, Calls, Posts, Releases, Expires, Closes, Retires, Frees, happens, holds_after}, TurnsFacts.{Facts, facts, SlotOk, ConnectionOk, Turns, Same, same_self, keep_slots, keep_others, names, worker_right, worker_holds, worker_closes, worker_retires, is_number, right_tickets, is_free, are_own, standing, one_same, one_other, names_of_slot, names_other, names_own, tried_less, replaced, turned, turned_elsewhere, doing_so}}, specs.{Calls.called, Steps.may_release}}
-use Rattle.kernel_model.specs.Kernel as kernel
+-- Who has a slot: what the rest of the machine has of it, as numbers, and what a slot has to do with them. Every event
+-- keeps that, and so every run; and each moves the claim words as it says.
+pub mod Events
+unfoldable pub use Events.*
+
+-- the numbers of slot s, one actor or ticket or free slot at a time
+
+abbrev pub names : ℕ → ℕ → Ticket → ℕ
+names s g t = one (is_ticket s g t)
+
+abbrev pub tried_right : ℕ → ℕ → Doing → ℕ
+tried_right s g (Tries t) = names s g t
+tried_right s g d = 0
+
+abbrev pub worker_right : ℕ → ℕ → WorkerState → ℕ
+worker_right s g k = tried_right s g k.doing + total (names s g) k.hand
+
+abbrev pub holds : ℕ → Doing → ℕ
+holds s (Holds t left) = one (t == s)
+holds s d = 0
+
+abbrev pub closes : ℕ → Doing → ℕ
+closes s (Closed t) = one (t == s)
+closes s d = 0
+
+abbrev pub retires : ℕ → Doing → ℕ
+retires s (Retired t) = one (t == s)
+retires s d = 0
+
+abbrev pub worker_holds : ℕ → WorkerState → ℕ
+worker_holds s k = holds s k.doing
+
+abbrev pub worker_closes : ℕ → WorkerState → ℕ
+worker_closes s k = closes s k.doing
+
+abbrev pub worker_retires : ℕ → WorkerState → ℕ
+worker_retires s k = retires s k.doing
+
+abbrev pub is_number : ℕ → ℕ → ℕ
+is_number s t = one (t == s)
+
+-- what the rest of the machine has of a slot of one generation: its entry in the table, its tickets, those
+-- that name the generation, the workers that hold it, those that closed it, and those that retired it with
+-- its places in the free queue
+pub record Facts : Type 0 where
+  pub ring : ℕ
+  pub slot : ℕ
+  pub entry : Option ℕ
+  pub tickets : ℕ
+  pub right : ℕ
+  pub holding : ℕ
+  pub closing : ℕ
+  pub gone : ℕ
+
+abbrev pub right_tickets : State → ℕ → ℕ → ℕ
+right_tickets st s g = total (names s g) st.ready + (total (names s g) st.hand + total (worker_right s g) st.workers)
+
+abbrev pub facts : State → ℕ → ℕ → Facts
+facts st s g = record {
+  ring = st.limits.ring;
+  slot = s;
+  entry = slice_get st.table s;
+  tickets = tickets st s;
+  right = right_tickets st s g;
+  holding = total (worker_holds s) st.workers;
+  closing = total (worker_closes s) st.workers;
+  gone = total (worker_retires s) st.workers + total (is_number s) st.free;
+}
+
+-- a slot that nobody holds has a connection, and a free one has none
+abbrev pub is_shaped : Holder → Bool → Bool
+is_shaped Nobody has = has
+is_shaped (By w) has = true
+is_shaped Free has = not has
+
+abbrev pub standing : Facts → ℕ → Standing
+standing f g = record { slot = f.slot; generation = g; up_capacity = f.ring; down_capacity = f.ring }
+
+-- the connection in a slot is the slot's own, and while nobody holds the slot it is live, and without a
+-- note it has no call to make
+pub record ConnectionOk (f : Facts) (p : SlotState) (c : Connection) : Type 0 where
+  pub stands : place_of c.pair ≡ standing f p.generation
+  pub live : p.holder ≡ Nobody → is_live (verdict c.pair) ≡ true
+  pub rest : p.holder ≡ Nobody → p.notes ≡ [] → next_call c.pair ≡ None
+
+abbrev pub are_own : ℕ → List ℕ → Bool
+are_own g notes = list_all (λ (n : ℕ). n == g) notes
+
+-- the numbers of a slot that is as it has to be
+pub record CountsOk (f : Facts) (p : SlotState) : Type 0 where
+  pub tickets : f.tickets ≡ one (not (is_held p.holder) && is_nonempty p.notes)
+  pub right : f.right ≡ f.tickets
+  pub holding : f.holding ≡ one (is_by_worker p.holder && is_some p.connection)
+  pub closing : f.closing ≡ one (is_by_worker p.holder && not (is_some p.connection))
+  pub gone : f.gone ≤ one (is_free p.holder)
+
+pub record SlotOk (f : Facts) (p : SlotState) : Type 0 where
+  pub entry : f.entry ≡ Some p.generation
+  pub notes : are_own p.generation p.notes ≡ true
+  pub counts : CountsOk f p
+  pub open counts use *
+  pub shape : is_shaped p.holder (is_some p.connection) ≡ true
+  pub connection : (c : Connection) → p.connection ≡ Some c → ConnectionOk f p c
+
+-- each slot has what it has to
+pub record Turns (st : State) : Type 0 where
+  pub each : (s : ℕ) (p : SlotState) → slice_get st.slots s ≡ Some p → SlotOk (facts st s p.generation) p
+
+-- the same numbers, but for those that are gone, which may be fewer
+pub record SameCounts (f g : Facts) : Type 0 where
+  pub ring : f.ring ≡ g.ring
+  pub slot : f.slot ≡ g.slot
+  pub tickets : f.tickets ≡ g.tickets
+  pub right : f.right ≡ g.right
+  pub holding : f.holding ≡ g.holding
+  pub closing : f.closing ≡ g.closing
+  pub gone : g.gone ≤ f.gone
+
+pub record Same (f g : Facts) : Type 0 where
+  pub entry : f.entry ≡ g.entry
+  pub counts : SameCounts f g
+  pub open counts use *
+
+pub same_self : {f : Facts} → Same f f
+same_self = record { entry = refl; counts = omega arith }
+
+same_ok : {f g : Facts} {p : SlotState} → Same f g → SlotOk f p → SlotOk g p
+same_ok m ok = record {
+  entry = rw (← m.entry) ok.entry;
+  notes = ok.notes;
+  counts = omega arith;
+  shape = ok.shape;
+  connection = λ c is. record {
+    stands = rw (← m.ring, ← m.slot) (ok.connection c is).stands;
+    live = (ok.connection c is).live;
+    rest = (ok.connection c is).rest;
+  };
+}
+
+-- an event that changes no slot
+pub keep_slots : {st next : State} → Turns st → next.slots ≡ st.slots → ((s g : ℕ) → Same (facts st s g) (facts next s g)) → Turns next
+keep_slots turns all same = record { each = λ s p there. same_ok (same s p.generation) (turns.each s p (rw all at there)) }
+
+one_slot : {st : State} (next : State) (s i : ℕ) {old new p : SlotState} → Turns st → (s ≡ i) ⊎ (s ≢ i) → slice_get st.slots s ≡ Some old → next.slots ≡ slice_set st.slots s new
+    → ((j g : ℕ) → s ≢ j → Same (facts st j g) (facts next j g)) → SlotOk (facts next s new.generation) new → slice_get next.slots i ≡ Some p → SlotOk (facts next i p.generation) p
+one_slot {st} next s i {old} {new} {p} turns (inl same) there all others ok here =
+    let is : new ≡ p = let set : slice_get (slice_set st.slots s new) s ≡ Some p = rw (← all, same) here in cc (get-set_same st.slots s old new there) in
+    rw (← same, ← is) ok
+one_slot {st} next s i {old} {new} {p} turns (inr apart) there all others ok here =
+    let set : slice_get (slice_set st.slots s new) i ≡ Some p = rw (← all) here in
+    same_ok (others i p.generation apart) (turns.each i p (sym (get-set_other st.slots s i new apart) ∙ set))
+
+-- an event that changes one slot, s
+pub keep_others : {st next : State} (s : ℕ) {old new : SlotState} → Turns st → slice_get st.slots s ≡ Some old → next.slots ≡ slice_set st.slots s new
+    → ((j g : ℕ) → s ≢ j → Same (facts st j g) (facts next j g)) → SlotOk (facts next s new.generation) new → Turns next
+keep_others {next = next} s turns there all others ok = record { each = λ i p here. one_slot next s i turns (cases_eq s i) there all others ok here }
+
+-- the numbers of a slot where one worker is replaced
+pub record Replaced (st : State) (w : ℕ) (k j : WorkerState) (s g : ℕ) : Type 0 where
+  pub tickets : total (worker_tickets s) (slice_set st.workers w j) + worker_tickets s k ≡ total (worker_tickets s) st.workers + worker_tickets s j
+  pub right : total (worker_right s g) (slice_set st.workers w j) + worker_right s g k ≡ total (worker_right s g) st.workers + worker_right s g j
+  pub holding : total (worker_holds s) (slice_set st.workers w j) + worker_holds s k ≡ total (worker_holds s) st.workers + worker_holds s j
+  pub closing : total (worker_closes s) (slice_set st.workers w j) + worker_closes s k ≡ total (worker_closes s) st.workers + worker_closes s j
+  pub gone : total (worker_retires s) (slice_set st.workers w j) + worker_retires s k ≡ total (worker_retires s) st.workers + worker_retires s j
+
+pub replaced : (st : State) (w : ℕ) {k : WorkerState} (j : WorkerState) (s g : ℕ) → slice_get st.workers w ≡ Some k → Replaced st w k j s g
+replaced st w {k} j s g there = record {
+  tickets = total-set (worker_tickets s) st.workers w k j there;
+  right = total-set (worker_right s g) st.workers w k j there;
+  holding = total-set (worker_holds s) st.workers w k j there;
+  closing = total-set (worker_closes s) st.workers w k j there;
+  gone = total-set (worker_retires s) st.workers w k j there;
+}
+
+pub one_same : (s : ℕ) → one (s == s) ≡ 1
+one_same s = grind arith
+
+pub one_other : (s i : ℕ) → s ≢ i → one (s == i) ≡ 0
+one_other s i apart = grind arith
+
+one_left : (a b : Bool) → one (a && b) ≤ one a
+one_left a b = grind arith
+
+pub names_of_slot : (s g : ℕ) (t : Ticket) → names s g t ≤ of_slot s t
+names_of_slot s g t = grind arith
+
+pub names_other : (s g : ℕ) (t : Ticket) → t.slot ≢ s → names s g t ≡ 0
+names_other s g t apart = grind arith
+
+pub names_own : (s g : ℕ) → names s g (record { slot = s; generation = g }) ≡ 1
+names_own s g = grind arith
+
+pub tried_less : (s g : ℕ) (d : Doing) → tried_right s g d ≤ tried s d
+tried_less s g d = grind arith
+
+-- the parts of a worker in the numbers of a slot, by what it does
+pub record Does (c d : Doing) (s g : ℕ) : Type 0 where
+  pub tickets : tried s c ≡ tried s d
+  pub right : tried_right s g c ≡ tried_right s g d
+  pub holding : holds s c ≡ holds s d
+  pub closing : closes s c ≡ closes s d
+  pub gone : retires s c ≡ retires s d
+
+pub doing_so : {c d : Doing} (s g : ℕ) → c ≡ d → Does c d s g
+doing_so s g does = record { tickets = ap (tried s) does; right = ap (tried_right s g) does; holding = ap (holds s) does; closing = ap (closes s) does; gone = ap (retires s) does }
+
+-- where one worker, that does d, goes on to e
+pub turned : (st : State) (w : ℕ) {k : WorkerState} {d : Doing} (e : Doing) (s g : ℕ) → slice_get st.workers w ≡ Some k → k.doing ≡ d
+    → Replaced st w k (record k { doing = e }) s g × Does k.doing d s g
+turned st w {k} e s g there does = (replaced st w (record k { doing = e }) s g there, doing_so s g does)
+
+-- where neither has a part in slot i, its numbers stay
+pub turned_elsewhere : (st : State) (w : ℕ) {k : WorkerState} {d : Doing} (e : Doing) (i g : ℕ) → slice_get st.workers w ≡ Some k → k.doing ≡ d
+    → tried i d + (holds i d + (closes i d + retires i d)) ≡ 0 → tried i e + (holds i e + (closes i e + retires i e)) ≡ 0 → Same (facts st i g) (facts (doing st w k e) i g)
+turned_elsewhere st w {k} {d} e i g there does before after =
+    let m = turned st w e i g there does in
+    let less = tried_less i g d in
+    let less_after = tried_less i g e in
+    record { entry = refl; counts = omega arith }
 
 -- a test that counts holds
 pub sure : (b : Bool) → 1 ≤ one b → b ≡ true
-sure true some = refl
-sure false some = absurd (omega arith)
+sure b some = grind arith
 
 pub unless : (b : Bool) → not b ≡ true → b ≡ false
-unless true h = absurd (cc)
-unless false h = refl
+unless b h = grind arith
 
 -- a note more, and the ticket that it brings
 
@@ -26,9 +239,7 @@ are_own_more g [] own = rw (eq-eqb g g refl) refl
 are_own_more g (x ∷ xs) own = let parts = and_parts (x == g) (are_own g xs) own in rw (parts.0) (are_own_more g xs parts.1)
 
 noted_tickets : (held some : Bool) (n m : ℕ) → n ≡ one (not held && some) → m ≡ n + one (not (held || some)) → m ≡ one (not held && true)
-noted_tickets true some n m was more = omega arith
-noted_tickets false true n m was more = omega arith
-noted_tickets false false n m was more = omega arith
+noted_tickets held some n m was more = grind arith
 
 -- a hand that may get one more ticket
 pub handed : (f : Ticket → ℕ) (b : Bool) (s g : ℕ) (hand : List Ticket) {n : ℕ} → f (record { slot = s; generation = g }) ≡ n
@@ -72,9 +283,7 @@ total_first f [] x first = absurd (cc)
 total_first f (y ∷ ys) x first = let same : y ≡ x = (cc) in let part = ap f same in omega arith
 
 free_so : (h : Holder) → is_free h ≡ true → h ≡ Free
-free_so Nobody free = absurd (cc)
-free_so (By w) free = absurd (cc)
-free_so Free free = refl
+free_so h free = grind arith
 
 pub right_is_less : (s g : ℕ) (k : WorkerState) → worker_right s g k ≤ worker_tickets s k
 right_is_less s g k = omega (arith, total_le (names s g) (of_slot s) k.hand (names_of_slot s g), tried_less s g k.doing)
@@ -142,17 +351,13 @@ pub record Waiting (p : SlotState) : Type 0 where
   pub lies : is_some p.connection ≡ true
 
 unheld : (h : Holder) (some : Bool) → 1 ≤ one (not (is_held h) && some) → (h ≡ Nobody) × (some ≡ true)
-unheld Nobody true n = (refl, refl)
-unheld Nobody false n = absurd (omega arith)
-unheld (By w) some n = absurd (omega arith)
-unheld Free some n = absurd (omega arith)
+unheld h some n = grind arith
 
 pub own_generation : (f : Facts) (p : SlotState) (c : Connection) → place_of c.pair ≡ standing f p.generation → c.pair.generation ≡ p.generation
 own_generation f p c stands = ap (λ (x : Standing). x.generation) stands
 
 there_is : {X : Type 0} (o : Option X) → is_some o ≡ true → (x : X) × (o ≡ Some x)
-there_is None h = absurd (cc)
-there_is (Some x) h = (x, refl)
+there_is o h = grind arith
 
 module _ (st : State) (w : ℕ) (k : WorkerState) (t : Ticket) (p : SlotState) (there : slice_get st.workers w ≡ Some k) (does : k.doing ≡ Tries t)
     (lies : slice_get st.slots t.slot ≡ Some p) (turns : Turns st) where
@@ -165,9 +370,12 @@ module _ (st : State) (w : ℕ) (k : WorkerState) (t : Ticket) (p : SlotState) (
       let parts = unheld p.holder (is_nonempty p.notes) (omega arith) in
       record { holder = parts.0; some = parts.1; lies = rw (parts.0) at sv.shape }
 
-  claimed_turns : Turns (claimed st w k t.slot p)
+  unheld_so : is_held p.holder ≡ true → ⊥
+  unheld_so held = let is = rw waiting.holder at held in absurd (cc)
+
+  claimed_turns : Turns (doing (with_place st t.slot (record p { holder = By w })) w k (Holds t.slot st.limits.budget))
   claimed_turns =
-      let s : ℕ = t.slot in
+      let s = t.slot in
       let sv = turns.each s p lies in
       let wait = waiting in
       let r = turned st w (Holds s st.limits.budget) s p.generation there does in
@@ -177,20 +385,19 @@ module _ (st : State) (w : ℕ) (k : WorkerState) (t : Ticket) (p : SlotState) (
       let holding = rw wait.holder at sv.holding in
       let closing = rw wait.holder at sv.closing in
       let gone = rw wait.holder at sv.gone in
-      let none : is_held p.holder ≡ false = rw wait.holder refl in
-      rw none (keep_others s turns lies refl
+      keep_others s turns lies refl
       (λ j g apart. let away = one_other s j apart in turned_elsewhere st w (Holds s st.limits.budget) j g there does (omega arith) (omega arith)) (record {
         entry = sv.entry;
         notes = sv.notes;
         counts = record { tickets = omega arith; right = omega arith; holding = rw wait.lies (omega arith); closing = rw wait.lies (omega arith); gone = omega arith };
         shape = refl;
         connection = λ c is. record { stands = (sv.connection c is).stands; live = λ h. absurd (cc); rest = λ h n. absurd (cc) };
-      }))
+      })
 
   pub names_it : t.generation ≡ p.generation
   names_it =
-      let s : ℕ = t.slot in
-      let g : ℕ = p.generation in
+      let s = t.slot in
+      let g = p.generation in
       let sv = turns.each s p lies in
       let ready = total_le (names s g) (of_slot s) st.ready (names_of_slot s g) in
       let hand = total_le (names s g) (of_slot s) st.hand (names_of_slot s g) in
@@ -219,10 +426,7 @@ pub record Held (f : Facts) (p : SlotState) (has : Bool) : Type 0 where
   pub gone : f.gone ≤ 0
 
 by_one : (h : Holder) (b : Bool) → 1 ≤ one (is_by_worker h && b) → (w : ℕ) × (h ≡ By w) × (b ≡ true)
-by_one (By w) true n = (w, refl, refl)
-by_one (By w) false n = absurd (omega arith)
-by_one Nobody b n = absurd (omega arith)
-by_one Free b n = absurd (omega arith)
+by_one h b n = grind arith
 
 held_so : {f : Facts} {p : SlotState} {has : Bool} (by : ℕ) → SlotOk f p → p.holder ≡ By by → is_some p.connection ≡ has → Held f p has
 held_so by sv holder some =
@@ -238,8 +442,8 @@ held_so by sv holder some =
       gone = rw holder at sv.gone;
     }
 
-pub held_by : {st : State} {w : ℕ} (h : Holding st w) → Turns st → Held (facts st h.s h.p.generation) h.p true
-held_by {st} {w} h turns =
+pub held_slot : {st : State} {w : ℕ} (h : Holding st w) → Turns st → Held (facts st h.s h.p.generation) h.p true
+held_slot {st} {w} h turns =
     let sv = turns.each h.s h.p h.lies in
     let least = total_at (worker_holds h.s) st.workers w h.k h.there in
     let does = doing_so h.s 0 h.does in
@@ -253,7 +457,7 @@ keeps_held : {st next : State} {w : ℕ} (h : Holding st w) (notes : List ℕ) (
     → are_own h.p.generation notes ≡ true → place_of c.pair ≡ place_of h.c.pair → Turns next
 keeps_held {st} {next} h notes c turns all same own stands =
     let sv = turns.each h.s h.p h.lies in
-    let held = held_by h turns in
+    let held = held_slot h turns in
     let m = same h.s h.p.generation in
     keep_others h.s turns h.lies all (λ j g apart. same j g) (record {
       entry = rw (← m.entry) sv.entry;
@@ -268,30 +472,12 @@ keeps_held {st} {next} h notes c turns all same own stands =
     })
 
 heard_stands : (c : Connection) (some : Bool) → place_of (if some then record c { pair = noted c.pair } else c).pair ≡ place_of c.pair
-heard_stands c true = refl
-heard_stands c false = refl
+heard_stands c some = grind arith
 
--- a connection's call with its reply leaves it what it is: the same slot, generation and rings
-
-abbrev StandsAs : Connection → OpenConnection → Type 0
-StandsAs c line = place_of line.connection.pair ≡ place_of c.pair
-
-replied_stands : (laws : CoreLaws) (now : ℕ) (l : OpenConnection) (call : Call) (r : Reply) → Kept (StandsAs l.connection) (replied now l call r)
-replied_stands laws now l call r = kept_bind _ (told_of l call r) (λ t is. kept_when _ _ (λ fit. kept_map _ (made l call r) (λ k done. laws.place now l.connection.pair call t)))
-
-called_stands : (laws : CoreLaws) (now : ℕ) (l : OpenConnection) (r : Reply) → Kept (StandsAs l.connection) (called now l r)
-unfolding called
-called_stands laws now l r = kept_bind _ (next_call l.connection.pair) (λ call next. replied_stands laws now l call r)
-
-call_turns : (laws : CoreLaws) (st : State) (w : ℕ) (h : Holding st w) (r : Reply) (l : OpenConnection)
-    → called st.second (record { kernel = st.kernel; connection = h.c }) r ≡ Some l → Turns st → Turns (called_on h l)
-call_turns laws st w h r l so turns = keeps_held h h.p.notes l.connection turns refl
+call_turns : (laws : CoreLaws) {st : State} {w : ℕ} (h : Holding st w) {r : Reply} (m : Made st h.c r) → Turns st → Turns (called_on h m)
+call_turns laws {st} {w} h m turns = keeps_held h h.p.notes (after_call m) turns refl
     (λ j g. let m = turned st w (Holds h.s (h.left - 1)) j g h.there h.does in record { entry = refl; counts = omega arith })
-    (turns.each h.s h.p h.lies).notes
-    (kept_at (called st.second (record { kernel = st.kernel; connection = h.c }) r) l so (called_stands laws st.second (record { kernel = st.kernel; connection = h.c }) r))
-
-expired_stands : (now limit : ℕ) (c : Connection) → Kept (λ (d : Connection). place_of d.pair ≡ place_of c.pair) (expired now limit c)
-expired_stands now limit c = kept_guard _ _ (λ over. refl)
+    (turns.each h.s h.p h.lies).notes (laws.place st.second h.c.pair m.call m.value)
 
 post_turns : {st : State} {w : ℕ} (h : Holding st w) → Turns st → Turns (with_place st h.s (with_note h.p h.c.pair.generation))
 post_turns {st} h turns =
@@ -304,8 +490,7 @@ post_turns {st} h turns =
 -- it lets the slot go
 
 or_none : {X : Type 0} (o : Option X) (some : Bool) → (is_none o || some) ≡ true → some ≡ false → o ≡ None
-or_none None some h none = refl
-or_none (Some x) some h none = absurd (cc)
+or_none o some h none = grind arith
 
 lets_go : (c : Connection) (some : Bool) → may_release c some ≡ true → (is_live (verdict c.pair) ≡ true) × (some ≡ false → next_call c.pair ≡ None)
 unfolding may_release
@@ -313,10 +498,10 @@ lets_go c some may = let parts = and_parts (is_live (verdict c.pair)) (is_none (
 
 released_turns : {st : State} {w : ℕ} (h : Holding st w) → may_release h.c (is_nonempty h.p.notes) ≡ true → Turns st → Turns (released h)
 released_turns {st} {w} h may turns =
-    let s : ℕ = h.s in
-    let g : ℕ = h.p.generation in
+    let s = h.s in
+    let g = h.p.generation in
     let sv = turns.each s h.p h.lies in
-    let held = held_by h turns in
+    let held = held_slot h turns in
     let free = lets_go h.c (is_nonempty h.p.notes) may in
     let next : WorkerState = record { doing = Idle; hand = hand_after h } in
     let r = replaced st w next s g h.there in
@@ -345,7 +530,7 @@ released_turns {st} {w} h may turns =
 closed_turns : {st : State} {w : ℕ} (h : Holding st w) (t : Told KernelState Sockets) → Turns st → Turns (closed_world st w h.k h.s h.p h.c t)
 closed_turns {st} {w} h t turns =
     let sv = turns.each h.s h.p h.lies in
-    let held = held_by h turns in
+    let held = held_slot h turns in
     let r = turned st w (Closed h.s) h.s h.p.generation h.there h.does in
     let this = one_same h.s in
     keep_others h.s turns h.lies refl
@@ -385,14 +570,12 @@ module _ (st : State) (w : ℕ) (k : WorkerState) (s : ℕ) (p : SlotState) (the
       })
 
 freed_most : (i : ℕ) (slots : List ℕ) (s : ℕ) (p : SlotState) → total (is_number i) (freed slots s p) ≤ total (is_number i) slots + one (s == i)
-freed_most i slots s p = elim (is_worn p.generation) as (λ b. total (is_number i) (if b then slots else slots ++ s ∷ []) ≤ total (is_number i) slots + one (s == i))
-    [ true ↦ omega arith | false ↦ omega (arith, total_push (is_number i) slots s) ]
+freed_most i slots s p = grind (arith, total_push (is_number i) slots s)
 
 -- each event keeps it
 pub turns_on : (laws : CoreLaws) (st : State) {e : Event} {q : State} → Turns st → Happens st e q → Turns q
-turns_on laws st turns (Accepts Accepted k may is) = record { each = turns.each }
-turns_on laws st turns (Opens s g p client target first lies) = opened_turns st s g p (kernel.open_both st.kernel client target) first lies turns
-turns_on laws st turns (Delivers n g p first entry own lies) = record { each = (posted_turns st n.slot g p entry lies turns).each }
+turns_on laws st turns (Opens s g p first lies entry) = opened_turns st s (g + 1) p _ first lies turns
+turns_on laws st turns (Delivers n p first entry lies) = record { each = (posted_turns st n.slot n.generation p entry lies turns).each }
 turns_on laws st turns (Sweeps s g p entry lies) = posted_turns st s g p entry lies turns
 turns_on laws st turns (Puts t rest is) = keep_slots turns refl (λ s g.
     let a = total_moved (of_slot s) st.ready st.hand rest t is in let b = total_moved (names s g) st.ready st.hand rest t is in record { entry = refl; counts = omega arith })
@@ -402,13 +585,13 @@ turns_on laws st turns (HandsIn w k t rest there is) = keep_slots turns refl (λ
 turns_on laws st turns (Pops w k t rest there idle is) = keep_slots turns refl (λ s g.
     let r = turned st w (Tries t) s g there idle in let a = ap (total (of_slot s)) is in let b = ap (total (names s g)) is in record { entry = refl; counts = omega arith })
 turns_on laws st turns (Claims w k t p there does lies) = claimed_turns st w k t p there does lies turns
+turns_on laws st turns (Leaves w k t p there does lies held) = absurd (unheld_so st w k t p there does lies turns held)
 turns_on laws st turns (Takes w h) = keeps_held h [] (heard h.c h.p.notes) turns refl (λ j g. same_self) refl (heard_stands h.c (is_nonempty h.p.notes))
-turns_on laws st turns (Calls w h r l so) = call_turns laws st w h r l so turns
+turns_on laws st turns (Calls w h r m) = call_turns laws h m turns
 turns_on laws st turns (Posts w h) = post_turns h turns
 turns_on laws st turns (Releases w h may) = released_turns h may turns
-turns_on laws st turns (Expires w h d so) = keeps_held h h.p.notes d turns refl (λ j g. same_self) (turns.each h.s h.p h.lies).notes
-    (kept_at (expired st.second st.limits.idle h.c) d so (expired_stands st.second st.limits.idle h.c))
-turns_on laws st turns (Closes w h t both) = closed_turns h t turns
+turns_on laws st turns (Expires w h over) = keeps_held h h.p.notes _ turns refl (λ j g. same_self) (turns.each h.s h.p h.lies).notes refl
+turns_on laws st turns (Closes w h one two at as_well) = closed_turns h _ turns
 turns_on laws st turns (Retires w k s p there does lies) = retired_turns st w k s p there does lies turns
 turns_on laws st turns (Frees w k s p there does) = keep_slots turns refl (λ i g.
     let r = turned st w Idle i g there does in let most = freed_most i st.free s p in record { entry = refl; counts = omega arith })
@@ -419,15 +602,11 @@ turns_on laws st turns _ = record { each = turns.each }
 numbers_past : (n s : ℕ) → n ≤ s → total (is_number s) (numbers_below n) ≡ 0
 numbers_past zero s past = refl
 numbers_past (suc n) s past =
-    let other : one (n == s) ≡ 0 = one_other n s (λ same. absurd (omega arith)) in
+    let other = one_other n s (λ same. absurd (omega arith)) in
     omega (arith, total_push (is_number s) (numbers_below n) n, numbers_past n s (omega arith))
 
 last_number : (n s : ℕ) → (n ≡ s) ⊎ (n ≢ s) → total (is_number s) (numbers_below n) ≤ 1 → total (is_number s) (numbers_below n) + one (n == s) ≤ 1
-last_number n s (inl same) before =
-    let none = numbers_past n s (omega arith) in
-    let this : one (n == s) ≡ 1 = rw (eq-eqb n s same) refl in
-    omega arith
-last_number n s (inr other) before = let none = one_other n s other in omega arith
+last_number n s h before = grind (arith, numbers_past)
 
 -- no number stands twice among the free slots
 numbers_once : (n s : ℕ) → total (is_number s) (numbers_below n) ≤ 1
@@ -447,7 +626,7 @@ unused_ok l s entry =
 opening_turns : (l : Limits) → Turns (opening l)
 opening_turns l = record {
   each = λ s p there.
-      let same : unused l.generation ≡ p = get-replicate l.slots s (unused l.generation) p there in
+      let same = get-replicate l.slots s (unused l.generation) p there in
       subst (λ (q : SlotState). SlotOk (facts (opening l) s q.generation) q) same (unused_ok l s (get_beside l.slots s (unused l.generation) p l.generation there));
 }
 
@@ -476,6 +655,7 @@ takes_own st _ turns = tt
 tried_own : (st : State) {e : Event} {q : State} → Turns st → Happens st e q → TriedOnOwn st e
 tried_own st turns (Takes w h) = λ k there. takes_own st k.doing turns
 tried_own st turns (Claims w k t p there does lies) = λ j at. let same : j ≡ k = cc (at, there) in rw (same, does) (claims_own st w k t p there does lies turns)
+tried_own st turns (Leaves w k t p there does lies held) = absurd (unheld_so st w k t p there does lies turns held)
 tried_own st turns _ = tt
 
 tried_first : (st : State) (e : Event) (events : List Event) (w : State) (o : Option State) → Turns st → Kept (Happens st e) o → option_and_then (λ (q : State). run q events) o ≡ Some w
@@ -497,3 +677,133 @@ tried_throughout laws st (e ∷ events) w ran turns = (
 
 pub own_after : (laws : CoreLaws) (l : Limits) (events : List Event) (w : State) → run (opening l) events ≡ Some w → Throughout TriedOnOwn (opening l) events
 own_after laws l events w ran = tried_throughout laws (opening l) events w ran (opening_turns l)
+
+-- an event that changes no slot and makes no step
+untouched : {st next : State} {e : Event} → next.slots ≡ st.slots → ((s : ℕ) → steps st e s ≡ []) → ((s : ℕ) → tickets next s ≡ tickets st s) → WordsMove st e next
+untouched all none same s p there = record {
+  place = p;
+  there = rw all there;
+  word = rw (none s);
+  tickets = rw (none s) (omega (arith, same s));
+}
+
+moves_at : {st next : State} {e : Event} (s i : ℕ) {p : SlotState} (r : SlotState) {old : SlotState} (kinds : List StepKind) → (s ≡ i) ⊎ (s ≢ i) → slice_get st.slots s ≡ Some p
+    → next.slots ≡ slice_set st.slots s r → steps st e i ≡ at_slot i s kinds → word_at r ≡ after_all kinds (word_at p)
+    → tickets next s + claims kinds ≡ tickets st s + count_wakes kinds (word_at p) → (s ≢ i → tickets next i ≡ tickets st i) → slice_get st.slots i ≡ Some old → WordMoves st next e i old
+moves_at {st} {e = e} s i {p} r {old} kinds (inl same) there all made word count others here =
+    let was : p ≡ old = let at : slice_get st.slots s ≡ Some old = rw same here in (cc) in
+    let steps_here : steps st e i ≡ kinds = rw (made, eq-eqb s i same) in
+    record {
+      place = r;
+      there = rw (all, ← same) (get-set_same st.slots s p r there);
+      word = rw (steps_here, ← was) (ap words.word_of word);
+      tickets = rw (steps_here, ← was, ← same) count;
+    }
+moves_at {st} {e = e} s i r {old} kinds (inr apart) there all made word count others here =
+    let none : steps st e i ≡ [] = rw (made, ne_eqb s i apart) in
+    record {
+      place = old;
+      there = rw all (get-set_other st.slots s i r apart ∙ here);
+      word = rw none;
+      tickets = rw none (omega (arith, others apart));
+    }
+
+-- an event that makes steps at one slot
+touched : {st next : State} {e : Event} (s : ℕ) {p : SlotState} (r : SlotState) (kinds : List StepKind) → slice_get st.slots s ≡ Some p → next.slots ≡ slice_set st.slots s r
+    → ((i : ℕ) → steps st e i ≡ at_slot i s kinds) → word_at r ≡ after_all kinds (word_at p)
+    → tickets next s + claims kinds ≡ tickets st s + count_wakes kinds (word_at p) → ((i : ℕ) → s ≢ i → tickets next i ≡ tickets st i) → WordsMove st e next
+touched s r kinds there all made word count others i old here = moves_at s i r kinds (cases_eq s i) there all (made i) word count (others i) here
+
+neither : (b : Bool) (none : List StepKind) → none ≡ (if b then none else none)
+neither true none = refl
+neither false none = refl
+
+-- the slot's notes and holder stay, and no step is made
+stays : {st next : State} {e : Event} (s : ℕ) {p : SlotState} (r : SlotState) → slice_get st.slots s ≡ Some p → next.slots ≡ slice_set st.slots s r → ((i : ℕ) → steps st e i ≡ [])
+    → word_at r ≡ word_at p → ((i : ℕ) → tickets next i ≡ tickets st i) → WordsMove st e next
+stays s r there all none word same = touched s r [] there all (λ i. none i ∙ neither (s == i) []) word (omega (arith, same s)) (λ i apart. same i)
+
+-- a note more
+
+noted_word : (p : SlotState) (g : ℕ) → word_at (with_note p g) ≡ after_all (words.post ∷ []) (word_at p)
+noted_word p g = let more : length (p.notes ++ g ∷ []) ≡ suc (length p.notes) = omega (arith, length-append p.notes (g ∷ [])) in rw more
+
+waits : (n : ℕ) → some_wait n ≡ nat_lt 0 n
+waits n = grind (arith, nat_tests)
+
+wakes_so : (held : Bool) (n : ℕ) → (if held then false else (if some_wait n then false else true)) ≡ not (held || nat_lt 0 n)
+wakes_so held n = grind (arith, nat_tests)
+
+posted_words : (st : State) {next : State} {e : Event} (s g : ℕ) (p : SlotState) → ((i : ℕ) → steps st e i ≡ at_slot i s (words.post ∷ [])) → slice_get st.slots s ≡ Some p
+    → next.slots ≡ slice_set st.slots s (with_note p g) → ((i : ℕ) → tickets next i ≡ tickets (posted st s g p) i) → WordsMove st e next
+posted_words st s g p made there all like =
+    let more = handed (of_slot s) (brings_ticket p) s g st.hand (one_same s) in
+    let woken : one (words.wakes (word_at p)) ≡ one (brings_ticket p) = rw (wakes_so (is_held p.holder) (length p.notes)) in
+    let here = like s in
+    touched s (with_note p g) (words.post ∷ []) there all made (noted_word p g) (omega arith) (λ i apart.
+    let same = handed (of_slot i) (brings_ticket p) s g st.hand (one_other s i apart) in
+    let there = like i in
+    omega arith)
+
+-- each event
+
+words_on : (st : State) {e : Event} {q : State} → Turns st → Happens st e q → WordsMove st e q
+words_on st turns (Opens s g p first lies entry) =
+    let f = first_free st s p lies first turns in
+    let new : Ticket = record { slot = s; generation = g + 1 } in
+    let more = total_push (of_slot s) st.hand new in
+    let this = one_same s in
+    touched s (opened_place s (g + 1) st.limits st.second (open_both st.kernel (token_at s Client (g + 1)) (token_at s Target (g + 1))).told) (words.adopt ∷ words.take ∷ words.post ∷ words.release ∷ []) lies refl (λ i. rw first) refl (rw f.holder (omega arith))
+    (λ i apart. let other = one_other s i apart in let same = total_push (of_slot i) st.hand new in omega arith)
+words_on st turns (Hears first) = untouched refl (λ s. rw first) (λ s. refl)
+words_on st turns (Wakes first) = untouched refl (λ s. rw first) (λ s. refl)
+words_on st turns (Passes n first other) = untouched refl (λ s. rw (first, other)) (λ s. refl)
+words_on st turns (Delivers n p first entry lies) = posted_words st n.slot n.generation p (λ i. rw (first, entry, eq-eqb n.generation n.generation refl)) lies refl (λ i. refl)
+words_on st turns (Sweeps s g p entry lies) = posted_words st s g p (λ i. refl) lies refl (λ i. refl)
+words_on st turns (Puts t rest is) = untouched refl (λ s. refl) (λ s. omega (arith, total_push (of_slot s) st.ready t, ap (total (of_slot s)) is))
+words_on st turns (HandsIn w k t rest there is) = untouched refl (λ s. rw there) (λ s.
+    let r = replaced st w (record k { hand = rest }) s 0 there in omega (arith, total_push (of_slot s) st.ready t, ap (total (of_slot s)) is))
+words_on st turns (Pops w k t rest there idle is) = untouched refl (λ s. rw there) (λ s.
+    let r = turned st w (Tries t) s 0 there idle in omega (arith, ap (total (of_slot s)) is))
+words_on st turns (Claims w k t p there does lies) =
+    let s = t.slot in
+    let wait = waiting st w k t p there does lies turns in
+    let this = one_same s in
+    let m = turned st w (Holds s st.limits.budget) s 0 there does in
+    touched s (record p { holder = By w }) (words.claim ∷ []) lies refl (λ i. rw (there, does)) (rw wait.holder) (rw wait.holder (omega arith)) (λ i apart.
+    let away = one_other s i apart in let n = turned st w (Holds s st.limits.budget) i 0 there does in omega arith)
+words_on st turns (Leaves w k t p there does lies held) = absurd (unheld_so st w k t p there does lies turns held)
+words_on st turns (Takes w h) = touched h.s (record h.p { notes = []; connection = Some (heard h.c h.p.notes) }) (words.take ∷ []) h.lies refl (λ i. rw (h.there, h.does)) refl refl (λ i apart. refl)
+words_on st turns (Calls w h r m) = stays h.s (record h.p { connection = Some (after_call m) }) h.lies refl (λ i. rw h.there) refl
+    (λ i. let m = turned st w (Holds h.s (h.left - 1)) i 0 h.there h.does in omega arith)
+words_on st turns (Posts w h) =
+    touched h.s (with_note h.p h.c.pair.generation) (words.post ∷ []) h.lies refl (λ i. rw (h.there, h.does)) (noted_word h.p h.c.pair.generation) (rw (held_slot h turns).holder) (λ i apart. refl)
+words_on st turns (Releases w h may) =
+    let s = h.s in
+    let next : WorkerState = record { doing = Idle; hand = hand_after h } in
+    let held = held_slot h turns in
+    let r = replaced st w next s 0 h.there in
+    let did = doing_so s 0 h.does in
+    let more = handed (of_slot s) (is_nonempty h.p.notes) s h.p.generation h.k.hand (one_same s) in
+    let woken : one (some_wait (length h.p.notes)) ≡ one (is_nonempty h.p.notes) = rw (waits (length h.p.notes)) in
+    touched s (record h.p { holder = Nobody }) (words.release ∷ []) h.lies refl (λ i. rw (h.there, h.does)) (rw held.holder) (omega arith) (λ i apart.
+    let m = replaced st w next i 0 h.there in
+    let a = doing_so i 0 h.does in
+    let x = handed (of_slot i) (is_nonempty h.p.notes) s h.p.generation h.k.hand (one_other s i apart) in
+    omega arith)
+words_on st turns (Expires w h over) = stays h.s _ h.lies refl (λ i. rw h.there) refl (λ i. refl)
+words_on st turns (Closes w h one two at as_well) = stays h.s (record h.p { connection = None }) h.lies refl (λ i. rw h.there) refl
+    (λ i. let m = turned st w (Closed h.s) i 0 h.there h.does in omega arith)
+words_on st turns (Retires w k s p there does lies) =
+    let held = closed_by st w k s p there does lies turns in
+    let m = turned st w (Retired s) s 0 there does in
+    touched s (record p { holder = Free }) (words.retire ∷ []) lies refl (λ i. rw (there, does)) (rw held.holder) (omega arith)
+    (λ i apart. let n = turned st w (Retired s) i 0 there does in omega arith)
+words_on st turns (Frees w k s p there does) = untouched refl (λ i. rw there) (λ i. let m = turned st w Idle i 0 there does in omega arith)
+words_on st turns _ = untouched refl (λ s. refl) (λ s. refl)
+
+-- a step that was made moves the words so, in every world that a run reaches
+pub words_met : (laws : CoreLaws) (st next : State) (e : Event) (r : Result (Unit {0}) Refusal) → Meets (step st e) st next r → IfOk r (λ x. WordsMoveInRuns st e next)
+words_met laws st next e (Ok x) met = λ l events ran. words_on st (turns_after laws l events st ran) (kept_at (step st e) next met (happens st e))
+words_met laws st next e (Err NotAllowed) met = tt
+words_met laws st next e (Err NoMemory) met = tt
