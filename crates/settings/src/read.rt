@@ -1,7 +1,7 @@
 //! Reading a settings text.
 ghost use Rattle.std.specs.{Prelude.{◌≡◌, ◌≢◌, ℕ, ◌≤◌, IfSome, IfNone, IfOk, IfErr, Err, string_bytes, option_map}, Str.IsUtf8};
-ghost use Rattle.toml.specs.{Data.get_member, Errors.IsBlank, View.{view, table_view}};
-ghost use Rattle.settings.specs.{Table.{key_name, setting, an_address, a_number, a_level, a_truth, address, number, level, truth, required, optional}, Document.{Gives, Faults, Refuses, Writes, IsFirstUnknown, HasNoUnknown, IsSettingsOf, IsFaultOf}};
+ghost use Rattle.toml.specs.{Data.{Members, get_member}, Errors.IsBlank, View.{view, table_view}};
+ghost use Rattle.settings.specs.{Table.{key_name, setting, an_address, a_number, a_level, a_truth, address, number, level, truth, required, optional}, Document.{Gives, Faults, Refuses, Writes, IsDocument, IsFirstUnknown, HasNoUnknown, IsSettingsOf, IsFaultOf}};
 
 use crate::addresses::{Address, address_of};
 use crate::faults::{KeyText, SettingsFault};
@@ -15,6 +15,7 @@ use toml::{Table, Value};
 ///
 /// `NoMemory` means that memory ran out, and says nothing about the text; a blank text and bytes that are not UTF-8
 /// need no memory.
+#[tactic(auto, using(crate::proofs::Unknown::named_not_blank))]
 pub fn parse(alloc: Global, bytes: &[u8]) -> Result<Settings, SettingsFault>
     ensures settings { IfOk result (λ s. IsSettingsOf bytes.now s) }
     ensures fault { IfErr result (λ fault. fault ≢ SettingsFault.NoMemory → IsFaultOf bytes.now fault) }
@@ -22,17 +23,30 @@ pub fn parse(alloc: Global, bytes: &[u8]) -> Result<Settings, SettingsFault>
     ensures none { IfErr result (λ fault. fault ≢ SettingsFault.NoMemory → (s : Settings) → ¬ (IsSettingsOf bytes.now s)) }
     ensures memory { result ≡ Err SettingsFault.NoMemory → IsUtf8 bytes.now × (¬ (IsBlank bytes.now)) }
 {
-    let Ok(text) = std::str::from_utf8(bytes) else {
-        return Err(SettingsFault::NotToml);
-    };
-    let document = match toml::table_from_str(alloc, text) {
+    let document = match document_of(alloc, bytes) {
         Ok(document) => document,
-        Err(error) if error.is_memory() => return Err(SettingsFault::NoMemory),
-        Err(_) => return Err(SettingsFault::NotToml),
+        Err(fault) => return Err(fault),
     };
     match first_unknown(&document) {
         Some(name) => Err(unknown_key(alloc, name.as_str())),
         None => Settings::of(&document),
+    }
+}
+
+/// The document that the bytes are.
+fn document_of(alloc: Global, bytes: &[u8]) -> Result<Table, SettingsFault>
+    ensures document { IfOk result (λ document. IsDocument bytes.now (table_view document)) }
+    ensures fault { IfErr result (λ fault. fault ≢ SettingsFault.NoMemory
+        → (fault ≡ SettingsFault.NotToml) × ((document : Members) → ¬ (IsDocument bytes.now document))) }
+    ensures memory { result ≡ Err SettingsFault.NoMemory → IsUtf8 bytes.now × (¬ (IsBlank bytes.now)) }
+{
+    let Ok(text) = std::str::from_utf8(bytes) else {
+        return Err(SettingsFault::NotToml);
+    };
+    match toml::table_from_str(alloc, text) {
+        Ok(document) => Ok(document),
+        Err(error) if error.is_memory() => Err(SettingsFault::NoMemory),
+        Err(_) => Err(SettingsFault::NotToml),
     }
 }
 
