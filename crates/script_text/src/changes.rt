@@ -1,9 +1,8 @@
 //! The lines of a report that an event changes.
 
-use crate::page::{Page, Piece};
+use crate::page::{Page, Piece, put_all};
 use crate::report::{
-    put_past, put_place, put_queue_lines, put_rest_line, put_standing, put_way, put_worker, taken,
-    unread,
+    put_place, put_queue_lines, put_rest_line, put_standing, put_way, put_worker, taken, unread,
 };
 use std::alloc::{AllocError, Global};
 use token::{Direction, Name};
@@ -60,7 +59,7 @@ impl Outline {
         self.put_way(&mut page, world, self.up, Direction::Up);
         self.put_way(&mut page, world, self.down, Direction::Down);
         if let Some(past) = world.past().get(self.past..) {
-            put_past(&mut page, past);
+            put_all(&mut page, past);
         }
         page.finish()
     }

@@ -1,6 +1,6 @@
 // The events in a script of a world.
 ghost use Rattle.std.specs.Prelude.{◌≡◌, ◌≤◌, nat_lt, ◌∷◌, [], None, Err, if◌then◌else◌, option_map};
-ghost use Rattle.script_text.specs.{Events.{word_text, said_of, slot_of, accepting_of, change_event, put_event, call_event, act_event, plain_event, arrival, event_of, generation_of, end_of, name_of, are_names, names_of, reply_of, reported_of}, Texts.{number_of, word_then, if_last, Reads, ReadsBy, full_of}};
+ghost use Rattle.script_text.specs.{Events.{said_of, slot_of, accepting_of, change_event, put_event, call_event, act_event, plain_event, arrival, event_of, generation_of, end_of, name_of, are_names, names_of, reply_of, reported_of}, Texts.{number_of, word_then, if_last, Reads, ReadsBy, full_of}};
 ghost use Rattle.token.specs.Kinds.{kind_named};
 
 use crate::Word;
@@ -20,6 +20,7 @@ const EVENTS: &str =
 
 /// The event that a line of a world's script stands for, or what is wrong with it: the first such word from the left.
 /// If memory ran out for the list that an event has, that is returned instead.
+#[tactic(auto, using(crate::proofs::FirstWords::plain_event_of))]
 pub fn read_event<'a>(alloc: Global, line: &'a [u8]) -> Result<Event, NotRead<'a>>
     ensures { ReadsBy said_of (event_of line.now) result }
 {
@@ -43,7 +44,7 @@ fn arrive<'a>(alloc: Global, mut words: Pieces<'a>) -> Result<Event, NotRead<'a>
 
 /// An event that carries no list.
 fn plain_event(first: Word, words: Pieces<'_>) -> Result<Event, Wrong<'_>>
-    ensures { Reads (plain_event (word_text first) words.entry) result }
+    ensures { Reads (plain_event first words.entry) result }
 {
     match first {
         Word::Tick => tick(words),

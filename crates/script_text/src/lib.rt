@@ -32,7 +32,7 @@ pub use event_line::{put_event, put_header};
 pub use events::read_event;
 pub use header::{Header, read_header};
 pub use lines::{Line, Lines};
-pub use page::{Page, Piece, put_names, put_stream};
+pub use page::{Page, Piece, put_stream};
 pub use readers::{NotRead, Wrong};
 pub use reasons::{
     NOT_HERE, end_reason, ended_reason, event_reason, read_reason, room_reason, wrote_reason,

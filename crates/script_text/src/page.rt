@@ -1,6 +1,6 @@
 //! Text that is written piece by piece.
-ghost use Rattle.std.specs.{Prelude.{◌≡◌, [], Some, None, IfOk, string_bytes, ◌++◌, codes, if◌then◌else◌}, Fmt.decimal};
-ghost use Rattle.script_text.specs.Pages.{Adds, piece_text, pieces_text, name_text, ticket_text, spaced, stream_text, yes_or_no};
+ghost use Rattle.std.specs.{Prelude.{◌≡◌, [], Some, None, IfOk, string_bytes, if◌then◌else◌, flat_map}, Fmt.decimal};
+ghost use Rattle.script_text.specs.Pages.{Adds, piece_text, pieces_text, stream_text, yes_or_no};
 
 use std::alloc::{AllocError, Global};
 use std::marker::Model;
@@ -97,48 +97,68 @@ impl Page {
     }
 }
 
-/// Adds names as a poll has them, each with a space in front.
-pub fn put_names(page: &mut Page, names: &[Name])
-    ensures { Adds page.old page.new (spaced name_text names.now) }
+/// What is written in a list, one after the other.
+pub(crate) trait Listed {
+    ghost use Rattle.std.specs.Prelude.{ℕ, List};
+    ghost use Rattle.script_text.specs.Pages.{Adds};
+
+    ghost text: { Self → List ℕ };
+
+    fn put(&self, page: &mut Page)
+        ensures { Adds page.old page.new (Self.text self.now) };
+}
+
+/// Adds all of a list.
+pub(crate) fn put_all<T: Listed>(page: &mut Page, items: &[T])
+    ensures { Adds page.old page.new (flat_map T.text items.now) }
 {
-    for name in names {
-        put_name(page, name);
+    for item in items {
+        item.put(page);
     }
 }
 
-fn put_name(page: &mut Page, name: &Name)
-    ensures { Adds page.old page.new (codes " " ++ name_text name.now) }
-{
-    match *name {
-        Name::Listener => page.put(&[Piece::Text(" listener")]),
-        Name::Waker => page.put(&[Piece::Text(" waker")]),
-        Name::End(token) => page.put(&[
-            Piece::Named(" ", token.slot() as u64),
-            Piece::Named(".", token.generation()),
-            Piece::Text("."),
-            Piece::Text(token.side().name()),
-        ]),
+/// As a poll has it, with a space in front.
+impl Listed for Name {
+    ghost use Rattle.std.specs.Prelude.{◌++◌, codes};
+    ghost use Rattle.script_text.specs.Pages.{name_text};
+
+    ghost text = { λ name. codes " " ++ name_text name };
+
+    fn put(&self, page: &mut Page) {
+        match *self {
+            Name::Listener => page.put(&[Piece::Text(" listener")]),
+            Name::Waker => page.put(&[Piece::Text(" waker")]),
+            Name::End(token) => page.put(&[
+                Piece::Named(" ", token.slot() as u64),
+                Piece::Named(".", token.generation()),
+                Piece::Text("."),
+                Piece::Text(token.side().name()),
+            ]),
+        }
     }
 }
 
-/// Adds tickets, each with a space in front.
-pub(crate) fn put_tickets(page: &mut Page, tickets: &[Ticket])
-    ensures { Adds page.old page.new (spaced ticket_text tickets.now) }
-{
-    for ticket in tickets {
+impl Listed for Ticket {
+    ghost use Rattle.std.specs.Prelude.{◌++◌, codes};
+    ghost use Rattle.script_text.specs.Pages.{ticket_text};
+
+    ghost text = { λ ticket. codes " " ++ ticket_text ticket };
+
+    fn put(&self, page: &mut Page) {
         page.put(&[
-            Piece::Named(" ", ticket.slot as u64),
-            Piece::Named(".", ticket.generation),
+            Piece::Named(" ", self.slot as u64),
+            Piece::Named(".", self.generation),
         ]);
     }
 }
 
-/// Adds numbers, each with a space in front.
-pub(crate) fn put_numbers(page: &mut Page, numbers: &[usize])
-    ensures { Adds page.old page.new (spaced decimal numbers.now) }
-{
-    for number in numbers {
-        page.put(&[Piece::Named(" ", *number as u64)]);
+impl Listed for usize {
+    ghost use Rattle.std.specs.{Prelude.{◌++◌, codes}, Fmt.decimal};
+
+    ghost text = { λ number. codes " " ++ decimal number };
+
+    fn put(&self, page: &mut Page) {
+        page.put(&[Piece::Named(" ", *self as u64)]);
     }
 }
 

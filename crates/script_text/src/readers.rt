@@ -4,7 +4,7 @@
 //! `token::MAX_GENERATION`, and a poll's `kernel_model::MAX_POLLED`.
 ghost use Rattle.std.specs.{Prelude.{◌≡◌, ◌∷◌, [], MatchResult, IfOk, IfErr, IsSome}, List.list_all};
 ghost use Rattle.token.specs.Sides.{side_named};
-ghost use Rattle.script_text.specs.{Events.{word_text, BeginsOtherwise, slot_of, worker_of}, Texts.{number_of, bytes_of, first_as, word_then, line_end, if_last, full_of, Reads, ReadsBy, Takes, number_below, value_after, is_lower_hex, is_hex_text}};
+ghost use Rattle.script_text.specs.{Events.{word_named, slot_of, worker_of}, Texts.{number_of, bytes_of, first_as, word_then, line_end, if_last, full_of, Reads, ReadsBy, Takes, number_below, value_after, is_lower_hex, is_hex_text}};
 
 use crate::{Bytes, Word};
 use input::{Pieces, is, is_digit, number};
@@ -41,7 +41,7 @@ pub(crate) fn first_word<'a>(
     words: &mut Pieces<'a>,
     wanted: &'static str,
 ) -> Result<Word, Wrong<'a>>
-    ensures { MatchResult result (λ first. words.old ≡ word_text first ∷ words.new) (λ _. BeginsOtherwise words.old) }
+    ensures { Takes (first_as word_named words.old) result words.new }
 {
     let name = word(words, wanted)?;
     match Word::named(name) {

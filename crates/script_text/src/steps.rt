@@ -1,6 +1,6 @@
 // The steps in a script of one direction.
-ghost use Rattle.std.specs.Prelude.{◌≡◌, option_map};
-ghost use Rattle.script_text.specs.{Events.{word_of, word_text, plain_step, arrive_step, step_of}, Texts.{number_of, word_then, if_last, full_of, Reads, ReadsBy}};
+ghost use Rattle.std.specs.Prelude.{◌≡◌, ◌≢◌, option_map};
+ghost use Rattle.script_text.specs.{Events.{word_of, step_by, step_of}, Texts.{number_of, word_then, if_last, full_of, Reads, ReadsBy}};
 
 use crate::Word;
 use crate::readers::{NotRead, Wrong, count, first_word, is_full, last, last_bytes};
@@ -118,7 +118,7 @@ pub fn read_step<'a>(alloc: Global, line: &'a [u8]) -> Result<Step, NotRead<'a>>
 }
 
 fn arrive<'a>(alloc: Global, words: Pieces<'a>) -> Result<Step, NotRead<'a>>
-    ensures { ReadsBy (λ step. step) (arrive_step words.entry) result }
+    ensures { ReadsBy (λ step. step) (step_by Word.Arrive words.entry) result }
 {
     Ok(Step::Arrive(last_bytes(alloc, words)?))
 }
@@ -126,7 +126,8 @@ fn arrive<'a>(alloc: Global, words: Pieces<'a>) -> Result<Step, NotRead<'a>>
 /// A step that carries no bytes.
 #[tactic(auto, using(crate::proofs::FirstWords::other_step))]
 fn plain_step(first: Word, words: Pieces<'_>) -> Result<Step, Wrong<'_>>
-    ensures { Reads (plain_step (word_text first) words.entry) result }
+    requires { first ≢ Word.Arrive }
+    ensures { Reads (step_by first words.entry) result }
 {
     match first {
         Word::Fin => last(Step::Fin, words),
