@@ -1,5 +1,6 @@
 -- What the first word of a line decides on.
-use Rattle.script_text.proofs.Prelude.{◌≡◌, ℕ, ◌<◌, ◌+◌, add-one, sym, List, [], ◌∷◌, None, Some, Option, true, false, if◌then◌else◌, length, drop, drop-cons, get_or, refl, ◌∙◌, bytes_eq, option_map, Word, word_text, said_of, plain_event, event_by, step_by}
+use Rattle.std.{proofs.Common.{◌≡◌, ℕ, ◌<◌, ◌+◌, add-one, sym, List, [], ◌∷◌, None, Some, Option, true, false, if◌then◌else◌, length, drop, drop-cons, get_or, refl, ◌∙◌}, specs.{Str.bytes_eq, Prelude.option_map}}
+use Rattle.script_text.specs.{declared.word.Word.Word, Events.{word_text, said_of, plain_event, event_by, step_by}}
 use Rattle.script_text.specs.declared.word.Word.TheVariants as word
 
 -- the first word of these rows that a text is

@@ -18,7 +18,6 @@ use Rattle.script_text.specs.declared.steps.Step.TheVariants as step
 
 -- The first word of a step or an event, by which a fault names it.
 
--- the first word of a step or an event
 abbrev pub word_text : Word → List ℕ
 word_text word.Accept = codes "accept"
 word_text word.Arrive = codes "arrive"
@@ -111,7 +110,6 @@ pub data Said : Type 0 where
   Polls : List Name → Said
   Plainly : Event → Said
 
--- what an event says
 abbrev pub said_of : Event → Said
 said_of (event.Network slot side (change.Arrive bytes)) = Arrives slot side bytes.items
 said_of (event.Poll (polling.Poll names)) = Polls names.items
@@ -136,7 +134,7 @@ end_of (slot ∷ generation ∷ side ∷ []) =
     (side_named side)) (generation_of generation)) (slot_of slot)
 end_of _ = None
 
--- `listener`, `waker` or the name of an end, whose parts stand between dots
+-- a name as the queue has it
 abbrev pub name_of : List ℕ → Option Name
 name_of word =
     if bytes_eq word (codes "listener") then Some name.Listener
@@ -165,7 +163,6 @@ accepting_of word =
     else if bytes_eq word (codes "starved") then Some accepting.Starved
     else None
 
--- a reply to a call, and what it carries
 abbrev pub reply_of : List (List ℕ) → Option Reply
 reply_of [] = None
 reply_of (name ∷ words) =
@@ -179,7 +176,7 @@ reply_of (name ∷ words) =
     else if bytes_eq name (codes "failed") then word_then kind_named (λ kind. if_last (reply.Failed kind)) words
     else None
 
--- what a report without a cause is about: `listener`, `waker`, or a slot and a side
+-- what a report without a cause is about
 abbrev pub reported_of : List (List ℕ) → Option Reported
 reported_of [] = None
 reported_of (who ∷ words) =
@@ -193,14 +190,12 @@ reported_of (who ∷ words) =
 abbrev pub change_event : Change → List (List ℕ) → Option Event
 change_event change = word_then slot_of (λ slot. word_then side_named (λ side. if_last (event.Network slot side change)))
 
--- `poller`, or the number of a worker
 abbrev pub put_event : List (List ℕ) → Option Event
 put_event [] = None
 put_event (who ∷ words) =
     if bytes_eq who (codes "poller") then if_last (event.Poll polling.Put) words
     else option_and_then (λ worker. if_last (event.Work worker act.Put) words) (worker_of who)
 
--- the next call of the worker of this number gets this reply
 abbrev pub call_event : List (List ℕ) → Option Event
 call_event = word_then worker_of (λ worker words. option_map (λ answer. event.Work worker (act.Call answer)) (reply_of words))
 
@@ -234,7 +229,6 @@ plain_event word.Retire words = act_event act.Retire words
 plain_event word.Free words = act_event act.Free words
 plain_event _ words = None
 
--- a slot, a side, and the bytes that arrive there
 abbrev pub arrival : List (List ℕ) → Option Said
 arrival = word_then slot_of (λ slot. word_then side_named (λ side. word_then bytes_of (λ bytes. if_last (Arrives slot side bytes))))
 
@@ -244,7 +238,6 @@ event_by word.Arrive words = arrival words
 event_by word.Poll words = option_map Polls (names_of words)
 event_by first words = option_map said_of (plain_event first words)
 
--- the event that a line says
 abbrev pub event_of : List ℕ → Option Said
 event_of line = word_then word_named event_by (words_of line)
 
@@ -260,11 +253,9 @@ step_by word.Wrote words = word_then number_of (λ n left. option_map (λ full. 
 step_by word.Shut words = if_last step.Shut words
 step_by _ words = None
 
--- the step that a line says
 abbrev pub step_of : List ℕ → Option Step
 step_of line = word_then word_named step_by (words_of line)
 
--- the first word of a step
 abbrev pub word_of : Step → Word
 word_of (step.Arrive bytes) = word.Arrive
 word_of step.Fin = word.Fin

@@ -14,7 +14,7 @@ use world::{Doing, Event, Polling, Reported, Slot, World};
 pub struct Outline {
     worker: usize,
     slot: usize,
-    /// The lines of the queues, of the worker and of the slot.
+    /// Of the queues, the worker and the slot.
     lines: String,
     up: Way,
     down: Way,
@@ -29,7 +29,6 @@ const NONE: usize = usize::MAX;
 type Way = [usize; 7];
 
 impl Outline {
-    /// The part that this event may change, before it.
     pub fn new(alloc: Global, world: &World, event: &Event) -> Result<Outline, AllocError> {
         let worker = match event {
             Event::Work(worker, _) => *worker,
@@ -64,7 +63,7 @@ impl Outline {
         page.finish()
     }
 
-    /// Adds the line of one direction, if it was another one before.
+    /// Adds the line of one direction if it has changed.
     fn put_way(&self, page: &mut Page, world: &World, before: Way, direction: Direction) {
         if let Some(connection) = world.connection(self.slot) {
             if way(world, self.slot, direction) != before {

@@ -7,7 +7,7 @@ use kernel_model::{Accepting, Reply};
 use token::Side;
 use world::{Act, Change, Event, Limits, Listening, Polling, Reported};
 
-/// Adds the header of a world with these limits, with its end.
+/// Adds the header of a world with these limits, and its end.
 pub fn put_header(page: &mut Page, limits: &Limits) {
     page.put(&[
         Piece::Named("world slots=", limits.slots as u64),
@@ -71,7 +71,6 @@ fn put_reported(page: &mut Page, who: Reported) {
     }
 }
 
-/// What a worker's call gave.
 fn put_call(page: &mut Page, worker: usize, reply: Reply) {
     put_number(page, worker as u64);
     put_word(page, reply_word(reply));

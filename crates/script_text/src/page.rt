@@ -1,4 +1,3 @@
-//! Text that is written piece by piece.
 ghost use Rattle.std.specs.{Prelude.{◌≡◌, [], Some, None, IfOk, string_bytes, if◌then◌else◌, flat_map}, Fmt.decimal};
 ghost use Rattle.script_text.specs.Pages.{Adds, piece_text, pieces_text, stream_text, yes_or_no};
 
@@ -11,9 +10,8 @@ use world::Ticket;
 #[derive(Clone, Copy)]
 pub enum Piece<'a> {
     Text(&'a str),
-    /// A number in decimal digits.
     Number(u64),
-    /// The name of a number, and the number right after it.
+    /// A text, and a number right after it.
     Named(&'a str, u64),
     /// Bytes in lower-case hexadecimal, `-` for none.
     Bytes(&'a [u8]),
@@ -24,7 +22,6 @@ pub enum Piece<'a> {
 pub struct Page {
     alloc: Global,
     text: String,
-    /// The allocator's error, once memory ran out.
     lost: Option<AllocError>,
 }
 
@@ -37,7 +34,7 @@ impl Model for Page {
 }
 
 impl Page {
-    /// An empty text. Allocates no memory.
+    /// An empty text.
     pub fn new(alloc: Global) -> Page
         ensures { result ≡ Some [] }
     {
@@ -162,8 +159,7 @@ impl Listed for usize {
     }
 }
 
-/// Adds what is written of one direction after the bytes that were sent, and a lead: the bytes in the ring, those that
-/// wait unread; whether the end was read, and whether it was passed on.
+/// Adds what is written of one direction after the bytes that were sent, and a lead.
 pub fn put_stream<'a>(page: &mut Page, ring: &'a [u8], unread: &'a [u8], ended: bool, shut: bool)
     ensures { Adds page.old page.new (stream_text ring.now unread.now ended shut) }
 {
@@ -180,14 +176,12 @@ pub fn put_stream<'a>(page: &mut Page, ring: &'a [u8], unread: &'a [u8], ended: 
     ]);
 }
 
-/// A truth value as shown in a report.
 pub(crate) fn yes_or_no(is_so: bool) -> &'static str
     ensures { result.now ≡ yes_or_no is_so }
 {
     if is_so { "yes" } else { "no" }
 }
 
-/// One of two words.
 pub(crate) fn one_of(is_first: bool, first: &'static str, second: &'static str) -> &'static str
     ensures { result.now ≡ (if is_first then first.now else second.now) }
 {

@@ -24,21 +24,19 @@ impl Model for Bytes {
 }
 
 impl Bytes {
-    /// Takes these bytes. Allocates no memory.
+    /// Takes no memory, nor does [`Bytes::into_vec`].
     pub fn new(bytes: Vec<u8>) -> Bytes
         ensures { result ≡ bytes.items }
     {
         Bytes { bytes }
     }
 
-    /// The bytes, in order.
     pub fn as_slice(&self) -> &[u8]
         ensures { result.now ≡ self.now }
     {
         self.bytes.as_slice()
     }
 
-    /// The same bytes as a vector. Allocates no memory.
     pub fn into_vec(self) -> Vec<u8>
         ensures { result.items ≡ self }
     {
@@ -65,21 +63,17 @@ pub enum Step {
     Shut,
 }
 
-/// A step, and its line number in the text, from 1.
+/// A step, and the number of its line in the text, from 1; skipped lines count.
 #[derive(Drop)]
 pub struct NumberedStep {
-    /// The line number; skipped lines count.
     pub line: u64,
-    /// What the line says.
     pub step: Step,
 }
 
-/// An event of a world, and its line number in the text, from 1.
+/// The same of an event of a world.
 #[derive(Drop)]
 pub struct NumberedEvent {
-    /// The line number; skipped lines count.
     pub line: u64,
-    /// What the line says.
     pub event: Event,
 }
 
@@ -104,8 +98,8 @@ impl Step {
 const STEPS: &str =
     "not a step of a flow; one of arrive, end, fin, read, room, shut and wrote is wanted";
 
-/// The step that a line of a script of one direction stands for, or what is wrong with it: the first such word from the
-/// left. If memory ran out for the bytes that a step brings, that is returned instead.
+/// The step that a line of a script of one direction stands for, or the first word from the left that is wrong; or that
+/// memory ran out for the bytes that a step brings.
 pub fn read_step<'a>(alloc: Global, line: &'a [u8]) -> Result<Step, NotRead<'a>>
     ensures { ReadsBy (λ step. step) (step_of line.now) result }
 {

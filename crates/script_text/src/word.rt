@@ -38,7 +38,7 @@ pub enum Word {
     Wrote,
 }
 
-/// All words, in the order of the variants, and how each is written in a script.
+/// Each word at its place, and how it is written.
 static WORDS: [(Word, &str); 29] = [
     (Word::Accept, "accept"),
     (Word::Arrive, "arrive"),
@@ -72,7 +72,6 @@ static WORDS: [(Word, &str); 29] = [
 ];
 
 impl Word {
-    /// The word that a text is, if it is one.
     pub(crate) fn named(text: &[u8]) -> Option<Word>
         ensures { result ≡ word_named text.now }
     {
@@ -84,7 +83,6 @@ impl Word {
         None
     }
 
-    /// The word as written in a script.
     pub fn text(self) -> &'static str
         ensures { result.now ≡ word_text self }
     {

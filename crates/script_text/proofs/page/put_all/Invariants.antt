@@ -1,4 +1,5 @@
-use Rattle.script_text.proofs.Prelude.{List, ℕ, Option, drop, flat_map, Adds}
+use Rattle.std.{proofs.Common.{List, ℕ, Option, drop}, specs.List.flat_map}
+use Rattle.script_text.specs.Pages.{Adds}
 use Rattle.script_text.proofs.page.put_all.Given as goal
 
 -- what is left, added to what is written, is all of it, added to what was written

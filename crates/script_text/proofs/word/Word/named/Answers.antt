@@ -1,4 +1,5 @@
-use Rattle.script_text.{proofs.{Prelude.{refl, ap, sym, ◌∙◌, bytes_eq}, FirstWords.{next_word, this_word}}, specs.Events.word_named}
+use Rattle.std.{proofs.Common.{refl, ap, sym, ◌∙◌}, specs.Str.bytes_eq}
+use Rattle.script_text.{proofs.FirstWords.{next_word, this_word}, specs.Events.word_named}
 use Rattle.script_text.proofs.word.Word.named.Goals as goal
 
 pub loop-word-init : goal.loop-word-init

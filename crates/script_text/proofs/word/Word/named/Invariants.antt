@@ -1,4 +1,5 @@
-use Rattle.script_text.proofs.{Prelude.{◌≡◌, drop, word_named}, FirstWords.word_in}
+use Rattle.std.proofs.Common.{◌≡◌, drop}
+use Rattle.script_text.{specs.Events.word_named, proofs.FirstWords.word_in}
 use Rattle.script_text.proofs.word.Word.named.Given as goal
 
 -- the text is what it is among the rows that are left
