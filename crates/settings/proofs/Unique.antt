@@ -1,5 +1,5 @@
 -- A text has one answer: at most one setting for each key, and no settings where it has a fault.
-use Rattle.std.{proofs.{Common.{◌≡◌, ◌≢◌, ℕ, ◌<◌, ◌^◌, List, length, get_or, Result, Ok, Err, Option, IfSome, IfNone, MatchOption, Bor, ◌++◌, ◌∷◌, sym, ◌∙◌, ap, ap₂, arith, [], map, append_assoc, refl, ◌==◌, Some, None, if◌then◌else◌, pos, subst, inl, inr, All, lit≤}, NetLemmas.{Ipv4.read_ipv4_complete, Options.same_parts}, lemmas.{Str.{Parse.{IsNumeralModel, numerals_by_value, tells_digits, parse_plain, not_in_digits}, Pattern.{IsSplitOnceResult, split_after}}, Fmt.{decimal_digit, first_decimal, decimal_nonempty, digits_decimal, decimal-digits_value, parse-decimal, decimal_injective}, List.Elements.{All-nil, All-cons, All-tail, All-append, All-from_get_or}, Option.same_Some}}, specs.{Fmt.decimal, Int.IsInRange, Net.{Grammar.{IsDotted, IsIpv4Text, Parses}, Reader.read_ipv4}, Result.result_ok, Str.Parse.{AllDigits, digits_value, ParsesUnsigned}, List.join_with_byte, declared.net.ipv4_addr.Ipv4Addr.Ipv4Addr}}
+use Rattle.std.{proofs.{Common.{◌≡◌, ◌≢◌, ℕ, ◌<◌, ◌^◌, List, length, get_or, Result, Ok, Err, Option, IfSome, IfNone, MatchOption, Bor, ◌++◌, ◌∷◌, sym, ◌∙◌, ap, ap₂, arith, [], map, append_assoc, refl, Some, None, pos, subst, inl, inr, All, lit≤}, NetLemmas.{Ipv4.read_ipv4_complete, Options.same_parts}, lemmas.{Str.{Parse.{IsNumeralModel, numerals_by_value, tells_digits, parse_plain, not_in_digits}, Pattern.{IsSplitOnceResult, split_after}}, Fmt.{decimal_digit, first_decimal, decimal_nonempty, digits_decimal, decimal-digits_value, parse-decimal, decimal_injective}, List.Elements.{All-nil, All-cons, All-tail, All-append, All-from_get_or}, Option.same_Some}}, specs.{Fmt.decimal, Int.IsInRange, Net.{Grammar.{IsDotted, IsIpv4Text, Parses}, Reader.read_ipv4}, Result.result_ok, Str.Parse.{AllDigits, digits_value, ParsesUnsigned}, List.join_with_byte, declared.net.ipv4_addr.Ipv4Addr.Ipv4Addr}}
 use Rattle.settings.specs.{Addresses.{IsPlain, SocketAddress, IsAddress, address_text}, Table.{level_name, key_name, setting, Setting, address, number, level, truth, ValueKind, an_address, a_number, a_level, a_truth, Row, row_of, keys}, Document.{HasKind, Writes, Gives, GivesEach, Refuses, IsFirstFault, HasNoUnknown, IsDocument, IsSettingsOf, IsFaultOf}, declared.{table.Key.Key, faults.SettingsFault.{SettingsFault, TheVariants.Missing}, fields.Settings.Settings, levels.LogLevel.{LogLevel, TheVariants.{Off, Error, Warn, Info, Debug, Trace}}}}
 use Rattle.toml.specs.Data.{Data, Members, get_member}
 
@@ -86,21 +86,14 @@ address_once a b p q e =
     (sym (read_ipv4_complete _ a.0 _ (dotted _ a.0 p.0 p.1 refl) (lit≤ tt)) ∙ ap read_ipv4 e ∙ read_ipv4_complete _ b.0 _ (dotted _ b.0 q.0 q.1 refl) (lit≤ tt)) in
     ap₂ (λ x y. (x, y)) numbers (decimal_injective a.1 b.1 (omega (arith, p.2)) (omega (arith, q.2)) (cc ports))
 
-level_by_first : ℕ → LogLevel
-level_by_first c =
-    if c == 111 then Off else if c == 101 then Error else if c == 119 then Warn else if c == 105 then Info else if c == 100 then Debug else Trace
-
-level_by_its_first : (l : LogLevel) → level_by_first (get_or (level_name l) 0 0) ≡ l
-unfolding level_by_first
-level_by_its_first Off = refl
-level_by_its_first Error = refl
-level_by_its_first Warn = refl
-level_by_its_first Info = refl
-level_by_its_first Debug = refl
-level_by_its_first Trace = refl
-
 level_once : (l m : LogLevel) → level_name l ≡ level_name m → l ≡ m
-level_once l m e = sym (level_by_its_first l) ∙ ap (λ text. level_by_first (get_or text 0 0)) e ∙ level_by_its_first m
+level_once Off Off e = refl
+level_once Error Error e = refl
+level_once Warn Warn e = refl
+level_once Info Info e = refl
+level_once Debug Debug e = refl
+level_once Trace Trace e = refl
+level_once _ _ e = absurd (omega (arith, ap (λ (text : List ℕ). get_or text 0 0) e))
 
 -- a value writes one setting
 writes_once : (kind : ValueKind) (d : Data) (v w : Setting) → Writes kind d v → Writes kind d w → v ≡ w
@@ -114,25 +107,19 @@ writes_once a_level d (level l) _ p q = absurd q
 writes_once a_truth d (truth b) _ p q = absurd q
 writes_once _ d _ w p q = absurd p
 
-gives_once_at : (found : Option Data) (kind : ValueKind) (default : Option Setting) (v w : Setting) → MatchOption found (default ≡ Some v) (λ d. Writes kind d v)
+gives_once : (found : Option Data) (kind : ValueKind) (default : Option Setting) (v w : Setting) → MatchOption found (default ≡ Some v) (λ d. Writes kind d v)
     → MatchOption found (default ≡ Some w) (λ d. Writes kind d w) → v ≡ w
-gives_once_at None kind default v w p q = same_Some _ _ (sym p ∙ q)
-gives_once_at (Some d) kind default v w p q = writes_once kind d v w p q
-
-gives_once : (row : Row) (doc : Members) (v w : Setting) → Gives row doc v → Gives row doc w → v ≡ w
-gives_once row doc v w p q = gives_once_at (get_member (key_name row.key) doc) row.kind row.default v w p q
+gives_once None kind default v w p q = same_Some _ _ (sym p ∙ q)
+gives_once (Some d) kind default v w p q = writes_once kind d v w p q
 
 one_document : (text : List ℕ) (doc other : Members) → IsDocument text doc → IsDocument text other → doc ≡ other
 one_document text doc other p q = same_Some _ _ (sym p.1 ∙ q.1)
 
-each_once : (doc : Members) (v w : Key → Setting) → GivesEach doc v → GivesEach doc w → (k : Key) → w k ≡ v k
-each_once doc v w p q k = gives_once (row_of k) doc _ _ (q k) (p k)
-
 -- any settings of a text have the same setting at each key
 pub settings_once : (text : List ℕ) (s t : Settings) → IsSettingsOf text s → IsSettingsOf text t → (k : Key) → setting t k ≡ setting s k
-settings_once text s t p q =
+settings_once text s t p q k =
     let each : GivesEach p.0 (setting t) = subst (λ (doc : Members). GivesEach doc (setting t)) (one_document text q.0 p.0 q.1 p.1) q.3 in
-    each_once p.0 (setting s) (setting t) p.3 each
+    gives_once (get_member (key_name (row_of k).key) p.0) (row_of k).kind (row_of k).default _ _ (each k) (p.3 k)
 
 writes_kind : (kind : ValueKind) (d : Data) (v : Setting) → Writes kind d v → HasKind kind d
 writes_kind (an_address lowest) d (address a) p = rw p.0

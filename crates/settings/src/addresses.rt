@@ -8,8 +8,8 @@ use std::net::Ipv4Addr;
 /// The four numbers of an IPv4 address, from left to right, and a port.
 pub type Address = ([u8; 4], u16);
 
-/// The address that a text stands for: four numbers separated by `.`, then `:` and the port, all decimal without
-/// leading zeros.
+/// The address that a text stands for: four numbers with `.` between them, `:` and the port, all decimal without leading
+/// zeros.
 pub(crate) fn address_of(text: &str) -> Option<Address>
     ensures some { IfSome result (λ a. IsAddress a × (text.now ≡ address_text a)) }
     ensures only { IfSome result (λ a. (b : SocketAddress) → IsAddress b → text.now ≡ address_text b → b ≡ a) }
@@ -32,7 +32,7 @@ pub(crate) fn decimal_number(text: &str) -> Option<u16>
     text.parse::<u16>().ok()
 }
 
-/// Whether the text starts with neither a plus sign nor a leading zero, which `parse` would accept.
+/// Whether a text begins with no plus sign and no leading zero, which `parse` would accept.
 fn is_plain(text: &[u8]) -> bool
     ensures { IsTrue result ↔ IsPlain text.now }
 {

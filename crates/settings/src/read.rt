@@ -1,4 +1,3 @@
-//! Reading a settings text.
 ghost use Rattle.std.specs.{Prelude.{◌≡◌, ◌≢◌, ℕ, ◌≤◌, IfSome, IfNone, IfOk, IfErr, Err, string_bytes, option_map}, Str.IsUtf8};
 ghost use Rattle.toml.specs.{Data.{Members, get_member}, Errors.IsBlank, View.{view, table_view}};
 ghost use Rattle.settings.specs.{Table.{key_name, setting, an_address, a_number, a_level, a_truth, address, number, level, truth, required, optional}, Document.{Gives, Faults, Refuses, Writes, IsDocument, IsFirstUnknown, HasNoUnknown, IsSettingsOf, IsFaultOf}};
@@ -13,8 +12,7 @@ use toml::{Table, Value};
 
 /// The settings of a text, or the first fault in it.
 ///
-/// `NoMemory` means that memory ran out, and says nothing about the text; a blank text and bytes that are not UTF-8
-/// need no memory.
+/// `NoMemory` says nothing about the text. A blank text and bytes that are not UTF-8 need no memory.
 #[tactic(auto, using(crate::proofs::Unknown::named_not_blank))]
 pub fn parse(alloc: Global, bytes: &[u8]) -> Result<Settings, SettingsFault>
     ensures settings { IfOk result (λ s. IsSettingsOf bytes.now s) }
@@ -33,7 +31,6 @@ pub fn parse(alloc: Global, bytes: &[u8]) -> Result<Settings, SettingsFault>
     }
 }
 
-/// The document that the bytes are.
 fn document_of(alloc: Global, bytes: &[u8]) -> Result<Table, SettingsFault>
     ensures document { IfOk result (λ document. IsDocument bytes.now (table_view document)) }
     ensures fault { IfErr result (λ fault. fault ≢ SettingsFault.NoMemory
@@ -50,7 +47,7 @@ fn document_of(alloc: Global, bytes: &[u8]) -> Result<Table, SettingsFault>
     }
 }
 
-/// The fault for an unknown key, whose name it keeps if there is memory for a copy.
+/// The fault that this key is unknown, if there is memory for a copy of its name.
 fn unknown_key(alloc: Global, name: &str) -> SettingsFault
     ensures { result ≢ SettingsFault.NoMemory → result ≡ SettingsFault.UnknownKey name.now }
 {
@@ -73,7 +70,6 @@ fn first_unknown(document: &Table) -> Option<&String>
     None
 }
 
-/// The address of a row's key.
 pub(crate) fn address_at(document: &Table, row: AddressRow) -> Result<Address, SettingsFault>
     ensures gives { IfOk result (λ a. Gives (required row.key (an_address row.lowest_port)) (table_view document.now) (address a)) }
     ensures range { IfOk result (λ a. row.lowest_port ≤ a.1) }
@@ -85,7 +81,6 @@ pub(crate) fn address_at(document: &Table, row: AddressRow) -> Result<Address, S
     }
 }
 
-/// The whole number of a row's key.
 pub(crate) fn number_at(document: &Table, row: NumberRow) -> Result<u32, SettingsFault>
     requires { (row.low ≤ row.default) × (row.default ≤ row.high) }
     ensures gives { IfOk result (λ n. Gives (optional row.key (a_number row.low row.high) (number row.default))
@@ -99,7 +94,6 @@ pub(crate) fn number_at(document: &Table, row: NumberRow) -> Result<u32, Setting
     }
 }
 
-/// The level of a key.
 pub(crate) fn level_at(
     document: &Table,
     key: Key,
@@ -114,7 +108,6 @@ pub(crate) fn level_at(
     }
 }
 
-/// The truth value of a key.
 pub(crate) fn truth_at(document: &Table, key: Key, default: bool) -> Result<bool, SettingsFault>
     ensures gives { IfOk result (λ b. Gives (optional key a_truth (truth default)) (table_view document.now) (truth b)) }
     ensures fault { IfErr result (Faults (optional key a_truth (truth default)) (table_view document.now)) }
@@ -125,14 +118,12 @@ pub(crate) fn truth_at(document: &Table, key: Key, default: bool) -> Result<bool
     }
 }
 
-/// The value that the document has for a key.
 fn value_at(document: &Table, key: Key) -> Option<&Value>
     ensures { option_map (λ v. view v.now) result ≡ get_member (key_name key) (table_view document.now) }
 {
     document.get(key.name())
 }
 
-/// The address that a value stands for, whose port is at least `lowest_port`.
 fn as_address(value: &Value, key: Key, lowest_port: u16) -> Result<Address, SettingsFault>
     ensures writes { IfOk result (λ a. Writes (an_address lowest_port) (view value.now) (address a)) }
     ensures fault { IfErr result (Refuses (an_address lowest_port) key (view value.now)) }
@@ -146,7 +137,6 @@ fn as_address(value: &Value, key: Key, lowest_port: u16) -> Result<Address, Sett
     }
 }
 
-/// The whole number that a value stands for, from `low` to `high`.
 fn as_number(value: &Value, key: Key, low: u32, high: u32) -> Result<u32, SettingsFault>
     ensures writes { IfOk result (λ n. Writes (a_number low high) (view value.now) (number n)) }
     ensures fault { IfErr result (Refuses (a_number low high) key (view value.now)) }
@@ -160,7 +150,6 @@ fn as_number(value: &Value, key: Key, low: u32, high: u32) -> Result<u32, Settin
     }
 }
 
-/// The level that a value names.
 fn as_level(value: &Value, key: Key) -> Result<LogLevel, SettingsFault>
     ensures writes { IfOk result (λ l. Writes a_level (view value.now) (level l)) }
     ensures fault { IfErr result (Refuses a_level key (view value.now)) }
@@ -174,7 +163,6 @@ fn as_level(value: &Value, key: Key) -> Result<LogLevel, SettingsFault>
     }
 }
 
-/// The truth value that a value is.
 fn as_truth(value: &Value, key: Key) -> Result<bool, SettingsFault>
     ensures writes { IfOk result (λ b. Writes a_truth (view value.now) (truth b)) }
     ensures fault { IfErr result (Refuses a_truth key (view value.now)) }
