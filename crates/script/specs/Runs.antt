@@ -1,7 +1,7 @@
 -- What a run writes, given what its reader had. Part of the promises.
 use Rattle.std.specs.{Prelude.{Bool, Result, Ok, ℕ, List, ◌++◌, codes, ◌≡◌, ◌≢◌, ◌⊎◌, [], Option, Some, Err}, Io.KnownBytes.Appends}
 use Rattle.world.specs.{States.{State, opening}, Steps.step, Memory.may_allocate, declared.{limits.Limits.Limits, event.Event.Event}, Runs.run, Headline.HeadlineHolds, Support.SupportHolds}
-use Rattle.script.specs.{declared.{fault.Fault.{Fault, TheVariants.NoMemory}, script.{Script.Script, Reached.Reached}, transfer.Transfer.Transfer, running.Outcome.{Outcome, TheVariants.{Report, Refused}}}, Plans.{WorldPlan, FlowPlan, events_in}, Scripts.{FlowOf, TakesMemory, parsed, said_by}, Transfers.{run_of, KeepsBytes, KeepsEnd}, Faults.{and_then, or_not_allowed, played, fault_text}}
+use Rattle.script.specs.{declared.{fault.Fault.{Fault, TheVariants.NoMemory}, script.{Script.Script, Reached.Reached}, transfer.Transfer.Transfer}, Plans.{WorldPlan, FlowPlan, events_in}, Scripts.{FlowOf, TakesMemory, parsed, said_by}, Transfers.{run_of, KeepsBytes, KeepsEnd}, Faults.{and_then, or_not_allowed, played, fault_text}}
 use Rattle.script_text.specs.{declared.steps.NumberedEvent.NumberedEvent, Events.event_word, Pages.{newline, shown_bytes, stream_text}, WorldReports.world_report}
 use Rattle.script.specs.declared.script.Script.TheVariants as script
 use Rattle.script.specs.declared.script.Reached.TheVariants as reached
@@ -57,11 +57,6 @@ AnswersFault text old new = (fault : Fault) × (LeadsTo text (Err fault) × Appe
 -- the same, or that memory ran out before the script was read, which has a byte at least
 abbrev pub WritesFault : List ℕ → Option (List ℕ) → Option (List ℕ) → Type 0
 WritesFault text old new = AnswersFault text old new ⊎ ((text ≢ []) × Appends old new (fault_line NoMemory))
-
--- what was written of a state: its report, or that there was no memory for it
-abbrev pub Tells : Reached → Outcome → Option (List ℕ) → Option (List ℕ) → Type 0
-Tells reached Report old new = Appends old new (report_of reached)
-Tells reached Refused old new = Appends old new (fault_line NoMemory)
 
 -- the two laws, of the script of one direction that a text is
 abbrev pub EveryByte : List ℕ → Type 0

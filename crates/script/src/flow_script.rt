@@ -25,7 +25,6 @@ impl Model for FlowScript {
 }
 
 impl FlowScript {
-    /// A script of these steps. Allocates no memory.
     pub fn new(ring: usize, steps: Vec<NumberedStep>) -> FlowScript
         requires least { 1 ≤ ring }
         requires most { ring ≤ 65536 }
@@ -34,7 +33,6 @@ impl FlowScript {
         FlowScript { ring, steps }
     }
 
-    /// The steps, in order.
     pub fn steps(&self) -> &[NumberedStep]
         ensures { result.now ≡ self.now.steps }
     {
@@ -53,15 +51,14 @@ impl FlowScript {
         }
     }
 
-    /// The state before the first step. Fails only if there is no memory for its ring.
+    /// The state before the first step.
     pub fn open(&self, alloc: Global) -> Result<Transfer, AllocError>
         ensures { IfOk result (λ transfer. transfer ≡ opening self.now.ring) }
     {
         Transfer::new(alloc, self.ring)
     }
 
-    /// Makes all steps, or those before the first that is refused, which has the fault: it is not allowed, or it is,
-    /// takes memory, and that ran out.
+    /// Makes all steps, or those before the first that is refused, whose fault it gives.
     #[tactic(auto, using(crate::proofs::Playing::played_more, std::proofs::lemmas::Option::gets, std::proofs::lemmas::Grind::common_steps))]
     pub fn play(&self, transfer: &mut Transfer) -> Result<(), Fault>
         ensures { Plays line_stepped line_takes_memory transfer.old self.now.steps result transfer.new }

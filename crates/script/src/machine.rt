@@ -1,5 +1,3 @@
-//! What the steps of a script are made on.
-
 use crate::script::print_transfer;
 use crate::world_script::happen;
 use crate::{Fault, Transfer};
@@ -15,13 +13,12 @@ pub(crate) trait Machine: Drop {
     /// A step, with the number of its line.
     type Step;
 
-    /// Makes a step, or returns the fault of its line.
+    /// Makes a step, or gives the fault of its line.
     fn make(&mut self, step: &Self::Step) -> Result<(), Fault>;
 
     /// Makes a step: the lines of the report after it that are not in the report before.
     fn show(&mut self, alloc: Global, step: &Self::Step) -> Result<String, Fault>;
 
-    /// The report of the state. Fails only if memory for it ran out.
     fn report(&self, alloc: Global) -> Result<String, AllocError>;
 
     /// Why a step is not allowed in this state, for a person.

@@ -1,10 +1,7 @@
-//! How many events of each kind have happened.
-
 use crate::event_line::kind_of;
 use crate::page::{Page, Piece};
 use world::Event;
 
-/// How many kinds are counted.
 const KINDS: usize = 39;
 
 /// The kinds, in the order in which they are printed.
@@ -57,10 +54,8 @@ pub struct Counts {
 }
 
 impl Counts {
-    /// None has happened.
     pub const NONE: Counts = Counts { kinds: [0; KINDS] };
 
-    /// Counts an event.
     pub fn count(&mut self, event: &Event) {
         let (word, more) = kind_of(event);
         for kind in 0..KINDS {
@@ -78,7 +73,6 @@ impl Counts {
         }
     }
 
-    /// How many there are of all kinds.
     pub fn sum(&self) -> u64 {
         let mut sum: u64 = 0;
         for count in &self.kinds {

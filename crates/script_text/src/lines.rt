@@ -1,4 +1,3 @@
-//! The lines of a text.
 ghost use Rattle.std.specs.Prelude.{◌≡◌, ◌∷◌, ◌+◌, ◌<◌, ◌^◌, [], length, MatchOption};
 ghost use Rattle.script_text.specs.Texts.{lines_of, says_nothing, telling_lines};
 
@@ -8,7 +7,7 @@ use std::marker::Model;
 /// A line that is not skipped.
 #[derive(Clone, Copy)]
 pub struct Line<'a> {
-    /// Its number in the text, from 1.
+    /// From 1.
     pub number: u64,
     /// Its bytes, without the line feed.
     pub text: &'a [u8],
@@ -34,7 +33,6 @@ impl<'a> Model for Lines<'a> {
 }
 
 impl<'a> Lines<'a> {
-    /// The lines of a text.
     pub fn new(text: &'a [u8]) -> Lines<'a>
         requires { length text.now < 2 ^ 62 }
         ensures { result ≡ telling_lines 1 (lines_of text.now) }

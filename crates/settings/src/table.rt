@@ -18,28 +18,19 @@ pub fn pollers_for(slots: usize, workers: usize) -> usize
     (slots / LEAST_SLOTS).min(workers).max(1)
 }
 
-/// A key of a settings text, in the order in which keys are read and printed.
+/// A key of a settings text, in the order in which keys are read and printed. [`Settings`](crate::Settings) says what
+/// each is for.
 #[derive(Clone, Copy, Debug, PartialEq, Eq)]
 pub enum Key {
-    /// The address to which clients connect.
     Listen,
-    /// The address to which each connection is forwarded.
     Target,
-    /// Bytes buffered for each direction of a connection.
     Ring,
-    /// The most calls of the core that are made for one connection before another gets its turn.
     Budget,
-    /// Worker threads.
     Workers,
-    /// The maximum number of connections at a time.
     Slots,
-    /// How many connections are opened before the relay ends; 0 for no such limit.
     StopAfter,
-    /// The level of the messages on standard error.
     Log,
-    /// How many seconds a connection may move nothing before it fails; 0 for ever.
     Idle,
-    /// Whether the target is first sent a line with the client's address.
     Proxy,
 }
 
@@ -71,21 +62,20 @@ impl Key {
         }
     }
 
-    /// What stands for the key where a text leaves it out, as it is printed. A key without it is required.
+    /// What stands for the key where a text leaves it out, as it is printed; None of a required key.
     pub fn default(self) -> Option<&'static str>
         ensures { option_map (λ text. text.now) result ≡ option_map setting_text (row_of self).default }
     {
         ROWS[self as usize].default
     }
 
-    /// What the key takes.
     pub(crate) fn takes(self) -> Takes
         ensures { Tells (row_of self).kind result }
     {
         ROWS[self as usize].takes
     }
 
-    /// Whether the key takes a truth value.
+    /// Whether it takes a truth value.
     pub fn takes_truth(self) -> bool
         ensures { IsTrue result ↔ ((row_of self).kind ≡ a_truth) }
     {
@@ -107,14 +97,14 @@ pub(crate) struct AddressRow {
     pub(crate) key: Key,
     /// The lowest port that it takes.
     pub(crate) lowest_port: u16,
-    /// An address that it takes, as it is written.
+    /// Such an address, as it is written.
     pub(crate) example: &'static str,
-    /// What a port alone lacks in front, and what that address stands for.
+    /// What a port alone lacks in front, and what that stands for.
     pub(crate) host: &'static str,
     pub(crate) stands_for: &'static str,
 }
 
-/// A key that takes a whole number, from the low one to the high one.
+/// A key that takes a whole number from `low` to `high`.
 #[derive(Clone, Copy)]
 pub(crate) struct NumberRow {
     pub(crate) key: Key,
@@ -169,7 +159,6 @@ pub(crate) const SLOTS: NumberRow = NumberRow {
     default: 1_024,
 };
 
-/// 0 stands for no limit.
 pub(crate) const STOP_AFTER: NumberRow = NumberRow {
     key: Key::StopAfter,
     low: 0,
@@ -177,7 +166,7 @@ pub(crate) const STOP_AFTER: NumberRow = NumberRow {
     default: 0,
 };
 
-/// In seconds; 0 stands for no limit. The most is a day.
+/// In seconds, up to a day.
 pub(crate) const IDLE: NumberRow = NumberRow {
     key: Key::Idle,
     low: 0,
@@ -188,13 +177,9 @@ pub(crate) const IDLE: NumberRow = NumberRow {
 /// What a key takes.
 #[derive(Clone, Copy)]
 pub(crate) enum Takes {
-    /// An address, as this row says.
     Address(AddressRow),
-    /// A whole number, as this row says.
     Number(NumberRow),
-    /// The name of a level.
     Level,
-    /// A truth value.
     Truth,
 }
 
@@ -205,16 +190,16 @@ pub struct Row {
     /// The key as written in a settings text.
     pub(crate) name: &'static str,
     pub(crate) takes: Takes,
-    /// What stands for the key where a text leaves it out, as it is printed. A key without it is required.
+    /// As [`Key::default`] gives it.
     pub(crate) default: Option<&'static str>,
-    /// Its option. An argument without one is required, and is known by its place.
+    /// Its option. An argument without one is known by its place.
     pub option: Option<&'static str>,
     /// What stands for its value in a help text.
     pub value_name: &'static str,
     pub help: &'static str,
 }
 
-/// The rows, in the order of the keys.
+/// A row for each key, in their order.
 pub static ROWS: [Row; 10] = [
     Row {
         key: Key::Listen,
