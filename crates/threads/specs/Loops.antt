@@ -1,6 +1,6 @@
 -- Why a thread's loop ends, which fault a server ends by, and what a loop does with tickets and with free slots. Part of
 -- the promises.
-use Rattle.std.specs.{Prelude.{◌≡◌, ◌≢◌, ◌⊎◌, ℕ, zero, suc, ◌+◌, ◌<◌, ◌≤◌, ◌==◌, ◌&&◌, Bool, true, false, nat_lt, if◌then◌else◌, Option, Some, None, option_to_list, List, [], ◌∷◌, ◌++◌, length, map, Result, Ok, Err, slice_get}, List.{count_by, flat_map, sum_by, All}}
+use Rattle.std.specs.{Prelude.{◌≡◌, ◌≢◌, ◌⊎◌, ℕ, zero, suc, ◌+◌, ◌-◌, ◌<◌, ◌≤◌, ◌==◌, ◌&&◌, Bool, true, false, nat_lt, if◌then◌else◌, Option, Some, None, option_to_list, List, [], ◌∷◌, ◌++◌, length, map, Result, Ok, Err, slice_get, slice_set, IfSome}, List.{count_by, flat_map, sum_by, All}}
 use Rattle.token.specs.Names.{last_generation}
 use Rattle.claims.specs.{declared.view.Exchange.{Exchange, TheVariants.Adopted}, Seats.SeatState}
 use Rattle.ready.specs.{declared.ticket.Ticket.Ticket, Steps.{EndState, HeldOnce, TookOne}}
@@ -44,9 +44,16 @@ pub record Run : Type 0 where
 abbrev pub tickets_of : List Run → List Ticket
 tickets_of ran = map (λ (run : Run). run.ticket) ran
 
--- what these turns did at their slots
+-- what a turn did at its slot
+abbrev pub act_of : Run → Act
+act_of run = record { ticket = run.ticket; exchanges = run.exchanges }
+
 abbrev pub acts_of : List Run → List Act
-acts_of ran = map (λ (run : Run). record { ticket = run.ticket; exchanges = run.exchanges }) ran
+acts_of ran = map act_of ran
+
+-- the tickets that turns made, in order
+abbrev pub due_from : List Run → List Ticket
+due_from ran = due_of (acts_of ran)
 
 -- how often a slot stands in a list
 abbrev pub times_in : ℕ → List ℕ → ℕ
@@ -68,12 +75,14 @@ fault_in (Err fault) = fault ∷ []
 abbrev pub faults_of : List Run → List ServerFault
 faults_of ran = flat_map (λ (run : Run). fault_in run.answer) ran
 
--- These turns were made by this seat, and nothing else was: each made the exchanges of its answer, in this order, and
--- the tickets that they made are due
-pub record TurnsMade (ran : List Run) (due : List Ticket) (old new : SeatState) : Type 0 where
-  pub each : All (λ run. IsTurnOf old.table.words run.ticket.slot run.answer run.exchanges) ran
+-- its exchanges are those of its answer, in this order
+abbrev pub IsRun : ℕ → Run → Type 0
+IsRun words run = IsTurnOf words run.ticket.slot run.answer run.exchanges
+
+-- this seat made these turns, and nothing else
+pub record TurnsMade (ran : List Run) (old new : SeatState) : Type 0 where
+  pub each : All (IsRun old.table.words) ran
   pub made : ActsMade (acts_of ran) old new
-  pub due_are : due ≡ due_of (acts_of ran)
 
 -- what each of these ends of queues of free slots has taken
 abbrev pub takes_of : List (EndState ℕ) → List (List (ℕ × ℕ))
@@ -94,31 +103,30 @@ pub record SlotsGiven (now_free : List ℕ) (old new : Own) (others others_new :
   pub slots : (slot : ℕ) → times_in slot new.hand.slots + times_given slot (new.free ∷ others_new)
       ≡ times_in slot old.hand.slots + times_given slot (old.free ∷ others) + times_in slot now_free
 
--- One turn with this ticket, by its answer. What was to be put before, and the ticket if it is due again, are put or in
--- hand, and so are free slots
-pub record OneRan (ticket : Ticket) (answer : Result Worked ServerFault) (old new : Own)
-    (others others_new : List (EndState ℕ)) : Type 0 where
-  pub exchanges : List Exchange
-  pub due : List Ticket
-  pub turns : TurnsMade (record { ticket = ticket; answer = answer; exchanges = exchanges } ∷ []) due old.seat new.seat
-  pub tickets : (t : Ticket) → times_of t (tickets_out new) ≡ times_of t (tickets_out old) + times_of t due
-  pub slots : SlotsGiven (freed_by ticket answer) old new others others_new
+-- A worker made these turns. What it was to put before, the tickets that they made, and these that are left, are put or
+-- in hand. It took no free slot, and those that it was to give before, and those that the turns freed, are given or in hand
+pub record WorkerTurns (ran : List Run) (left : List Ticket) (old new : Own) (others others_new : List (EndState ℕ)) : Type 0 where
+  pub turns : TurnsMade ran old.seat new.seat
+  pub tickets : (t : Ticket) → times_of t (tickets_out new)
+      ≡ times_of t (tickets_out old) + (times_of t (due_from ran) + times_of t left)
+  pub slots : SlotsGiven (freed ran) old new others others_new
+
+-- one turn with this ticket, by its answer
+abbrev pub OneRan : Ticket → Result Worked ServerFault → Own → Own → List (EndState ℕ) → List (EndState ℕ) → Type 0
+OneRan ticket answer old new others others_new = (exchanges : List Exchange)
+    × WorkerTurns (record { ticket = ticket; answer = answer; exchanges = exchanges } ∷ []) [] old new others others_new
 
 -- the tickets that a thread has taken out of their queue so far
 abbrev pub tickets_in : Own → List Ticket
 tickets_in own = map (λ (take : ℕ × Ticket). take.1) own.ready.history.taken
 
--- A worker's thread ran each ticket that it took, in order, but for these, which it took last, and its turns met these
--- faults. What it was to put before, the tickets that are due again, and these, are put or in hand. It took no free
--- slot, and those that it was to give before, and those that its turns freed, are given or in hand
+-- A worker's thread ran each ticket that it took, in order, but for these, which it took last and has in hand, and its
+-- turns met these faults
 pub record WorkerRan (left : List Ticket) (faults : List ServerFault) (old new : Own) (others others_new : List (EndState ℕ)) : Type 0 where
   pub ran : List Run
-  pub due : List Ticket
-  pub turns : TurnsMade ran due old.seat new.seat
+  pub did : WorkerTurns ran left old new others others_new
   pub met : faults_of ran ≡ faults
   pub taken : tickets_in new ≡ tickets_in old ++ (tickets_of ran ++ left)
-  pub tickets : (t : Ticket) → times_of t (tickets_out new) ≡ times_of t (tickets_out old) + (times_of t due + times_of t left)
-  pub slots : SlotsGiven (freed ran) old new others others_new
 
 -- why a worker's thread ends: a look found a fault recorded, or it found the queue of tickets closed, and empty at one
 -- moment, or its seat is worn
@@ -148,12 +156,12 @@ pub record Took (ticket : Ticket) (old new : Own) : Type 0 where
 -- that the turns freed, are given or in hand, each once. It took nothing from a queue
 pub record OwnTurnsRan (count : ℕ) (faults : List ServerFault) (old new : Own) : Type 0 where
   pub ran : List Run
-  pub due : List Ticket
   pub each : length ran ≡ count
   pub met : faults_of ran ≡ faults
   pub took : TookNothing old new
-  pub turns : TurnsMade ran due old.seat new.seat
-  pub tickets : (t : Ticket) → times_of t (tickets_out new) + times_of t (tickets_of ran) ≡ times_of t (tickets_out old) + times_of t due
+  pub turns : TurnsMade ran old.seat new.seat
+  pub tickets : (t : Ticket) → times_of t (tickets_out new) + times_of t (tickets_of ran)
+      ≡ times_of t (tickets_out old) + times_of t (due_from ran)
   pub slots : (slot : ℕ) → times_in slot (slots_out new) ≡ times_in slot (slots_out old) + times_in slot (freed ran)
 
 -- the thread ended by the fault that its seat is worn, and it is
@@ -295,6 +303,14 @@ PollerEnded why old new = PollerRan old new ⊎ RoundWorn why old new
 -- poller with this number
 abbrev pub OthersKept : ℕ → List (EndState ℕ) → List (EndState ℕ) → Type 0
 OthersKept poller old new = (other : ℕ) → other ≢ poller → slice_get new other ≡ slice_get old other
+
+-- A worker exchanges its end of the first poller's queue, which it uses, with that of the poller with this number, if it
+-- has one. The others are of the other pollers, in order
+pub record Changes (poller : ℕ) (used used_new : EndState ℕ) (others others_new : List (EndState ℕ)) : Type 0 where
+  pub first : poller ≡ 0 → (used_new ≡ used) × (others_new ≡ others)
+  pub other : poller ≢ 0 → IfSome (slice_get others (poller - 1)) (λ end. (used_new ≡ end)
+      × (others_new ≡ slice_set others (poller - 1) used))
+  pub none : slice_get others (poller - 1) ≡ None → (used_new ≡ used) × (others_new ≡ others)
 
 -- none changed but the one of the poller whose slot this is
 abbrev pub GivesToOwner : Split → ℕ → List (EndState ℕ) → List (EndState ℕ) → Type 0
