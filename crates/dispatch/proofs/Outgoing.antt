@@ -1,16 +1,9 @@
 -- What an end of a queue has put, and after it what is in hand.
-use Rattle.std.{proofs.{Common.{◌≡◌, ℕ, List, [], ◌∷◌, ◌++◌, drop, slice_get, sym, refl, ◌∙◌, append_assoc}, lemmas.{List.{map-append, append-nil}, Option.{none-some, same_Some}}}, specs.Prelude.{Some, map}}
+use Rattle.std.{proofs.{Common.{◌≡◌, ℕ, List, [], ◌∷◌, ◌++◌, sym, refl, ◌∙◌, append_assoc}, lemmas.List.{map-append, append-nil}}, specs.Prelude.map}
 use Rattle.ready.specs.{declared.{history.History.History, ticket.Ticket.Ticket}, Steps.{PutOne, EndState}}
 use Rattle.dispatch.specs.{declared.shared.Own.Own, Hands.HandState, Outgoing.{outgoing, Inserted, TookNothing, tickets_out, slots_out}}
 
 module _ {T : Type 0} where
-  -- the oldest of what is in hand is put
-  pub put_oldest : (old new : History T) (item : T) (before left : List T) →
-      slice_get before 0 ≡ Some item → left ≡ drop 1 before → PutOne old item new →
-      outgoing new left ≡ outgoing old before
-  put_oldest old new item [] left is rest put = absurd (none-some item is)
-  put_oldest old new item (x ∷ xs) left is rest put = rw (put.put, rest, map-append, append_assoc, same_Some x item is)
-
   -- an item that was not in hand is put
   pub put_inserts : (old new : History T) (item : T) (hand : List T) → PutOne old item new →
       Inserted item (outgoing old hand) (outgoing new hand)

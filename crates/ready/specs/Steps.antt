@@ -1,5 +1,5 @@
--- What a call shows the end that made it. Part of the promises. The state is some state that meets the rule, since no
--- clause can name what other threads do, but the end's own history stands in it.
+-- What a call shows the end that made it: of some state that meets the rule, in which its own history stands, since no
+-- clause can name what other threads do. Part of the promises.
 use Rattle.std.specs.{Prelude.{◌≡◌, ℕ, ◌+◌, ◌^◌, ◌==◌, Bool, not, bit_and, true, false, List, [], ◌∷◌, ◌++◌, length, map, slice_set}, List.range_with_len}
 use Rattle.ready.specs.{declared.history.History.History, Rule.QueueRule}
 use mathlib.Core.Option.{some}
@@ -77,8 +77,7 @@ in_order first slots = map (λ (place : ℕ). (place, first + place)) (range_wit
 abbrev pub opened : ℕ → ℕ → EndState ℕ
 opened first slots = record { capacity = slots; history = record blank { put = in_order first slots } }
 
--- One step on the bits of the idle ends, with its answer: the bits; or bits that were set or cleared, and what was
--- there before
+-- One step on the bits of the idle ends: the bits; or bits that were set or cleared, and what was there before
 pub data BitStep : Type 0 where
   ReadBits : ℕ → BitStep
   SetBits : ℕ → ℕ → BitStep

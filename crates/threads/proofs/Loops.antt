@@ -1,11 +1,11 @@
 -- What the calls of a thread's loop do with the tickets that it is obliged to put.
-use Rattle.std.{proofs.{Common.{◌≡◌, ◌≢◌, ℕ, zero, suc, ◌+◌, ◌-◌, ◌<◌, ◌≤◌, Bool, true, false, cond, List, [], ◌∷◌, ◌++◌, length, length-append, length-set, sym, ◌∙◌, refl, ap, arith, inl, inr, append_assoc}, lemmas.{List.{get_or-set_same, map-append, append-nil, set-set, Concat.flat_map-append, Elements.{All-append, All-head, All-map, All-tail, All-weaker}, Sums.{sum_by-append, sum_by-cons, sum_by-set}}, Option.{get_or_from_slice_get, slice_get-get_or, slice_get_read, slice_get_within}, Bool.{ltb-true, ltb-false, cases_lt}}, Math.{ListN.get_or, Seq.map-set_same}}, specs.{List.{All, flat_map, slice_set}, Prelude.{◌==◌, ◌&&◌, Option, Some, None, Result, Ok, Err, IfSome, slice_get, map, nat_lt, if◌then◌else◌, OnSome, IfErr, ◌⊎◌}}}
+use Rattle.std.{proofs.{Common.{◌≡◌, ◌≢◌, ℕ, zero, suc, ◌+◌, ◌-◌, ◌<◌, ◌≤◌, Bool, true, false, cond, List, [], ◌∷◌, ◌++◌, length, length-append, length-set, sym, ◌∙◌, refl, ap, arith, inl, inr, append_assoc}, lemmas.{List.{get_or-set_same, map-append, append-nil, set-set, Concat.flat_map-append, Elements.{All-append, All-head, All-map, All-tail, All-weaker}, Sums.{sum_by-append, sum_by-cons, sum_by-set}}, Result.IfErr-weaker, Option.{get_or_from_slice_get, slice_get-get_or, slice_get_read, slice_get_within}, Bool.{ltb-true, ltb-false, cases_lt}}, Math.{ListN.get_or, Seq.map-set_same}}, specs.{List.{All, flat_map, slice_set}, Prelude.{◌==◌, ◌&&◌, Option, Some, None, Result, Ok, Err, IfSome, slice_get, map, nat_lt, if◌then◌else◌, OnSome, IfErr, ◌⊎◌}}}
 use Rattle.claims.specs.{declared.view.Exchange.Exchange, Views.minted_by, Seats.SeatState}
 use Rattle.ready.specs.{declared.ticket.Ticket.Ticket, Steps.{EndState, HeldOnce}}
 use Rattle.relay_log.specs.declared.faults.ServerFault.{ServerFault, TheVariants.Worn}
 use Rattle.dispatch.{proofs.Outgoing.took_both, specs.{declared.shared.Own.Own, Hands.HandState, Outgoing.{Inserted, outgoing, tickets_out, slots_out, without_first, TookNothing}, Heavy.looked_at, Limits.own_turns, Posts.OnlyWorn}}
 use Rattle.turns.specs.{declared.worker.Worked.Worked, Shares.{AreShared, OneShared, TicketsShared}, Turns.{TicketsKept, SlotGiven, SlotsKept, IsTurnOf, TurnMade, OwnTurn, program}}
-use Rattle.threads.{proofs.Divided.End, specs.{declared.ending.{Ended.Ended, Why.{Why, TheVariants.{FaultFound, QueueClosed, Met}}}, Loops.{faults_by, times_of, times_in, freed_by, freed, Run, tickets_of, act_of, acts_of, due_from, fault_in, faults_of, IsRun, TurnsMade, takes_of, times_by, times_given, SlotsGiven, Changes, OthersKept, OneRan, tickets_in, Took, WorkerMayEnd, WorkerEnded, WorkerRan, OwnTurnsRan, SharedAndRan, TurnsCut, WornEnd, NoTicketTaken, Asked, RoundCut, StepMade, StepCut, StepsMade, IsPollerAct, PollerRan, PollerEnded, opened_by, openings_of}}}
+use Rattle.threads.{proofs.Divided.End, specs.{declared.ending.{Ended.Ended, Why.{Why, TheVariants.{FaultFound, QueueClosed, Met}}}, Loops.{faults_by, times_of, times_in, freed_by, freed, Run, tickets_of, act_of, acts_of, due_from, fault_in, faults_of, IsRun, TurnsMade, takes_of, times_by, times_given, SlotsGiven, Changes, OthersKept, OneRan, tickets_in, Took, WorkerMayEnd, WorkerEnded, WorkerRan, OwnTurnsRan, SharedAndRan, TurnsCut, WornEnd, NoTicketTaken, Asked, RoundMade, RoundCut, TurnsAfter, StepCut, StepsMade, IsPollerAct, PollerRan, PollerEnded, opened_by, openings_of}}}
 use Rattle.rounds.{specs.{Pollers.PollerState, Rounds.{RoundDone, RoundRefused, ListenerKept}, Acts.{Act, made_by, due_of, IsPost, IsTry, at_slot}, Openings.slots_in}, proofs.Acts.{all_none, all_one, acts_none, acts_one, acts_both, at_slot-append, due-append}}
 use Rattle.turns.specs.declared.worker.Worked.TheVariants as worked
 
@@ -253,13 +253,16 @@ one_ran {p = p} {t = t} {answer = answer} {a = a} {c = c} {g = g} {h = h} {hand 
       },
     )
 
--- a turn was refused, by which its caller ends
+-- a turn was refused, by which its caller ends: its seat was worn
+pub ended_worn : {T : Type 0} {why : Why} {answer : Result T ServerFault} (P : Result T ServerFault → Type 0) (b : Own)
+    → (fault : ServerFault) × (answer ≡ Err fault) × (why ≡ Met fault) → IfErr answer (λ fault. OnlyWorn fault b.seat) → P answer → P (Err Worn) × WornEnd why b
+ended_worn P b (fault, is, was) worn ran = let only : OnlyWorn fault b.seat = rw is at worn in (rw (is, only.0) at ran, (rw only.0 at was, only.1))
+
 pub turn_worn : {t : Ticket} {answer : Result Worked ServerFault} {a b : Own} {xs ys : List End} (said : Result Worked Ended)
     → IfErr said (λ ended. (fault : ServerFault) × (answer ≡ Err fault) × (ended.why ≡ Met fault)) → IfErr answer (λ fault. OnlyWorn fault b.seat) → OneRan t answer a b xs ys
     → IfErr said (λ ended. OneRan t (Err Worn) a b xs ys × WornEnd ended.why b)
-turn_worn (Ok worked) met worn ran = tt
-turn_worn {b = b} (Err ended) (fault, is, was) worn ran =
-    let only : OnlyWorn fault b.seat = rw is at worn in (rw only.0 at (rw is at ran), (rw only.0 at was, only.1))
+turn_worn {t} {a = a} {b = b} {xs = xs} {ys = ys} said met worn ran =
+    IfErr-weaker said _ _ (λ ended met. ended_worn (λ answer. OneRan t answer a b xs ys) b met worn ran) met
 
 -- A poller
 
@@ -347,13 +350,8 @@ own_turn_ran words (t ∷ ts) (Ok None) a b same is took turn none = tt
 own_turn_ran words (t ∷ ts) (Ok (Some worked)) a b same is took turn none = own_one same is took turn
 own_turn_ran words (t ∷ ts) (Err fault) a b same is took turn none = own_one same is took turn
 
-pub own_worn : {why : Why} {answer : Result (Option Worked) ServerFault} {a b : Own} → (fault : ServerFault) × (answer ≡ Err fault) × (why ≡ Met fault)
-    → IfErr answer (λ fault. OnlyWorn fault b.seat) → OwnRan answer a b → OwnTurnsRan 1 (faults_by why) a b × WornEnd why b
-own_worn {b = b} (fault, is, was) worn ran =
-    let only : OnlyWorn fault b.seat = rw is at worn in (rw was (rw is at ran), (rw only.0 at was, only.1))
-
 -- in the next turn the seat was worn
-pub cut_worn : {count : ℕ} {why : Why} {p r q : PollerState} {a b c : Own} → WornEnd why c → SharedAndRan count [] p r a b → OwnTurnsRan 1 (faults_by why) b c
+pub cut_worn : {count : ℕ} {why : Why} {p r q : PollerState} {a b c : Own} → WornEnd why c → SharedAndRan count [] p r a b → OwnTurnsRan 1 (Worn ∷ []) b c
     → q ≡ record p { heavy = q.heavy } → count < own_turns → TurnsCut why p q a c
 cut_worn {count} worn made turn poller few = record {
   count = count;
@@ -361,7 +359,7 @@ cut_worn {count} worn made turn poller few = record {
     heavy = made.heavy;
     shared = made.shared;
     sharing = made.sharing;
-    turns = rw worn.0 (rw worn.0 at (own_both made.turns turn));
+    turns = rw worn.0 (own_both made.turns turn);
     poller = poller;
   };
   few = few;
@@ -481,8 +479,8 @@ turns_ran {a = a} {b = b} made =
           rw (turns_open_none words made.turns.ran made.turns.turns.each) (omega (arith, made.turns.slots s, ap (times_in s) taken, ap (times_in s) out)));
     }
 
-pub step_ran : {said : Bool → Type 0} {p q : PollerState} {a b : Own} → StepMade said p q a b → PollerRan a b
-step_ran step = ran_both (round_ran step.round.round step.round.took) (turns_ran step.turns.made)
+pub step_ran : {said : Bool → Type 0} {p q r : PollerState} {a b c : Own} → RoundMade said p q a b → TurnsAfter q r b c → PollerRan a c
+step_ran round turns = ran_both (round_ran round.round round.took) (turns_ran turns.made)
 
 pub cut_ran : {said : Bool → Type 0} {why : Why} {p q : PollerState} {a b : Own} → StepCut said why p q a b → PollerEnded why a b
 cut_ran (inl same) = inl (rw same.own ran_none)
@@ -492,7 +490,7 @@ cut_ran (inr (inr step)) = inl (ran_both (round_ran step.round.round step.round.
 
 pub steps_ran : (said : Bool → Type 0) (steps : ℕ) (p q : PollerState) (a b : Own) → StepsMade said steps p q a b → PollerRan a b
 steps_ran said zero p q a b same = rw same.1 ran_none
-steps_ran said (suc steps) p q a b (r, c, before, last) = ran_both (steps_ran said steps p r a c before) (step_ran last)
+steps_ran said (suc steps) p q a b (r, c, before, last) = ran_both (steps_ran said steps p r a c before) (step_ran last.round last.turns)
 
 pub ran_then : {why : Why} {a b c : Own} → PollerRan a b → PollerEnded why b c → PollerEnded why a c
 ran_then before (inl last) = inl (ran_both before last)

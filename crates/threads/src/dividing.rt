@@ -84,45 +84,29 @@ where
     ensures slots { IfOk result (λ threads. All (λ thread. IsEndOf rest.old.free thread.number thread.own.free) threads.items) }
     ensures left { OnOk result (AreLeft rest.old.free rest.new.free) }
 {
+    let slots = shared.claims.slots();
     let count = pollers.len();
     let mut threads = Vec::with_capacity(alloc, count)?;
     for _thread in 0..count {
         match pollers.pop() {
             Some(poller) => {
-                threads.push_reserved(next_poller(alloc, shared, rest, pollers.len(), poller)?);
+                if poller.table().len() != slots {
+                    return Err(ServerFault::NoMemory);
+                }
+                let number = pollers.len();
+                let (shared, own) = rest.next_own(alloc, shared, number, poller_hand(slots))?;
+                let thread = PollerThread {
+                    shared,
+                    number,
+                    own,
+                    poller,
+                };
+                threads.push_reserved(thread);
             }
             None => unreachable!(),
         }
     }
     Ok(threads)
-}
-
-fn next_poller<F: Front + Drop>(
-    alloc: Global,
-    shared: &Arc<Shared<F>>,
-    rest: &mut Rest,
-    number: usize,
-    poller: Poller<F>,
-) -> Result<PollerThread<F>, ServerFault>
-where
-    F::Waker: Drop,
-    requires { AreFresh (arc_value shared.now).claims rest.old.parts.seats.items }
-    ensures fresh { OnOk result (AreFresh (arc_value shared.now).claims rest.new.parts.seats.items) }
-    ensures poller { IfOk result (λ thread. (thread.number ≡ number) × (thread.poller ≡ poller)) }
-    ensures slots { IfOk result (λ thread. IsEndOf rest.old.free number thread.own.free) }
-    ensures left { OnOk result (AreLeft rest.old.free rest.new.free) }
-{
-    let slots = shared.claims.slots();
-    if poller.table().len() != slots {
-        return Err(ServerFault::NoMemory);
-    }
-    let (shared, own) = rest.next_own(alloc, shared, number, poller_hand(slots))?;
-    Ok(PollerThread {
-        shared,
-        number,
-        own,
-        poller,
-    })
 }
 
 /// The room of the hand of a poller's thread: for all that two rounds may put there.
@@ -152,33 +136,17 @@ where
         if usize::MAX - first < index {
             return Err(ServerFault::NoMemory);
         }
-        made.push_reserved(next_worker(alloc, shared, rest, first + index)?);
+        let others = rest.other_ends(alloc)?;
+        let (shared, own) = rest.next_own(alloc, shared, 0, WORKER_HAND)?;
+        let worker = Worker {
+            shared,
+            number: first + index,
+            own,
+            others,
+        };
+        made.push_reserved(worker);
     }
     Ok(made)
-}
-
-fn next_worker<F: Front + Drop>(
-    alloc: Global,
-    shared: &Arc<Shared<F>>,
-    rest: &mut Rest,
-    number: usize,
-) -> Result<Worker<F>, ServerFault>
-where
-    F::Waker: Drop,
-    requires { AreFresh (arc_value shared.now).claims rest.old.parts.seats.items }
-    ensures fresh { OnOk result (AreFresh (arc_value shared.now).claims rest.new.parts.seats.items) }
-    ensures number { IfOk result (λ worker. worker.number ≡ number) }
-    ensures slots { IfOk result (λ worker. HasOneOfEach rest.old.free (worker.own.free ∷ worker.others.items)) }
-    ensures left { OnOk result (AreLeft rest.old.free rest.new.free) }
-{
-    let others = rest.other_ends(alloc)?;
-    let (shared, own) = rest.next_own(alloc, shared, 0, WORKER_HAND)?;
-    Ok(Worker {
-        shared,
-        number,
-        own,
-        others,
-    })
 }
 
 impl Rest {

@@ -6,7 +6,7 @@ ghost use Rattle.relay_log.specs.declared.faults.ServerFault.TheVariants.{Worn};
 ghost use Rattle.threads.specs.{declared.ending.Why.Why, Loops.{Changes, GivesToOwner, OneRan, WorkerEnded, WorkerRan, WornEnd}};
 
 use crate::context::Context;
-use crate::ending::{Cleared, Ended, NoFault, take};
+use crate::ending::{Cleared, Ended, take};
 use dispatch::{Clock, Front, Gate, Hand, Own, Shared, give_slots, put_tickets};
 use log::Log;
 use ready::FreeQueue;
@@ -40,7 +40,7 @@ where
         self.finish(context, ended);
     }
 
-    /// The thread has ended. A fault of its own is recorded, and ends all other threads.
+    /// The thread has ended, as [`Context::end`] says.
     pub fn finish<G: Gate, C: Clock, R: Wait + Log, S>(
         &mut self,
         context: &Context<'_, G, C, R, S>,
@@ -89,28 +89,6 @@ where
             thread::yield_now();
             return Ok(());
         }
-        self.run_next(context, seen)
-    }
-
-    /// Puts the tickets in hand, as far as their queue has room.
-    fn put_hand(&mut self, rt: &impl Wait)
-        ensures ran { WorkerRan [] [] self.old.own self.new.own self.old.others.items self.new.others.items }
-        ensures put { PutAll self.new.own.ready self.new.own.hand.tickets }
-    {
-        put_tickets(rt, &mut self.own.ready, &mut self.own.hand);
-    }
-
-    /// Takes a ticket, and runs its turn.
-    fn run_next<G: Gate, C: Clock, R: Wait + Log, S>(
-        &mut self,
-        context: &Context<'_, G, C, R, S>,
-        seen: NoFault,
-    ) -> Result<(), Ended>
-        requires room { HasRoom self.old.own.hand }
-        requires put { PutAll self.old.own.ready self.old.own.hand.tickets }
-        ensures ran { OnOk result (WorkerRan [] [] self.old.own self.new.own self.old.others.items self.new.others.items) }
-        ensures cut { IfErr result (λ ended. WorkerEnded ended.why self.old.own self.new.own self.old.others.items self.new.others.items) }
-    {
         let ticket = match take(context.rt, &mut self.own, seen) {
             Ok(ticket) => ticket,
             Err(ended) => return Err(ended),
@@ -125,6 +103,14 @@ where
                 Err(ended)
             }
         }
+    }
+
+    /// Puts the tickets in hand, as far as their queue has room.
+    fn put_hand(&mut self, rt: &impl Wait)
+        ensures ran { WorkerRan [] [] self.old.own self.new.own self.old.others.items self.new.others.items }
+        ensures put { PutAll self.new.own.ready self.new.own.hand.tickets }
+    {
+        put_tickets(rt, &mut self.own.ready, &mut self.own.hand);
     }
 
     /// Runs a turn. If its connection ends, its slot goes back to the poller that has it.

@@ -8,7 +8,7 @@ returns g c =
     let two = c.change_end-2.ensures in
     let worked = c.worker_turn-worked.ensures in
     let gives = c.give_until_empty.ensures in
-    let ran = one_ran (search rules) one worked.made gives.tickets gives.took gives.slots two in
+    let ran = one_ran {hand = c.give_until_empty.new.hand} (search rules) one worked.made gives.tickets gives.took gives.slots two in
     record {
       ran = IfOk-weaker c.on_fault.result _ _ (λ answer is. rw is at ran) c.on_fault.ensures.good;
       cut = turn_worn c.on_fault.result c.on_fault.ensures.met worked.worn ran;
