@@ -9,15 +9,14 @@ pub trait Clock {
     // Which seconds it may show, if it says so.
     ghost tells: { Self → ℕ → Type 0 } = { λ _ _. Unit {0} };
 
-    /// The second that it shows now. This never waits.
+    /// This never waits.
     fn second(&self) -> u64
         ensures { tells self.now result };
 }
 
-/// The clock and the idle limit of a server, which are lent to turns and rounds.
+/// A server's clock and idle limit.
 #[derive(Clone, Copy)]
 pub struct Timing<'a, C> {
-    /// From where the second is read.
     pub clock: &'a C,
     /// After this many seconds in which it moved nothing a connection without a call worth trying fails. 0: it never
     /// does.
@@ -37,16 +36,12 @@ impl<'a, C: Clock> Timing<'a, C> {
     }
 }
 
-/// What is called once all threads have been started, and before and after each turn, so that a test can hold a turn
-/// back.
+/// What the threads call, so that a test can hold a turn back.
 pub trait Gate {
-    /// All threads have been started. The thread that serves calls this once, before it polls.
+    /// All threads have been started. The thread that serves calls this before it polls.
     fn all_started(&self) {}
 
-    /// A turn at this slot is about to begin.
     fn before_turn(&self, slot: usize);
-
-    /// A turn at this slot has ended.
     fn after_turn(&self, slot: usize);
 }
 

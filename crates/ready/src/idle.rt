@@ -27,12 +27,10 @@ impl IdleEnds {
         }
     }
 
-    /// Reads the mark of a closed queue.
     pub(crate) fn mark(&self) -> MarkSeen {
         self.mark.read()
     }
 
-    /// Marks an end as idle.
     pub(crate) fn announce(&self, sleeper: &Sleeper, empty: FoundEmpty) -> Announced
         requires open { empty.0.closed ≢ true }
         ensures { result.end ≡ sleeper.now.number }
@@ -40,9 +38,8 @@ impl IdleEnds {
         sleeper.announce(&self.idle, empty)
     }
 
-    /// Marks the end as awake, after its last look at the queue or its sleep, and gives back what the look found.
-    ///
-    /// If it found something, and another put had spent its wake on this end, the wake is passed on.
+    /// Marks the end as awake, after its last look at the queue or its sleep, and gives back what the look found. If that is
+    /// a ticket, and another put had spent its wake on this end, the wake is passed on.
     pub(crate) fn withdraw(
         &self,
         rt: &impl Wait,
@@ -81,7 +78,7 @@ impl IdleEnds {
         unreachable!()
     }
 
-    // The end with the lowest number that is still idle, of those that were idle when the bits were read.
+    // The first end that is still idle, of those that were when the bits were read.
     fn woken_of(&self, idle: u64) -> Option<Woken>
         ensures { IfSome result (λ woken. woken.end < vec_len self.now.unparkers) }
     {
@@ -95,7 +92,6 @@ impl IdleEnds {
         None
     }
 
-    /// Sets the mark and wakes every end.
     pub(crate) fn close(&self) {
         let seen = self.mark.set();
         self.wake_all(&seen);

@@ -42,8 +42,8 @@ pub struct Context<'a, G, C, R, S = AtomicBool> {
 }
 
 impl<G, C, R: Wait, S> Context<'_, G, C, R, S> {
-    /// The loop of the thread with this number has ended. A fault is recorded, which ends all others: workers that
-    /// sleep are woken, and so are the pollers.
+    /// The loop of the thread with this number has ended. A fault is recorded and ends all others: those that sleep are
+    /// woken.
     pub fn end<F: Front>(
         &self,
         shared: &Shared<F>,
@@ -61,7 +61,6 @@ impl<G, C, R: Wait, S> Context<'_, G, C, R, S> {
         Some(recorded)
     }
 
-    /// Wakes all pollers.
     pub(crate) fn wake_pollers<F: Front>(&self, shared: &Shared<F>)
         ensures { AllWoken (F.woke shared.now.waker) self.now.split }
     {
