@@ -20,13 +20,11 @@ pub fn answers_pass_end_last()
 {}
 
 /// The end of a direction is seen when a call of that direction is answered with an end, and this is final.
-#[tactic(auto, using(crate::proofs::Pairs::only_ends_are_seen))]
 pub fn only_ends_are_seen()
     ensures { OnlyEndsAreSeen }
 {}
 
 /// No answer changes the slot, the generation or the capacity of a ring.
-#[tactic(auto, using(crate::proofs::Pairs::answers_keep_place))]
 pub fn answers_keep_place()
     ensures { AnswersKeepPlace }
 {}
@@ -44,7 +42,6 @@ pub fn answers_are_to_next_calls()
 {}
 
 /// There is a next call only while the pair is live.
-#[tactic(auto, using(crate::proofs::Pairs::calls_come_while_live))]
 pub fn calls_come_while_live()
     ensures { CallsComeWhileLive }
 {}
@@ -88,7 +85,6 @@ pub fn runs_pass_end_last()
 {}
 
 /// A new pair has passed no end on.
-#[tactic(auto, using(crate::proofs::Pairs::fresh_pairs_keep_end_last))]
 pub fn fresh_pairs_keep_end_last()
     ensures { FreshPairsKeepEndLast }
 {}

@@ -92,6 +92,7 @@ impl Pair {
 
     /// The call to make next. If there is none, nothing can be done before the next report ([`Pair::note`]), or the
     /// pair is done or failed ([`Pair::verdict`]).
+    #[tactic(auto, using(crate::proofs::Pairs::asked_is_possible))]
     pub fn next(&self) -> Option<Call>
         ensures value { result ≡ next_call self.now }
         ensures possible { IfSome result (IsPossible self.now) }
@@ -137,6 +138,7 @@ impl Pair {
     }
 
     /// Takes the answer to the call that comes next, which came at the second `now`.
+    #[tactic(auto, using(crate::proofs::Pairs::asked_is_possible, crate::proofs::Pairs::answers_keep_order, crate::proofs::Pairs::answers_pass_end_last, crate::proofs::Pairs::failures_are_told))]
     pub fn answer(&mut self, call: Call, answer: Answer<'_>, now: u64)
         requires next { next_call self.old ≡ Some call }
         requires fits { fits self.old call (reply_of answer) ≡ true }
@@ -162,7 +164,6 @@ impl Pair {
 
     /// Holds a live pair that has no next call against the idle limit: if it has moved nothing for `limit` seconds at
     /// the second `now`, it fails, and the answer is true. Otherwise nothing changes. A limit of 0 is none.
-    #[tactic(auto, using(crate::proofs::Pairs::overdue_as))]
     pub fn expire(&mut self, now: u64, limit: u64) -> bool
         ensures value { self.new ≡ expired now limit self.old }
         ensures told { result ≡ is_overdue now limit self.old }
@@ -294,9 +295,8 @@ impl Pair {
 
     /// What `answer` does. That the calls below have room, and an end to pass on, follows from the
     /// order of work.
-    #[tactic(auto, using(crate::proofs::Pairs::bytes_fit, crate::proofs::Pairs::shut_fits))]
     fn take_answer(&mut self, call: Call, answer: Answer<'_>, now: u64)
-        requires next { next_call self.old ≡ Some call }
+        requires possible { IsPossible self.old call }
         requires fits { fits self.old call (reply_of answer) ≡ true }
         ensures { self.new ≡ after now self.old call (reply_of answer.entry) }
     {
