@@ -1,11 +1,11 @@
 ghost use Rattle.std.specs.Prelude.{◌≡◌, ◌≤◌, Some};
-ghost use Rattle.relay_core.specs.{Order.next_call, Idle.expired, Laws.{IsPossible, AnswersAreToNextCalls, CallsComeWhileLive, FailuresAreTold, OnlyOverduePairsExpire}};
+ghost use Rattle.relay_core.specs.{Order.next_call, Idle.expired, Laws.IsPossible};
 ghost use Rattle.engine.specs.{Steps.IsMove, Turns.{outcome_of, IsServed, IsTurn}};
 
 use crate::outcome::Turn;
 use crate::step::step;
 use crate::wire::Wire;
-use relay_core::{Call, MAX_READ, Pair, Side, Verdict, laws};
+use relay_core::{Call, MAX_READ, Pair, Side, Verdict};
 
 /// When a turn is made, by a clock that counts whole seconds, and the idle limit that it is made under.
 #[derive(Clone, Copy)]
@@ -63,7 +63,6 @@ pub fn turn_with<A: Wire, B: Wire>(
         (IsServed A.told A.does moment.second client.old client.new)
         (IsServed B.told B.does moment.second target.old target.new) }
 {
-    rests_on_laws();
     for _calls in 0..budget {
         let Some(call) = pair.next() else {
             return finish(pair, moment);
@@ -71,20 +70,6 @@ pub fn turn_with<A: Wire, B: Wire>(
         advance(pair, call, moment.second, client, target, buffer);
     }
     finish(pair, moment)
-}
-
-/// The core's laws for every pair, from which it follows that a pair that was live fails only by its last answer, or
-/// by the idle limit.
-fn rests_on_laws()
-    ensures answers { AnswersAreToNextCalls }
-    ensures calls { CallsComeWhileLive }
-    ensures failures { FailuresAreTold }
-    ensures expiries { OnlyOverduePairsExpire }
-{
-    laws::answers_are_to_next_calls();
-    laws::calls_come_while_live();
-    laws::failures_are_told();
-    laws::only_overdue_pairs_expire();
 }
 
 /// Makes the call that comes next, at the second `now`, on the wire of its side.

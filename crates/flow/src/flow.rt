@@ -74,6 +74,7 @@ impl Flow {
     }
 
     /// Whether no byte waits, neither of the lead nor in the ring.
+    #[tactic(auto, using(crate::proofs::Front::waiting_ends))]
     pub fn is_drained(&self) -> bool
         ensures { IsTrue result ↔ (waiting self.now ≡ []) }
     {
