@@ -4,7 +4,7 @@ use log::sink::Discard;
 use log::{Level, Logged};
 use log_queue::LogLine;
 use relay_core::Fault;
-use relay_log::{Cause, ClientsAt, done_text, drop_text, fail_text, log_peer, open_text};
+use relay_log::{ClientsAt, Done, Failed, log_peer};
 use std::alloc::{AllocError, Global};
 use std::cell::Cell;
 use std::fmt::{self, Write};
@@ -15,11 +15,20 @@ fn is(text: Result<String, AllocError>, wanted: &str) -> Result<bool, AllocError
 }
 
 fn are_texts(alloc: Global) -> Result<bool, AllocError> {
+    let done = Done {
+        slot: 3,
+        generation: 1,
+        up: 12,
+        down: 4,
+    };
+    let failed = Failed {
+        slot: 3,
+        generation: 1,
+        fault: Fault::Idle,
+    };
     Ok(
-        is(open_text(alloc, 3, 1), "open s=3 g=1")?
-            && is(done_text(alloc, 3, 1, 12, 4), "done s=3 g=1 up=12 down=4")?
-            && is(fail_text(alloc, 3, 1, Fault::Idle), "fail s=3 g=1 idle")?
-            && is(drop_text(alloc, Cause::Memory), "drop kind=memory")?,
+        is(format!(in alloc; "{done}"), "done s=3 g=1 up=12 down=4")?
+            && is(format!(in alloc; "{failed}"), "fail s=3 g=1 idle")?,
     )
 }
 

@@ -35,6 +35,9 @@ pub struct Counts {
     pub down_ended: u64,
 }
 
+/// How many counts there are.
+pub(crate) const COUNTS: usize = 13;
+
 impl Counts {
     /// Nothing was counted.
     pub const NONE: Counts = Counts {
@@ -52,6 +55,59 @@ impl Counts {
         up_ended: 0,
         down_ended: 0,
     };
+
+    /// The counts with these numbers.
+    pub(crate) fn of(numbers: [u64; COUNTS]) -> Counts {
+        let [
+            up,
+            down,
+            up_ended,
+            down_ended,
+            done,
+            client,
+            target,
+            idle,
+            refused,
+            reset,
+            timedout,
+            dropped,
+            opened,
+        ] = numbers;
+        Counts {
+            opened,
+            dropped,
+            done,
+            client,
+            target,
+            idle,
+            refused,
+            reset,
+            timedout,
+            up,
+            down,
+            up_ended,
+            down_ended,
+        }
+    }
+
+    /// Their numbers: of connections that have ended before those of all that were opened.
+    pub(crate) fn numbers(self) -> [u64; COUNTS] {
+        [
+            self.up,
+            self.down,
+            self.up_ended,
+            self.down_ended,
+            self.done,
+            self.client,
+            self.target,
+            self.idle,
+            self.refused,
+            self.reset,
+            self.timedout,
+            self.dropped,
+            self.opened,
+        ]
+    }
 
     /// The counts once this event was counted, too.
     pub fn after(self, event: Event) -> Counts

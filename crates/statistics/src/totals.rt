@@ -43,12 +43,7 @@ impl Totals {
     pub fn failed(&self) -> u128
         ensures { result ≡ failed_of self.now.sums }
     {
-        let Counts {
-            client,
-            target,
-            idle,
-            ..
-        } = self.sums;
+        let (client, target, idle) = (self.sums.client, self.sums.target, self.sums.idle);
         u128::from(client) + u128::from(target) + u128::from(idle)
     }
 
@@ -56,16 +51,10 @@ impl Totals {
     pub fn opened(&self) -> u128
         ensures { result ≡ opened_of self.now }
     {
-        let live = u128::from(self.live);
-        let Counts {
-            done,
-            client,
-            target,
-            idle,
-            ..
-        } = self.sums;
+        let (live, done) = (self.live, self.sums.done);
+        let (client, target, idle) = (self.sums.client, self.sums.target, self.sums.idle);
         let failed = u128::from(client) + u128::from(target) + u128::from(idle);
-        live + u128::from(done) + failed
+        u128::from(live) + u128::from(done) + failed
     }
 }
 
@@ -76,7 +65,6 @@ impl Display for Totals {
         let (opened, failed) = (self.opened(), self.failed());
         let (slots, live) = (self.slots, self.live);
         let Counts {
-            opened: _,
             dropped,
             done,
             client,
@@ -87,8 +75,7 @@ impl Display for Totals {
             timedout,
             up,
             down,
-            up_ended: _,
-            down_ended: _,
+            ..
         } = self.sums;
         write!(
             f,
