@@ -27,7 +27,7 @@ AT_REST = re.compile(r"(\d+ \d+ (p\d+ poll 0|second \d+)\n)+")
 
 
 def in_thread(work, *args):
-    """Does this in a thread; answers what has its result, or its error."""
+    """Does this in a thread; answers its result to come."""
     result = concurrent.futures.Future()
 
     def run():
@@ -168,7 +168,6 @@ class Relay:
         return [int(name) for name in os.listdir(f"/proc/{self.process.pid}/fd")]
 
     def tasks(self):
-        """The numbers of its threads."""
         return os.listdir(f"/proc/{self.process.pid}/task")
 
     def status(self, name, task=None):
@@ -282,7 +281,7 @@ def send_and_shut(connection, data):
 
 
 def until(is_so):
-    """Waits until something is so, for 10 seconds at most; whether it is."""
+    """Whether something is so within 10 seconds."""
     for _ in range(200):
         if is_so():
             return True

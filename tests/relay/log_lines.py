@@ -127,7 +127,7 @@ def end_as_asked(connection):
 # refuses ended_bytes_are_forgotten: the bytes of a slot's earlier connections are not in the statistics
 # refuses idle_ones_have_not_failed: those that the idle limit ended are not counted as failed
 def statistics_add_up():
-    # Of 1,000 connections that end in every way, several in each slot, after 20 clients that are dropped.
+    # Of 1,000 connections that end in every way, after 20 clients that are dropped.
     def sends(word, last=read_all, times=1):
         def work():
             for number in range(times):
@@ -222,7 +222,7 @@ def serves_on_when_nobody_reads_its_log():
 
 
 def unread(port=1, **settings):
-    """A relay that writes its log into a pipe that takes nothing more, and the end to read from."""
+    """A relay that writes its log into a full pipe, and the end to read from."""
     reader, writer = os.pipe()
     os.set_blocking(writer, False)
     with contextlib.suppress(BlockingIOError):

@@ -91,12 +91,10 @@ def is_open(port):
 
 
 def name_of(client):
-    """Its own address and port."""
     return "%s:%d" % client.getsockname()
 
 
 def having(lines, *words):
-    """The lines that have all of these."""
     return [line for line in lines if all(word in line for word in words)]
 
 
@@ -133,7 +131,6 @@ def told(*options, **settings):
 
 
 def numbers_in(line):
-    """The numbers of a log line, by their names."""
     return {name: int(number) for name, number in re.findall(r"(\w+)=(\d+)", line)}
 
 

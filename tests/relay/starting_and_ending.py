@@ -170,18 +170,20 @@ def is_replaced_at_another_address():
     # One that cannot start leaves the other as it is, with its log alone; one that listens elsewhere starts beside it.
     with replaceable() as (folder, port, settings, program), socket.create_server(("127.0.0.1", 0)) as taken:
         text, names = pathlib.Path(settings).read_text(), lambda: {path.name for path in pathlib.Path(folder).glob("log*")}
-        assert replace(folder, settings, program).stdout == f"listening 127.0.0.1:{port}\n"
+
+        def at(address):
+            pathlib.Path(settings).write_text(text.replace(f"127.0.0.1:{port}", address))
+            return replace(folder, settings, program)
+
+        assert at(f"127.0.0.1:{port}").stdout == f"listening 127.0.0.1:{port}\n"
         with connected(port) as client:
             before, other = names(), unused_port()
-            pathlib.Path(settings).write_text(text.replace(f":{port}", f":{port_of(taken)}"))
-            failed = replace(folder, settings, program)
+            failed = at(f"127.0.0.1:{port_of(taken)}")
             assert failed.returncode == 1 and "relayd: listen: failed\n" in failed.stderr and names() == before
             assert asked(client) and is_open(port)
-            pathlib.Path(settings).write_text(text.replace(f"127.0.0.1:{port}", f"0.0.0.0:{other}"))
-            assert replace(folder, settings, program).stdout == f"listening 0.0.0.0:{other}\n"
+            assert at(f"0.0.0.0:{other}").stdout == f"listening 0.0.0.0:{other}\n"
             assert until(lambda: not is_open(port)) and is_open(other) and asked(client) and len(names()) == 3
-            pathlib.Path(settings).write_text(text.replace(f":{port}", f":{other}"))
-            assert replace(folder, settings, program).stdout == f"listening 127.0.0.1:{other}\n" and asked(client)
+            assert at(f"127.0.0.1:{other}").stdout == f"listening 127.0.0.1:{other}\n" and asked(client)
         end_holder(folder)
         assert until(lambda: not is_open(other))
 
