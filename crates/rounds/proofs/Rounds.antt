@@ -390,13 +390,9 @@ pub looked_lasts : (limit : ℕ) (had : Own) (p : PollerState) {q r : PollerStat
     → Looked q r → ListensNoMore q r → WaitedAsMay limit q r had → Lasting limit had p r
 looked_lasts limit had p begun looked listens waits = search (looked, begun, rw begun at waits, rw begun at listens)
 
--- the hand had no room for a round
-pub ended_early : (enough : Bool) (slots words room : ℕ) → (IsTrue enough ↔ (512 + slots ≤ room)) → enough ≡ false → slots ≡ words → room < 512 + words
-ended_early enough slots words room is not same = grind arith
-
--- it had room for one
-pub begun_not_early : {X : Type 0} (slots words room : ℕ) → 512 + slots ≤ room → slots ≡ words → room < 512 + words → X
-begun_not_early slots words room enough same few = absurd (omega arith)
+-- the hand had room for a round
+pub begun_not_early : {X : Type 0} (needed room : ℕ) → needed ≤ room → room < needed → X
+begun_not_early needed room enough few = absurd (omega arith)
 
 -- what a round keeps that has come to its end, or was refused
 pub keeps : {limit : ℕ} {p q : PollerState} {a b : Own} → Lasting limit a p q → (q.swept ≡ p.swept) ⊎ (q.swept ≡ swept_after limit p.second p.swept)
