@@ -1,8 +1,8 @@
 -- Acts, one after the other, and the posts of a round, in a poller's own slots alone.
-use Rattle.std.{proofs.{Common.{add-one, ◌≡◌, ℕ, zero, suc, ◌+◌, ◌≤◌, Bool, true, false, cond, List, [], ◌∷◌, ◌++◌, length, length-append, refl, sym, ap, ◌∙◌, arith, inl, inr, append_assoc, ◌≢◌, ◌⊎◌, ◌↔◌, IsTrue, slice_index, replicate, slice_set, ◌==◌, ◌||◌, if◌then◌else◌, Option, Some, None, nat_lt, Contains}, lemmas.{Bool.{eq-eqb, ne_eqb, Decides.nat_tests}, List.{append-nil, map-append, length-map, length-replicate, get_or-replicate, get_or_past, get_or-set_other, Elements.{All-append, filter_map-append}, Sums.sum_by-append}}}, specs.List.{All, cons_option}}
+use Rattle.std.{proofs.{Common.{add-one, ◌≡◌, ℕ, zero, suc, ◌+◌, ◌≤◌, Bool, true, false, cond, List, [], ◌∷◌, ◌++◌, length, length-append, refl, sym, ◌∙◌, arith, inl, inr, append_assoc, ◌≢◌, ◌⊎◌, ◌↔◌, IsTrue, slice_index, replicate, slice_set, ◌==◌, ◌||◌, if◌then◌else◌, Option, Some, None, nat_lt, Contains}, lemmas.{Bool.{eq-eqb, ne_eqb, Decides.nat_tests}, List.{append-nil, map-append, length-map, length-replicate, get_or-replicate, get_or_past, get_or-set_other, Elements.{All-append}, Sums.sum_by-append}}}, specs.List.{All, cons_option}}
 use Rattle.claims.{specs.{declared.view.Account.Account, Views.{after_all, minted_by}, Seats.{SeatState, trace_at, account_at, HoldsNothing, Adds}}, proofs.Seats.after_both}
 use Rattle.ready.specs.declared.ticket.Ticket.{Ticket}
-use Rattle.rounds.specs.{Acts.{Act, exchanges_at, made_by, due_of, ActsMade, IsPost, ArePosts, opening, IsTry, held_of, AreTries, at_slot, reported, all_reported, ArePosted, Delivered, is_due, last_in, opened_in, opened_below, all_opened, sweep_of}, Pollers.{IsOwnTable, PollerState, AreGenerations}, Openings.AreIn}
+use Rattle.rounds.specs.{Acts.{Act, exchanges_at, made_by, due_of, ActsMade, IsPost, ArePosts, opening, IsTry, held_of, AreTries, at_slot, reported, all_reported, ArePosted, is_due, last_in, opened_in, opened_below, all_opened, sweep_of}, Pollers.{IsOwnTable, PollerState, AreGenerations}, Openings.AreIn}
 use Rattle.relay_core.specs.Idle.{is_past}
 use Rattle.dispatch.specs.{Hands.HandState, declared.split.Part.Part, Splits.IsIn}
 use mathlib.Core.Logic.{dite}

@@ -1,13 +1,11 @@
 -- Connections that are opened one after the other, why one is closed unopened, and a round of its parts.
 use Rattle.std.proofs.{Common.{◌≡◌, ◌⊎◌, ℕ, ◌+◌, ◌<◌, ◌≤◌, List, [], ◌∷◌, ◌++◌, length, drop, slice_get, slice_set, min, cond, Bool, true, refl, sym, ◌∙◌, arith, inl, inr, append_assoc, length-append, Option, Some, None, ◌==◌, Result, Ok, Err, OnOk, IfErr, OnErr, IsErr, IsErrAnd, slice_index, ◌≢◌, ◌↔◌, false, IsTrue}, lemmas.{Bool.{cases_lt, false≢true}, List.{append-nil, length-set, get_or-set_other, get_or_past, Sums.sum_by-append}, Grind.get_or-set_at, Option.{none-some, same_Some}}}
 use Rattle.claims.{specs.{declared.answers.Posted.Posted, Calls.PostChange, Seats.{SeatState, TableId, Adds}}, proofs.Seats.adds_both}
-use Rattle.dispatch.{specs.{Posts.HoldsOnly, declared.{shared.Own.Own, split.Part.Part, front.{Unopened.Unopened, Route.Route, Waiting.{Waiting, TheVariants.{No, Brief, Long}}}}, Hands.{HandState, ticket_room}, Acts.{Act, AreMade, Register, Adopt, placing}, Splits.IsIn, Told.cause_of}, proofs.Holding.{holds_still, released_all, woke_behind_post}}
+use Rattle.dispatch.{specs.{Posts.HoldsOnly, declared.{shared.Own.Own, front.{Unopened.Unopened, Route.Route, Waiting.{Waiting, TheVariants.{No, Brief, Long}}}}, Hands.{HandState, ticket_room}, Acts.{Act, AreMade, Register, Adopt, placing}, Told.cause_of}, proofs.Holding.{holds_still, released_all, woke_behind_post}}
 use Rattle.ready.specs.declared.ticket.Ticket.{Ticket}
 use Rattle.token.specs.Names.{last_generation}
-use Rattle.rounds.{specs.{Acts.{Act as Acted, ActsMade, AreTries, opening, all_reported, ArePosted, Delivered, swept_after, sweep_of}, Openings.{times, slots_in, AreIn, AreOpened, OnlyTook, Between, LetGo, Started, Connected, AcceptDone, IsOpened, IsLost, IsSpent, AreLost, Fate, next_in, Opened, Held, DropsFor, Placed, lacks, lead_of}, Pollers.{PollerState, Counted, counted_up, HasOpenedAll}, Episodes.opened_after, Rounds.{AcceptEnded, HasLeft, IsOver, RoundDone, RoundKeeps, ListenerKept, ListensNoMore, ListensToOpen, Looked, MayWait, MayWaitBriefly, WaitLasted, WaitedAsMay}}, proofs.Acts.{at_slot-append, acts_none, acts_one, acts_both, tries_none, tries_both, try_opened, try_held, none_at, posted_none, no_sweep}}
+use Rattle.rounds.{specs.{Acts.{Act as Acted, ActsMade, AreTries, all_reported, ArePosted, Delivered, swept_after, sweep_of}, Openings.{times, slots_in, AreIn, AreOpened, OnlyTook, Between, LetGo, Started, Connected, AcceptDone, IsOpened, IsLost, IsSpent, AreLost, Fate, next_in, Opened, Held, DropsFor, Placed, lacks, lead_of}, Pollers.{PollerState, Counted, counted_up, HasOpenedAll}, Rounds.{AcceptEnded, HasLeft, IsOver, RoundDone, RoundKeeps, ListenerKept, ListensNoMore, ListensToOpen, Looked, MayWait, MayWaitBriefly, WaitLasted, WaitedAsMay}}, proofs.Acts.{at_slot-append, acts_none, acts_both, tries_none, tries_both, posted_none, no_sweep}}
 use Rattle.relay_log.specs.declared.{cause.Cause.Cause, faults.ServerFault.{ServerFault, TheVariants.Worn}}
-use mathlib.Core.Logic.{dite}
-use native.Mathlib.Decide.{ℕ_discrete}
 use Rattle.claims.specs.declared.view.Exchange.TheVariants as exchange
 use Rattle.claims.specs.declared.answers.Posted.TheVariants as posted
 use Rattle.relay_log.specs.declared.cause.Cause.TheVariants as cause
@@ -392,13 +390,9 @@ pub looked_lasts : (limit : ℕ) (had : Own) (p : PollerState) {q r : PollerStat
     → Looked q r → ListensNoMore q r → WaitedAsMay limit q r had → Lasting limit had p r
 looked_lasts limit had p begun looked listens waits = search (looked, begun, rw begun at waits, rw begun at listens)
 
--- the hand had no room for a round
-pub ended_early : (enough : Bool) (slots words room : ℕ) → (IsTrue enough ↔ (512 + slots ≤ room)) → enough ≡ false → slots ≡ words → room < 512 + words
-ended_early enough slots words room is not same = grind arith
-
--- it had room for one
-pub begun_not_early : {X : Type 0} (slots words room : ℕ) → 512 + slots ≤ room → slots ≡ words → room < 512 + words → X
-begun_not_early slots words room enough same few = absurd (omega arith)
+-- the hand had room for a round
+pub begun_not_early : {X : Type 0} (needed room : ℕ) → needed ≤ room → room < needed → X
+begun_not_early needed room enough few = absurd (omega arith)
 
 -- what a round keeps that has come to its end, or was refused
 pub keeps : {limit : ℕ} {p q : PollerState} {a b : Own} → Lasting limit a p q → (q.swept ≡ p.swept) ⊎ (q.swept ≡ swept_after limit p.second p.swept)

@@ -11,6 +11,7 @@ use crate::limits::{MAX_ACCEPTS, SPARE_ROOM};
 use crate::opening::open;
 use crate::poller::Poller;
 use crate::sweeping::{is_due, keep_time};
+use claims::Claims;
 use dispatch::{Clock, Front, Hand, LISTENER, Own, Shared, Timing, Waiting};
 use log::{Log, error};
 use relay_log::{ServerFault, log_all_taken};
@@ -57,7 +58,7 @@ pub fn poller_round<F: Front, C: Clock, R: Wait + Log>(
     ensures keeps { RoundKeeps timing.now.limit poller.old poller.new own.old own.new }
     ensures refused { IfErr result (λ fault. RoundRefused fault poller.new own.new) }
 {
-    if !begin(&own.hand, poller, shared.claims.slots()) {
+    if !begin(&shared.claims, &own.hand, poller) {
         return Ok(());
     }
     look(rt, own, poller, timing.limit)?;
@@ -69,12 +70,14 @@ pub fn poller_round<F: Front, C: Clock, R: Wait + Log>(
     Ok(())
 }
 
-/// The start of a round. Returns false if the hand has no room for a ticket of each of this many slots and 512 more.
-fn begin<F: Front>(hand: &Hand, poller: &mut Poller<F>, slots: usize) -> bool
+/// The start of a round. Returns false if the hand has no room for a ticket of each slot and 512 more.
+fn begin<F: Front>(claims: &Claims, hand: &Hand, poller: &mut Poller<F>) -> bool
     ensures poller { poller.new ≡ record poller.old { batch = [] } }
-    ensures room { IsTrue result ↔ (spare_room + slots ≤ ticket_room hand.now) }
+    ensures early { result ≡ false → ticket_room hand.now < spare_room + claims.now.words }
+    ensures room { result ≡ true → spare_room + claims.now.words ≤ ticket_room hand.now }
 {
     poller.batch.clear();
+    let slots = claims.slots();
     let room = hand.room();
     room >= SPARE_ROOM && room - SPARE_ROOM >= slots
 }

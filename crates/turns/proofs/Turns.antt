@@ -1,8 +1,8 @@
 -- The end of a turn, after the steps that took the notes and ran the connection; and the tickets in hand of which some
 -- were looked at: each of those is put, or after the others in hand.
 use Rattle.std.proofs.{Common.{◌≡◌, ◌⊎◌, ◌+◌, ◌↔◌, ◌<◌, ◌≤◌, ℕ, List, [], ◌∷◌, length, drop, slice_get, get_or, Bool, true, false, IsTrue, Option, Some, None, Result, Ok, Err, IfOk, IfSome, IsErrAnd, inl, inr, refl, sym, ap, ◌∙◌, arith, suc, ◌++◌, append_assoc, zero, nat_lt}, lemmas.{Option.{none-some, same_Some}, Bool.{ltb-true, ltb-false, false≢true}, List.{append-nil, drop_more, drop_all}}}
-use Rattle.claims.{specs.{declared.{view.{Account.Account, Exchange.{Exchange, TheVariants.{Busy, Held, Take, Post}}}, answers.Posted.Posted}, Calls.PostChange, Views.{after_all, minted_by}, Seats.{TableId, SeatState, account_at, Holds, HoldsNothing, OnlyAt, Adds}}, proofs.Seats.{adds_none, adds_both, account_after, minted_both, holds_nothing_again}}
-use Rattle.dispatch.{proofs.{Holding.holds_still, Outgoing.took_both}, specs.{declared.shared.Own.Own, Outgoing.{TookNothing, outgoing, tickets_out, slots_out, without_first}, Posts.HoldsOnly, Hands.HandState, Acts.Act, Heavy.looked_at}}
+use Rattle.claims.{specs.{declared.{view.{Account.Account, Exchange.{Exchange, TheVariants.{Busy, Held, Take, Post}}}, answers.Posted.Posted}, Calls.PostChange, Views.{after_all, minted_by}, Seats.{TableId, SeatState, Holds, HoldsNothing, OnlyAt, Adds}}, proofs.Seats.{adds_none, adds_both, account_after, minted_both, holds_nothing_again}}
+use Rattle.dispatch.{proofs.{Outgoing.took_both}, specs.{declared.shared.Own.Own, Outgoing.{TookNothing, outgoing, tickets_out, slots_out}, Posts.HoldsOnly, Hands.HandState, Acts.Act, Heavy.looked_at}}
 use Rattle.ready.specs.{declared.ticket.Ticket.Ticket, Steps.EndState}
 use Rattle.relay_log.specs.declared.faults.ServerFault.{ServerFault}
 use Rattle.turns.specs.{declared.worker.Worked.Worked, Turns.{WasHeld, TurnInOrder, OwnTurnInOrder, program, acts_of, AtWork, TicketsKept, SlotGiven, SlotsKept, TurnDone, TurnRest, TurnMade, OwnTurn, NoOwnTurn, marks_after}, Shares.{AreShared, IsLight, OneShared, Passed, Stays}}

@@ -76,14 +76,14 @@ pub record TurnDone (ticket : Ticket) (exchanges : List Exchange) (result : Resu
   pub slots : SlotsKept ticket result old new
   pub took : TookNothing old new
 
--- the rest of a turn after its first e exchanges and n acts, if another connection was in the place or not
+-- the rest of a turn after so many of its exchanges and acts, if another connection was in the place or not
 pub record TurnRest {S : Type 0} (made : Act → ℕ → S → S → Type 0) (ticket : Ticket) (result : Result Worked ServerFault)
-    (other : Bool) (e n : ℕ) (old new : Own) (from to : S) : Type 0 where
+    (other : Bool) (exchanged acted : ℕ) (old new : Own) (from to : S) : Type 0 where
   pub noted : ℕ
   pub woke : Bool
   pub held : WasHeld result
-  pub done : TurnDone ticket (drop e (program result 0 noted woke)) result old new
-  pub acts : ActsLeft made ticket result n other woke from to
+  pub done : TurnDone ticket (drop exchanged (program result 0 noted woke)) result old new
+  pub acts : ActsLeft made ticket result acted other woke from to
 
 -- a release alone, which answers Quiet only if the seat knew of no note
 pub record LeftSlot {S : Type 0} (made : Act → ℕ → S → S → Type 0) (ticket : Ticket) (old new : Own) (from to : S) : Type 0 where

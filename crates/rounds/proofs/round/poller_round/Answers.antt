@@ -1,12 +1,11 @@
-use Rattle.std.proofs.Common.{◌<◌, ◌+◌, refl, inl, inr, arith}
-use Rattle.dispatch.specs.Hands.{ticket_room}
-use Rattle.rounds.proofs.{Rounds.{accept_both, accept_took, between_took, not_ok, passed_up, room_same, still, took_none, Lasting, begun_not_early, but_worn, ended_early, ended_still, keeps, listens_still, looked_lasts, over_before, round_ended, round_of}, Acts.{few_tickets, capacity_kept, reported_le, few_sweep}}
+use Rattle.std.proofs.Common.{refl, inl, inr, arith}
+use Rattle.rounds.proofs.{Rounds.{accept_both, accept_took, between_took, not_ok, passed_up, room_same, still, took_none, Lasting, begun_not_early, but_worn, ended_still, keeps, listens_still, looked_lasts, over_before, round_ended, round_of}, Acts.{few_tickets, capacity_kept, reported_le, few_sweep}}
 use Rattle.rounds.specs.Rounds.{Looked}
 use Rattle.rounds.proofs.round.poller_round.Goals as goal
 
 pub returns-then-not-begin : goal.returns-then-not-begin
 returns-then-not-begin g c =
-    let early : ticket_room c.args.own.now.hand < 512 + c.args.shared.now.claims.words = ended_early _ _ _ _ c.begin.ensures.room c.if-not-begin.true c.slots.ensures in
+    let early = c.begin.ensures.early c.if-not-begin.true in
     let begun = c.begin.ensures.poller in
     record {
       between = record { same = c.requires.same; idle = c.requires.idle; sized = rw begun c.requires.sized };
@@ -25,7 +24,7 @@ returns-in_err-look g c =
     let failed = c.in_err-look.ensures.failed in
     record {
       between = between_took {p = c.args.poller.now} (record { same = c.requires.same; idle = c.requires.idle; sized = c.requires.sized }) looked.took (rw (looked.poller, c.begin.ensures.poller));
-      early = begun_not_early _ _ _ (c.begin.ensures.room.0 c.if-not-begin.false) c.slots.ensures;
+      early = begun_not_early _ _ (c.begin.ensures.room c.if-not-begin.false);
       waits = inr same.waits;
       round = λ _. round_ended (rw (looked.poller, c.begin.ensures.poller)) failed.2 looked.took;
       ended = not_ok _ _ c.from_residual.ensures.0;
@@ -41,7 +40,7 @@ returns-in_err-deliver_batch g c =
     let failed = c.from_residual-in_err-deliver_batch.ensures in
     record {
       between = delivered.between;
-      early = begun_not_early _ _ _ (c.begin.ensures.room.0 c.if-not-begin.false) c.slots.ensures;
+      early = begun_not_early _ _ (c.begin.ensures.room c.if-not-begin.false);
       waits = inr (rw delivered.poller same.waits);
       round = but_worn _ _ failed.1 c.in_err-deliver_batch.ensures.worn.0;
       ended = not_ok _ _ failed.0;
@@ -58,7 +57,7 @@ keep_time-requires-clause-room g c =
       capacity_kept c.in_ok-deliver_batch.ensures.delivered,
       reported_le c.look.new.poller.table c.look.new.poller.batch,
       c.look.ensures.few,
-      c.begin.ensures.room.0 c.if-not-begin.false,
+      c.begin.ensures.room c.if-not-begin.false,
       room_same c.look.ensures.took,
       c.deliver_batch.ensures.between.sized,
     )
@@ -72,7 +71,7 @@ returns-in_err-keep_time g c =
     let failed = c.from_residual-in_err-keep_time.ensures in
     record {
       between = timed.between;
-      early = begun_not_early _ _ _ (c.begin.ensures.room.0 c.if-not-begin.false) c.slots.ensures;
+      early = begun_not_early _ _ (c.begin.ensures.room c.if-not-begin.false);
       waits = inr (rw (timed.poller, delivered.poller) same.waits);
       round = but_worn _ _ failed.1 c.in_err-keep_time.ensures.worn.0;
       ended = not_ok _ _ failed.0;
@@ -90,7 +89,7 @@ accept-requires-clause-room g c =
       capacity_kept c.in_ok-deliver_batch.ensures.delivered,
       reported_le c.look.new.poller.table c.look.new.poller.batch,
       c.look.ensures.few,
-      c.begin.ensures.room.0 c.if-not-begin.false,
+      c.begin.ensures.room c.if-not-begin.false,
       room_same c.look.ensures.took,
       c.deliver_batch.ensures.between.sized,
       few_tickets c.in_ok-keep_time.ensures.swept.posted,
@@ -109,7 +108,7 @@ returns-in_err-accept g c =
     let failed = c.from_residual-in_err-accept.ensures in
     record {
       between = accepted.between;
-      early = begun_not_early _ _ _ (c.begin.ensures.room.0 c.if-not-begin.false) c.slots.ensures;
+      early = begun_not_early _ _ (c.begin.ensures.room c.if-not-begin.false);
       waits = inr (rw (accepted.poller, timed.poller, delivered.poller) same.waits);
       round = but_worn _ _ failed.1 c.in_err-accept.ensures.worn.0;
       ended = not_ok _ _ failed.0;
@@ -133,7 +132,7 @@ returns g c =
     let swept = rw (delivered.poller, looked.poller, c.begin.ensures.poller) at c.in_ok-keep_time.ensures.swept.swept in
     record {
       between = between_took accepted.between back.took (rw (end, told));
-      early = begun_not_early _ _ _ (c.begin.ensures.room.0 c.if-not-begin.false) c.slots.ensures;
+      early = begun_not_early _ _ (c.begin.ensures.room c.if-not-begin.false);
       waits = inr (rw end same.waits);
       round = λ _. round_of c.deliver_batch.new.own begun looked.took
           c.in_ok-deliver_batch.ensures.delivered delivered.ready delivered.free delivered.own delivered.poller
@@ -163,7 +162,7 @@ returns g c =
 pub deliver_batch-requires : goal.deliver_batch-requires
 deliver_batch-requires g c =
     let most = c.look.ensures.few in
-    let room = c.begin.ensures.room.0 c.if-not-begin.false in
+    let room = c.begin.ensures.room c.if-not-begin.false in
     let same = room_same c.look.ensures.took in
     record {
       between = between_took {p = c.args.poller.now} (record { same = c.requires.same; idle = c.requires.idle; sized = c.requires.sized }) c.look.ensures.took

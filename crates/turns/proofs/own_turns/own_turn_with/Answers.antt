@@ -1,4 +1,4 @@
-use Rattle.std.proofs.Common.{rules, ◌≡◌, ◌∙◌, Some, None, Ok, Err, slice_get, refl, sym, ap, inl, inr, length}
+use Rattle.std.proofs.Common.{rules, ◌≡◌, ◌∙◌, Some, None, slice_get, refl, sym, inl, inr}
 use Rattle.turns.proofs.Turns.{empty_is, err_is, err_not_ok, marks_none, no_room, none_taken, of_any, ran, same_answer, some_not_none}
 use Rattle.turns.specs.declared.worker.Worked.TheVariants as worked
 use Rattle.turns.proofs.own_turns.own_turn_with.Goals as goal
