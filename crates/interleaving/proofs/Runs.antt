@@ -82,7 +82,7 @@ module _ (st : System) (t : Thread) (c : Connection) (workers : List WorkerState
     like = IsHalfOpen u c workers (rw same refl) (record {
       first = get-set_same st.threads 0 t u half.first;
       worker = half.worker;
-      others = after_set st u workers (λ i v at other. half.others i v other at);
+      others = after_set st.threads workers u half.others;
       tickets = half.tickets;
       ends = half.ends;
       stage = stage;
@@ -107,7 +107,7 @@ module _ (st : System) (t : Thread) (c : Connection) (workers : List WorkerState
           let it : u ≡ goes_on t [] = cc (get-set_same st.threads 0 t (goes_on t []) half.first) in
           record { worker = idle_worker; there = rw first half.worker; like = rw it (Rests refl) }
       over i u there (inr other) =
-          let rest = after_set st (goes_on t []) workers (λ j v at other. half.others j v other at) i u other there in
+          let rest = after_set st.threads workers (goes_on t []) half.others i u other there in
           record { worker = idle_worker; there = rest.1; like = rw rest.0 (Rests refl) }
 
   goes_half : {todo : List Act} → Stage st.word st.place st.entry t c todo → Kept (Follows (left_of todo st.word) (exchange st.word (first_kind todo)) half_world (Acts 0)) (acts st 0 t todo)

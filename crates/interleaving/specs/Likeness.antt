@@ -95,10 +95,11 @@ pub record Held (p : SlotState) (i g : ℕ) (connection : Option Connection) : T
   pub there : p.connection ≡ connection
   pub generation : p.generation ≡ g
 
--- A thread t that holds the slot p, with this rest of its program, is where the machine's worker is, which has `more` calls
--- left, if `place` is what the threads have in the slot's place. Its connection c is in its place; it has c out; has taken the
--- notes too, and goes by its plan; has c back in its place, and is to post, or to release the slot
-pub data HolderLike (budget : ℕ) (place : Option Connection) (p : SlotState) (t : Thread) (c : Connection) (more : ℕ) : List Act → Type 0 where
+-- A thread t that holds the slot p, with this rest of its program, is where the machine's worker is, which has `more`
+-- calls left, if `place` is what the threads have in the slot's place. Its connection c is in its place; it has c out; has
+-- taken the notes too, and goes by its plan; has c back in its place, and is to post, or to release the slot
+pub data HolderLike (budget : ℕ) (place : Option Connection) (p : SlotState) (t : Thread) (c : Connection) (more : ℕ)
+    : List Act → Type 0 where
   Holds : place ≡ Some c → t.left ≤ budget → more ≡ budget → HolderLike budget place p t c more (drop 1 turn)
   HasOut : place ≡ None → t.out ≡ Some c → t.left ≤ budget → more ≡ budget → HolderLike budget place p t c more (drop 2 turn)
   Goes : place ≡ None → t.out ≡ Some c → t.left ≤ more → HolderLike budget place p t c more (plan t.left c.pair)
@@ -107,7 +108,8 @@ pub data HolderLike (budget : ℕ) (place : Option Connection) (p : SlotState) (
 
 -- The thread i, with this rest of its program, is where the machine's worker i is. It has nothing to do; is to open a
 -- connection; has a ticket; holds the slot; has closed the connection; has retired the slot
-pub data ThreadLike (budget : ℕ) (place : Option Connection) (p : SlotState) (i : ℕ) (t : Thread) (k : WorkerState) : List Act → Type 0 where
+pub data ThreadLike (budget : ℕ) (place : Option Connection) (p : SlotState) (i : ℕ) (t : Thread) (k : WorkerState)
+    : List Act → Type 0 where
   Rests : k ≡ machine.resting → ThreadLike budget place p i t k []
   Opens : i ≡ 0 → k ≡ machine.resting → ThreadLike budget place p i t k open_slot
   Tries : t.left ≤ budget → k ≡ busy (doing.Tries (ticket t.generation)) → ThreadLike budget place p i t k turn
@@ -179,11 +181,16 @@ pub data Stage (word : WordState) (place : Option Connection) (entry : ℕ) (t :
 abbrev pub opened_slot : ℕ → Connection → SlotState
 opened_slot g c = record { generation = g; connection = Some c; holder = Nobody; notes = g ∷ [] }
 
+-- each thread but the poller's rests, and so does its worker
+abbrev pub OthersRest : List Thread → List WorkerState → Type 0
+OthersRest threads workers =
+    (i : ℕ) (t : Thread) → i ≢ 0 → slice_get threads i ≡ Some t → (t.todo ≡ []) × (slice_get workers i ≡ Some machine.resting)
+
 -- An opening is half way: the machine has made it, and nobody but the poller's thread t has anything to do with the slot
 pub record HalfOpen (st : System) (t : Thread) (c : Connection) (workers : List WorkerState) : Type 0 where
   pub first : slice_get st.threads 0 ≡ Some t
   pub worker : slice_get workers 0 ≡ Some machine.resting
-  pub others : (i : ℕ) (u : Thread) → i ≢ 0 → slice_get st.threads i ≡ Some u → (u.todo ≡ []) × (slice_get workers i ≡ Some machine.resting)
+  pub others : OthersRest st.threads workers
   pub tickets : st.tickets ≡ []
   pub ends : st.ends ≡ Some c.ends
   pub stage : Stage st.word st.place st.entry t c t.todo

@@ -1,8 +1,8 @@
 -- What a step is for the machine: what the network, the kernel, the clock and the poller do between the programs, and what a
 -- thread does, act by act, where no opening is half way. What this file imports is passed on to the one above it.
-pub use Rattle.std.{proofs.{Common.{Bool, List, None, Option, Some, [], ap, append-nil, arith, drop, false, if◌then◌else◌, inl, inr, is_some, length, lt-ltb, map, nat_le, nat_lt, not, option_map, refl, replicate, slice_get, slice_set, subst, suc, sym, true, zero, ℕ, ◌&&◌, ◌++◌, ◌+◌, ◌==◌, ◌∙◌, ◌∷◌, ◌≡◌, ◌≢◌, ◌≤◌, ◌⊎◌, ◌||◌, length-append, eqb-true, ne_eqb, ◌-◌, append_assoc, eq-eqb, leb-true}, lemmas.{Bool.{and_parts, cases_eq}, Option.get_or_from_slice_get, List.{map-append, length-replicate, set-get_or, set-set}}}, specs.{Option.is_none, Cmp.second_so}}
+pub use Rattle.std.{proofs.{Common.{Bool, List, None, Option, Some, [], ap, append-nil, arith, drop, false, if◌then◌else◌, inl, inr, is_some, length, lt-ltb, map, nat_le, nat_lt, not, option_map, refl, replicate, slice_get, slice_set, subst, suc, sym, true, zero, ℕ, ◌&&◌, ◌++◌, ◌+◌, ◌==◌, ◌∙◌, ◌∷◌, ◌≡◌, ◌≢◌, ◌≤◌, ◌⊎◌, ◌||◌, length-append, eqb-true, ne_eqb, ◌-◌, append_assoc, eq-eqb, leb-true}, lemmas.{Bool.{or_right, and_parts, cases_eq}, Option.get_or_from_slice_get, List.{map-append, length-replicate, set-get_or, set-set}}}, specs.{Option.is_none, Cmp.second_so}}
 pub use Rattle.claims.specs.{Words.{WordState, made as exchange_made, some_wait, wakes, word_after}, declared.view.Exchange.Exchange}
-pub use Rattle.interleaving.specs.{Likeness.{exchange, exchanges_in, first_kind, kind_in, left_of, Adopted, Emptied, Entered, Goes, HalfOpen, HasClosed, HasOut, HasRetired, Held, HolderLike, Holds, IsHalfOpen, IsHolder, IsSettled, Leaves, Like, Opens, Placed, Posted, Registered, Rests, Settled, Stage, Stays, ThreadLike, Tries, WorkerFor, WorkersFor, ahead, call_of, calls_in, ends_of, machine_of, opened_slot, outside_among, outside_of, ticket, posts, here, Finds}, Threads.{Act, Call, Release, TakeOut, again, ended, open_slot, plan, quiet, turn, Accept, Acts, Begin, Calls, Connect, Deliver, Drop, Network, Open, Poll, Spurious, Step, Sweep, System, Thread, Tick, Vanish, acts, begun, goes_on, is_over, poller_rests, posted, released, rests, step, with_thread, watched_of, is_limited, delivered, delivers, Post, Retire, Give, calls, closed, begins, given, heard, taking, planned, put_in, registered, registering}}
+pub use Rattle.interleaving.specs.{Likeness.{OthersRest, exchange, exchanges_in, first_kind, kind_in, left_of, Adopted, Emptied, Entered, Goes, HalfOpen, HasClosed, HasOut, HasRetired, Held, HolderLike, Holds, IsHalfOpen, IsHolder, IsSettled, Leaves, Like, Opens, Placed, Posted, Registered, Rests, Settled, Stage, Stays, ThreadLike, Tries, WorkerFor, WorkersFor, ahead, call_of, calls_in, ends_of, machine_of, opened_slot, outside_among, outside_of, ticket, posts, here, Finds}, Threads.{Act, Call, Release, TakeOut, again, ended, open_slot, plan, quiet, turn, Accept, Acts, Begin, Calls, Connect, Deliver, Drop, Network, Open, Poll, Spurious, Step, Sweep, System, Thread, Tick, Vanish, acts, begun, goes_on, is_over, poller_rests, posted, released, rests, step, with_thread, watched_of, is_limited, delivered, delivers, Post, Retire, Give, calls, closed, begins, given, heard, taking, planned, put_in, registered, registering}}
 pub use Rattle.kernel_model.specs.{Ends.is_nonempty, Kernel.KernelState, declared.{both.Descriptors.Descriptors, reply.Reply.Reply, accepting.Accepting.TheVariants.{Accepted, Blocked, Again, Starved}}}
 pub use Rattle.relay_core.specs.{Order.next_call, Pairs.{PairState, is_live, verdict, fresh, noted}, Replies.fits, Idle.{is_overdue, expired}}
 pub use Rattle.token.specs.{Names.EndName, declared.{name.Name.Name, side.Side.{Side, TheVariants.{Client, Target}}}}
@@ -162,11 +162,7 @@ post_word p g =
 
 due_now : (c : Connection) → is_live (verdict c.pair) ≡ true → may_release c true ≡ true
 unfolding may_release
-due_now c live = rw live (or_true _)
-  where
-    or_true : (b : Bool) → (b || true) ≡ true
-    or_true true = refl
-    or_true false = refl
+due_now c live = rw live (or_right _ true refl)
 
 may_still : (c : Connection) (some : Bool) → may_release c some ≡ true → may_release c true ≡ true
 unfolding may_release
@@ -370,12 +366,6 @@ slot_calls now p k c r line is made = rw (is, made) refl
 
 -- Before a slot is opened it is free: nobody has anything to do with it
 
-record Unused (st : System) (p : SlotState) (workers : List WorkerState) : Type 0 where
-  pub holder : p.holder ≡ Free
-  pub connection : p.connection ≡ None
-  pub tickets : st.tickets ≡ []
-  pub others : (i : ℕ) (u : Thread) → slice_get st.threads i ≡ Some u → i ≢ 0 → (u.todo ≡ []) × (slice_get workers i ≡ Some idle_worker)
-
 none_by : (h : Holder) (o : Option Connection) → h ≡ Free → is_shaped h (is_some o) ≡ true → o ≡ None
 none_by h None is shape = refl
 none_by h (Some c) is shape = cc
@@ -384,10 +374,8 @@ no_tickets : (xs : List ℕ) → total (of_slot 0) (map ticket xs) ≡ 0 → xs 
 no_tickets [] none = refl
 no_tickets (x ∷ xs) none = absurd (omega arith)
 
-pub after_set : (st : System) (new : Thread) (workers : List WorkerState)
-    → ((i : ℕ) (u : Thread) → slice_get st.threads i ≡ Some u → i ≢ 0 → (u.todo ≡ []) × (slice_get workers i ≡ Some idle_worker))
-    → (i : ℕ) (u : Thread) → i ≢ 0 → slice_get (slice_set st.threads 0 new) i ≡ Some u → (u.todo ≡ []) × (slice_get workers i ≡ Some idle_worker)
-after_set st new workers old i u other at = old i u (sym (get-set_other st.threads 0 i new (λ same. other (sym same))) ∙ at) other
+pub after_set : (threads : List Thread) (workers : List WorkerState) (new : Thread) → OthersRest threads workers → OthersRest (slice_set threads 0 new) workers
+after_set threads workers new rest i t other at = rest i t other (sym (get-set_other threads 0 i new (λ same. other (sym same))) ∙ at)
 
 module _ (st : System) (p : SlotState) (workers : List WorkerState) (set : Settled st p workers) (i : ℕ) (t : Thread) (there : slice_get st.threads i ≡ Some t)
     (k : WorkerState) (had : slice_get workers i ≡ Some k) where
@@ -574,26 +562,18 @@ module _ (st : System) (p : SlotState) (workers : List WorkerState) (set : Settl
   module _ (turns : Turns w) where
     -- The machine makes an opening as soon as both sockets are registered
 
-    unused : (free : ℕ) → st.free ≡ suc free → Unused st p workers
-    unused free some =
-        let first = first_free w 0 p refl (rw some refl) turns in
-        let none = first.tickets in
-        let gone = first.gone in
-        record {
-          holder = first.holder;
-          connection = none_by p.holder p.connection first.holder (turns.each 0 p refl).shape;
-          tickets = no_tickets st.tickets (omega arith);
-          others = λ j u there other.
-              let it = set.threads j u there in
-              none_here workers it.there other first.holder (omega arith) (omega arith) it.like;
-        }
-
     module _ (first : i ≡ 0) (is : k ≡ idle_worker) where
       registers : (free : ℕ) → st.free ≡ free → Kept (Acted []) (registering st i t (drop 1 open_slot) free)
       registers zero some = kept_none
       registers (suc free) some =
           let g = st.entry + 1 in
-          let un = unused free some in
+          let unused = first_free w 0 p refl (rw some refl) turns in
+          let none = unused.tickets in
+          let gone = unused.gone in
+          let empty : p.connection ≡ None = none_by p.holder p.connection unused.holder (turns.each 0 p refl).shape in
+          let no_ticket : st.tickets ≡ [] = no_tickets st.tickets (omega arith) in
+          let rest : OthersRest st.threads workers =
+          λ j u other there. (let it = set.threads j u there in none_here workers it.there other unused.holder (omega arith) (omega arith) it.like) in
           kept_when st.accepted _ (λ accepted. kept_bind _ (token_of 0 Client g) (λ client one. kept_map _ (token_of 0 Target g) (λ target two. (
           let told = kernel.open_both st.kernel client target in
           let c : Connection = record { pair = fresh 0 g st.limits.ring st.second st.limits.lead; ends = told.told } in
@@ -604,12 +584,12 @@ module _ (st : System) (p : SlotState) (workers : List WorkerState) (set : Settl
             like = IsHalfOpen new c workers refl (record {
               first = get-set_same st.threads 0 t new (rw first at there);
               worker = (rw first at had) ∙ ap Some is;
-              others = after_set st new workers un.others;
-              tickets = un.tickets;
+              others = after_set st.threads workers new rest;
+              tickets = no_ticket;
               ends = refl;
-              stage = Registered (length p.notes) (rw (set.word, un.holder) refl) (set.place (rw un.holder refl) ∙ un.connection) refl;
+              stage = Registered (length p.notes) (rw (set.word, unused.holder) refl) (set.place (rw unused.holder refl) ∙ empty) refl;
             });
-            shows = λ more. rw (accepted, some, one, two, un.tickets, set.word);
+            shows = λ more. rw (accepted, some, one, two, no_ticket, set.word);
           })))))
 
     pub thread_acts : {todo : List Act} → ThreadLike st.limits.budget st.place p i t k todo → Kept (Acted (exchange st.word (first_kind todo))) (acts st i t todo)

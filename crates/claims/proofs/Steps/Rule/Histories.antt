@@ -191,7 +191,8 @@ module _ (word : ℕ) (traces : List (List Exchange)) (rule : SlotRule word trac
 
 -- What a history makes of the accounts of all seats, one exchange after the other
 
--- the seat is one of these, or has no exchange in the history; it keeps to what it holds; and its account becomes that in `ends`
+-- the seat is one of these, or has no exchange in the history; it keeps to what it holds; and its account becomes the one
+-- in `ends`
 record Along (h : History) (accounts ends : List Account) (seat : ℕ) : Type 0 where
   pub among : length accounts ≤ seat → by_seat seat h ≡ []
   pub fair : Keeps (get_or accounts seat blank) (by_seat seat h)
