@@ -15,14 +15,14 @@ record Better (st q : State) (s : ℕ) : Type 0 where
 -- the ends are as they were
 names_on : {st q : State} {s : ℕ} → q.table ≡ st.table → q.limits ≡ st.limits → q.kernel.ends ≡ st.kernel.ends
     → ((side : Side) (g : ℕ) → slice_get st.table s ≡ Some g → is_pending st (token_at s side g) ≡ true → is_pending q (token_at s side g) ≡ true) → Better st q s
-names_on table limits ends more = record { table = rw table; limits = limits; ends = λ d r there of_s. rw ends there; pending = more }
+names_on table limits ends more = grind arith
 
 -- nothing came to slot s
 abbrev Quiet : ℕ → History → History → Type 0
 Quiet s past next = (g : ℕ) (side : Side) → next s g side ≡ past s g side
 
 or_more : (a b c : Bool) → (a ≡ true → b ≡ true) → (a || c) ≡ true → (b || c) ≡ true
-or_more a b c more h = or_both a c b c more (λ k. k) h
+or_more a b c more h = grind arith
 
 better : {past next : History} {st q : State} {s : ℕ} {p : SlotState} → Quiet s past next → Better st q s → PlaceOk past st s p → PlaceOk next q s p
 better {past} {next} {st} {q} {s} {p} quiet f ok = record {
@@ -58,13 +58,12 @@ pub record Lies (o : Option SlotState) (c : Connection) : Type 0 where
   pub connection : place.connection ≡ Some c
 
 pub lies_in : (o : Option SlotState) (c : Connection) → option_and_then (λ (p : SlotState). p.connection) o ≡ Some c → Lies o c
-lies_in None c e = absurd (cc)
-lies_in (Some p) c e = record { place = p; there = refl; connection = e }
+lies_in o c e = grind arith
 
 -- the pair changed, or the notes
 renewed : {past : History} {st q : State} {s g : ℕ} {notes more : List ℕ} {c d : Connection} (ok : EndsOk past st s g notes c) → q.kernel.ends ≡ st.kernel.ends → d.ends ≡ c.ends → d.pair.generation ≡ c.pair.generation
     → PairOk (past s g) (λ side. is_pending q (token_at s side g) || is_nonempty more) d.pair ok.ends → EndsOk past q s g more d
-renewed ok kernel ends generation pair = record { generation = generation ∙ ok.generation; ends = ok.ends; there = λ side. rw (kernel, ends) (ok.there side); pair = pair }
+renewed ok kernel ends generation pair = grind arith
 
 -- The network
 
@@ -84,8 +83,7 @@ nothing b = grind arith
 -- the bytes that a change brings, to whom it brings them
 given_if : (st : State) (s : ℕ) (side : Side) (change : Change) (i g : ℕ) (t : Side) → given_by st i g t (event.Network s side change)
     ≡ (if (s == i && side_number side == side_number t) && has_generation (slice_get st.slots i) g then brought change else [])
-given_if st s side (Arrive bytes) i g t = refl
-given_if st s side _ i g t = sym (nothing _)
+given_if st s side change i g t = grind arith
 
 module _ (past : History) (st : State) (s : ℕ) (side : Side) (change : Change) (c : Connection) (l : Lies (slice_get st.slots s) c) where
   abbrev next : History
@@ -197,9 +195,6 @@ noted_ok {q} {s} {p} g table limits ends ok = record {
 none_in : (n : Name) (names : List Name) → names ≡ [] → has n names ≡ true → ⊥
 none_in n names e h = grind arith
 
-batch_left : (n m : Name) (batch : List Name) → slice_get batch 0 ≡ Some m → same n m ≡ false → has n batch ≡ true → has n (drop 1 batch) ≡ true
-batch_left n m batch first apart h = grind arith
-
 not_this : (st : State) (m n : EndName) → slice_get st.table m.slot ≡ Some m.generation → is_entry (slice_get st.table n.slot) n.generation ≡ false → same (End m) (End n) ≡ false
 not_this st m n entry other = grind (arith, same_end_is m n)
 
@@ -212,7 +207,7 @@ module _ {past : History} {st : State} {s : ℕ} {p : SlotState} {c d : Connecti
   }
 
 held_ok : {past : History} {st : State} {s : ℕ} {p : SlotState} {h : Holder} → PlaceOk past st s p → PlaceOk past st s (record p { holder = h })
-held_ok ok = record { entry = ok.entry; later = ok.later; connection = ok.connection }
+held_ok ok = grind arith
 
 heard_ok : {past : History} {st : State} {s g : ℕ} {notes : List ℕ} {c : Connection} (b : Bool) → is_nonempty notes ≡ b
     → EndsOk past st s g notes c → EndsOk past st s g [] (if b then record c { pair = noted c.pair } else c)
@@ -420,8 +415,7 @@ one_was : {st : State} {e : Event} {s : ℕ} {old new : SlotState} (i : ℕ) (p 
 one_was {st} i p lies was here = elim (at_one st.slots i lies refl here) [ inl h ↦ rw (h.0, h.1) was | inr h ↦ keeps_connection h.1 ]
 
 heard_continues : {st : State} {e : Event} {s : ℕ} (c : Connection) (b : Bool) → Continues st e s c (if b then record c { pair = noted c.pair } else c)
-heard_continues c true = continues refl refl refl
-heard_continues c false = continues refl refl refl
+heard_continues c b = grind arith
 
 -- a pair is given a failure where the kernel's reply was one
 
@@ -432,8 +426,7 @@ no_bytes : (o : Option (List ℕ)) (kind : Kind) → option_map (λ (bytes : Lis
 no_bytes o kind h = grind arith
 
 failed_told : (l : OpenConnection) (call : Call) (said : Reply) (kind : Kind) → told_of l call said ≡ Some (answer.Failed kind) → said ≡ reply.Failed kind
-failed_told l (Read side most) (reply.Bytes n) kind h = absurd (no_bytes _ kind h)
-failed_told l _ said kind h = failed_plain said kind h
+failed_told l call said kind h = grind (arith, failed_plain said kind)
 
 -- an answer does not bring the second of the last movement back
 later_or_same : (b : Bool) (m n : ℕ) → m ≤ n → (m ≤ (if b then n else m)) × ((if b then n else m) ≤ n)

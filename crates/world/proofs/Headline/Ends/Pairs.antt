@@ -63,20 +63,14 @@ pub record AllOk (past : History) (st : State) : Type 0 where
   pub each : (s : ℕ) (p : SlotState) → slice_get st.slots s ≡ Some p → PlaceOk past st s p
 
 pub end_more : {flags : Flags} {e : EndState} {r q : Bool} → (r ≡ true → q ≡ true) → EndCovered flags e r → EndCovered flags e q
-end_more {flags} {e} {r} {q} more h = record {
-  read = cover_more flags.read e.read_armed (is_readable e) r q more h.read;
-  write = cover_more flags.write e.write_armed (is_writable e) r q more h.write;
-}
+end_more more h = grind arith
 
 -- it gets ready, and a report comes where it was armed
 cover_report : (flag armed ready r told now : Bool) → (armed ≡ true → told ≡ true) → now ≡ true → is_covered flag armed ready r ≡ true → is_covered flag false now (r || told) ≡ true
 cover_report flag armed ready r told now tells is h = grind arith
 
 pub end_unready : {flags : Flags} {e : EndState} {r q : Bool} → is_readable e ≡ false → is_writable e ≡ false → EndCovered flags e r → EndCovered flags e q
-end_unready {flags} {e} {r} {q} unread unwritten h = record {
-  read = cover_unready flags.read e.read_armed (is_readable e) r q unread h.read;
-  write = cover_unready flags.write e.write_armed (is_writable e) r q unwritten h.write;
-}
+end_unready unread unwritten h = grind arith
 
 -- the flag is up
 pub cover_flag : (flag armed ready r : Bool) → flag ≡ true → is_covered flag armed ready r ≡ true
@@ -175,14 +169,10 @@ pair_changed {r = r} {p = p} Target {t = t} ok change came kept more tells = rec
 }
 
 denied : (b : Bool) → not b ≡ true → b ≡ true → ⊥
-denied true n h = absurd (cc)
-denied false n h = absurd (cc)
+denied b n h = grind arith
 
 pub nonempty_more : (xs ys : List ℕ) → is_nonempty ys ≡ true → is_nonempty (xs ++ ys) ≡ true
-nonempty_more xs ys h =
-    let some = ltb-true 0 (length ys) h in
-    let all = length-append xs ys in
-    lt-ltb 0 (length (xs ++ ys)) (omega arith)
+nonempty_more xs ys h = grind (arith, nat_tests, length-append xs ys)
 
 -- the bytes that a change brings
 abbrev pub brought : Change → List ℕ
@@ -280,9 +270,7 @@ not_empty n xs some within none = grind arith
 
 -- the first n bytes go into the ring, after all that wait
 moved_in : (lead ring unread : List ℕ) (n : ℕ) → (lead ++ ring) ++ unread ≡ (lead ++ (ring ++ take n unread)) ++ drop n unread
-moved_in lead ring unread n = ap (λ (all : List ℕ). (lead ++ ring) ++ all) (sym (take-append-drop n unread))
-    ∙ (sym (append_assoc (lead ++ ring) (take n unread) (drop n unread))
-    ∙ ap (λ (all : List ℕ). all ++ drop n unread) (append_assoc lead ring (take n unread)))
+moved_in lead ring unread n = simp (append_assoc, take-append-drop)
 
 unread_none : (xs : List ℕ) → not (is_nonempty xs) ≡ true → xs ≡ []
 unread_none xs h = nil_from_length xs (grind (arith, nat_tests))
@@ -296,7 +284,7 @@ taken_out taken waits left unread n same = rw same
 
 -- none wait after a write, where none did before
 none_left : (s : Stream) (n : ℕ) → waiting s ≡ [] → waiting (dropped s n) ≡ []
-none_left s n none = waiting-dropped s n ∙ (ap (λ (all : List ℕ). drop n all) none ∙ drop-nil n)
+none_left s n none = grind (arith, waiting-dropped s n, drop-nil {A = ℕ} n)
 
 -- One end x, and the other, y: the flags of x are covered, and the directions from x and to x are in order
 

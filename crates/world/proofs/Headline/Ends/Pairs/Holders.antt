@@ -125,17 +125,7 @@ pub same_self : {f : Facts} → Same f f
 same_self = record { entry = refl; counts = omega arith }
 
 same_ok : {f g : Facts} {p : SlotState} → Same f g → SlotOk f p → SlotOk g p
-same_ok m ok = record {
-  entry = rw (← m.entry) ok.entry;
-  notes = ok.notes;
-  counts = omega arith;
-  shape = ok.shape;
-  connection = λ c is. record {
-    stands = rw (← m.ring, ← m.slot) (ok.connection c is).stands;
-    live = (ok.connection c is).live;
-    rest = (ok.connection c is).rest;
-  };
-}
+same_ok m ok = grind arith
 
 -- an event that changes no slot
 pub keep_slots : {st next : State} → Turns st → next.slots ≡ st.slots → ((s g : ℕ) → Same (facts st s g) (facts next s g)) → Turns next
@@ -164,12 +154,12 @@ pub record Replaced (st : State) (w : ℕ) (k j : WorkerState) (s g : ℕ) : Typ
   pub gone : total (worker_retires s) (slice_set st.workers w j) + worker_retires s k ≡ total (worker_retires s) st.workers + worker_retires s j
 
 pub replaced : (st : State) (w : ℕ) {k : WorkerState} (j : WorkerState) (s g : ℕ) → slice_get st.workers w ≡ Some k → Replaced st w k j s g
-replaced st w {k} j s g there = record {
-  tickets = total-set (worker_tickets s) st.workers w k j there;
-  right = total-set (worker_right s g) st.workers w k j there;
-  holding = total-set (worker_holds s) st.workers w k j there;
-  closing = total-set (worker_closes s) st.workers w k j there;
-  gone = total-set (worker_retires s) st.workers w k j there;
+replaced st w j s g there = record {
+  tickets = total-set _ st.workers w _ j there;
+  right = total-set _ st.workers w _ j there;
+  holding = total-set _ st.workers w _ j there;
+  closing = total-set _ st.workers w _ j there;
+  gone = total-set _ st.workers w _ j there;
 }
 
 pub one_same : (s : ℕ) → one (s == s) ≡ 1
@@ -177,9 +167,6 @@ one_same s = grind arith
 
 pub one_other : (s i : ℕ) → s ≢ i → one (s == i) ≡ 0
 one_other s i apart = grind arith
-
-one_left : (a b : Bool) → one (a && b) ≤ one a
-one_left a b = grind arith
 
 pub names_of_slot : (s g : ℕ) (t : Ticket) → names s g t ≤ of_slot s t
 names_of_slot s g t = grind arith
@@ -202,7 +189,7 @@ pub record Does (c d : Doing) (s g : ℕ) : Type 0 where
   pub gone : retires s c ≡ retires s d
 
 pub doing_so : {c d : Doing} (s g : ℕ) → c ≡ d → Does c d s g
-doing_so s g does = record { tickets = ap (tried s) does; right = ap (tried_right s g) does; holding = ap (holds s) does; closing = ap (closes s) does; gone = ap (retires s) does }
+doing_so s g does = grind arith
 
 -- where one worker, that does d, goes on to e
 pub turned : (st : State) (w : ℕ) {k : WorkerState} {d : Doing} (e : Doing) (s g : ℕ) → slice_get st.workers w ≡ Some k → k.doing ≡ d
@@ -228,7 +215,7 @@ unless b h = grind arith
 -- a note more, and the ticket that it brings
 
 pub some_more : (xs : List ℕ) (x : ℕ) → is_nonempty (xs ++ x ∷ []) ≡ true
-some_more xs x = lt-ltb 0 (length (xs ++ x ∷ [])) (omega (arith, length-append xs (x ∷ [])))
+some_more xs x = grind (arith, nat_tests, length-append xs (x ∷ []))
 
 none_more : (xs : List ℕ) (x : ℕ) → xs ++ x ∷ [] ≡ [] → ⊥
 none_more [] x none = absurd (cc)
@@ -244,8 +231,7 @@ noted_tickets held some n m was more = grind arith
 -- a hand that may get one more ticket
 pub handed : (f : Ticket → ℕ) (b : Bool) (s g : ℕ) (hand : List Ticket) {n : ℕ} → f (record { slot = s; generation = g }) ≡ n
     → total f (with_ticket b s g hand) ≡ total f hand + n * one b
-handed f true s g hand is = omega (arith, total_push f hand (record { slot = s; generation = g }))
-handed f false s g hand is = omega arith
+handed f b s g hand is = grind (arith, total_push f hand (record { slot = s; generation = g }))
 
 -- the poller posts to a slot
 posted_turns : (st : State) (s g : ℕ) (p : SlotState) → slice_get st.table s ≡ Some g → slice_get st.slots s ≡ Some p → Turns st → Turns (posted st s g p)
@@ -279,8 +265,7 @@ posted_turns st s g p entry lies turns =
 -- the poller opens a slot
 
 total_first : {X : Type 0} (f : X → ℕ) (xs : List X) (x : X) → slice_get xs 0 ≡ Some x → total f xs ≡ f x + total f (drop 1 xs)
-total_first f [] x first = absurd (cc)
-total_first f (y ∷ ys) x first = let same : y ≡ x = (cc) in let part = ap f same in omega arith
+total_first f xs x first = grind arith
 
 free_so : (h : Holder) → is_free h ≡ true → h ≡ Free
 free_so h free = grind arith
@@ -305,19 +290,11 @@ pub record FirstFree (st : State) (s : ℕ) (p : SlotState) : Type 0 where
   pub gone : total (worker_retires s) st.workers + total (is_number s) (drop 1 st.free) ≡ 0
 
 pub first_free : (st : State) (s : ℕ) (p : SlotState) → slice_get st.slots s ≡ Some p → slice_get st.free 0 ≡ Some s → Turns st → FirstFree st s p
-first_free st s p lies first turns =
-    let sv = turns.each s p lies in
-    let split = total_first (is_number s) st.free s first in
-    let this = one_same s in
-    let free = free_so p.holder (sure (is_free p.holder) (omega arith)) in
-    let most = rw free at sv.gone in
-    record { holder = free; tickets = rw free at sv.tickets; holding = rw free at sv.holding; closing = rw free at sv.closing; gone = omega arith }
+first_free st s p lies first turns = grind (arith, turns.each s p lies, total_first (is_number s) st.free s first, one_same s, free_so p.holder)
 
 opened_connection : (st : State) (s g : ℕ) (ends : Descriptors) (f : Facts) (c : Connection) → f.slot ≡ s → f.ring ≡ st.limits.ring
     → (opened_place s g st.limits st.second ends).connection ≡ Some c → ConnectionOk f (opened_place s g st.limits st.second ends) c
-opened_connection st s g ends f c slot ring is =
-    let same : record { pair = fresh s g st.limits.ring st.second st.limits.lead; ends = ends } ≡ c = (cc) in
-    rw (← same) (record { stands = rw (slot, ring) refl; live = λ nobody. refl; rest = λ nobody none. absurd (cc) })
+opened_connection st s g ends f c slot ring is = grind arith
 
 opened_turns : (st : State) (s g : ℕ) (p : SlotState) (t : Told KernelState Descriptors) → slice_get st.free 0 ≡ Some s → slice_get st.slots s ≡ Some p → Turns st
     → Turns (opened_world st s g t)
@@ -354,7 +331,7 @@ unheld : (h : Holder) (some : Bool) → 1 ≤ one (not (is_held h) && some) → 
 unheld h some n = grind arith
 
 pub own_generation : (f : Facts) (p : SlotState) (c : Connection) → place_of c.pair ≡ standing f p.generation → c.pair.generation ≡ p.generation
-own_generation f p c stands = ap (λ (x : Standing). x.generation) stands
+own_generation f p c stands = grind arith
 
 there_is : {X : Type 0} (o : Option X) → is_some o ≡ true → (x : X) × (o ≡ Some x)
 there_is o h = grind arith
@@ -429,18 +406,7 @@ by_one : (h : Holder) (b : Bool) → 1 ≤ one (is_by_worker h && b) → (w : �
 by_one h b n = grind arith
 
 held_so : {f : Facts} {p : SlotState} {has : Bool} (by : ℕ) → SlotOk f p → p.holder ≡ By by → is_some p.connection ≡ has → Held f p has
-held_so by sv holder some =
-    let none = rw holder at sv.tickets in
-    record {
-      by = by;
-      holder = holder;
-      some = some;
-      tickets = none;
-      right = sv.right ∙ none;
-      holding = rw (holder, some) at sv.holding;
-      closing = rw (holder, some) at sv.closing;
-      gone = rw holder at sv.gone;
-    }
+held_so by sv holder some = grind (arith, sv)
 
 pub held_slot : {st : State} {w : ℕ} (h : Holding st w) → Turns st → Held (facts st h.s h.p.generation) h.p true
 held_slot {st} {w} h turns =
@@ -715,8 +681,7 @@ touched : {st next : State} {e : Event} (s : ℕ) {p : SlotState} (r : SlotState
 touched s r kinds there all made word count others i old here = moves_at s i r kinds (cases_eq s i) there all (made i) word count (others i) here
 
 neither : (b : Bool) (none : List StepKind) → none ≡ (if b then none else none)
-neither true none = refl
-neither false none = refl
+neither b none = grind arith
 
 -- the slot's notes and holder stay, and no step is made
 stays : {st next : State} {e : Event} (s : ℕ) {p : SlotState} (r : SlotState) → slice_get st.slots s ≡ Some p → next.slots ≡ slice_set st.slots s r → ((i : ℕ) → steps st e i ≡ [])
@@ -726,7 +691,7 @@ stays s r there all none word same = touched s r [] there all (λ i. none i ∙ 
 -- a note more
 
 noted_word : (p : SlotState) (g : ℕ) → word_at (with_note p g) ≡ after_all (words.post ∷ []) (word_at p)
-noted_word p g = let more : length (p.notes ++ g ∷ []) ≡ suc (length p.notes) = omega (arith, length-append p.notes (g ∷ [])) in rw more
+noted_word p g = grind (arith, length-append p.notes (g ∷ []))
 
 waits : (n : ℕ) → some_wait n ≡ nat_lt 0 n
 waits n = grind (arith, nat_tests)

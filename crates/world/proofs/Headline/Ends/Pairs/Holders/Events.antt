@@ -300,14 +300,9 @@ queues_on : {st : State} {ends : List (Option Registered)} {queue : List Name} {
     → Listens st → Listens (record st { kernel = record st.kernel { ends = ends; queue = queue }; slots = slots; workers = workers; past = past })
 queues_on {st} {queue = queue} more l = goes_on refl refl refl (λ h. or_left (hears queue) _ (more h)) (λ h. or_right (hears queue) _ h) l
 
--- a name that is not the listener's leaves the batch
-rest_hears : (xs : List Name) (n : Name) → slice_get xs 0 ≡ Some n → same Listener n ≡ false → hears xs ≡ true → hears (drop 1 xs) ≡ true
-rest_hears [] n first other h = absurd (cc)
-rest_hears (x ∷ xs) n first other h = let is : x ≡ n = (cc) in let away : same Listener x ≡ false = rw is other in rw away at h
-
 shorter : {st : State} {hand : List Ticket} {slots : List SlotState} (n : Name) → slice_get st.batch 0 ≡ Some n → same Listener n ≡ false → Listens st
     → Listens (record (behind st) { hand = hand; slots = slots })
-shorter {st} n first other l = goes_on refl refl refl (or_left (hears st.kernel.queue) _) (λ h. or_right (hears st.kernel.queue) _ (rest_hears st.batch n first other h)) l
+shorter {st} n first other l = goes_on refl refl refl (or_left (hears st.kernel.queue) _) (λ h. or_right (hears st.kernel.queue) _ (batch_left Listener n st.batch first other h)) l
 
 connected : (flag armed ready : Bool) (queue : List Name) (r : Bool) → is_covered flag armed ready (hears queue || r) ≡ true
     → is_covered flag false true (hears (reported queue Listener armed) || r) ≡ true
