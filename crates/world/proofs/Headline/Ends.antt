@@ -219,10 +219,7 @@ heard_ok false none ok = renewed ok refl refl refl (pair_more ok.pair (λ side. 
 
 -- an overdue connection fails, and keeps all else
 timed_out_ok : {past : History} {st : State} {s g : ℕ} {notes : List ℕ} {c : Connection} → EndsOk past st s g notes c → EndsOk past st s g notes (record c { pair = timed_out c.pair })
-timed_out_ok ok = renewed ok refl refl refl (record {
-  covered = by_side _ (ok.pair.covered Client) (ok.pair.covered Target);
-  directions = by_direction _ (ok.pair.directions Up) (ok.pair.directions Down);
-})
+timed_out_ok ok = grind arith
 
 call_keeps : (laws : CoreLaws) {past : History} {st : State} {w : ℕ} (h : Holding st w) {r : Reply} (m : Made st h.c r) → AllOk past st → AllOk past (called_on h m)
 call_keeps laws {past} {st} h m all =
@@ -393,26 +390,17 @@ pub record Was (st : State) (e : Event) (s : ℕ) (new : SlotState) : Type 0 whe
 
 module _ {st : State} {e : Event} {s : ℕ} where
   continues : {c d : Connection} → d.pair.generation ≡ c.pair.generation → verdict d.pair ≡ verdict c.pair → d.pair.moved ≡ c.pair.moved → Continues st e s c d
-  continues generation same moved = record {
-    generation = generation;
-    fails = λ fault failed. inl (sym same ∙ failed);
-    since = λ before. rw moved (le_refl _, before);
-  }
+  continues generation same moved = grind arith
 
   keeps_connection : {old : SlotState} {holder : Holder} {notes : List ℕ} → slice_get st.slots s ≡ Some old → Was st e s (record old { holder = holder; notes = notes })
   keeps_connection {old} lies = record { old = old; there = lies; older = le_refl _; connection = λ c is. inl (c, is, continues refl refl refl) }
 
   goes_on_in : {old : SlotState} {b c : Connection} {notes : List ℕ} → slice_get st.slots s ≡ Some old → old.connection ≡ Some b → Continues st e s b c
       → Was st e s (record old { connection = Some c; notes = notes })
-  goes_on_in {old} {b} {c} lies is goes = record {
-    old = old;
-    there = lies;
-    older = le_refl _;
-    connection = λ d this. inl (b, is, (let same : c ≡ d = cc in rw (← same) goes));
-  }
+  goes_on_in lies is goes = grind (arith, goes)
 
 one_was : {st : State} {e : Event} {s : ℕ} {old new : SlotState} (i : ℕ) (p : SlotState) → slice_get st.slots s ≡ Some old → Was st e s new → slice_get (slice_set st.slots s new) i ≡ Some p → Was st e i p
-one_was {st} i p lies was here = elim (at_one st.slots i lies refl here) [ inl h ↦ rw (h.0, h.1) was | inr h ↦ keeps_connection h.1 ]
+one_was {st} i p lies was here = grind (arith, at_one st.slots i lies refl here, keeps_connection)
 
 heard_continues : {st : State} {e : Event} {s : ℕ} (c : Connection) (b : Bool) → Continues st e s c (if b then record c { pair = noted c.pair } else c)
 heard_continues c b = grind arith

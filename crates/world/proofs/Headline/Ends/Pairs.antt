@@ -100,10 +100,7 @@ same_gave e ok = rw e ok
 
 pub pair_more : {h i : Side → List ℕ} {r q : Side → Bool} {p : PairState} {ends : Sockets} → PairOk h r p ends → ((side : Side) → i side ≡ h side)
     → ((side : Side) → r side ≡ true → q side ≡ true) → PairOk i q p ends
-pair_more ok same more = record {
-  covered = λ side. end_more (more side) (ok.covered side);
-  directions = λ d. same_gave (same (source d)) (ok.directions d);
-}
+pair_more ok same more = grind (arith, end_more, same_gave)
 
 -- nothing can be done at one side
 pub pair_unready : {h : Side → List ℕ} {r q : Side → Bool} {p : PairState} {ends : Sockets} (side : Side) → PairOk h r p ends
@@ -134,22 +131,12 @@ arrived gave bytes stream x y z more kept = rw (kept, more)
 -- at the source of a direction
 source_changed : {gave bytes : List ℕ} {stream : Stream} {x y : EndState} {t : Told EndState Bool} → IsChange bytes x t
     → DirectionOk gave stream x y → DirectionOk (gave ++ bytes) stream t.value y
-source_changed {gave} {bytes} {stream} {x} {y} {t} change ok = record {
-  bytes = arrived gave bytes stream x y t.value change.unread ok.bytes;
-  ended = λ h. change.fin (ok.ended h);
-  read = λ h. rw (change.unread, ok.read h, change.none (ok.ended h)) refl;
-  last = ok.last;
-}
+source_changed {gave} {bytes} {stream} {x} {y} {t} change ok = grind (arith, arrived gave bytes stream x y t.value change.unread ok.bytes, append-nil {A = ℕ})
 
 -- at its destination
 destination_changed : {gave bytes : List ℕ} {stream : Stream} {x y : EndState} {t : Told EndState Bool} → IsChange bytes y t
     → DirectionOk gave stream x y → DirectionOk gave stream x t.value
-destination_changed change ok = record {
-  bytes = rw (change.taken) (ok.bytes);
-  ended = ok.ended;
-  read = ok.read;
-  last = ok.last;
-}
+destination_changed change ok = grind arith
 
 pub pair_changed : {h i : Side → List ℕ} {r q : Side → Bool} {p : PairState} {ends : Sockets} (side : Side) {bytes : List ℕ} {t : Told EndState Bool} → PairOk h r p ends
     → IsChange bytes (socket_of ends side) t → i side ≡ h side ++ bytes → i (other_side side) ≡ h (other_side side)
@@ -258,12 +245,7 @@ asked p = kept_when (is_live (verdict p)) _ (λ live. either (call_for p p.turn)
 -- One direction
 
 again : {gave : List ℕ} {s : Stream} {x y z w : EndState} → z.unread ≡ x.unread → z.fin ≡ x.fin → w.taken ≡ y.taken → DirectionOk gave s x y → DirectionOk gave s z w
-again unread fin taken ok = record {
-  bytes = rw (unread, taken) (ok.bytes);
-  ended = λ h. rw fin (ok.ended h);
-  read = λ h. rw unread (ok.read h);
-  last = ok.last;
-}
+again unread fin taken ok = grind arith
 
 not_empty : (n : ℕ) (xs : List ℕ) → 0 < n → n ≤ length xs → xs ≡ [] → ⊥
 not_empty n xs some within none = grind arith
@@ -312,30 +294,13 @@ module _ {flags : Flags} {r : Bool} {x y : EndState} {gave back : List ℕ} {out
       }
 
   end_met : (not (is_nonempty x.unread) && x.fin) ≡ true → EndOk flags r x y gave back (ended out) into
-  end_met may = record {
-    covered = ok.covered;
-    out = record {
-      bytes = ok.out.bytes;
-      ended = λ h. second_so (not (is_nonempty x.unread)) x.fin may;
-      read = λ h. unread_none x.unread (first_so (not (is_nonempty x.unread)) x.fin may);
-      last = record { ended = λ h. refl; empty = ok.out.last.empty };
-    };
-    into = ok.into;
-  }
+  end_met may = grind (arith, unread_none x.unread)
 
   read_blocked : not (is_readable x) ≡ true → EndOk (record flags { read = false }) r (record x { read_armed = true }) y gave back out into
-  read_blocked may = record {
-    covered = record { read = cover_armed false (is_readable x) r (unless (is_readable x) may); write = ok.covered.write };
-    out = again refl refl refl ok.out;
-    into = again refl refl refl ok.into;
-  }
+  read_blocked may = grind arith
 
   write_blocked : not (is_writable x) ≡ true → EndOk (record flags { write = false }) r (record x { write_armed = true }) y gave back out into
-  write_blocked may = record {
-    covered = record { read = ok.covered.read; write = cover_armed false (is_writable x) r (unless (is_writable x) may) };
-    out = again refl refl refl ok.out;
-    into = again refl refl refl ok.into;
-  }
+  write_blocked may = grind arith
 
   wrote_out : (n : ℕ) (room : Bool) → (x.room && is_count n (length (front into))) ≡ true → flags.write ≡ true
       → EndOk flags r (record x { taken = x.taken ++ take n (front into); room = room }) y gave back out (dropped into n)
@@ -353,20 +318,7 @@ module _ {flags : Flags} {r : Bool} {x y : EndState} {gave back : List ℕ} {out
       }
 
   passed_on : is_drained into ≡ true → EndOk flags r (record x { shut = true }) y gave back out (closed into)
-  passed_on drained =
-      let both = first_so (into.end_seen && not (is_waiting into)) (not into.shut) drained in record {
-        covered = record { read = ok.covered.read; write = ok.covered.write };
-        out = again refl refl refl ok.out;
-        into = record {
-          bytes = ok.into.bytes;
-          ended = ok.into.ended;
-          read = ok.into.read;
-          last = record {
-            ended = λ h. first_so into.end_seen (not (is_waiting into)) both;
-            empty = λ h. unread_none (waiting into) (second_so into.end_seen (not (is_waiting into)) both);
-          };
-        };
-      }
+  passed_on drained = grind (arith, unread_none (waiting into))
 
 -- The whole pair
 

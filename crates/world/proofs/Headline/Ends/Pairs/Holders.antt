@@ -154,12 +154,12 @@ pub record Replaced (st : State) (w : ℕ) (k j : WorkerState) (s g : ℕ) : Typ
   pub gone : total (worker_retires s) (slice_set st.workers w j) + worker_retires s k ≡ total (worker_retires s) st.workers + worker_retires s j
 
 pub replaced : (st : State) (w : ℕ) {k : WorkerState} (j : WorkerState) (s g : ℕ) → slice_get st.workers w ≡ Some k → Replaced st w k j s g
-replaced st w j s g there = record {
-  tickets = total-set _ st.workers w _ j there;
-  right = total-set _ st.workers w _ j there;
-  holding = total-set _ st.workers w _ j there;
-  closing = total-set _ st.workers w _ j there;
-  gone = total-set _ st.workers w _ j there;
+replaced st w {k} j s g there = record {
+  tickets = total-set _ st.workers w k j there;
+  right = total-set _ st.workers w k j there;
+  holding = total-set _ st.workers w k j there;
+  closing = total-set _ st.workers w k j there;
+  gone = total-set _ st.workers w k j there;
 }
 
 pub one_same : (s : ℕ) → one (s == s) ≡ 1
@@ -200,10 +200,7 @@ turned st w {k} e s g there does = (replaced st w (record k { doing = e }) s g t
 pub turned_elsewhere : (st : State) (w : ℕ) {k : WorkerState} {d : Doing} (e : Doing) (i g : ℕ) → slice_get st.workers w ≡ Some k → k.doing ≡ d
     → tried i d + (holds i d + (closes i d + retires i d)) ≡ 0 → tried i e + (holds i e + (closes i e + retires i e)) ≡ 0 → Same (facts st i g) (facts (doing st w k e) i g)
 turned_elsewhere st w {k} {d} e i g there does before after =
-    let m = turned st w e i g there does in
-    let less = tried_less i g d in
-    let less_after = tried_less i g e in
-    record { entry = refl; counts = omega arith }
+    let m = turned st w e i g there does in record { entry = refl; counts = omega (arith, tried_less i g d, tried_less i g e) }
 
 -- a test that counts holds
 pub sure : (b : Bool) → 1 ≤ one b → b ≡ true
@@ -240,26 +237,13 @@ posted_turns st s g p entry lies turns =
     let own : p.generation ≡ g = cc (entry, sv.entry) in
     let more = handed (of_slot s) (brings_ticket p) s p.generation st.hand (one_same s) in
     let more_right = handed (names s p.generation) (brings_ticket p) s p.generation st.hand (names_own s p.generation) in
-    rw (← own) (keep_others s turns lies refl (λ j i apart.
-    let same = handed (of_slot j) (brings_ticket p) s p.generation st.hand (one_other s j apart) in
-    let same_right = handed (names j i) (brings_ticket p) s p.generation st.hand (names_other j i (record { slot = s; generation = p.generation }) apart) in
-    record { entry = refl; counts = omega arith }) (record {
+    rw (← own) (keep_others s turns lies refl (λ j i apart. grind (arith, handed (of_slot j) (brings_ticket p) s p.generation st.hand (one_other s j apart),
+    handed (names j i) (brings_ticket p) s p.generation st.hand (names_other j i (record { slot = s; generation = p.generation }) apart))) (record {
       entry = sv.entry;
       notes = are_own_more p.generation p.notes sv.notes;
-      counts = record {
-        tickets = rw (some_more p.notes p.generation) (noted_tickets (is_held p.holder) (is_nonempty p.notes) (tickets st s) (tickets (posted st s p.generation p) s) sv.tickets
-            (omega arith));
-        right = omega arith;
-        holding = sv.holding;
-        closing = sv.closing;
-        gone = sv.gone;
-      };
+      counts = grind (arith, some_more p.notes p.generation);
       shape = sv.shape;
-      connection = λ c is. record {
-        stands = (sv.connection c is).stands;
-        live = (sv.connection c is).live;
-        rest = λ nobody none. absurd (none_more p.notes p.generation none);
-      };
+      connection = λ c is. grind (arith, sv.connection c is, none_more p.notes p.generation);
     }))
 
 -- the poller opens a slot
@@ -339,16 +323,10 @@ there_is o h = grind arith
 module _ (st : State) (w : ℕ) (k : WorkerState) (t : Ticket) (p : SlotState) (there : slice_get st.workers w ≡ Some k) (does : k.doing ≡ Tries t)
     (lies : slice_get st.slots t.slot ≡ Some p) (turns : Turns st) where
   pub waiting : Waiting p
-  waiting =
-      let sv = turns.each t.slot p lies in
-      let least = total_at (worker_tickets t.slot) st.workers w k there in
-      let tries = doing_so t.slot 0 does in
-      let this = one_same t.slot in
-      let parts = unheld p.holder (is_nonempty p.notes) (omega arith) in
-      record { holder = parts.0; some = parts.1; lies = rw (parts.0) at sv.shape }
+  waiting = grind (arith, turns.each t.slot p lies, total_at (worker_tickets t.slot) st.workers w k there, doing_so t.slot 0 does, one_same t.slot)
 
   unheld_so : is_held p.holder ≡ true → ⊥
-  unheld_so held = let is = rw waiting.holder at held in absurd (cc)
+  unheld_so held = grind (arith, waiting)
 
   claimed_turns : Turns (doing (with_place st t.slot (record p { holder = By w })) w k (Holds t.slot st.limits.budget))
   claimed_turns =
@@ -411,10 +389,7 @@ held_so by sv holder some = grind (arith, sv)
 pub held_slot : {st : State} {w : ℕ} (h : Holding st w) → Turns st → Held (facts st h.s h.p.generation) h.p true
 held_slot {st} {w} h turns =
     let sv = turns.each h.s h.p h.lies in
-    let least = total_at (worker_holds h.s) st.workers w h.k h.there in
-    let does = doing_so h.s 0 h.does in
-    let this = one_same h.s in
-    let by = by_one h.p.holder (is_some h.p.connection) (omega arith) in
+    let by = by_one h.p.holder (is_some h.p.connection) (grind (arith, sv, total_at (worker_holds h.s) st.workers w h.k h.there, doing_so h.s 0 h.does, one_same h.s)) in
     held_so by.0 sv by.1 by.2
 
 -- a worker keeps the slot that it holds, and changes its notes and the connection's state
@@ -449,9 +424,7 @@ post_turns : {st : State} {w : ℕ} (h : Holding st w) → Turns st → Turns (w
 post_turns {st} h turns =
     let sv = turns.each h.s h.p h.lies in
     let own = own_generation (facts st h.s h.p.generation) h.p h.c (sv.connection h.c h.is).stands in
-    keeps_held h (h.p.notes ++ h.c.pair.generation ∷ []) h.c turns
-    (ap (λ (o : Option Connection). slice_set st.slots h.s (record h.p { notes = h.p.notes ++ h.c.pair.generation ∷ []; connection = o })) h.is)
-    (λ j g. same_self) (rw own (are_own_more h.p.generation h.p.notes sv.notes)) refl
+    keeps_held h (h.p.notes ++ h.c.pair.generation ∷ []) h.c turns (rw (← h.is) refl) (λ j g. same_self) (rw own (are_own_more h.p.generation h.p.notes sv.notes)) refl
 
 -- it lets the slot go
 
@@ -580,14 +553,8 @@ numbers_once zero s = omega arith
 numbers_once (suc n) s = omega (arith, total_push (is_number s) (numbers_below n) n, last_number n s (cases_eq n s) (numbers_once n s))
 
 unused_ok : (l : Limits) (s : ℕ) → slice_get (replicate l.slots l.generation) s ≡ Some l.generation → SlotOk (facts (opening l) s l.generation) (unused l.generation)
-unused_ok l s entry =
-    let tickets = total_none (worker_tickets s) l.workers resting refl in
-    let right = total_none (worker_right s l.generation) l.workers resting refl in
-    let holding = total_none (worker_holds s) l.workers resting refl in
-    let closing = total_none (worker_closes s) l.workers resting refl in
-    let retired = total_none (worker_retires s) l.workers resting refl in
-    let once = numbers_once l.slots s in
-    record { entry = entry; notes = refl; counts = omega arith; shape = refl; connection = λ c is. absurd (cc) }
+unused_ok l s entry = grind (arith, total_none (worker_tickets s) l.workers resting refl, total_none (worker_right s l.generation) l.workers resting refl,
+    total_none (worker_holds s) l.workers resting refl, total_none (worker_closes s) l.workers resting refl, total_none (worker_retires s) l.workers resting refl, numbers_once l.slots s)
 
 opening_turns : (l : Limits) → Turns (opening l)
 opening_turns l = record {
