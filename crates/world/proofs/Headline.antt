@@ -209,12 +209,7 @@ only_if b o x h = grind arith
 here_now : (xs : List SlotState) (now s g : ℕ) {old : SlotState} (new : SlotState) {b : Connection} → slice_get xs s ≡ Some old → new.connection ≡ Some b → b.pair.moved ≡ now
     → (i : ℕ) (p : SlotState) (c : Connection) → slice_get (slice_set xs s new) i ≡ Some p → p.connection ≡ Some c → Some (named s g) ≡ Some (named i c.pair.generation)
     → now ≤ c.pair.moved
-here_now xs now s g {old} new {b} lies is moved i p c here lying named_so =
-    let both : named s g ≡ named i c.pair.generation = cc in
-    let at = subst (λ (j : ℕ). slice_get (slice_set xs s new) j ≡ Some p) (sym (ap (λ (x : Named). x.slot) both)) here in
-    let one : new ≡ p = cc (get-set_same xs s old new lies) in
-    let same : b ≡ c = (let at : new.connection ≡ Some c = rw one lying in cc) in
-    rw (← same, moved) (le_refl now)
+here_now xs now s g {old} new {b} lies is moved i p c here lying named_so = grind (arith, get-set_same xs s old new lies)
 
 module _ {st : State} where
   holds_it : {w : ℕ} (h : Holding st w) → held_connection st w ≡ Some (named h.s h.c.pair.generation)

@@ -215,7 +215,7 @@ heard_ok true some ok = renewed ok refl refl refl (record {
   covered = by_side _ (record { read = refl; write = refl }) (record { read = refl; write = refl });
   directions = by_direction _ (ok.pair.directions Up) (ok.pair.directions Down);
 })
-heard_ok false none ok = renewed ok refl refl refl (pair_more ok.pair (λ side. refl) (λ side. or_then _ _ (λ k. or_left _ false k) (λ k. absurd (let never = sym none ∙ k in cc))))
+heard_ok false none ok = renewed ok refl refl refl (pair_more ok.pair (λ side. refl) (grind arith))
 
 -- an overdue connection fails, and keeps all else
 timed_out_ok : {past : History} {st : State} {s g : ℕ} {notes : List ℕ} {c : Connection} → EndsOk past st s g notes c → EndsOk past st s g notes (record c { pair = timed_out c.pair })
@@ -424,9 +424,9 @@ call_continues : (laws : CoreLaws) {st : State} {w : ℕ} (h : Holding st w) {r 
 call_continues laws {st} h {r} m = record {
   generation = ap (λ (x : Standing). x.generation) (laws.place st.second h.c.pair m.call m.value);
   fails = λ fault failed.
-      let tells : TellsOf m.call m.value fault = (laws.failures st.second h.c.pair m.call m.value fault (record { next = m.next; fit = m.fit })).0 failed in
-      let said = failed_told (record { kernel = st.kernel; connection = h.c }) m.call r tells.kind (m.told ∙ ap (λ (u : answer.AnswerValue). Some u) tells.failed) in
-      inr (rw (said, h.there, h.does, h.lies, h.is, m.next) (ap (λ (f : Fault). Some (failure h.s h.c.pair.generation f)) (sym tells.told)));
+      let tells = (laws.failures st.second h.c.pair m.call m.value fault (record { next = m.next; fit = m.fit })).0 failed in
+      inr (rw (failed_told (record { kernel = st.kernel; connection = h.c }) m.call r tells.kind (m.told ∙ ap Some tells.failed), h.there, h.does, h.lies, h.is, m.next)
+      (ap (λ (f : Fault). Some (failure h.s h.c.pair.generation f)) (sym tells.told)));
   since = later_or_same (moves m.value) h.c.pair.moved st.second;
 }
 

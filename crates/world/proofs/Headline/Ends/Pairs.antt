@@ -168,48 +168,10 @@ brought _ = []
 
 -- each change leaves the flags covered
 pub changed_end : (change : Change) (e : EndState) → Kept (IsChange (brought change) e) (change_of change e)
-changed_end (Arrive bytes) e = kept_guard (is_nonempty bytes.items && (not e.fin && not e.err)) _ (λ may. record {
-  unread = refl;
-  taken = refl;
-  fin = λ h. h;
-  none = λ h. absurd (denied e.fin (first_so (not e.fin) (not e.err) (second_so (is_nonempty bytes.items) _ may)) h);
-  covered = λ flags r c. record {
-    read = cover_report flags.read e.read_armed (is_readable e) r e.read_armed _ (λ h. h)
-        (or_left _ (e.fin || e.err) (nonempty_more e.unread bytes.items (first_so (is_nonempty bytes.items) _ may))) c.read;
-    write = cover_more flags.write e.write_armed (is_writable e) r _ (or_left r e.read_armed) c.write;
-  };
-})
-changed_end Fin e = kept_guard (not e.fin && not e.err) _ (λ may. record {
-  unread = sym (append-nil e.unread);
-  taken = refl;
-  fin = λ h. refl;
-  none = λ h. refl;
-  covered = λ flags r c. record {
-    read = cover_report flags.read e.read_armed (is_readable e) r e.read_armed _ (λ h. h) (or_right (is_nonempty e.unread) true refl) c.read;
-    write = cover_more flags.write e.write_armed (is_writable e) r _ (or_left r e.read_armed) c.write;
-  };
-})
-changed_end Reset e = kept_guard (not e.err) _ (λ may. record {
-  unread = sym (append-nil e.unread);
-  taken = refl;
-  fin = λ h. h;
-  none = λ h. refl;
-  covered = λ flags r c. record {
-    read = cover_report flags.read e.read_armed (is_readable e) r (e.read_armed || e.write_armed) _ (or_left e.read_armed e.write_armed)
-        (or_right (is_nonempty e.unread) (e.fin || true) (or_right e.fin true refl)) c.read;
-    write = cover_report flags.write e.write_armed (is_writable e) r (e.read_armed || e.write_armed) _ (or_right e.read_armed e.write_armed) (or_right e.room true refl) c.write;
-  };
-})
-changed_end Room e = kept_guard (not e.room && not e.err) _ (λ may. record {
-  unread = sym (append-nil e.unread);
-  taken = refl;
-  fin = λ h. h;
-  none = λ h. refl;
-  covered = λ flags r c. record {
-    read = cover_more flags.read e.read_armed (is_readable e) r _ (or_left r e.write_armed) c.read;
-    write = cover_report flags.write e.write_armed (is_writable e) r e.write_armed true (λ h. h) refl c.write;
-  };
-})
+changed_end (Arrive bytes) e = kept_guard (is_nonempty bytes.items && (not e.fin && not e.err)) _ (λ may. grind (arith, nonempty_more e.unread bytes.items))
+changed_end Fin e = kept_guard (not e.fin && not e.err) _ (λ may. grind (arith, append-nil e.unread))
+changed_end Reset e = kept_guard (not e.err) _ (λ may. grind (arith, append-nil e.unread))
+changed_end Room e = kept_guard (not e.room && not e.err) _ (λ may. grind (arith, append-nil e.unread))
 
 -- What speaks for the next call: a read's and a write's flag is up, and a shutdown comes after every byte
 
@@ -278,20 +240,7 @@ record EndOk (flags : Flags) (r : Bool) (x y : EndState) (gave back : List ℕ) 
 module _ {flags : Flags} {r : Bool} {x y : EndState} {gave back : List ℕ} {out into : Stream} (ok : EndOk flags r x y gave back out into) where
   bytes_in : (n most : ℕ) → (is_count n most && nat_le n (length x.unread)) ≡ true → flags.read ≡ true
       → EndOk flags r (record x { unread = drop n x.unread }) y gave back (taken_in out (take n x.unread)) into
-  bytes_in n most may up =
-      let count = first_so (is_count n most) (nat_le n (length x.unread)) may in
-      let some = ltb-true 0 n (first_so (nat_lt 0 n) (nat_le n most) count) in
-      let within = leb-true n (length x.unread) (second_so (is_count n most) (nat_le n (length x.unread)) may) in
-      let open_end : out.end_seen ≡ true → ⊥ = λ h. not_empty n x.unread some within (ok.out.read h) in record {
-        covered = record { read = cover_flag flags.read _ _ r up; write = ok.covered.write };
-        out = record {
-          bytes = ok.out.bytes ∙ ap (λ (all : List ℕ). y.taken ++ all) (moved_in out.lead out.ring x.unread n);
-          ended = λ h. absurd (open_end h);
-          read = λ h. absurd (open_end h);
-          last = record { ended = ok.out.last.ended; empty = λ h. absurd (open_end (ok.out.last.ended h)) };
-        };
-        into = again refl refl refl ok.into;
-      }
+  bytes_in n most may up = grind (arith, nat_tests, moved_in out.lead out.ring x.unread n, not_empty n x.unread)
 
   end_met : (not (is_nonempty x.unread) && x.fin) ≡ true → EndOk flags r x y gave back (ended out) into
   end_met may = grind (arith, unread_none x.unread)
@@ -304,18 +253,15 @@ module _ {flags : Flags} {r : Bool} {x y : EndState} {gave back : List ℕ} {out
 
   wrote_out : (n : ℕ) (room : Bool) → (x.room && is_count n (length (front into))) ≡ true → flags.write ≡ true
       → EndOk flags r (record x { taken = x.taken ++ take n (front into); room = room }) y gave back out (dropped into n)
-  wrote_out n room may up =
-      let most = length (front into) in
-      let within = leb-true n most (second_so (nat_lt 0 n) (nat_le n most) (second_so x.room (is_count n most) may)) in record {
-        covered = record { read = ok.covered.read; write = cover_flag flags.write _ _ r up };
-        out = again refl refl refl ok.out;
-        into = record {
-          bytes = rw (take-front into n within) (ok.into.bytes ∙ taken_out x.taken (waiting into) (waiting (dropped into n)) y.unread n (waiting-dropped into n));
-          ended = ok.into.ended;
-          read = ok.into.read;
-          last = record { ended = ok.into.last.ended; empty = λ h. none_left into n (ok.into.last.empty h) };
-        };
-      }
+  wrote_out n room may up = grind (
+    arith,
+    nat_tests,
+    take-front into n,
+    waiting-dropped into n,
+    none_left into n,
+    taken_out x.taken (waiting into) (waiting (dropped into n)) y.unread n (waiting-dropped into n),
+    ok.into.bytes,
+  )
 
   passed_on : is_drained into ≡ true → EndOk flags r (record x { shut = true }) y gave back out (closed into)
   passed_on drained = grind (arith, unread_none (waiting into))

@@ -133,12 +133,7 @@ keep_slots turns all same = record { each = λ s p there. same_ok (same s p.gene
 
 one_slot : {st : State} (next : State) (s i : ℕ) {old new p : SlotState} → Turns st → (s ≡ i) ⊎ (s ≢ i) → slice_get st.slots s ≡ Some old → next.slots ≡ slice_set st.slots s new
     → ((j g : ℕ) → s ≢ j → Same (facts st j g) (facts next j g)) → SlotOk (facts next s new.generation) new → slice_get next.slots i ≡ Some p → SlotOk (facts next i p.generation) p
-one_slot {st} next s i {old} {new} {p} turns (inl same) there all others ok here =
-    let is : new ≡ p = let set : slice_get (slice_set st.slots s new) s ≡ Some p = rw (← all, same) here in cc (get-set_same st.slots s old new there) in
-    rw (← same, ← is) ok
-one_slot {st} next s i {old} {new} {p} turns (inr apart) there all others ok here =
-    let set : slice_get (slice_set st.slots s new) i ≡ Some p = rw (← all) here in
-    same_ok (others i p.generation apart) (turns.each i p (sym (get-set_other st.slots s i new apart) ∙ set))
+one_slot {st} next s i {old} {new} {p} turns h there all others ok here = grind (arith, get-set_same st.slots s old new there, get-set_other st.slots s i new, same_ok, others i, turns.each i)
 
 -- an event that changes one slot, s
 pub keep_others : {st next : State} (s : ℕ) {old new : SlotState} → Turns st → slice_get st.slots s ≡ Some old → next.slots ≡ slice_set st.slots s new
@@ -237,8 +232,11 @@ posted_turns st s g p entry lies turns =
     let own : p.generation ≡ g = cc (entry, sv.entry) in
     let more = handed (of_slot s) (brings_ticket p) s p.generation st.hand (one_same s) in
     let more_right = handed (names s p.generation) (brings_ticket p) s p.generation st.hand (names_own s p.generation) in
-    rw (← own) (keep_others s turns lies refl (λ j i apart. grind (arith, handed (of_slot j) (brings_ticket p) s p.generation st.hand (one_other s j apart),
-    handed (names j i) (brings_ticket p) s p.generation st.hand (names_other j i (record { slot = s; generation = p.generation }) apart))) (record {
+    rw (← own) (keep_others s turns lies refl (λ j i apart. grind (
+      arith,
+      handed (of_slot j) (brings_ticket p) s p.generation st.hand (one_other s j apart),
+      handed (names j i) (brings_ticket p) s p.generation st.hand (names_other j i (record { slot = s; generation = p.generation }) apart),
+    )) (record {
       entry = sv.entry;
       notes = are_own_more p.generation p.notes sv.notes;
       counts = grind (arith, some_more p.notes p.generation);
@@ -351,17 +349,18 @@ module _ (st : State) (w : ℕ) (k : WorkerState) (t : Ticket) (p : SlotState) (
 
   pub names_it : t.generation ≡ p.generation
   names_it =
-      let s = t.slot in
-      let g = p.generation in
-      let sv = turns.each s p lies in
-      let ready = total_le (names s g) (of_slot s) st.ready (names_of_slot s g) in
-      let hand = total_le (names s g) (of_slot s) st.hand (names_of_slot s g) in
-      let own = total_le (names s g) (of_slot s) k.hand (names_of_slot s g) in
-      let workers = total_le_at (worker_right s g) (worker_tickets s) st.workers w k (right_is_less s g) there in
-      let tries = doing_so s g does in
-      let this = one_same s in
-      let both = sure ((t.slot == s) && (t.generation == g)) (omega arith) in
-      eqb-true t.generation g (and_parts (t.slot == s) (t.generation == g) both).1
+      let s : ℕ = t.slot in
+      let g : ℕ = p.generation in
+      grind (
+        arith,
+        turns.each s p lies,
+        total_le (names s g) (of_slot s) st.ready (names_of_slot s g),
+        total_le (names s g) (of_slot s) st.hand (names_of_slot s g),
+        total_le (names s g) (of_slot s) k.hand (names_of_slot s g),
+        total_le_at (worker_right s g) (worker_tickets s) st.workers w k (right_is_less s g) there,
+        doing_so s g does,
+        one_same s,
+      )
 
   claims_own : ClaimsByOwnTicket st (Tries t)
   claims_own =
@@ -387,10 +386,7 @@ held_so : {f : Facts} {p : SlotState} {has : Bool} (by : ℕ) → SlotOk f p →
 held_so by sv holder some = grind (arith, sv)
 
 pub held_slot : {st : State} {w : ℕ} (h : Holding st w) → Turns st → Held (facts st h.s h.p.generation) h.p true
-held_slot {st} {w} h turns =
-    let sv = turns.each h.s h.p h.lies in
-    let by = by_one h.p.holder (is_some h.p.connection) (grind (arith, sv, total_at (worker_holds h.s) st.workers w h.k h.there, doing_so h.s 0 h.does, one_same h.s)) in
-    held_so by.0 sv by.1 by.2
+held_slot {st} {w} h turns = grind (arith, turns.each h.s h.p h.lies, total_at (worker_holds h.s) st.workers w h.k h.there, doing_so h.s 0 h.does, one_same h.s)
 
 -- a worker keeps the slot that it holds, and changes its notes and the connection's state
 keeps_held : {st next : State} {w : ℕ} (h : Holding st w) (notes : List ℕ) (c : Connection) → Turns st
@@ -486,13 +482,7 @@ closed_turns {st} {w} h t turns =
 module _ (st : State) (w : ℕ) (k : WorkerState) (s : ℕ) (p : SlotState) (there : slice_get st.workers w ≡ Some k) (does : k.doing ≡ Closed s)
     (lies : slice_get st.slots s ≡ Some p) (turns : Turns st) where
   pub closed_by : Held (facts st s p.generation) p false
-  closed_by =
-      let sv = turns.each s p lies in
-      let least = total_at (worker_closes s) st.workers w k there in
-      let closes = doing_so s 0 does in
-      let this = one_same s in
-      let by = by_one p.holder (not (is_some p.connection)) (omega arith) in
-      held_so by.0 sv by.1 (unless (is_some p.connection) by.2)
+  closed_by = grind (arith, turns.each s p lies, total_at (worker_closes s) st.workers w k there, doing_so s 0 does, one_same s)
 
   retired_turns : Turns (doing (with_place st s (record p { holder = Free })) w k (Retired s))
   retired_turns =
@@ -553,8 +543,15 @@ numbers_once zero s = omega arith
 numbers_once (suc n) s = omega (arith, total_push (is_number s) (numbers_below n) n, last_number n s (cases_eq n s) (numbers_once n s))
 
 unused_ok : (l : Limits) (s : ℕ) → slice_get (replicate l.slots l.generation) s ≡ Some l.generation → SlotOk (facts (opening l) s l.generation) (unused l.generation)
-unused_ok l s entry = grind (arith, total_none (worker_tickets s) l.workers resting refl, total_none (worker_right s l.generation) l.workers resting refl,
-    total_none (worker_holds s) l.workers resting refl, total_none (worker_closes s) l.workers resting refl, total_none (worker_retires s) l.workers resting refl, numbers_once l.slots s)
+unused_ok l s entry = grind (
+  arith,
+  total_none (worker_tickets s) l.workers resting refl,
+  total_none (worker_right s l.generation) l.workers resting refl,
+  total_none (worker_holds s) l.workers resting refl,
+  total_none (worker_closes s) l.workers resting refl,
+  total_none (worker_retires s) l.workers resting refl,
+  numbers_once l.slots s,
+)
 
 opening_turns : (l : Limits) → Turns (opening l)
 opening_turns l = record {
