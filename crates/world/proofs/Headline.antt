@@ -35,17 +35,13 @@ any_of f test [] each some = absurd (omega arith)
 any_of f test (x ∷ xs) each some = either_counts (test x) (list_any test xs) (f x) (total f xs) (each x) (any_of f test xs each) some
 
 in_hand : (s g : ℕ) (hand : List Ticket) → 1 ≤ total (names s g) hand → list_any (is_ticket s g) hand ≡ true
-in_hand s g hand some = any_of (names s g) (is_ticket s g) hand (λ t here. sure (is_ticket s g t) here) some
+in_hand s g hand some = any_of _ (is_ticket s g) hand (λ t. sure _) some
 
 with_worker_at : (s g : ℕ) (d : Doing) (hand : List Ticket) → 1 ≤ tried_right s g d + total (names s g) hand → (tries s g d || list_any (is_ticket s g) hand) ≡ true
-with_worker_at s g (Tries t) hand some =
-    either_counts (is_ticket s g t) (list_any (is_ticket s g) hand) (names s g t) (total (names s g) hand) (sure (is_ticket s g t)) (in_hand s g hand) some
-with_worker_at s g _ hand some = in_hand s g hand (omega arith)
+with_worker_at s g d hand some = grind (arith, in_hand s g hand)
 
 ticketed : (st : State) (s g : ℕ) → 1 ≤ right_tickets st s g → is_ticketed st s g ≡ true
-ticketed st s g some = either_counts (list_any (is_ticket s g) st.ready) _ (total (names s g) st.ready) _ (in_hand s g st.ready)
-    (either_counts (list_any (is_ticket s g) st.hand) (list_any (has_ticket s g) st.workers) (total (names s g) st.hand) (total (worker_right s g) st.workers) (in_hand s g st.hand)
-    (any_of (worker_right s g) (has_ticket s g) st.workers (λ k here. with_worker_at s g k.doing k.hand here))) some
+ticketed st s g some = grind (arith, in_hand s g st.ready, in_hand s g st.hand, any_of (worker_right s g) (has_ticket s g) st.workers (λ k here. with_worker_at s g k.doing k.hand here))
 
 -- a report that is there is one of the connection
 
@@ -58,11 +54,7 @@ reports_one a (End b ∷ names) h = or_then (same (End a) (End b)) (has (End a) 
     (λ later. or_right (is_report a.slot a.generation (End b)) _ (reports_one a names later)) h
 
 reported : (st : State) (a : EndName) (notes : List ℕ) → notes ≡ [] → has_report st a notes ≡ true → is_reported st a.slot a.generation ≡ true
-reported st a notes none h = or_then (has (End a) st.kernel.queue || has (End a) st.batch) (is_nonempty notes)
-    (λ some. or_then (has (End a) st.kernel.queue) (has (End a) st.batch)
-    (λ queued. or_left (list_any (is_report a.slot a.generation) st.kernel.queue) _ (reports_one a st.kernel.queue queued))
-    (λ taken. or_right (list_any (is_report a.slot a.generation) st.kernel.queue) _ (reports_one a st.batch taken)) some)
-    (λ noted. absurd (let never = rw none at noted in (cc))) h
+reported st a notes none h = grind (arith, reports_one a st.kernel.queue, reports_one a st.batch)
 
 -- a flag that is down at an end that is ready is reported
 uncovered : (flag armed ready rep : Bool) → flag ≡ false → ready ≡ true → is_covered flag armed ready rep ≡ true → rep ≡ true
@@ -85,7 +77,7 @@ drained : (s : Stream) → is_drained s ≡ true → IsDrained s
 drained s h = record { ended = grind arith; empty = empty_so (waiting s) (grind arith); kept = grind arith }
 
 both : {C : Type 0} (a b : Bool) → (a ≡ true → b ≡ true → C) → (a && b) ≡ true → C
-both a b each h = let parts = and_parts a b h in each parts.0 parts.1
+both a b each h = each (grind arith) (grind arith)
 
 -- a connection that rests, in a slot that nobody holds, without notes
 record Rests (st : State) (s : ℕ) (p : SlotState) (c : Connection) : Type 0 where
@@ -111,23 +103,17 @@ module _ (st : State) (s : ℕ) (p : SlotState) (c : Connection) (r : Rests st s
       (edges s p c side x.0 r.lies r.is x.1).write)
 
   comes_in : (d : Direction) → has_place st.limits.ring (stream_of c.pair d) ≡ true → gives (end_of st c (source d)) ≡ true → is_reported st s c.pair.generation ≡ true
-  comes_in d place ready =
-      let parts = and_parts (not (stream_of c.pair d).end_seen) (nat_lt (length (stream_of c.pair d).ring) st.limits.ring) place in
-      let short = ltb-true (length (stream_of c.pair d).ring) st.limits.ring parts.1 in
-      let all = capacity_of c.pair s p.generation st.limits.ring d r.stands in
-      reads_due (source d) ((r.rest d).unread (unless (stream_of c.pair d).end_seen parts.0) (omega arith)) ready
+  comes_in d place ready = reads_due (source d) ((r.rest d).unread (grind arith) (grind (arith, nat_tests, capacity_of c.pair s p.generation st.limits.ring d r.stands))) ready
 
   goes_out : (d : Direction) → is_waiting (stream_of c.pair d) ≡ true → takes (end_of st c (destination d)) ≡ true → is_reported st s c.pair.generation ≡ true
-  goes_out d wait ready = writes_due (destination d) ((r.rest d).waits (ltb-true 0 (length (waiting (stream_of c.pair d))) wait)) ready
+  goes_out d wait ready = writes_due (destination d) ((r.rest d).waits (grind (arith, nat_tests))) ready
 
   passes_on : (d : Direction) → is_drained (stream_of c.pair d) ≡ true → (is_joined c.pair (destination d) || takes (end_of st c (destination d))) ≡ true
       → is_reported st s c.pair.generation ≡ true
-  passes_on d dry next = or_then (is_joined c.pair (destination d)) (takes (end_of st c (destination d)))
-      (λ joined. absurd (cc ((r.rest d).unjoined (drained (stream_of c.pair d) dry))))
-      (λ ready. writes_due (destination d) ((r.rest d).unasked (drained (stream_of c.pair d) dry)) ready) next
+  passes_on d dry next = writes_due (destination d) ((r.rest d).unasked (drained (stream_of c.pair d) dry)) (grind (arith, (r.rest d).unjoined (drained (stream_of c.pair d) dry)))
 
   flows_due : (d : Direction) → flows st.limits.ring st.kernel c d ≡ true → is_reported st s c.pair.generation ≡ true
-  flows_due d h = or_then _ _ (both _ _ (comes_in d)) (or_then _ _ (both _ _ (goes_out d)) (both _ _ (passes_on d))) h
+  flows_due d h = grind (arith, comes_in d, goes_out d, passes_on d)
 
   either_way : (live : Bool) → live ≡ true → (not live || (flows st.limits.ring st.kernel c Up || flows st.limits.ring st.kernel c Down)) ≡ true
       → is_reported st s c.pair.generation ≡ true
@@ -157,21 +143,15 @@ unheld_due laws st s p c false noted none lies is sv edges moving =
 held_due : (laws : CoreLaws) (st : State) (s : ℕ) (p : SlotState) (c : Connection) (h : Holder) → p.holder ≡ h → slice_get st.slots s ≡ Some p → p.connection ≡ Some c
     → SlotOk (facts st s p.generation) p → EdgesHold st → could_move st.limits.ring st.kernel c ≡ true
     → (is_by_worker h || (is_reported st s c.pair.generation || is_ticketed st s c.pair.generation)) ≡ true
-held_due laws st s p c Nobody held lies is sv edges moving = unheld_due laws st s p c (is_nonempty p.notes) refl held lies is sv edges moving
-held_due laws st s p c (By w) held lies is sv edges moving = refl
-held_due laws st s p c Free held lies is sv edges moving = absurd (let none = rw (held, is) at sv.shape in (cc))
+held_due laws st s p c h held lies is sv edges moving = grind (arith, unheld_due laws st s p c (is_nonempty p.notes) refl)
 
 due_there : (laws : CoreLaws) (st : State) (s : ℕ) (p : SlotState) (o : Option Connection) → p.connection ≡ o → slice_get st.slots s ≡ Some p → Turns st → EdgesHold st
     → moves_if_any st.limits.ring st.kernel o ≡ true → due_place st s p o ≡ true
 due_there laws st s p None is lies turns edges moving = absurd (cc)
 due_there laws st s p (Some c) is lies turns edges moving = held_due laws st s p c p.holder refl lies is (turns.each s p lies) edges moving
 
-due_from : (laws : CoreLaws) (st : State) (s : ℕ) (o : Option SlotState) → slice_get st.slots s ≡ o → Turns st → EdgesHold st → movable_at st o ≡ true → due_at st s o ≡ true
-due_from laws st s None lies turns edges moving = absurd (cc)
-due_from laws st s (Some p) lies turns edges moving = due_there laws st s p p.connection refl lies turns edges moving
-
 pub movable_is_due : (laws : CoreLaws) (st : State) → Turns st → EdgesHold st → (s : ℕ) → movable st s ≡ true → due st s ≡ true
-movable_is_due laws st turns edges s moving = due_from laws st s (slice_get st.slots s) refl turns edges moving
+movable_is_due laws st turns edges s moving = grind (arith, held_due laws st s, turns.each s)
 
 -- When each connection last moved: not before any event that opened it or moved something of it, and not after the
 -- second that it is. One that expires moved nothing for the idle limit; and a pair fails only after a failed call, or so.
@@ -189,8 +169,7 @@ throughout_more st (e ∷ events) all more = (more st e all.0, λ q is. througho
 throughout_further : (Each : State → Event → Type 0) (first st : State) (done : List Event) (e : Event) → run first done ≡ Some st → Each st e → Throughout Each first done
     → Throughout Each first (done ++ e ∷ [])
 throughout_further Each first st [] e ran now all = (let same : first ≡ st = cc in rw same now, λ q is. tt)
-throughout_further Each first st (d ∷ done) e ran now all =
-    (all.0, λ q is. (let rest = rw is at ran in throughout_further Each q st done e rest now (all.1 q is)))
+throughout_further Each first st (d ∷ done) e ran now all = (all.0, λ q is. throughout_further Each q st done e (rw is at ran) now (all.1 q is))
 
 -- an event comes by this second
 abbrev ComesBy : ℕ → State → Event → Type 0
@@ -221,8 +200,7 @@ plain_moves : (r : Reply) → is_movement r ≡ true → Kept (λ (t : answer.An
 plain_moves r is = grind arith
 
 told_moves : (l : OpenConnection) (call : Call) (r : Reply) → is_movement r ≡ true → Kept (λ (t : answer.AnswerValue). moves t ≡ true) (told_of l call r)
-told_moves l (Read side most) (reply.Bytes n) is = kept_map _ _ (λ bytes was. refl)
-told_moves l _ r is = plain_moves r is
+told_moves l call r is = grind (arith, plain_moves r is)
 
 only_if : {X : Type 0} (b : Bool) (o : Option X) (x : X) → (if b then o else None) ≡ Some x → (b ≡ true) × (o ≡ Some x)
 only_if b o x h = grind arith
@@ -231,12 +209,7 @@ only_if b o x h = grind arith
 here_now : (xs : List SlotState) (now s g : ℕ) {old : SlotState} (new : SlotState) {b : Connection} → slice_get xs s ≡ Some old → new.connection ≡ Some b → b.pair.moved ≡ now
     → (i : ℕ) (p : SlotState) (c : Connection) → slice_get (slice_set xs s new) i ≡ Some p → p.connection ≡ Some c → Some (named s g) ≡ Some (named i c.pair.generation)
     → now ≤ c.pair.moved
-here_now xs now s g {old} new {b} lies is moved i p c here lying named_so =
-    let both : named s g ≡ named i c.pair.generation = cc in
-    let at = subst (λ (j : ℕ). slice_get (slice_set xs s new) j ≡ Some p) (sym (ap (λ (x : Named). x.slot) both)) here in
-    let one : new ≡ p = cc (get-set_same xs s old new lies) in
-    let same : b ≡ c = (let at : new.connection ≡ Some c = rw one lying in cc) in
-    rw (← same, moved) (le_refl now)
+here_now xs now s g {old} new {b} lies is moved i p c here lying named_so = grind (arith, get-set_same xs s old new lies)
 
 module _ {st : State} where
   holds_it : {w : ℕ} (h : Holding st w) → held_connection st w ≡ Some (named h.s h.c.pair.generation)
@@ -379,8 +352,7 @@ run_known laws l st q done (e ∷ events) ran all rest =
     (run_and (opening l) st m.0 done e ran m.1) (record { times = times_after laws l done ran all h; failures = failures_after laws l done ran all h }) m.2)
 
 unconnected : (l : Limits) (s : ℕ) (p : SlotState) (c : Connection) → slice_get (opening l).slots s ≡ Some p → p.connection ≡ Some c → ⊥
-unconnected l s p c here lying = (let is = get-replicate l.slots s (unused l.generation) p here in
-    let none = ap (λ (r : SlotState). r.connection) is in absurd (cc))
+unconnected l s p c here lying = grind (arith, get-replicate l.slots s (unused l.generation) p)
 
 opening_known : (l : Limits) → AllKnown (opening l) [] (opening l)
 opening_known l = record {

@@ -15,14 +15,14 @@ record Better (st q : State) (s : ℕ) : Type 0 where
 -- the ends are as they were
 names_on : {st q : State} {s : ℕ} → q.table ≡ st.table → q.limits ≡ st.limits → q.kernel.ends ≡ st.kernel.ends
     → ((side : Side) (g : ℕ) → slice_get st.table s ≡ Some g → is_pending st (token_at s side g) ≡ true → is_pending q (token_at s side g) ≡ true) → Better st q s
-names_on table limits ends more = record { table = rw table; limits = limits; ends = λ d r there of_s. rw ends there; pending = more }
+names_on table limits ends more = grind arith
 
 -- nothing came to slot s
 abbrev Quiet : ℕ → History → History → Type 0
 Quiet s past next = (g : ℕ) (side : Side) → next s g side ≡ past s g side
 
 or_more : (a b c : Bool) → (a ≡ true → b ≡ true) → (a || c) ≡ true → (b || c) ≡ true
-or_more a b c more h = or_both a c b c more (λ k. k) h
+or_more a b c more h = grind arith
 
 better : {past next : History} {st q : State} {s : ℕ} {p : SlotState} → Quiet s past next → Better st q s → PlaceOk past st s p → PlaceOk next q s p
 better {past} {next} {st} {q} {s} {p} quiet f ok = record {
@@ -58,13 +58,12 @@ pub record Lies (o : Option SlotState) (c : Connection) : Type 0 where
   pub connection : place.connection ≡ Some c
 
 pub lies_in : (o : Option SlotState) (c : Connection) → option_and_then (λ (p : SlotState). p.connection) o ≡ Some c → Lies o c
-lies_in None c e = absurd (cc)
-lies_in (Some p) c e = record { place = p; there = refl; connection = e }
+lies_in o c e = grind arith
 
 -- the pair changed, or the notes
 renewed : {past : History} {st q : State} {s g : ℕ} {notes more : List ℕ} {c d : Connection} (ok : EndsOk past st s g notes c) → q.kernel.ends ≡ st.kernel.ends → d.ends ≡ c.ends → d.pair.generation ≡ c.pair.generation
     → PairOk (past s g) (λ side. is_pending q (token_at s side g) || is_nonempty more) d.pair ok.ends → EndsOk past q s g more d
-renewed ok kernel ends generation pair = record { generation = generation ∙ ok.generation; ends = ok.ends; there = λ side. rw (kernel, ends) (ok.there side); pair = pair }
+renewed ok kernel ends generation pair = grind arith
 
 -- The network
 
@@ -84,8 +83,7 @@ nothing b = grind arith
 -- the bytes that a change brings, to whom it brings them
 given_if : (st : State) (s : ℕ) (side : Side) (change : Change) (i g : ℕ) (t : Side) → given_by st i g t (event.Network s side change)
     ≡ (if (s == i && side_number side == side_number t) && has_generation (slice_get st.slots i) g then brought change else [])
-given_if st s side (Arrive bytes) i g t = refl
-given_if st s side _ i g t = sym (nothing _)
+given_if st s side change i g t = grind arith
 
 module _ (past : History) (st : State) (s : ℕ) (side : Side) (change : Change) (c : Connection) (l : Lies (slice_get st.slots s) c) where
   abbrev next : History
@@ -197,9 +195,6 @@ noted_ok {q} {s} {p} g table limits ends ok = record {
 none_in : (n : Name) (names : List Name) → names ≡ [] → has n names ≡ true → ⊥
 none_in n names e h = grind arith
 
-batch_left : (n m : Name) (batch : List Name) → slice_get batch 0 ≡ Some m → same n m ≡ false → has n batch ≡ true → has n (drop 1 batch) ≡ true
-batch_left n m batch first apart h = grind arith
-
 not_this : (st : State) (m n : EndName) → slice_get st.table m.slot ≡ Some m.generation → is_entry (slice_get st.table n.slot) n.generation ≡ false → same (End m) (End n) ≡ false
 not_this st m n entry other = grind (arith, same_end_is m n)
 
@@ -212,7 +207,7 @@ module _ {past : History} {st : State} {s : ℕ} {p : SlotState} {c d : Connecti
   }
 
 held_ok : {past : History} {st : State} {s : ℕ} {p : SlotState} {h : Holder} → PlaceOk past st s p → PlaceOk past st s (record p { holder = h })
-held_ok ok = record { entry = ok.entry; later = ok.later; connection = ok.connection }
+held_ok ok = grind arith
 
 heard_ok : {past : History} {st : State} {s g : ℕ} {notes : List ℕ} {c : Connection} (b : Bool) → is_nonempty notes ≡ b
     → EndsOk past st s g notes c → EndsOk past st s g [] (if b then record c { pair = noted c.pair } else c)
@@ -220,14 +215,11 @@ heard_ok true some ok = renewed ok refl refl refl (record {
   covered = by_side _ (record { read = refl; write = refl }) (record { read = refl; write = refl });
   directions = by_direction _ (ok.pair.directions Up) (ok.pair.directions Down);
 })
-heard_ok false none ok = renewed ok refl refl refl (pair_more ok.pair (λ side. refl) (λ side. or_then _ _ (λ k. or_left _ false k) (λ k. absurd (let never = sym none ∙ k in cc))))
+heard_ok false none ok = renewed ok refl refl refl (pair_more ok.pair (λ side. refl) (grind arith))
 
 -- an overdue connection fails, and keeps all else
 timed_out_ok : {past : History} {st : State} {s g : ℕ} {notes : List ℕ} {c : Connection} → EndsOk past st s g notes c → EndsOk past st s g notes (record c { pair = timed_out c.pair })
-timed_out_ok ok = renewed ok refl refl refl (record {
-  covered = by_side _ (ok.pair.covered Client) (ok.pair.covered Target);
-  directions = by_direction _ (ok.pair.directions Up) (ok.pair.directions Down);
-})
+timed_out_ok ok = grind arith
 
 call_keeps : (laws : CoreLaws) {past : History} {st : State} {w : ℕ} (h : Holding st w) {r : Reply} (m : Made st h.c r) → AllOk past st → AllOk past (called_on h m)
 call_keeps laws {past} {st} h m all =
@@ -398,30 +390,20 @@ pub record Was (st : State) (e : Event) (s : ℕ) (new : SlotState) : Type 0 whe
 
 module _ {st : State} {e : Event} {s : ℕ} where
   continues : {c d : Connection} → d.pair.generation ≡ c.pair.generation → verdict d.pair ≡ verdict c.pair → d.pair.moved ≡ c.pair.moved → Continues st e s c d
-  continues generation same moved = record {
-    generation = generation;
-    fails = λ fault failed. inl (sym same ∙ failed);
-    since = λ before. rw moved (le_refl _, before);
-  }
+  continues generation same moved = grind arith
 
   keeps_connection : {old : SlotState} {holder : Holder} {notes : List ℕ} → slice_get st.slots s ≡ Some old → Was st e s (record old { holder = holder; notes = notes })
   keeps_connection {old} lies = record { old = old; there = lies; older = le_refl _; connection = λ c is. inl (c, is, continues refl refl refl) }
 
   goes_on_in : {old : SlotState} {b c : Connection} {notes : List ℕ} → slice_get st.slots s ≡ Some old → old.connection ≡ Some b → Continues st e s b c
       → Was st e s (record old { connection = Some c; notes = notes })
-  goes_on_in {old} {b} {c} lies is goes = record {
-    old = old;
-    there = lies;
-    older = le_refl _;
-    connection = λ d this. inl (b, is, (let same : c ≡ d = cc in rw (← same) goes));
-  }
+  goes_on_in lies is goes = grind (arith, goes)
 
 one_was : {st : State} {e : Event} {s : ℕ} {old new : SlotState} (i : ℕ) (p : SlotState) → slice_get st.slots s ≡ Some old → Was st e s new → slice_get (slice_set st.slots s new) i ≡ Some p → Was st e i p
-one_was {st} i p lies was here = elim (at_one st.slots i lies refl here) [ inl h ↦ rw (h.0, h.1) was | inr h ↦ keeps_connection h.1 ]
+one_was {st} i p lies was here = grind (arith, at_one st.slots i lies refl here, keeps_connection)
 
 heard_continues : {st : State} {e : Event} {s : ℕ} (c : Connection) (b : Bool) → Continues st e s c (if b then record c { pair = noted c.pair } else c)
-heard_continues c true = continues refl refl refl
-heard_continues c false = continues refl refl refl
+heard_continues c b = grind arith
 
 -- a pair is given a failure where the kernel's reply was one
 
@@ -432,8 +414,7 @@ no_bytes : (o : Option (List ℕ)) (kind : Kind) → option_map (λ (bytes : Lis
 no_bytes o kind h = grind arith
 
 failed_told : (l : OpenConnection) (call : Call) (said : Reply) (kind : Kind) → told_of l call said ≡ Some (answer.Failed kind) → said ≡ reply.Failed kind
-failed_told l (Read side most) (reply.Bytes n) kind h = absurd (no_bytes _ kind h)
-failed_told l _ said kind h = failed_plain said kind h
+failed_told l call said kind h = grind (arith, failed_plain said kind)
 
 -- an answer does not bring the second of the last movement back
 later_or_same : (b : Bool) (m n : ℕ) → m ≤ n → (m ≤ (if b then n else m)) × ((if b then n else m) ≤ n)
@@ -443,9 +424,9 @@ call_continues : (laws : CoreLaws) {st : State} {w : ℕ} (h : Holding st w) {r 
 call_continues laws {st} h {r} m = record {
   generation = ap (λ (x : Standing). x.generation) (laws.place st.second h.c.pair m.call m.value);
   fails = λ fault failed.
-      let tells : TellsOf m.call m.value fault = (laws.failures st.second h.c.pair m.call m.value fault (record { next = m.next; fit = m.fit })).0 failed in
-      let said = failed_told (record { kernel = st.kernel; connection = h.c }) m.call r tells.kind (m.told ∙ ap (λ (u : answer.AnswerValue). Some u) tells.failed) in
-      inr (rw (said, h.there, h.does, h.lies, h.is, m.next) (ap (λ (f : Fault). Some (failure h.s h.c.pair.generation f)) (sym tells.told)));
+      let tells = (laws.failures st.second h.c.pair m.call m.value fault (record { next = m.next; fit = m.fit })).0 failed in
+      inr (rw (failed_told (record { kernel = st.kernel; connection = h.c }) m.call r tells.kind (m.told ∙ ap Some tells.failed), h.there, h.does, h.lies, h.is, m.next)
+      (ap (λ (f : Fault). Some (failure h.s h.c.pair.generation f)) (sym tells.told)));
   since = later_or_same (moves m.value) h.c.pair.moved st.second;
 }
 

@@ -63,20 +63,14 @@ pub record AllOk (past : History) (st : State) : Type 0 where
   pub each : (s : ℕ) (p : SlotState) → slice_get st.slots s ≡ Some p → PlaceOk past st s p
 
 pub end_more : {flags : Flags} {e : EndState} {r q : Bool} → (r ≡ true → q ≡ true) → EndCovered flags e r → EndCovered flags e q
-end_more {flags} {e} {r} {q} more h = record {
-  read = cover_more flags.read e.read_armed (is_readable e) r q more h.read;
-  write = cover_more flags.write e.write_armed (is_writable e) r q more h.write;
-}
+end_more more h = grind arith
 
 -- it gets ready, and a report comes where it was armed
 cover_report : (flag armed ready r told now : Bool) → (armed ≡ true → told ≡ true) → now ≡ true → is_covered flag armed ready r ≡ true → is_covered flag false now (r || told) ≡ true
 cover_report flag armed ready r told now tells is h = grind arith
 
 pub end_unready : {flags : Flags} {e : EndState} {r q : Bool} → is_readable e ≡ false → is_writable e ≡ false → EndCovered flags e r → EndCovered flags e q
-end_unready {flags} {e} {r} {q} unread unwritten h = record {
-  read = cover_unready flags.read e.read_armed (is_readable e) r q unread h.read;
-  write = cover_unready flags.write e.write_armed (is_writable e) r q unwritten h.write;
-}
+end_unready unread unwritten h = grind arith
 
 -- the flag is up
 pub cover_flag : (flag armed ready r : Bool) → flag ≡ true → is_covered flag armed ready r ≡ true
@@ -106,10 +100,7 @@ same_gave e ok = rw e ok
 
 pub pair_more : {h i : Side → List ℕ} {r q : Side → Bool} {p : PairState} {ends : Sockets} → PairOk h r p ends → ((side : Side) → i side ≡ h side)
     → ((side : Side) → r side ≡ true → q side ≡ true) → PairOk i q p ends
-pair_more ok same more = record {
-  covered = λ side. end_more (more side) (ok.covered side);
-  directions = λ d. same_gave (same (source d)) (ok.directions d);
-}
+pair_more ok same more = grind (arith, end_more, same_gave)
 
 -- nothing can be done at one side
 pub pair_unready : {h : Side → List ℕ} {r q : Side → Bool} {p : PairState} {ends : Sockets} (side : Side) → PairOk h r p ends
@@ -140,22 +131,12 @@ arrived gave bytes stream x y z more kept = rw (kept, more)
 -- at the source of a direction
 source_changed : {gave bytes : List ℕ} {stream : Stream} {x y : EndState} {t : Told EndState Bool} → IsChange bytes x t
     → DirectionOk gave stream x y → DirectionOk (gave ++ bytes) stream t.value y
-source_changed {gave} {bytes} {stream} {x} {y} {t} change ok = record {
-  bytes = arrived gave bytes stream x y t.value change.unread ok.bytes;
-  ended = λ h. change.fin (ok.ended h);
-  read = λ h. rw (change.unread, ok.read h, change.none (ok.ended h)) refl;
-  last = ok.last;
-}
+source_changed {gave} {bytes} {stream} {x} {y} {t} change ok = grind (arith, arrived gave bytes stream x y t.value change.unread ok.bytes, append-nil {A = ℕ})
 
 -- at its destination
 destination_changed : {gave bytes : List ℕ} {stream : Stream} {x y : EndState} {t : Told EndState Bool} → IsChange bytes y t
     → DirectionOk gave stream x y → DirectionOk gave stream x t.value
-destination_changed change ok = record {
-  bytes = rw (change.taken) (ok.bytes);
-  ended = ok.ended;
-  read = ok.read;
-  last = ok.last;
-}
+destination_changed change ok = grind arith
 
 pub pair_changed : {h i : Side → List ℕ} {r q : Side → Bool} {p : PairState} {ends : Sockets} (side : Side) {bytes : List ℕ} {t : Told EndState Bool} → PairOk h r p ends
     → IsChange bytes (socket_of ends side) t → i side ≡ h side ++ bytes → i (other_side side) ≡ h (other_side side)
@@ -175,14 +156,10 @@ pair_changed {r = r} {p = p} Target {t = t} ok change came kept more tells = rec
 }
 
 denied : (b : Bool) → not b ≡ true → b ≡ true → ⊥
-denied true n h = absurd (cc)
-denied false n h = absurd (cc)
+denied b n h = grind arith
 
 pub nonempty_more : (xs ys : List ℕ) → is_nonempty ys ≡ true → is_nonempty (xs ++ ys) ≡ true
-nonempty_more xs ys h =
-    let some = ltb-true 0 (length ys) h in
-    let all = length-append xs ys in
-    lt-ltb 0 (length (xs ++ ys)) (omega arith)
+nonempty_more xs ys h = grind (arith, nat_tests, length-append xs ys)
 
 -- the bytes that a change brings
 abbrev pub brought : Change → List ℕ
@@ -191,48 +168,10 @@ brought _ = []
 
 -- each change leaves the flags covered
 pub changed_end : (change : Change) (e : EndState) → Kept (IsChange (brought change) e) (change_of change e)
-changed_end (Arrive bytes) e = kept_guard (is_nonempty bytes.items && (not e.fin && not e.err)) _ (λ may. record {
-  unread = refl;
-  taken = refl;
-  fin = λ h. h;
-  none = λ h. absurd (denied e.fin (first_so (not e.fin) (not e.err) (second_so (is_nonempty bytes.items) _ may)) h);
-  covered = λ flags r c. record {
-    read = cover_report flags.read e.read_armed (is_readable e) r e.read_armed _ (λ h. h)
-        (or_left _ (e.fin || e.err) (nonempty_more e.unread bytes.items (first_so (is_nonempty bytes.items) _ may))) c.read;
-    write = cover_more flags.write e.write_armed (is_writable e) r _ (or_left r e.read_armed) c.write;
-  };
-})
-changed_end Fin e = kept_guard (not e.fin && not e.err) _ (λ may. record {
-  unread = sym (append-nil e.unread);
-  taken = refl;
-  fin = λ h. refl;
-  none = λ h. refl;
-  covered = λ flags r c. record {
-    read = cover_report flags.read e.read_armed (is_readable e) r e.read_armed _ (λ h. h) (or_right (is_nonempty e.unread) true refl) c.read;
-    write = cover_more flags.write e.write_armed (is_writable e) r _ (or_left r e.read_armed) c.write;
-  };
-})
-changed_end Reset e = kept_guard (not e.err) _ (λ may. record {
-  unread = sym (append-nil e.unread);
-  taken = refl;
-  fin = λ h. h;
-  none = λ h. refl;
-  covered = λ flags r c. record {
-    read = cover_report flags.read e.read_armed (is_readable e) r (e.read_armed || e.write_armed) _ (or_left e.read_armed e.write_armed)
-        (or_right (is_nonempty e.unread) (e.fin || true) (or_right e.fin true refl)) c.read;
-    write = cover_report flags.write e.write_armed (is_writable e) r (e.read_armed || e.write_armed) _ (or_right e.read_armed e.write_armed) (or_right e.room true refl) c.write;
-  };
-})
-changed_end Room e = kept_guard (not e.room && not e.err) _ (λ may. record {
-  unread = sym (append-nil e.unread);
-  taken = refl;
-  fin = λ h. h;
-  none = λ h. refl;
-  covered = λ flags r c. record {
-    read = cover_more flags.read e.read_armed (is_readable e) r _ (or_left r e.write_armed) c.read;
-    write = cover_report flags.write e.write_armed (is_writable e) r e.write_armed true (λ h. h) refl c.write;
-  };
-})
+changed_end (Arrive bytes) e = kept_guard (is_nonempty bytes.items && (not e.fin && not e.err)) _ (λ may. grind (arith, nonempty_more e.unread bytes.items))
+changed_end Fin e = kept_guard (not e.fin && not e.err) _ (λ may. grind (arith, append-nil e.unread))
+changed_end Reset e = kept_guard (not e.err) _ (λ may. grind (arith, append-nil e.unread))
+changed_end Room e = kept_guard (not e.room && not e.err) _ (λ may. grind (arith, append-nil e.unread))
 
 -- What speaks for the next call: a read's and a write's flag is up, and a shutdown comes after every byte
 
@@ -268,21 +207,14 @@ asked p = kept_when (is_live (verdict p)) _ (λ live. either (call_for p p.turn)
 -- One direction
 
 again : {gave : List ℕ} {s : Stream} {x y z w : EndState} → z.unread ≡ x.unread → z.fin ≡ x.fin → w.taken ≡ y.taken → DirectionOk gave s x y → DirectionOk gave s z w
-again unread fin taken ok = record {
-  bytes = rw (unread, taken) (ok.bytes);
-  ended = λ h. rw fin (ok.ended h);
-  read = λ h. rw unread (ok.read h);
-  last = ok.last;
-}
+again unread fin taken ok = grind arith
 
 not_empty : (n : ℕ) (xs : List ℕ) → 0 < n → n ≤ length xs → xs ≡ [] → ⊥
 not_empty n xs some within none = grind arith
 
 -- the first n bytes go into the ring, after all that wait
 moved_in : (lead ring unread : List ℕ) (n : ℕ) → (lead ++ ring) ++ unread ≡ (lead ++ (ring ++ take n unread)) ++ drop n unread
-moved_in lead ring unread n = ap (λ (all : List ℕ). (lead ++ ring) ++ all) (sym (take-append-drop n unread))
-    ∙ (sym (append_assoc (lead ++ ring) (take n unread) (drop n unread))
-    ∙ ap (λ (all : List ℕ). all ++ drop n unread) (append_assoc lead ring (take n unread)))
+moved_in lead ring unread n = simp (append_assoc, take-append-drop)
 
 unread_none : (xs : List ℕ) → not (is_nonempty xs) ≡ true → xs ≡ []
 unread_none xs h = nil_from_length xs (grind (arith, nat_tests))
@@ -296,7 +228,7 @@ taken_out taken waits left unread n same = rw same
 
 -- none wait after a write, where none did before
 none_left : (s : Stream) (n : ℕ) → waiting s ≡ [] → waiting (dropped s n) ≡ []
-none_left s n none = waiting-dropped s n ∙ (ap (λ (all : List ℕ). drop n all) none ∙ drop-nil n)
+none_left s n none = grind (arith, waiting-dropped s n, drop-nil {A = ℕ} n)
 
 -- One end x, and the other, y: the flags of x are covered, and the directions from x and to x are in order
 
@@ -308,77 +240,31 @@ record EndOk (flags : Flags) (r : Bool) (x y : EndState) (gave back : List ℕ) 
 module _ {flags : Flags} {r : Bool} {x y : EndState} {gave back : List ℕ} {out into : Stream} (ok : EndOk flags r x y gave back out into) where
   bytes_in : (n most : ℕ) → (is_count n most && nat_le n (length x.unread)) ≡ true → flags.read ≡ true
       → EndOk flags r (record x { unread = drop n x.unread }) y gave back (taken_in out (take n x.unread)) into
-  bytes_in n most may up =
-      let count = first_so (is_count n most) (nat_le n (length x.unread)) may in
-      let some = ltb-true 0 n (first_so (nat_lt 0 n) (nat_le n most) count) in
-      let within = leb-true n (length x.unread) (second_so (is_count n most) (nat_le n (length x.unread)) may) in
-      let open_end : out.end_seen ≡ true → ⊥ = λ h. not_empty n x.unread some within (ok.out.read h) in record {
-        covered = record { read = cover_flag flags.read _ _ r up; write = ok.covered.write };
-        out = record {
-          bytes = ok.out.bytes ∙ ap (λ (all : List ℕ). y.taken ++ all) (moved_in out.lead out.ring x.unread n);
-          ended = λ h. absurd (open_end h);
-          read = λ h. absurd (open_end h);
-          last = record { ended = ok.out.last.ended; empty = λ h. absurd (open_end (ok.out.last.ended h)) };
-        };
-        into = again refl refl refl ok.into;
-      }
+  bytes_in n most may up = grind (arith, nat_tests, moved_in out.lead out.ring x.unread n, not_empty n x.unread)
 
   end_met : (not (is_nonempty x.unread) && x.fin) ≡ true → EndOk flags r x y gave back (ended out) into
-  end_met may = record {
-    covered = ok.covered;
-    out = record {
-      bytes = ok.out.bytes;
-      ended = λ h. second_so (not (is_nonempty x.unread)) x.fin may;
-      read = λ h. unread_none x.unread (first_so (not (is_nonempty x.unread)) x.fin may);
-      last = record { ended = λ h. refl; empty = ok.out.last.empty };
-    };
-    into = ok.into;
-  }
+  end_met may = grind (arith, unread_none x.unread)
 
   read_blocked : not (is_readable x) ≡ true → EndOk (record flags { read = false }) r (record x { read_armed = true }) y gave back out into
-  read_blocked may = record {
-    covered = record { read = cover_armed false (is_readable x) r (unless (is_readable x) may); write = ok.covered.write };
-    out = again refl refl refl ok.out;
-    into = again refl refl refl ok.into;
-  }
+  read_blocked may = grind arith
 
   write_blocked : not (is_writable x) ≡ true → EndOk (record flags { write = false }) r (record x { write_armed = true }) y gave back out into
-  write_blocked may = record {
-    covered = record { read = ok.covered.read; write = cover_armed false (is_writable x) r (unless (is_writable x) may) };
-    out = again refl refl refl ok.out;
-    into = again refl refl refl ok.into;
-  }
+  write_blocked may = grind arith
 
   wrote_out : (n : ℕ) (room : Bool) → (x.room && is_count n (length (front into))) ≡ true → flags.write ≡ true
       → EndOk flags r (record x { taken = x.taken ++ take n (front into); room = room }) y gave back out (dropped into n)
-  wrote_out n room may up =
-      let most = length (front into) in
-      let within = leb-true n most (second_so (nat_lt 0 n) (nat_le n most) (second_so x.room (is_count n most) may)) in record {
-        covered = record { read = ok.covered.read; write = cover_flag flags.write _ _ r up };
-        out = again refl refl refl ok.out;
-        into = record {
-          bytes = rw (take-front into n within) (ok.into.bytes ∙ taken_out x.taken (waiting into) (waiting (dropped into n)) y.unread n (waiting-dropped into n));
-          ended = ok.into.ended;
-          read = ok.into.read;
-          last = record { ended = ok.into.last.ended; empty = λ h. none_left into n (ok.into.last.empty h) };
-        };
-      }
+  wrote_out n room may up = grind (
+    arith,
+    nat_tests,
+    take-front into n,
+    waiting-dropped into n,
+    none_left into n,
+    taken_out x.taken (waiting into) (waiting (dropped into n)) y.unread n (waiting-dropped into n),
+    ok.into.bytes,
+  )
 
   passed_on : is_drained into ≡ true → EndOk flags r (record x { shut = true }) y gave back out (closed into)
-  passed_on drained =
-      let both = first_so (into.end_seen && not (is_waiting into)) (not into.shut) drained in record {
-        covered = record { read = ok.covered.read; write = ok.covered.write };
-        out = again refl refl refl ok.out;
-        into = record {
-          bytes = ok.into.bytes;
-          ended = ok.into.ended;
-          read = ok.into.read;
-          last = record {
-            ended = λ h. first_so into.end_seen (not (is_waiting into)) both;
-            empty = λ h. unread_none (waiting into) (second_so into.end_seen (not (is_waiting into)) both);
-          };
-        };
-      }
+  passed_on drained = grind (arith, unread_none (waiting into))
 
 -- The whole pair
 

@@ -125,17 +125,7 @@ pub same_self : {f : Facts} → Same f f
 same_self = record { entry = refl; counts = omega arith }
 
 same_ok : {f g : Facts} {p : SlotState} → Same f g → SlotOk f p → SlotOk g p
-same_ok m ok = record {
-  entry = rw (← m.entry) ok.entry;
-  notes = ok.notes;
-  counts = omega arith;
-  shape = ok.shape;
-  connection = λ c is. record {
-    stands = rw (← m.ring, ← m.slot) (ok.connection c is).stands;
-    live = (ok.connection c is).live;
-    rest = (ok.connection c is).rest;
-  };
-}
+same_ok m ok = grind arith
 
 -- an event that changes no slot
 pub keep_slots : {st next : State} → Turns st → next.slots ≡ st.slots → ((s g : ℕ) → Same (facts st s g) (facts next s g)) → Turns next
@@ -143,12 +133,7 @@ keep_slots turns all same = record { each = λ s p there. same_ok (same s p.gene
 
 one_slot : {st : State} (next : State) (s i : ℕ) {old new p : SlotState} → Turns st → (s ≡ i) ⊎ (s ≢ i) → slice_get st.slots s ≡ Some old → next.slots ≡ slice_set st.slots s new
     → ((j g : ℕ) → s ≢ j → Same (facts st j g) (facts next j g)) → SlotOk (facts next s new.generation) new → slice_get next.slots i ≡ Some p → SlotOk (facts next i p.generation) p
-one_slot {st} next s i {old} {new} {p} turns (inl same) there all others ok here =
-    let is : new ≡ p = let set : slice_get (slice_set st.slots s new) s ≡ Some p = rw (← all, same) here in cc (get-set_same st.slots s old new there) in
-    rw (← same, ← is) ok
-one_slot {st} next s i {old} {new} {p} turns (inr apart) there all others ok here =
-    let set : slice_get (slice_set st.slots s new) i ≡ Some p = rw (← all) here in
-    same_ok (others i p.generation apart) (turns.each i p (sym (get-set_other st.slots s i new apart) ∙ set))
+one_slot {st} next s i {old} {new} {p} turns h there all others ok here = grind (arith, get-set_same st.slots s old new there, get-set_other st.slots s i new, same_ok, others i, turns.each i)
 
 -- an event that changes one slot, s
 pub keep_others : {st next : State} (s : ℕ) {old new : SlotState} → Turns st → slice_get st.slots s ≡ Some old → next.slots ≡ slice_set st.slots s new
@@ -165,11 +150,11 @@ pub record Replaced (st : State) (w : ℕ) (k j : WorkerState) (s g : ℕ) : Typ
 
 pub replaced : (st : State) (w : ℕ) {k : WorkerState} (j : WorkerState) (s g : ℕ) → slice_get st.workers w ≡ Some k → Replaced st w k j s g
 replaced st w {k} j s g there = record {
-  tickets = total-set (worker_tickets s) st.workers w k j there;
-  right = total-set (worker_right s g) st.workers w k j there;
-  holding = total-set (worker_holds s) st.workers w k j there;
-  closing = total-set (worker_closes s) st.workers w k j there;
-  gone = total-set (worker_retires s) st.workers w k j there;
+  tickets = total-set _ st.workers w k j there;
+  right = total-set _ st.workers w k j there;
+  holding = total-set _ st.workers w k j there;
+  closing = total-set _ st.workers w k j there;
+  gone = total-set _ st.workers w k j there;
 }
 
 pub one_same : (s : ℕ) → one (s == s) ≡ 1
@@ -177,9 +162,6 @@ one_same s = grind arith
 
 pub one_other : (s i : ℕ) → s ≢ i → one (s == i) ≡ 0
 one_other s i apart = grind arith
-
-one_left : (a b : Bool) → one (a && b) ≤ one a
-one_left a b = grind arith
 
 pub names_of_slot : (s g : ℕ) (t : Ticket) → names s g t ≤ of_slot s t
 names_of_slot s g t = grind arith
@@ -202,7 +184,7 @@ pub record Does (c d : Doing) (s g : ℕ) : Type 0 where
   pub gone : retires s c ≡ retires s d
 
 pub doing_so : {c d : Doing} (s g : ℕ) → c ≡ d → Does c d s g
-doing_so s g does = record { tickets = ap (tried s) does; right = ap (tried_right s g) does; holding = ap (holds s) does; closing = ap (closes s) does; gone = ap (retires s) does }
+doing_so s g does = grind arith
 
 -- where one worker, that does d, goes on to e
 pub turned : (st : State) (w : ℕ) {k : WorkerState} {d : Doing} (e : Doing) (s g : ℕ) → slice_get st.workers w ≡ Some k → k.doing ≡ d
@@ -213,10 +195,7 @@ turned st w {k} e s g there does = (replaced st w (record k { doing = e }) s g t
 pub turned_elsewhere : (st : State) (w : ℕ) {k : WorkerState} {d : Doing} (e : Doing) (i g : ℕ) → slice_get st.workers w ≡ Some k → k.doing ≡ d
     → tried i d + (holds i d + (closes i d + retires i d)) ≡ 0 → tried i e + (holds i e + (closes i e + retires i e)) ≡ 0 → Same (facts st i g) (facts (doing st w k e) i g)
 turned_elsewhere st w {k} {d} e i g there does before after =
-    let m = turned st w e i g there does in
-    let less = tried_less i g d in
-    let less_after = tried_less i g e in
-    record { entry = refl; counts = omega arith }
+    let m = turned st w e i g there does in record { entry = refl; counts = omega (arith, tried_less i g d, tried_less i g e) }
 
 -- a test that counts holds
 pub sure : (b : Bool) → 1 ≤ one b → b ≡ true
@@ -228,7 +207,7 @@ unless b h = grind arith
 -- a note more, and the ticket that it brings
 
 pub some_more : (xs : List ℕ) (x : ℕ) → is_nonempty (xs ++ x ∷ []) ≡ true
-some_more xs x = lt-ltb 0 (length (xs ++ x ∷ [])) (omega (arith, length-append xs (x ∷ [])))
+some_more xs x = grind (arith, nat_tests, length-append xs (x ∷ []))
 
 none_more : (xs : List ℕ) (x : ℕ) → xs ++ x ∷ [] ≡ [] → ⊥
 none_more [] x none = absurd (cc)
@@ -244,8 +223,7 @@ noted_tickets held some n m was more = grind arith
 -- a hand that may get one more ticket
 pub handed : (f : Ticket → ℕ) (b : Bool) (s g : ℕ) (hand : List Ticket) {n : ℕ} → f (record { slot = s; generation = g }) ≡ n
     → total f (with_ticket b s g hand) ≡ total f hand + n * one b
-handed f true s g hand is = omega (arith, total_push f hand (record { slot = s; generation = g }))
-handed f false s g hand is = omega arith
+handed f b s g hand is = grind (arith, total_push f hand (record { slot = s; generation = g }))
 
 -- the poller posts to a slot
 posted_turns : (st : State) (s g : ℕ) (p : SlotState) → slice_get st.table s ≡ Some g → slice_get st.slots s ≡ Some p → Turns st → Turns (posted st s g p)
@@ -254,33 +232,22 @@ posted_turns st s g p entry lies turns =
     let own : p.generation ≡ g = cc (entry, sv.entry) in
     let more = handed (of_slot s) (brings_ticket p) s p.generation st.hand (one_same s) in
     let more_right = handed (names s p.generation) (brings_ticket p) s p.generation st.hand (names_own s p.generation) in
-    rw (← own) (keep_others s turns lies refl (λ j i apart.
-    let same = handed (of_slot j) (brings_ticket p) s p.generation st.hand (one_other s j apart) in
-    let same_right = handed (names j i) (brings_ticket p) s p.generation st.hand (names_other j i (record { slot = s; generation = p.generation }) apart) in
-    record { entry = refl; counts = omega arith }) (record {
+    rw (← own) (keep_others s turns lies refl (λ j i apart. grind (
+      arith,
+      handed (of_slot j) (brings_ticket p) s p.generation st.hand (one_other s j apart),
+      handed (names j i) (brings_ticket p) s p.generation st.hand (names_other j i (record { slot = s; generation = p.generation }) apart),
+    )) (record {
       entry = sv.entry;
       notes = are_own_more p.generation p.notes sv.notes;
-      counts = record {
-        tickets = rw (some_more p.notes p.generation) (noted_tickets (is_held p.holder) (is_nonempty p.notes) (tickets st s) (tickets (posted st s p.generation p) s) sv.tickets
-            (omega arith));
-        right = omega arith;
-        holding = sv.holding;
-        closing = sv.closing;
-        gone = sv.gone;
-      };
+      counts = grind (arith, some_more p.notes p.generation);
       shape = sv.shape;
-      connection = λ c is. record {
-        stands = (sv.connection c is).stands;
-        live = (sv.connection c is).live;
-        rest = λ nobody none. absurd (none_more p.notes p.generation none);
-      };
+      connection = λ c is. grind (arith, sv.connection c is, none_more p.notes p.generation);
     }))
 
 -- the poller opens a slot
 
 total_first : {X : Type 0} (f : X → ℕ) (xs : List X) (x : X) → slice_get xs 0 ≡ Some x → total f xs ≡ f x + total f (drop 1 xs)
-total_first f [] x first = absurd (cc)
-total_first f (y ∷ ys) x first = let same : y ≡ x = (cc) in let part = ap f same in omega arith
+total_first f xs x first = grind arith
 
 free_so : (h : Holder) → is_free h ≡ true → h ≡ Free
 free_so h free = grind arith
@@ -305,19 +272,11 @@ pub record FirstFree (st : State) (s : ℕ) (p : SlotState) : Type 0 where
   pub gone : total (worker_retires s) st.workers + total (is_number s) (drop 1 st.free) ≡ 0
 
 pub first_free : (st : State) (s : ℕ) (p : SlotState) → slice_get st.slots s ≡ Some p → slice_get st.free 0 ≡ Some s → Turns st → FirstFree st s p
-first_free st s p lies first turns =
-    let sv = turns.each s p lies in
-    let split = total_first (is_number s) st.free s first in
-    let this = one_same s in
-    let free = free_so p.holder (sure (is_free p.holder) (omega arith)) in
-    let most = rw free at sv.gone in
-    record { holder = free; tickets = rw free at sv.tickets; holding = rw free at sv.holding; closing = rw free at sv.closing; gone = omega arith }
+first_free st s p lies first turns = grind (arith, turns.each s p lies, total_first (is_number s) st.free s first, one_same s, free_so p.holder)
 
 opened_connection : (st : State) (s g : ℕ) (ends : Descriptors) (f : Facts) (c : Connection) → f.slot ≡ s → f.ring ≡ st.limits.ring
     → (opened_place s g st.limits st.second ends).connection ≡ Some c → ConnectionOk f (opened_place s g st.limits st.second ends) c
-opened_connection st s g ends f c slot ring is =
-    let same : record { pair = fresh s g st.limits.ring st.second st.limits.lead; ends = ends } ≡ c = (cc) in
-    rw (← same) (record { stands = rw (slot, ring) refl; live = λ nobody. refl; rest = λ nobody none. absurd (cc) })
+opened_connection st s g ends f c slot ring is = grind arith
 
 opened_turns : (st : State) (s g : ℕ) (p : SlotState) (t : Told KernelState Descriptors) → slice_get st.free 0 ≡ Some s → slice_get st.slots s ≡ Some p → Turns st
     → Turns (opened_world st s g t)
@@ -354,7 +313,7 @@ unheld : (h : Holder) (some : Bool) → 1 ≤ one (not (is_held h) && some) → 
 unheld h some n = grind arith
 
 pub own_generation : (f : Facts) (p : SlotState) (c : Connection) → place_of c.pair ≡ standing f p.generation → c.pair.generation ≡ p.generation
-own_generation f p c stands = ap (λ (x : Standing). x.generation) stands
+own_generation f p c stands = grind arith
 
 there_is : {X : Type 0} (o : Option X) → is_some o ≡ true → (x : X) × (o ≡ Some x)
 there_is o h = grind arith
@@ -362,16 +321,10 @@ there_is o h = grind arith
 module _ (st : State) (w : ℕ) (k : WorkerState) (t : Ticket) (p : SlotState) (there : slice_get st.workers w ≡ Some k) (does : k.doing ≡ Tries t)
     (lies : slice_get st.slots t.slot ≡ Some p) (turns : Turns st) where
   pub waiting : Waiting p
-  waiting =
-      let sv = turns.each t.slot p lies in
-      let least = total_at (worker_tickets t.slot) st.workers w k there in
-      let tries = doing_so t.slot 0 does in
-      let this = one_same t.slot in
-      let parts = unheld p.holder (is_nonempty p.notes) (omega arith) in
-      record { holder = parts.0; some = parts.1; lies = rw (parts.0) at sv.shape }
+  waiting = grind (arith, turns.each t.slot p lies, total_at (worker_tickets t.slot) st.workers w k there, doing_so t.slot 0 does, one_same t.slot)
 
   unheld_so : is_held p.holder ≡ true → ⊥
-  unheld_so held = let is = rw waiting.holder at held in absurd (cc)
+  unheld_so held = grind (arith, waiting)
 
   claimed_turns : Turns (doing (with_place st t.slot (record p { holder = By w })) w k (Holds t.slot st.limits.budget))
   claimed_turns =
@@ -396,17 +349,18 @@ module _ (st : State) (w : ℕ) (k : WorkerState) (t : Ticket) (p : SlotState) (
 
   pub names_it : t.generation ≡ p.generation
   names_it =
-      let s = t.slot in
-      let g = p.generation in
-      let sv = turns.each s p lies in
-      let ready = total_le (names s g) (of_slot s) st.ready (names_of_slot s g) in
-      let hand = total_le (names s g) (of_slot s) st.hand (names_of_slot s g) in
-      let own = total_le (names s g) (of_slot s) k.hand (names_of_slot s g) in
-      let workers = total_le_at (worker_right s g) (worker_tickets s) st.workers w k (right_is_less s g) there in
-      let tries = doing_so s g does in
-      let this = one_same s in
-      let both = sure ((t.slot == s) && (t.generation == g)) (omega arith) in
-      eqb-true t.generation g (and_parts (t.slot == s) (t.generation == g) both).1
+      let s : ℕ = t.slot in
+      let g : ℕ = p.generation in
+      grind (
+        arith,
+        turns.each s p lies,
+        total_le (names s g) (of_slot s) st.ready (names_of_slot s g),
+        total_le (names s g) (of_slot s) st.hand (names_of_slot s g),
+        total_le (names s g) (of_slot s) k.hand (names_of_slot s g),
+        total_le_at (worker_right s g) (worker_tickets s) st.workers w k (right_is_less s g) there,
+        doing_so s g does,
+        one_same s,
+      )
 
   claims_own : ClaimsByOwnTicket st (Tries t)
   claims_own =
@@ -429,27 +383,10 @@ by_one : (h : Holder) (b : Bool) → 1 ≤ one (is_by_worker h && b) → (w : �
 by_one h b n = grind arith
 
 held_so : {f : Facts} {p : SlotState} {has : Bool} (by : ℕ) → SlotOk f p → p.holder ≡ By by → is_some p.connection ≡ has → Held f p has
-held_so by sv holder some =
-    let none = rw holder at sv.tickets in
-    record {
-      by = by;
-      holder = holder;
-      some = some;
-      tickets = none;
-      right = sv.right ∙ none;
-      holding = rw (holder, some) at sv.holding;
-      closing = rw (holder, some) at sv.closing;
-      gone = rw holder at sv.gone;
-    }
+held_so by sv holder some = grind (arith, sv)
 
 pub held_slot : {st : State} {w : ℕ} (h : Holding st w) → Turns st → Held (facts st h.s h.p.generation) h.p true
-held_slot {st} {w} h turns =
-    let sv = turns.each h.s h.p h.lies in
-    let least = total_at (worker_holds h.s) st.workers w h.k h.there in
-    let does = doing_so h.s 0 h.does in
-    let this = one_same h.s in
-    let by = by_one h.p.holder (is_some h.p.connection) (omega arith) in
-    held_so by.0 sv by.1 by.2
+held_slot {st} {w} h turns = grind (arith, turns.each h.s h.p h.lies, total_at (worker_holds h.s) st.workers w h.k h.there, doing_so h.s 0 h.does, one_same h.s)
 
 -- a worker keeps the slot that it holds, and changes its notes and the connection's state
 keeps_held : {st next : State} {w : ℕ} (h : Holding st w) (notes : List ℕ) (c : Connection) → Turns st
@@ -483,9 +420,7 @@ post_turns : {st : State} {w : ℕ} (h : Holding st w) → Turns st → Turns (w
 post_turns {st} h turns =
     let sv = turns.each h.s h.p h.lies in
     let own = own_generation (facts st h.s h.p.generation) h.p h.c (sv.connection h.c h.is).stands in
-    keeps_held h (h.p.notes ++ h.c.pair.generation ∷ []) h.c turns
-    (ap (λ (o : Option Connection). slice_set st.slots h.s (record h.p { notes = h.p.notes ++ h.c.pair.generation ∷ []; connection = o })) h.is)
-    (λ j g. same_self) (rw own (are_own_more h.p.generation h.p.notes sv.notes)) refl
+    keeps_held h (h.p.notes ++ h.c.pair.generation ∷ []) h.c turns (rw (← h.is) refl) (λ j g. same_self) (rw own (are_own_more h.p.generation h.p.notes sv.notes)) refl
 
 -- it lets the slot go
 
@@ -547,13 +482,7 @@ closed_turns {st} {w} h t turns =
 module _ (st : State) (w : ℕ) (k : WorkerState) (s : ℕ) (p : SlotState) (there : slice_get st.workers w ≡ Some k) (does : k.doing ≡ Closed s)
     (lies : slice_get st.slots s ≡ Some p) (turns : Turns st) where
   pub closed_by : Held (facts st s p.generation) p false
-  closed_by =
-      let sv = turns.each s p lies in
-      let least = total_at (worker_closes s) st.workers w k there in
-      let closes = doing_so s 0 does in
-      let this = one_same s in
-      let by = by_one p.holder (not (is_some p.connection)) (omega arith) in
-      held_so by.0 sv by.1 (unless (is_some p.connection) by.2)
+  closed_by = grind (arith, turns.each s p lies, total_at (worker_closes s) st.workers w k there, doing_so s 0 does, one_same s)
 
   retired_turns : Turns (doing (with_place st s (record p { holder = Free })) w k (Retired s))
   retired_turns =
@@ -614,14 +543,15 @@ numbers_once zero s = omega arith
 numbers_once (suc n) s = omega (arith, total_push (is_number s) (numbers_below n) n, last_number n s (cases_eq n s) (numbers_once n s))
 
 unused_ok : (l : Limits) (s : ℕ) → slice_get (replicate l.slots l.generation) s ≡ Some l.generation → SlotOk (facts (opening l) s l.generation) (unused l.generation)
-unused_ok l s entry =
-    let tickets = total_none (worker_tickets s) l.workers resting refl in
-    let right = total_none (worker_right s l.generation) l.workers resting refl in
-    let holding = total_none (worker_holds s) l.workers resting refl in
-    let closing = total_none (worker_closes s) l.workers resting refl in
-    let retired = total_none (worker_retires s) l.workers resting refl in
-    let once = numbers_once l.slots s in
-    record { entry = entry; notes = refl; counts = omega arith; shape = refl; connection = λ c is. absurd (cc) }
+unused_ok l s entry = grind (
+  arith,
+  total_none (worker_tickets s) l.workers resting refl,
+  total_none (worker_right s l.generation) l.workers resting refl,
+  total_none (worker_holds s) l.workers resting refl,
+  total_none (worker_closes s) l.workers resting refl,
+  total_none (worker_retires s) l.workers resting refl,
+  numbers_once l.slots s,
+)
 
 opening_turns : (l : Limits) → Turns (opening l)
 opening_turns l = record {
@@ -715,8 +645,7 @@ touched : {st next : State} {e : Event} (s : ℕ) {p : SlotState} (r : SlotState
 touched s r kinds there all made word count others i old here = moves_at s i r kinds (cases_eq s i) there all (made i) word count (others i) here
 
 neither : (b : Bool) (none : List StepKind) → none ≡ (if b then none else none)
-neither true none = refl
-neither false none = refl
+neither b none = grind arith
 
 -- the slot's notes and holder stay, and no step is made
 stays : {st next : State} {e : Event} (s : ℕ) {p : SlotState} (r : SlotState) → slice_get st.slots s ≡ Some p → next.slots ≡ slice_set st.slots s r → ((i : ℕ) → steps st e i ≡ [])
@@ -726,7 +655,7 @@ stays s r there all none word same = touched s r [] there all (λ i. none i ∙ 
 -- a note more
 
 noted_word : (p : SlotState) (g : ℕ) → word_at (with_note p g) ≡ after_all (words.post ∷ []) (word_at p)
-noted_word p g = let more : length (p.notes ++ g ∷ []) ≡ suc (length p.notes) = omega (arith, length-append p.notes (g ∷ [])) in rw more
+noted_word p g = grind (arith, length-append p.notes (g ∷ []))
 
 waits : (n : ℕ) → some_wait n ≡ nat_lt 0 n
 waits n = grind (arith, nat_tests)

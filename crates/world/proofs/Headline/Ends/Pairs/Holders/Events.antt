@@ -290,24 +290,16 @@ cover_unready flag armed ready r q none h = grind arith
 goes_on : {st next : State} → next.flag ≡ st.flag → next.kernel.armed ≡ st.kernel.armed → next.kernel.backlog ≡ st.kernel.backlog
     → (hears st.kernel.queue ≡ true → (hears next.kernel.queue || hears next.batch) ≡ true) → (hears st.batch ≡ true → (hears next.kernel.queue || hears next.batch) ≡ true)
     → Listens st → Listens next
-goes_on {st} {next} flag armed backlog queue batch l = record {
-  covered = rw (flag, armed, backlog) (cover_more st.flag st.kernel.armed (nat_lt 0 st.kernel.backlog) (hears st.kernel.queue || hears st.batch)
-      (hears next.kernel.queue || hears next.batch) (or_then (hears st.kernel.queue) (hears st.batch) queue batch) l.covered);
-}
+goes_on {st} {next} flag armed backlog queue batch l = grind arith
 
 -- another queue has it where this one has
 queues_on : {st : State} {ends : List (Option Registered)} {queue : List Name} {slots : List SlotState} {workers : List WorkerState} {past : List Past} → (hears st.kernel.queue ≡ true → hears queue ≡ true)
     → Listens st → Listens (record st { kernel = record st.kernel { ends = ends; queue = queue }; slots = slots; workers = workers; past = past })
-queues_on {st} {queue = queue} more l = goes_on refl refl refl (λ h. or_left (hears queue) _ (more h)) (λ h. or_right (hears queue) _ h) l
-
--- a name that is not the listener's leaves the batch
-rest_hears : (xs : List Name) (n : Name) → slice_get xs 0 ≡ Some n → same Listener n ≡ false → hears xs ≡ true → hears (drop 1 xs) ≡ true
-rest_hears [] n first other h = absurd (cc)
-rest_hears (x ∷ xs) n first other h = let is : x ≡ n = (cc) in let away : same Listener x ≡ false = rw is other in rw away at h
+queues_on {st} {queue = queue} more l = grind arith
 
 shorter : {st : State} {hand : List Ticket} {slots : List SlotState} (n : Name) → slice_get st.batch 0 ≡ Some n → same Listener n ≡ false → Listens st
     → Listens (record (behind st) { hand = hand; slots = slots })
-shorter {st} n first other l = goes_on refl refl refl (or_left (hears st.kernel.queue) _) (λ h. or_right (hears st.kernel.queue) _ (rest_hears st.batch n first other h)) l
+shorter {st} n first other l = grind (arith, batch_left Listener n st.batch first other)
 
 connected : (flag armed ready : Bool) (queue : List Name) (r : Bool) → is_covered flag armed ready (hears queue || r) ≡ true
     → is_covered flag false true (hears (reported queue Listener armed) || r) ≡ true
@@ -344,8 +336,7 @@ tells : (armed ready rep none : Bool) → (ready ≡ false → none ≡ true) �
 tells armed ready rep none waits h = grind arith
 
 listener_holds : (st : State) → Listens st → ListenerHolds st
-listener_holds st l = λ down. tells st.kernel.armed (nat_lt 0 st.kernel.backlog) (hears st.kernel.queue || hears st.batch) (st.kernel.backlog == 0)
-    (λ none. eq-eqb st.kernel.backlog 0 (omega (arith, ltb-false 0 st.kernel.backlog none))) (rw down at l.covered)
+listener_holds st l = grind (arith, nat_tests)
 
 -- so the listener's clause holds after every run from the opening world
 pub listener_after : (l : Limits) (events : List Event) (w : State) → run (opening l) events ≡ Some w → ListenerHolds w

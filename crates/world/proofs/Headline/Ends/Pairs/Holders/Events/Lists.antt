@@ -72,8 +72,7 @@ total_push f (y ∷ ys) x = let more = total_push f ys x in omega arith
 
 -- the first element of a list goes to the end of another
 pub total_moved : {X : Type 0} (f : X → ℕ) (xs ys rest : List X) (x : X) → ys ≡ x ∷ rest → total f (xs ++ x ∷ []) + total f rest ≡ total f xs + total f ys
-total_moved f xs ys rest x is = let more = total_push f xs x in let had = ap (total f) is in
-    omega arith
+total_moved f xs ys rest x is = grind (arith, total_push f xs x)
 
 -- an element that is replaced gives up its part for the new one's
 pub total-set : {X : Type 0} (f : X → ℕ) (xs : List X) (w : ℕ) (old new : X) → slice_get xs w ≡ Some old → total f (slice_set xs w new) + f old ≡ total f xs + f new
@@ -131,17 +130,6 @@ total_le_at f g (y ∷ ys) (suc w) x each there =
     let here = each y in
     omega arith
 
-pub data Tell (b : Bool) : Type 0 where
-  Yes : b ≡ true → Tell b
-  No : b ≡ false → Tell b
-
-pub tell : (b : Bool) → Tell b
-tell true = Yes refl
-tell false = No refl
-
-pub same_or : (i s : ℕ) → (i ≡ s) ⊎ (i ≡ s → ⊥)
-same_or i s = grind arith
-
 -- what lies in a list after one element was replaced: the new one, or what lay there
 pub at_one : {X : Type 0} (xs : List X) {ys : List X} {s : ℕ} (i : ℕ) {old new x : X} → slice_get xs s ≡ Some old → ys ≡ slice_set xs s new → slice_get ys i ≡ Some x
     → ((i ≡ s) × (x ≡ new)) ⊎ ((i ≡ s → ⊥) × (slice_get xs i ≡ Some x))
@@ -167,15 +155,6 @@ last_of (z ∷ xs) zero x y here = inl here
 last_of (z ∷ xs) (suc i) x y here = last_of xs i x y here
 
 -- Names
-
-side_of_number : (a b : Side) → side_number a ≡ side_number b → a ≡ b
-side_of_number Client Client e = refl
-side_of_number Target Target e = refl
-side_of_number _ _ e = absurd (cc)
-
-end_is : (s t g h : ℕ) (a b : Side) → s ≡ t → a ≡ b → g ≡ h
-    → ◌≡◌ {A = EndName} (record { slot = s; side = a; generation = g }) (record { slot = t; side = b; generation = h })
-end_is s t g h a b e f i = rw (e, f, i) refl
 
 pub same_end_is : (n m : EndName) → same_end n m ≡ true → n ≡ m
 same_end_is n m h = grind arith
@@ -216,24 +195,14 @@ has_last : (n : Name) (xs : List Name) → has n (xs ++ n ∷ []) ≡ true
 has_last n [] = or_left (same n n) false (same_self n)
 has_last n (x ∷ xs) = or_right (same n x) _ (has_last n xs)
 
-has_if : (n m : Name) (b : Bool) (xs : List Name) → has n xs ≡ true → has n (if b then xs else xs ++ m ∷ []) ≡ true
-has_if n m true xs h = h
-has_if n m false xs h = has_more n xs (m ∷ []) h
-
-added_if : (n : Name) (xs : List Name) (b : Bool) → b ≡ has n xs → has n (if b then xs else xs ++ n ∷ []) ≡ true
-added_if n xs true e = sym e
-added_if n xs false e = has_last n xs
-
 pub has_with : (n m : Name) (xs : List Name) → has n xs ≡ true → has n (with_name m xs) ≡ true
-has_with n m xs h = has_if n m (has m xs) xs h
+has_with n m xs h = grind (arith, has_more n xs (m ∷ []))
 
 pub has_reported : (n m : Name) (b : Bool) (xs : List Name) → has n xs ≡ true → has n (reported xs m b) ≡ true
-has_reported n m true xs h = has_with n m xs h
-has_reported n m false xs h = h
+has_reported n m b xs h = grind (arith, has_with n m xs)
 
 pub reported_has : (n : Name) (b : Bool) (xs : List Name) → b ≡ true → has n (reported xs n b) ≡ true
-reported_has n true xs h = added_if n xs (has n xs) refl
-reported_has n false xs h = absurd (cc)
+reported_has n b xs h = grind (arith, has_last n xs)
 
 -- a name stays where another leaves
 left_if : (n x : Name) (b : Bool) (xs ys : List Name) → (same n x ≡ true → b ≡ true) → (has n xs ≡ true → has n ys ≡ true)
@@ -256,6 +225,10 @@ has_polled n names [] h = absurd (cc)
 has_polled n names (x ∷ xs) h = polled_if n x (has x names) (has n names) xs (without_names names xs)
     (λ k taken. let is = same_is n x k in rw is taken) (has_polled n names xs) h
 
+-- a name that is not the first stays where that leaves
+pub batch_left : (n m : Name) (batch : List Name) → slice_get batch 0 ≡ Some m → same n m ≡ false → has n batch ≡ true → has n (drop 1 batch) ≡ true
+batch_left n m batch first apart h = grind arith
+
 -- The ends by descriptor
 
 flattened : {X : Type 0} (o : Option (Option X)) (x : X) → option_flatten o ≡ Some x → o ≡ Some (Some x)
@@ -264,9 +237,7 @@ flattened o x e = grind arith
 -- the end that a write puts at an open descriptor
 pub end_same : (ends : List (Option Registered)) (d : ℕ) (r : Registered) (o : Option Registered)
     → end_at ends d ≡ Some r → end_at (slice_set ends d o) d ≡ o
-end_same ends d r o here =
-    let there = get-set_same ends d (Some r) o (flattened (slice_get ends d) r here) in
-    rw there refl
+end_same ends d r o here = grind (arith, flattened, get-set_same ends d (Some r) o)
 
 end_other : (ends : List (Option Registered)) (d other : ℕ) (o : Option Registered) → (other ≡ d → ⊥) → end_at (slice_set ends d o) other ≡ end_at ends other
 end_other ends d other o apart = ap option_flatten (get-set_other ends d other o (λ same. apart (sym same)))
@@ -294,8 +265,7 @@ irreflexive : (n : ℕ) → nat_lt n n ≡ false
 irreflexive n = grind (arith, nat_tests)
 
 found : (ends : List (Option Registered)) (k : ℕ) → IsFree ends k → unwrap_or (cond (nat_lt k (length ends)) (Some k) None) (length ends) ≡ k
-found ends k (Hole h) = rw (lt-ltb k (length ends) (slice_get_within ends k None h)) refl
-found ends k (Behind h) = rw (h, irreflexive (length ends)) refl
+found ends k free = grind (arith, nat_tests, slice_get_within ends k None)
 
 lowest_is_free : (ends : List (Option Registered)) → IsFree ends (lowest_free ends)
 lowest_is_free ends = rw (found ends (position_or_len is_none ends) (first_free ends)) (first_free ends)
@@ -305,16 +275,10 @@ last_get [] x = refl
 last_get (y ∷ xs) x = last_get xs x
 
 here_if : (ends : List (Option Registered)) (d : ℕ) (r : Registered) → IsFree ends d → end_at (with_end ends d r) d ≡ Some r
-here_if ends d r (Hole h) = rw (lt-ltb d (length ends) (slice_get_within ends d None h), get-set_same ends d None (Some r) h) refl
-here_if ends d r (Behind h) = rw (h, irreflexive (length ends), last_get ends (Some r)) refl
+here_if ends d r free = grind (arith, nat_tests, slice_get_within ends d None, get-set_same ends d None (Some r), last_get ends (Some r))
 
 other_if : (ends : List (Option Registered)) (d other : ℕ) (r b : Registered) → IsFree ends d → end_at ends other ≡ Some b → end_at (with_end ends d r) other ≡ Some b
-other_if ends d other r b (Hole h) two =
-    let differ : other ≡ d → ⊥ = λ same. (let there = rw same at two in let none : end_at ends d ≡ None = rw h refl in absurd (cc)) in
-    rw (lt-ltb d (length ends) (slice_get_within ends d None h)) (end_other ends d other (Some r) differ ∙ two)
-other_if ends d other r b (Behind h) two =
-    let there = append_get ends (Some r ∷ []) other (Some b) (flattened (slice_get ends other) b two) in
-    rw (h, irreflexive (length ends), there) refl
+other_if ends d other r b free two = grind (arith, nat_tests, slice_get_within ends d None, end_other ends d other (Some r), append_get ends (Some r ∷ []) other (Some b), flattened)
 
 -- the end that is opened there, and every other
 pub opened_here : (ends : List (Option Registered)) (r : Registered) → end_at (with_end ends (lowest_free ends) r) (lowest_free ends) ≡ Some r
