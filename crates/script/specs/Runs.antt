@@ -6,14 +6,11 @@ use Rattle.script_text.specs.{declared.steps.NumberedEvent.NumberedEvent, Events
 use Rattle.script.specs.declared.script.Script.TheVariants as script
 use Rattle.script.specs.declared.script.Reached.TheVariants as reached
 
--- What a script leads to. It is the state after all of it, or the fault of the first line that is
--- not allowed.
+-- What a script leads to: the state after all of it, or the fault of the first line that is not allowed.
 
--- the event of a line
 abbrev pub line_happened : State → NumberedEvent → Result State Fault
 line_happened st e = or_not_allowed e.line (event_word e.event) (step st e.event)
 
--- whether memory may run out for it
 abbrev pub line_takes_memory : State → NumberedEvent → Bool
 line_takes_memory st e = may_allocate st e.event
 
@@ -24,22 +21,19 @@ abbrev pub reached_by : Script → Result Reached Fault
 reached_by (script.Flow plan) = and_then (λ t. Ok (reached.Flow t)) (run_of plan)
 reached_by (script.World plan) = and_then (λ st. Ok (reached.World st)) (world_of plan)
 
--- What is written of a script of one direction: its report, or the line of a fault.
-
--- sent is what the destination took, unread what waits at the source
+-- of one direction: sent is what the destination took, unread what waits at the source
 abbrev pub report : Transfer → List ℕ
 report t = codes "up sent=" ++ (shown_bytes t.destination.taken ++ stream_text t.flow.ring t.source.unread t.flow.end_seen t.flow.shut)
 
 abbrev pub fault_line : Fault → List ℕ
 fault_line fault = fault_text fault ++ newline
 
--- what is written of a state
 abbrev pub report_of : Reached → List ℕ
 report_of (reached.Flow transfer) = report transfer
 report_of (reached.World state) = world_report state
 
--- What a text leads to: the state after the whole script that it is, or its first fault. The whole text is
--- parsed before the first step is made. Memory runs out only for a text that takes some.
+-- What a text leads to: the state after the whole script that it is, or its first fault. The whole text is parsed before
+-- the first step is made. Memory runs out only for a text that takes some.
 abbrev pub LeadsTo : List ℕ → Result Reached Fault → Type 0
 LeadsTo text (Ok reached) = (script : Script) × ((parsed text ≡ Ok (said_by script)) × (reached_by script ≡ Ok reached))
 LeadsTo text (Err NoMemory) = TakesMemory text

@@ -60,8 +60,8 @@ pub fn run<R: Read, W: Write, X: Explain>(
     writer: &mut W,
     explain: &X,
 ) -> Result<Outcome, ScriptFault>
-    // What is written is the report of the script that was read, or the line of its fault, or that memory ran out,
-    // and nothing else.
+    // What is written is the report of the script that was read, or the line of its fault, or that memory ran out, and
+    // nothing else.
     ensures report { result ≡ Ok Outcome.Report
         → IfSome (R.remaining reader.old)
         (λ text. WritesReport text (W.contents writer.old) (W.contents writer.new)) }

@@ -1,5 +1,5 @@
 //! The settings as the relay uses them.
-ghost use Rattle.std.specs.Prelude.{◌≡◌, ◌≤◌, Some};
+ghost use Rattle.std.specs.Prelude.{◌≤◌, Some};
 
 use crate::addresses::{Address, AddressText};
 use crate::faults::SettingsFault;

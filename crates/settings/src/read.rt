@@ -1,4 +1,4 @@
-ghost use Rattle.std.specs.{Prelude.{◌≡◌, ◌≢◌, ℕ, ◌≤◌, IfSome, IfNone, IfOk, IfErr, Err, string_bytes, option_map}, Str.IsUtf8};
+ghost use Rattle.std.specs.{Prelude.{◌≡◌, ◌≢◌, ◌≤◌, IfSome, IfNone, IfOk, IfErr, Err, string_bytes, option_map}, Str.IsUtf8};
 ghost use Rattle.toml.specs.{Data.{Members, get_member}, Errors.IsBlank, View.{view, table_view}};
 ghost use Rattle.settings.specs.{Table.{key_name, setting, an_address, a_number, a_level, a_truth, address, number, level, truth, required, optional}, Document.{Reads, IsDocument, IsFirstUnknown, HasNoUnknown, IsSettingsOf, IsFaultOf}};
 

@@ -208,10 +208,7 @@ impl<'a> Wanted<'a> {
 
 /// Whether a value is a text or a whole number.
 fn is_word(value: &Value) -> bool {
-    match value.as_str() {
-        Some(_) => true,
-        None => value.as_integer().is_some(),
-    }
+    value.as_str().is_some() || value.as_integer().is_some()
 }
 
 /// The address that a port alone, or one with `*` before it, stands for.
