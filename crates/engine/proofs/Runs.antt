@@ -1,5 +1,5 @@
--- What one call's answer does to a wire, from what the wire's call says of it; and what one answer more does to a run, and
--- to what the wires counted of it.
+-- What one call's answer does to a wire, from what the wire's call says of it; and what one answer more does to a run,
+-- and to what the wires counted of it.
 use Rattle.std.{proofs.{Common.{◌≡◌, ◌⊎◌, inl, inr, ℕ, ◌≤◌, true, false, List, [], ◌++◌, length, take, Option, Some, None, refl, sym, ◌∙◌, ap, append-nil, add-zero, ◌+◌, Bool, ◌∷◌, append_assoc, length-append, zero-add, add_assoc, arith, option_map, unwrap_or}, lemmas.{Grind.common_steps, Option.option_and_then_some}, KnownBytes.{Appends-nil, Consumes-nil, Consumes-trans, Appends-trans}}, specs.{Prelude.{if◌then◌else◌, OnSome}, Io.KnownBytes.{Consumes, Appends, Keeps}, declared.io.ErrorKind.ErrorKind}}
 use Rattle.relay_core.{specs.{declared.{Direction.Direction, Side.{Side, TheVariants.{Client, Target}}, call.Call.{Call, TheVariants.{Write, Read}}, verdict.Fault.{Fault, TheVariants.{Broken, Idle}}}, Calls.side_of, Pairs.{PairState, verdict}, Order.{offer, next_call}, Replies.{AnswerValue, Bytes, Wrote, Blocked, fits, after}, Runs.{brought, carried, answered, over, all_brought, all_carried}, Idle.{is_overdue, expired}, Laws.{TellsOf, IsOverdue}}, proofs.Pairs.{take-offer, answers_are_to_next_calls, failures_are_told, only_overdue_pairs_expire}}
 use Rattle.engine.specs.{Classes.kind_of_error, Wires.{Asked, Given, Refused, WireView, Rises}, Turns.{IsToldBy, asked, is_failed, is_blocked, way_from, way_to, one_if, count_on, same_side, Made, made_if, made_on, AreMade, IsServed, FailsBy, IsTurn}, Steps.{IsErrorReply, IsError, IsStep, IsAnswered, IsMove}}
