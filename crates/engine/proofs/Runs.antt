@@ -1,5 +1,5 @@
--- What one call's answer does to a wire, from what the wire's call says of it; and what one answer more does to a run, and
--- to what the wires counted of it.
+-- What one call's answer does to a wire, from what the wire's call says of it; and what one answer more does to a run,
+-- and to what the wires counted of it.
 use Rattle.std.{proofs.{Common.{◌≡◌, ◌⊎◌, inl, inr, ℕ, ◌≤◌, true, false, List, [], ◌++◌, length, take, Option, Some, None, refl, sym, ◌∙◌, ap, append-nil, add-zero, ◌+◌, Bool, ◌∷◌, append_assoc, length-append, zero-add, add_assoc, arith, option_map, unwrap_or}, lemmas.{Grind.common_steps, Option.option_and_then_some}, KnownBytes.{Appends-nil, Consumes-nil, Consumes-trans, Appends-trans}}, specs.{Prelude.{if◌then◌else◌, OnSome}, Io.KnownBytes.{Consumes, Appends, Keeps}, declared.io.ErrorKind.ErrorKind}}
 use Rattle.relay_core.{specs.{declared.{Direction.Direction, Side.{Side, TheVariants.{Client, Target}}, call.Call.{Call, TheVariants.{Write, Read}}, verdict.Fault.{Fault, TheVariants.{Broken, Idle}}}, Calls.side_of, Pairs.{PairState, verdict}, Order.{offer, next_call}, Replies.{AnswerValue, Bytes, Wrote, Blocked, fits, after}, Runs.{brought, carried, answered, over, all_brought, all_carried}, Idle.{is_overdue, expired}, Laws.{TellsOf, IsOverdue}}, proofs.Pairs.{take-offer, answers_are_to_next_calls, failures_are_told, only_overdue_pairs_expire}}
 use Rattle.engine.specs.{Classes.kind_of_error, Wires.{Asked, Given, Refused, WireView, Rises}, Turns.{IsToldBy, asked, is_failed, is_blocked, way_from, way_to, one_if, count_on, same_side, Made, made_if, made_on, AreMade, IsServed, FailsBy, IsTurn}, Steps.{IsErrorReply, IsError, IsStep, IsAnswered, IsMove}}
@@ -117,16 +117,10 @@ count_sum now test side = record { assoc = add_assoc; before = zero-add; behind 
 made_sum : (now : ℕ) (side : Side) → IsSum ◌++◌ [] now (made_if side) (made_on side now)
 made_sum now side = record { assoc = append_assoc; before = λ a. refl; behind = append-nil; empty = λ p. refl; first = λ p reply replies. refl }
 
-same_again : (side : Side) → same_side side side ≡ true
-same_again side = grind arith
-
-brought_other : (side : Side) (p : PairState) (call : Call) (reply : AnswerValue) → fits p call reply ≡ true → same_side (side_of call) side ≡ false
-    → brought (way_from side) call reply ≡ []
-brought_other side p call reply fit other = grind (arith, common_steps)
-
-carried_other : (side : Side) (p : PairState) (call : Call) (reply : AnswerValue) → fits p call reply ≡ true → same_side (side_of call) side ≡ false
-    → carried p (way_to side) call reply ≡ []
-carried_other side p call reply fit other = grind (arith, common_steps)
+-- a call moves nothing on the other side
+still : (side : Side) (p : PairState) (call : Call) (reply : AnswerValue) → fits p call reply ≡ true → same_side (side_of call) side ≡ false
+    → (brought (way_from side) call reply ≡ []) × (carried p (way_to side) call reply ≡ [])
+still side p call reply fit other = grind (arith, common_steps)
 
 -- calls after calls
 made_then : {S : Type 0} (told : S → WireView) (does : Asked → Given → S → S → Type 0) (calls more : List Made) (a b c : S) → AreMade told does calls a b
@@ -143,7 +137,7 @@ module _ {S : Type 0} {now : ℕ} {told : S → WireView} {does : Asked → Give
     served_here : {old new : S} → IsAnswered told does call p reply old new → IsServed told does now old new (side_of call) p (reply ∷ [])
     served_here {new = new} s =
         let side = side_of call in
-        let here = same_again side in
+        let here : same_side side side ≡ true = grind arith in
         record {
           read = rw (once (brought_sum now (way_from side)) p next ran) s.read;
           written = rw (once (carried_sum now (way_to side)) p next ran) s.written;
@@ -154,13 +148,15 @@ module _ {S : Type 0} {now : ℕ} {told : S → WireView} {does : Asked → Give
 
     -- the wire of the other side
     served_elsewhere : {wire : S} (side : Side) → fits p call reply ≡ true → same_side (side_of call) side ≡ false → IsServed told does now wire wire side p (reply ∷ [])
-    served_elsewhere side fit other = record {
-      read = rw (once (brought_sum now (way_from side)) p next ran, brought_other side p call reply fit other) (Consumes-nil _);
-      written = rw (once (carried_sum now (way_to side)) p next ran, carried_other side p call reply fit other) (Appends-nil _);
-      faults = rw (once (count_sum now is_failed side) p next ran, other) (stays_at refl);
-      blocks = rw (once (count_sum now is_blocked side) p next ran, other) (stays_at refl);
-      made = rw (once (made_sum now side) p next ran, other) refl;
-    }
+    served_elsewhere side fit other =
+        let none = still side p call reply fit other in
+        record {
+          read = rw (once (brought_sum now (way_from side)) p next ran, none.0) (Consumes-nil _);
+          written = rw (once (carried_sum now (way_to side)) p next ran, none.1) (Appends-nil _);
+          faults = rw (once (count_sum now is_failed side) p next ran, other) (stays_at refl);
+          blocks = rw (once (count_sum now is_blocked side) p next ran, other) (stays_at refl);
+          made = rw (once (made_sum now side) p next ran, other) refl;
+        }
 
   -- a wire on which no call was made
   served_none : {p : PairState} {wire : S} (side : Side) → IsServed told does now wire wire side p []

@@ -1,5 +1,5 @@
--- What follows for every pair: that its next call is possible, and what an answer, a report, the idle limit and any list of
--- them do to it.
+-- What follows for every pair: that its next call is possible, and what an answer, a report, the idle limit and any
+-- list of them do to it.
 use Rattle.std.{proofs.{Common.{Bool, List, None, Option, Some, [], append-nil, append_assoc, arith, inl, inr, length, option_and_then, refl, sym, take, take-append-drop, true, ℕ, ◌++◌, ◌↔◌, ◌∙◌, ◌∷◌, ◌≡◌, ◌≤◌, ◌⊎◌}, Math.Seq.drop-nil, lemmas.{Grind.common_steps, Option.{cond_some, option_and_then_some}}}, specs.{Option.{option_or}, Prelude.{IfSome, if◌then◌else◌, option_map}}}
 use Rattle.flow.{proofs.Front.{front_offers, take-front, waiting-dropped}, specs.Stream.{waiting}}
 use Rattle.relay_core.specs.{Runs.{brought, Answered, Event, Expired, Reported, brought_by, carried_by, ever_brought, ever_carried, happened, through, carried, or_nothing, answered}, Idle.{is_overdue, timed_out}, Laws.{IsRunOf, IsClosedLast, AnswersNext, AnswersAreEvents, AnswersAreToNextCalls, AnswersKeepOrder, AnswersKeepPlace, AnswersPassEndLast, ExpiriesChangeVerdictAlone, FailuresAreTold, IsAtRest, IsOverdue, IsPossible, LivePairsRest, OnlyOverduePairsExpire, PassesEndLast, RunsKeepOrder, RunsKeepPlace, RunsPassEndLast, TellsOf, place_of}, Order.{call_for, next_call, offer}, Pairs.{PairState, is_live, noted, stream_of, verdict}, Replies.{AnswerValue, after, fits}, declared.{call.Call.{Call}, verdict.Fault.{Fault}}}

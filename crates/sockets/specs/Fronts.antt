@@ -38,9 +38,9 @@ abbrev pub Fails : Result (Unit {0}) Error → Type 0
 Fails (Ok done) = ⊥
 Fails (Err error) = error_kind error ≢ Interrupted
 
--- A front: how its connections are forwarded, the most milliseconds that it waits for reports, the numbers that its last
--- poll gave, whether that failed, how many milliseconds it could take, whether it has a share of the listening socket,
--- and how many times in a row it has left a client to other pollers
+-- A front: how its connections are forwarded, the most milliseconds that it waits for reports, the numbers that its
+-- last poll gave, whether that failed, how many milliseconds it could take, whether it has a share of the listening
+-- socket, and how many times in a row it has left a client to other pollers
 pub record Watched : Type 0 where
   pub forwarding : Forwarding
   pub wait : ℕ
@@ -50,8 +50,8 @@ pub record Watched : Type 0 where
   pub listening : Bool
   pub left : ℕ
 
--- the longest wait for reports of each of this many pollers, in milliseconds: together they wake at most 10 times a second
--- by themselves
+-- the longest wait for reports of each of this many pollers, in milliseconds: together they wake at most 10 times a
+-- second by themselves
 abbrev pub wait_of : ℕ → ℕ
 wait_of pollers = 100 * max (min pollers 16) 2
 
@@ -71,8 +71,8 @@ fresh_front forwarding pollers = record {
 abbrev pub most_left : ℕ
 most_left = 16
 
--- What a wait for reports says of this front, beside what it says of any. After a brief one that gave no report the next
--- client is accepted
+-- What a wait for reports says of this front, beside what it says of any. After a brief one that gave no report the
+-- next client is accepted
 pub record WaitEnded (wait : Waiting) (answer : Result (Unit {0}) Error) (old new : Watched) : Type 0 where
   pub fails : IsTrue new.failed ↔ Fails answer
   pub asked : wait ≡ waiting.Long → new.waited ≡ old.wait

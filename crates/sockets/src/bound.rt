@@ -67,8 +67,8 @@ fn listen<R: Net, L: Listening + Drop>(rt: &R, asked: SocketAddr) -> io::Result<
     })
 }
 
-/// A socket that the system was asked to have listen at an address. Only the system knows at which it does, so the trait
-/// leaves that open.
+/// A socket that the system was asked to have listen at an address. Only the system knows at which it does, so the
+/// trait leaves that open.
 trait Listening: Sized {
     ghost use Rattle.std.specs.declared.net.SocketAddr.{SocketAddr};
 

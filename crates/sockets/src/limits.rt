@@ -1,5 +1,5 @@
-/// The longest wait for reports of one poller or of two, in milliseconds for each. More pollers wait so much longer that
-/// all together wake as often as two.
+/// The longest wait for reports of one poller or of two, in milliseconds for each. More pollers wait so much longer
+/// that all together wake as often as two.
 pub(crate) const WAIT_MILLIS: u64 = 100;
 
 /// The most pollers that the settings can ask for.

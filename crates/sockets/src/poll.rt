@@ -288,8 +288,8 @@ struct Reported {
     heard: Option<Heard>,
 }
 
-/// Sets the word of the end that an event's number names, if the event names reading, before the number is given: so the
-/// wire knows of the report before that becomes a note.
+/// Sets the word of the end that an event's number names, if the event names reading, before the number is given: so
+/// the wire knows of the report before that becomes a note.
 fn tell(told: &Reports, event: &Event) -> Reported
     ensures number { result.number ≡ (event_token event.now).0 }
     ensures heard { result.heard ≡ heard_of told.now event.now }

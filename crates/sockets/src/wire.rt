@@ -155,8 +155,8 @@ impl<S: Stream> SocketWire<S> {
         }
     }
 
-    /// The socket is known to be connected. A limit for that is lifted, since it also ends a connection whose peer takes
-    /// nothing.
+    /// The socket is known to be connected. A limit for that is lifted, since it also ends a connection whose peer
+    /// takes nothing.
     fn connect(&mut self)
         ensures connected { self.new.socket ≡ record self.old.socket { tally = connected self.old.socket.tally } }
         ensures lifted { Lifts S.did self.old.socket.patience.connect self.old.socket.tally.joined true self.old.stream self.new.stream }
