@@ -8,17 +8,21 @@ use std::test::Fail;
 
 /// Whether of two tickets in hand the older one is put, and the other one stays.
 fn keeps_the_second(rt: &impl Wait, end: &mut ReadyQueue, mut hand: Hand) -> bool {
-    let ticket = |slot| Ticket {
-        slot,
-        generation: 1,
-    };
     for slot in 3..5 {
         if hand.has_room() {
-            hand.keep_ticket(ticket(slot));
+            hand.keep_ticket(Ticket {
+                slot,
+                generation: 1,
+            });
         }
     }
     put_tickets(rt, end, &mut hand);
-    hand.tickets() == 1 && hand.take_ticket() == Some(ticket(4))
+    hand.tickets() == 1
+        && hand.take_ticket()
+            == Some(Ticket {
+                slot: 4,
+                generation: 1,
+            })
 }
 
 // refuses new_makes_room_for_one_more: a queue has room for one ticket more than was asked for

@@ -19,19 +19,29 @@ const REPORT: &[u8] = b"up sent=616263 ring=- unread=- end=yes shut=yes\n";
 #[derive(Drop)]
 struct Source<'a> {
     rest: &'a [u8],
-    /// How many reads were made, the one that failed too.
     reads: usize,
     fails: usize,
     kind: ErrorKind,
 }
 
-/// A reader of the first bytes, this many; then one error; and then the rest.
-fn source(rest: &[u8], fails: usize, kind: ErrorKind) -> Source<'_> {
-    Source {
-        rest,
-        reads: 0,
-        fails,
-        kind,
+impl<'a> Source<'a> {
+    fn whole(bytes: &'a [u8]) -> Source<'a> {
+        Source::failing_once(bytes, usize::MAX, ErrorKind::Other)
+    }
+
+    /// The first bytes, this many; then one error; and then the rest.
+    fn failing_once(bytes: &'a [u8], length: usize, kind: ErrorKind) -> Source<'a> {
+        Source {
+            rest: bytes,
+            reads: 0,
+            fails: length,
+            kind,
+        }
+    }
+
+    /// With the one that failed.
+    fn reads(&self) -> usize {
+        self.reads
     }
 }
 
@@ -56,8 +66,8 @@ impl IsTerminal for Source<'_> {
     }
 }
 
-/// A writer into memory that fails once it took this many bytes: at its flush, or where it is to take more. It has
-/// the memory for them from the start.
+/// A writer into memory, which it has from the start, that fails once it took this many bytes: at its flush, or where it
+/// is to take more.
 #[derive(Drop)]
 struct Sink {
     taken: Vec<u8>,
@@ -66,11 +76,15 @@ struct Sink {
 
 impl Sink {
     /// Takes this many bytes, and then fails.
-    fn failing_after(alloc: Global, left: usize) -> Result<Sink, AllocError> {
+    fn failing_after(alloc: Global, length: usize) -> Result<Sink, AllocError> {
         Ok(Sink {
-            taken: Vec::with_capacity(alloc, left)?,
-            left,
+            taken: Vec::with_capacity(alloc, length)?,
+            left: length,
         })
+    }
+
+    fn into_taken(self) -> Vec<u8> {
+        self.taken
     }
 }
 
@@ -140,15 +154,14 @@ fn arguments(alloc: Global, line: &str) -> Result<Vec<String>, AllocError> {
     Ok(arguments)
 }
 
-/// Runs a command line on a reader, and on a writer that fails after so many bytes, with a server that ends since its
-/// claim words are worn. Where memory runs out, the test fails by that, and not by a text that it doesn't expect.
+/// Runs a command line on a reader and a writer, with a server that ends since its claim words are worn. Where memory
+/// runs out, the test fails by that, and not by a text that it doesn't expect.
 fn play(
     rt: &HostRuntime,
     line: &str,
     source: &mut Source<'_>,
-    length: usize,
+    mut sink: Sink,
 ) -> Result<Run, AllocError> {
-    let mut sink = Sink::failing_after(rt.alloc(), length)?;
     let arguments = arguments(rt.alloc(), line)?;
     let mut errors = Vec::with_capacity(rt.alloc(), ROOM)?;
     let status = act(
@@ -160,9 +173,10 @@ fn play(
         &|_settings, _bound, _extras, _file| Err(ServerFault::Worn),
         &NoPlayer,
     );
+    let output = sink.into_taken();
     let run = Run {
         status,
-        output: sink.taken,
+        output,
         errors,
     };
     if run.is_out_of_memory() {
@@ -181,16 +195,21 @@ fn reads(
     output: &[u8],
     errors: &[u8],
 ) -> Result<bool, AllocError> {
-    let mut source = source(SCRIPT, length, kind);
-    let run = play(rt, "relayd", &mut source, ROOM)?;
+    let mut source = Source::failing_once(SCRIPT, length, kind);
+    let sink = Sink::failing_after(rt.alloc(), ROOM)?;
+    let run = play(rt, "relayd", &mut source, sink)?;
     let reads = length.min(SCRIPT.len()).saturating_add(1);
-    Ok(run.is(status, output, errors) && source.reads == reads)
+    Ok(run.is(status, output, errors) && source.reads() == reads)
 }
 
 /// Whether each of these errors is reported where it comes after this many bytes.
 fn are_reported(rt: &HostRuntime, length: usize) -> Result<bool, AllocError> {
     let mut all = true;
-    for kind in [ErrorKind::Interrupted, ErrorKind::OutOfMemory, ErrorKind::Other] {
+    for kind in [
+        ErrorKind::Interrupted,
+        ErrorKind::OutOfMemory,
+        ErrorKind::Other,
+    ] {
         all = all && reads(rt, length, kind, 1, b"", b"relayd: input: cannot be read\n")?;
     }
     Ok(all)
@@ -212,9 +231,10 @@ static COMMANDS: [(&str, &[u8]); 3] = [
     ("relayd sim --each", SCRIPT),
 ];
 
-/// Runs a command with a writer that fails after this many bytes.
+/// What a command writes to a writer that fails after this many bytes.
 fn writes(rt: &HostRuntime, line: &str, script: &[u8], length: usize) -> Result<Run, AllocError> {
-    play(rt, line, &mut source(script, usize::MAX, ErrorKind::Other), length)
+    let sink = Sink::failing_after(rt.alloc(), length)?;
+    play(rt, line, &mut Source::whole(script), sink)
 }
 
 /// Whether a writer that fails after any number of bytes is reported, also at the flush after the last one, and what
