@@ -88,8 +88,8 @@ all_reported generations batch = filter_map (reported generations) batch
 abbrev pub at_slot : ℕ → List Ticket → ℕ
 at_slot slot tickets = count_by (λ t. t.slot == slot) tickets
 
--- A note was posted for each of these connections, in order, by one exchange at its slot, and those that woke left their
--- tickets in hand. Nothing else of the seat or of the hand changed
+-- A note was posted for each of these connections, in order, by one exchange at its slot, and those that woke left
+-- their tickets in hand. Nothing else of the seat or of the hand changed
 pub record ArePosted (tickets : List Ticket) (old new : SeatState) (had has : HandState) : Type 0 where
   pub posts : List Act
   pub are : ArePosts tickets posts

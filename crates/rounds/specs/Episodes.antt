@@ -4,8 +4,8 @@ use Rattle.relay_log.specs.{Messages.{drop_message, drops_message}, declared.cau
 use Rattle.rounds.specs.{Pollers.counted_up, declared.{episodes.{Accepted.{Accepted, TheVariants.{Again, Blocked, Starved}}, Episodes.Episodes, Tally.Tally, Drops.Drops}, dropping.Owed.Owed}}
 use Rattle.relay_log.specs.declared.cause.Cause.TheVariants as cause
 
--- After a signal, a connection that was given up, or an error that the new socket had pending, the next connection may be
--- accepted at once. EAGAIN says that none waits. Anything else counts as a lack of descriptors or memory
+-- After a signal, a connection that was given up, or an error that the new socket had pending, the next connection may
+-- be accepted at once. EAGAIN says that none waits. Anything else counts as a lack of descriptors or memory
 abbrev pub accepted_of : ErrorKind → Accepted
 accepted_of Interrupted = Again
 accepted_of ConnectionAborted = Again

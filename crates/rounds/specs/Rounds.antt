@@ -9,9 +9,9 @@ use Rattle.relay_log.specs.declared.faults.ServerFault.TheVariants as server_fau
 
 -- The reports of the batch were delivered: each that is for a connection was posted at its slot. Then came the posts of
 -- a sweep, if one was made, and then connections were opened. These acts, in this order, are all that the seat did, and
--- all are at the poller's own slots. The tickets that were to be put before, then those of the reports, of the sweep and
--- of the openings are put or in hand, in this order. Each slot that was taken was opened, or is in hand, or is no longer
--- used
+-- all are at the poller's own slots. The tickets that were to be put before, then those of the reports, of the sweep
+-- and of the openings are put or in hand, in this order. Each slot that was taken was opened, or is in hand, or is no
+-- longer used
 pub record RoundDone (old new : PollerState) (had has : Own) : Type 0 where
   pub reports : List Act
   pub sweep : List Act
@@ -104,8 +104,8 @@ pub record MayAccept (p : PollerState) (own : Own) : Type 0 where
   pub left : HasOpenedAll p → ⊥
   pub slot : 1 ≤ length own.hand.slots
 
--- why the poller does not wait: a sweep is due, or a ticket is in hand, or a connection may be accepted now, accept(2) was
--- not starved, and no client was left to other pollers
+-- why the poller does not wait: a sweep is due, or a ticket is in hand, or a connection may be accepted now, accept(2)
+-- was not starved, and no client was left to other pollers
 abbrev pub MayNotWait : ℕ → PollerState → Own → Type 0
 MayNotWait limit p own = (is_due limit p ≡ true) ⊎ ((own.hand.tickets ≢ []) ⊎ ((p.starved ≡ false) × (p.left ≡ false) × MayAccept p own))
 

@@ -18,8 +18,8 @@ pub(crate) enum Accepted {
     Starved,
 }
 
-/// The class of an error of accept(2), by its kind. Linux passes on errors that are pending on the new socket: those are
-/// to be tried again.
+/// The class of an error of accept(2), by its kind. Linux passes on errors that are pending on the new socket, and
+/// accept(2) is then to be tried again.
 pub(crate) fn accepted_of(kind: ErrorKind) -> Accepted
     ensures { result ≡ accepted_of kind }
 {

@@ -20,12 +20,12 @@
 //!   anybody (`log_if_full`: `full`, `found`). It stays so until accept(2) answers that nobody waits.
 //! - Both tokens of a connection have the next generation of its slot (`next_names`). Its pair is a fresh one with the
 //!   poller's size of ring, made at the second of the round (`connect`: `pair`), and its lead the PROXY line of the
-//!   addresses that the front gave, or nothing (`lead`, by `LeadGiven`). `DropsFor` says which cause is logged without a
-//!   pair (`cause`).
+//!   addresses that the front gave, or nothing (`lead`, by `LeadGiven`). `DropsFor` says which cause is logged if there
+//!   is no pair (`cause`).
 //! - An accepted connection counts as opened, as dropped, or by its slot as lost (`open`: `counted`, by `Fate`), and
 //!   once (`Uncounted`). An opening passes its line to the log, and both are counted at their slot (`OpeningLogged`,
-//!   `DropCounted`). A connection counts as dropped only if the log gets a line or a count of it (`Dropped`), and a slot
-//!   is lost only if one exchange found that it is not free (`Held`), or if no connection can be opened there (`Spent`).
+//!   `DropCounted`). A connection counts as dropped only if the log gets a line or a count of it (`Dropped`). A slot is
+//!   lost only if one exchange found that it is not free (`Held`), or if no connection can be opened there (`Spent`).
 //!   After an opening that failed the slot is in hand, and nowhere else (`prepare`: `failed`; `round`: `slots`). Slots
 //!   start at generation 0 (`Poller::new`), and a table has its poller's own alone (`IsOwnTable`).
 #![tactic(auto)]

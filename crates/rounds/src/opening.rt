@@ -141,7 +141,7 @@ fn prepare<F: Front, A: Moves<F>, N: Log>(
     }
 }
 
-/// The names of the ends of a slot's next connection, unless the table lacks the slot or it has had its last generation.
+/// The names of the ends of a slot's next connection, unless the table lacks the slot, or it had its last generation.
 fn next_names(table: &[u64], slot: usize) -> Option<Names>
     requires { AreGenerations table.now }
     ensures client { IfSome result (λ names. names.client ≡ record {

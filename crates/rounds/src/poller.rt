@@ -161,7 +161,7 @@ impl<F: Front> Poller<F> {
         self.swept = second;
     }
 
-    /// Whether a round has found that the poller has opened all connections that it may, and that all of them are closed.
+    /// Whether a round has found that all connections were opened that the poller may open, and that all are closed.
     pub fn is_over(&self) -> bool
         ensures { result ≡ self.now.over }
     {
@@ -294,8 +294,8 @@ impl<F: Front> Poller<F> {
         self.episodes.drops.log_counted(rt, self.second);
     }
 
-    /// A connection was opened, or the thread ends: logs all that is counted. A lack, and the next drop of each cause, have
-    /// a line again.
+    /// A connection was opened, or the thread ends: logs all that is counted. A lack, and the next drop of each cause,
+    /// have a line again.
     pub fn end_episodes<N: Logs>(&mut self, rt: &N)
         ensures { self.new ≡ record self.old { episodes = opened_after self.old.episodes } }
     {

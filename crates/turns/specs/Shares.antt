@@ -22,9 +22,9 @@ pub record Stays (stayed : ℕ) (heavy : List ℕ) (ticket : Ticket) : Type 0 wh
   pub light : IsLight heavy ticket
   pub few : stayed < first_light
 
--- What becomes of one ticket in hand, after this many that stayed: a light one stays while fewer than 16 have, and later
--- ones may. Any other is put, or is in hand if the queue was full at one moment. Then this many have stayed, this is in
--- hand after the others, and the queue's end has come to this
+-- What becomes of one ticket in hand, after this many that stayed: a light one stays while fewer than 16 have, and
+-- later ones may. Any other is put, or is in hand if the queue was full at one moment. Then this many have stayed, this
+-- is in hand after the others, and the queue's end has come to this
 abbrev pub OneShared : ℕ → List ℕ → Ticket → EndState Ticket → ℕ → List Ticket → EndState Ticket → Type 0
 OneShared stayed heavy ticket queue then behind next =
     (IsLight heavy ticket × (then ≡ suc stayed) × (behind ≡ ticket ∷ []) × (next ≡ queue))

@@ -25,9 +25,9 @@ enum Stay {
 }
 
 /// Puts the tickets in hand that the poller's thread leaves to the workers: those of connections that spent all of its
-/// budget a short while ago, and, if workers run light tickets, too, every ticket after the first 16 that stay, from the
-/// point where a worker's end of the ready queue is found asleep. The others stay in hand, in order, since workers that
-/// are all awake may all be at work on much larger turns. So do those that the queue refuses.
+/// budget a short while ago, and, if workers run light tickets, too, every ticket after the first 16 that stay, from
+/// the point where a worker's end of the ready queue is found asleep. The others stay in hand, in order, since workers
+/// that are all awake may all be at work on much larger turns. So do those that the queue refuses.
 pub fn share_tickets<R: Wait>(rt: &R, shares_light: bool, own: &mut Own, heavy: &mut HeavyMarks)
     requires idle { HoldsNothing own.old.seat }
     ensures shared { TicketsShared heavy.old heavy.new own.old own.new }

@@ -56,7 +56,8 @@ returns-in-Ok g c =
       between = c.place.ensures.between;
       worn = c.place.ensures.worn;
       counted = rw first (on_ok_weaker c.place.result
-          (placed_fate c.in-Ok.ensures.same (rw (c.generation-generation.ensures.value, c.in-Some-next_names.ensures.client, c.table.ensures.table)) (λ acts made. (c.prepare.new.acts, registered, made))) c.place.ensures.placed);
+          (placed_fate c.in-Ok.ensures.same (rw (c.generation-generation.ensures.value, c.in-Some-next_names.ensures.client, c.table.ensures.table))
+          (λ acts made. (c.prepare.new.acts, registered, made))) c.place.ensures.placed);
       in_order = rw first (on_err_weaker c.place.result (λ made. (c.prepare.new.acts, registered, made)) c.place.ensures.in_order);
       done = on_ok_weaker c.place.result
           (λ x. record { done = opened_there hand first (rw c.in-Ok.ensures.same at x.done) x.free x.slots; room = rw hand at x.room })
