@@ -175,8 +175,8 @@ still_coming queued told (inr rest) = inr rest
 
 -- after each change there is something to read, and it is reported if the last read would have blocked
 record Heard (e : EndState) (t : Told EndState Bool) : Type 0 where
-  pub readable : is_readable t.value ≡ true
-  pub told : e.read_armed ≡ true → t.told ≡ true
+  readable : is_readable t.value ≡ true
+  told : e.read_armed ≡ true → t.told ≡ true
 
 nonempty_more : (xs ys : List ℕ) → is_nonempty ys ≡ true → is_nonempty (xs ++ ys) ≡ true
 nonempty_more xs ys h =
@@ -239,11 +239,7 @@ module _ {w : Way} {late : List Change} {s : Seen} (held : Held w late s) where
   stays next shows unchanged kept = record { next = next; came = []; shows = shows; changes = rw unchanged (sym (append-nil late)); kept = kept }
 
   still : {v : Way} → (Asleep w → Asleep v) → Waits v late
-  still {v} on = by held.waits
-    where
-      by : Waits w late → Waits v late
-      by (Prompt none) = Prompt none
-      by (Behind asleep) = Behind (on asleep)
+  still on = elim held.waits [ Prompt none ↦ Prompt none | Behind asleep ↦ Behind (on asleep) ]
 
   catches : Caught s.socket w.socket s.queued late
   catches = caught s.queued held.due
@@ -265,11 +261,7 @@ module _ {w : Way} {late : List Change} {s : Seen} (held : Held w late s) where
   }
 
   still_queued : catches.queued ≡ true → IsOnItsWay w
-  still_queued q = by held.waits
-    where
-      by : Waits w late → IsOnItsWay w
-      by (Prompt none) = held.queued (sym (catches.same none) ∙ q)
-      by (Behind asleep) = on_its_way w asleep.coming
+  still_queued q = elim held.waits [ Prompt none ↦ held.queued (sym (catches.same none) ∙ q) | Behind asleep ↦ on_its_way w asleep.coming ]
 
   -- it is reported in both machines, or was on its way before
   queued_too : (e : EndState) (there told : Bool) → (there ≡ true → told ≡ true) → (s.queued || there) ≡ true → IsOnItsWay (reported w e told)
@@ -281,15 +273,15 @@ module _ {w : Way} {late : List Change} {s : Seen} (held : Held w late s) where
   -- ---- the network
 
   -- a change while the wire does not read and has heard of nothing is late
-  first_told : (t : Told EndState Bool) → Heard w.socket t → w.reads ≡ false → w.told ≡ false → Waits w late → WillBeTold (reported w t.value t.told)
-  first_told t h reads told (Behind asleep) = still_coming w.queued t.told asleep.coming
-  first_told t h reads told (Prompt none) = inl (or_right w.queued t.told (h.told (rw (same_socket held.due none) at (held.rests reads told).armed)))
-
   comes : (c : Change) (t : Told EndState Bool) → change_of w.socket c ≡ Some t → (b : Bool) → is_late w ≡ b →
       Goes (reported w t.value t.told) s late (if b then late ++ c ∷ [] else late) (if b then [] else Came c ∷ []) (Comes c)
   comes c t is true sleeps =
       let quiet = both_down w.reads w.told sleeps in
       let h = heard c w.socket t is in
+      let coming : WillBeTold (reported w t.value t.told) = elim held.waits [
+        | Prompt none ↦ inl (or_right w.queued t.told (h.told (rw (same_socket held.due none) at (held.rests quiet.0 quiet.1).armed)))
+        | Behind asleep ↦ still_coming w.queued t.told asleep.coming
+      ] in
       record {
         next = s;
         came = [];
@@ -297,7 +289,7 @@ module _ {w : Way} {late : List Change} {s : Seen} (held : Held w late s) where
         changes = refl;
         kept = record {
           due = settle_more c t held.due is;
-          waits = Behind (search (first_told t h quiet.0 quiet.1 held.waits));
+          waits = Behind (search coming);
           rests = held.rests;
           queued = λ q. still_coming w.queued t.told (held.queued q);
           owed = held.owed;
@@ -340,16 +332,13 @@ module _ {w : Way} {late : List Change} {s : Seen} (held : Held w late s) where
   -- ---- the system
 
   -- it takes the report back, and nothing is late then
-  vanishes : is_quiet w.socket ≡ true → (b : Bool) → w.owed ≡ b → Goes (record w { queued = false }) s late late (if b then [] else Stray ∷ Gone ∷ []) Vanished
-  vanishes quiet b owed = by b owed
-    where
-      none : late ≡ []
-      none = prompt (λ a. let no = (both_down (is_readable w.socket) (is_writable w.socket) quiet).0 in let yes = a.readable in cc) held.waits
+  none_late : is_quiet w.socket ≡ true → late ≡ []
+  none_late quiet = prompt (λ a. let no = (both_down (is_readable w.socket) (is_writable w.socket) quiet).0 in let yes = a.readable in cc) held.waits
 
-      by : (b : Bool) → w.owed ≡ b → Goes (record w { queued = false }) s late late (if b then [] else Stray ∷ Gone ∷ []) Vanished
-      by true owed = stays s (λ more. refl) refl (search (Prompt, none, inr))
-      by false owed = stays (record s { queued = false }) (λ more. rw (same_socket held.due none, quiet) refl) refl
-          (record { due = held.due; waits = Prompt none; rests = held.rests; queued = λ q. cc; owed = λ o. cc })
+  vanishes : is_quiet w.socket ≡ true → (b : Bool) → w.owed ≡ b → Goes (record w { queued = false }) s late late (if b then [] else Stray ∷ Gone ∷ []) Vanished
+  vanishes quiet true owed = stays s (λ more. refl) refl (search (Prompt, none_late quiet, inr))
+  vanishes quiet false owed = stays (record s { queued = false }) (λ more. rw (same_socket held.due (none_late quiet), quiet) refl) refl
+      (record { due = held.due; waits = Prompt (none_late quiet); rests = held.rests; queued = λ q. cc; owed = λ o. cc })
 
   -- ---- the poller
 
@@ -497,11 +486,11 @@ module _ {w : Way} {late : List Change} {s : Seen} (held : Held w late s) where
 -- ---- a list of steps
 
 record Went (w to : Way) (late : List Change) (s : Seen) (steps : List Step) : Type 0 where
-  pub seen : Seen
-  pub allowed : events s (happened w late steps) ≡ Some seen
-  pub answers : replies_in (happened w late steps) ≡ answers_of steps
-  pub changes : came_in (happened w late steps) ++ still_late w late steps ≡ late ++ changes_of steps
-  pub kept : Held to (still_late w late steps) seen
+  seen : Seen
+  allowed : events s (happened w late steps) ≡ Some seen
+  answers : replies_in (happened w late steps) ≡ answers_of steps
+  changes : came_in (happened w late steps) ++ still_late w late steps ≡ late ++ changes_of steps
+  kept : Held to (still_late w late steps) seen
 
 -- what came and what is late, one list after another
 seam : (c1 c2 later last late d1 d2 : List Change) → c1 ++ later ≡ late ++ d1 → c2 ++ last ≡ later ++ d2 → (c1 ++ c2) ++ last ≡ late ++ (d1 ++ d2)
