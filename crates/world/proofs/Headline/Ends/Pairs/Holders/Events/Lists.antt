@@ -68,7 +68,7 @@ kept_through f (Some x) k = k.kept
 -- one element more at the end
 pub total_push : {X : Type 0} (f : X → ℕ) (xs : List X) (x : X) → total f (xs ++ x ∷ []) ≡ total f xs + f x
 total_push f [] x = omega arith
-total_push f (y ∷ ys) x = let more = total_push f ys x in omega arith
+total_push f (y ∷ ys) x = omega (arith, total_push f ys x)
 
 -- the first element of a list goes to the end of another
 pub total_moved : {X : Type 0} (f : X → ℕ) (xs ys rest : List X) (x : X) → ys ≡ x ∷ rest → total f (xs ++ x ∷ []) + total f rest ≡ total f xs + total f ys
@@ -77,21 +77,21 @@ total_moved f xs ys rest x is = grind (arith, total_push f xs x)
 -- an element that is replaced gives up its part for the new one's
 pub total-set : {X : Type 0} (f : X → ℕ) (xs : List X) (w : ℕ) (old new : X) → slice_get xs w ≡ Some old → total f (slice_set xs w new) + f old ≡ total f xs + f new
 total-set f [] w old new there = absurd (cc)
-total-set f (x ∷ xs) zero old new there = let same : x ≡ old = cc in let parts = ap f same in omega arith
-total-set f (x ∷ xs) (suc w) old new there = let more = total-set f xs w old new there in omega arith
+total-set f (x ∷ xs) zero old new there = grind arith
+total-set f (x ∷ xs) (suc w) old new there = omega (arith, total-set f xs w old new there)
 
 pub total_at : {X : Type 0} (f : X → ℕ) (xs : List X) (w : ℕ) (x : X) → slice_get xs w ≡ Some x → f x ≤ total f xs
 total_at f [] w x there = absurd (cc)
-total_at f (y ∷ ys) zero x there = let same : y ≡ x = cc in let part = ap f same in omega arith
-total_at f (y ∷ ys) (suc w) x there = let more = total_at f ys w x there in omega arith
+total_at f (y ∷ ys) zero x there = grind arith
+total_at f (y ∷ ys) (suc w) x there = omega (arith, total_at f ys w x there)
 
 pub total_le : {X : Type 0} (f g : X → ℕ) (xs : List X) → ((x : X) → f x ≤ g x) → total f xs ≤ total g xs
 total_le f g [] each = omega arith
-total_le f g (x ∷ xs) each = let more = total_le f g xs each in let here = each x in omega arith
+total_le f g (x ∷ xs) each = omega (arith, total_le f g xs each, each x)
 
 pub total_none : {X : Type 0} (f : X → ℕ) (n : ℕ) (x : X) → f x ≡ 0 → total f (replicate n x) ≡ 0
 total_none f zero x none = refl
-total_none f (suc n) x none = let more = total_none f n x none in omega arith
+total_none f (suc n) x none = omega (arith, total_none f n x none)
 
 pub get-set_same : {X : Type 0} (xs : List X) (i : ℕ) (old new : X) → slice_get xs i ≡ Some old → slice_get (slice_set xs i new) i ≡ Some new
 get-set_same [] i old new there = absurd (cc)
@@ -119,16 +119,8 @@ get_beside (suc n) (suc i) x y z there = get_beside n i x y z there
 -- what one element has more counts in the whole
 pub total_le_at : {X : Type 0} (f g : X → ℕ) (xs : List X) (w : ℕ) (x : X) → ((y : X) → f y ≤ g y) → slice_get xs w ≡ Some x → total f xs + g x ≤ total g xs + f x
 total_le_at f g [] w x each there = absurd (cc)
-total_le_at f g (y ∷ ys) zero x each there =
-    let same : y ≡ x = (cc) in
-    let a = ap f same in
-    let b = ap g same in
-    let rest = total_le f g ys each in
-    omega arith
-total_le_at f g (y ∷ ys) (suc w) x each there =
-    let more = total_le_at f g ys w x each there in
-    let here = each y in
-    omega arith
+total_le_at f g (y ∷ ys) zero x each there = grind (arith, total_le f g ys each)
+total_le_at f g (y ∷ ys) (suc w) x each there = omega (arith, total_le_at f g ys w x each there, each y)
 
 -- what lies in a list after one element was replaced: the new one, or what lay there
 pub at_one : {X : Type 0} (xs : List X) {ys : List X} {s : ℕ} (i : ℕ) {old new x : X} → slice_get xs s ≡ Some old → ys ≡ slice_set xs s new → slice_get ys i ≡ Some x
@@ -149,8 +141,7 @@ append_get (z ∷ xs) ys (suc i) x here = append_get xs ys i x here
 
 -- an element of a list with one more is one of before, or that one
 pub last_of : {X : Type 0} (xs : List X) (i : ℕ) (x y : X) → slice_get (xs ++ x ∷ []) i ≡ Some y → (slice_get xs i ≡ Some y) ⊎ (x ≡ y)
-last_of [] zero x y here = inr (cc)
-last_of [] (suc i) x y here = absurd (cc)
+last_of [] i x y here = grind arith
 last_of (z ∷ xs) zero x y here = inl here
 last_of (z ∷ xs) (suc i) x y here = last_of xs i x y here
 
@@ -240,7 +231,7 @@ pub end_same : (ends : List (Option Registered)) (d : ℕ) (r : Registered) (o :
 end_same ends d r o here = grind (arith, flattened, get-set_same ends d (Some r) o)
 
 end_other : (ends : List (Option Registered)) (d other : ℕ) (o : Option Registered) → (other ≡ d → ⊥) → end_at (slice_set ends d o) other ≡ end_at ends other
-end_other ends d other o apart = ap option_flatten (get-set_other ends d other o (λ same. apart (sym same)))
+end_other ends d other o apart = grind (arith, get-set_other ends d other o)
 
 -- two open ends with different tokens have different descriptors, so a write at one leaves the other
 pub end_kept : (ends : List (Option Registered)) (d other : ℕ) {a b : Registered} (o : Option Registered)
