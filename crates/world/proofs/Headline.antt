@@ -56,10 +56,6 @@ reports_one a (End b ∷ names) h = or_then (same (End a) (End b)) (has (End a) 
 reported : (st : State) (a : EndName) (notes : List ℕ) → notes ≡ [] → has_report st a notes ≡ true → is_reported st a.slot a.generation ≡ true
 reported st a notes none h = grind (arith, reports_one a st.kernel.queue, reports_one a st.batch)
 
--- a flag that is down at an end that is ready is reported
-uncovered : (flag armed ready rep : Bool) → flag ≡ false → ready ≡ true → is_covered flag armed ready rep ≡ true → rep ≡ true
-uncovered flag armed ready rep down is h = grind arith
-
 open_one : (o : Option Registered) → gives o ≡ true → (x : Registered) × (o ≡ Some x) × (is_readable x.socket ≡ true)
 open_one o h = grind arith
 
@@ -140,11 +136,6 @@ held_due : (laws : CoreLaws) (st : State) (s : ℕ) (p : SlotState) (c : Connect
     → SlotOk (facts st s p.generation) p → EdgesHold st → could_move st.limits.ring st.kernel c ≡ true
     → (is_by_worker h || (is_reported st s c.pair.generation || is_ticketed st s c.pair.generation)) ≡ true
 held_due laws st s p c h held lies is sv edges moving = grind (arith, unheld_due laws st s p c (is_nonempty p.notes) refl)
-
-due_there : (laws : CoreLaws) (st : State) (s : ℕ) (p : SlotState) (o : Option Connection) → p.connection ≡ o → slice_get st.slots s ≡ Some p → Turns st → EdgesHold st
-    → moves_if_any st.limits.ring st.kernel o ≡ true → due_place st s p o ≡ true
-due_there laws st s p None is lies turns edges moving = absurd (cc)
-due_there laws st s p (Some c) is lies turns edges moving = held_due laws st s p c p.holder refl lies is (turns.each s p lies) edges moving
 
 pub movable_is_due : (laws : CoreLaws) (st : State) → Turns st → EdgesHold st → (s : ℕ) → movable st s ≡ true → due st s ≡ true
 movable_is_due laws st turns edges s moving = grind (arith, held_due laws st s, turns.each s)

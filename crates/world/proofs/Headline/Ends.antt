@@ -74,9 +74,6 @@ after_event past st e = λ s g side. past s g side ++ given_by st s g side e
 none_after : (a : Bool) → (a && false) ≡ false
 none_after a = grind arith
 
-other_number : (side : Side) → (side_number side == side_number (other_side side)) ≡ false
-other_number side = grind arith
-
 nothing : (b : Bool) → ◌≡◌ {A = List ℕ} (if b then [] else []) []
 nothing b = grind arith
 

@@ -65,20 +65,8 @@ pub record AllOk (past : History) (st : State) : Type 0 where
 pub end_more : {flags : Flags} {e : EndState} {r q : Bool} → (r ≡ true → q ≡ true) → EndCovered flags e r → EndCovered flags e q
 end_more more h = grind arith
 
--- it gets ready, and a report comes where it was armed
-cover_report : (flag armed ready r told now : Bool) → (armed ≡ true → told ≡ true) → now ≡ true → is_covered flag armed ready r ≡ true → is_covered flag false now (r || told) ≡ true
-cover_report flag armed ready r told now tells is h = grind arith
-
 pub end_unready : {flags : Flags} {e : EndState} {r q : Bool} → is_readable e ≡ false → is_writable e ≡ false → EndCovered flags e r → EndCovered flags e q
 end_unready unread unwritten h = grind arith
-
--- the flag is up
-pub cover_flag : (flag armed ready r : Bool) → flag ≡ true → is_covered flag armed ready r ≡ true
-cover_flag flag armed ready r up = grind arith
-
--- it is armed and not ready
-pub cover_armed : (flag ready r : Bool) → ready ≡ false → is_covered flag true ready r ≡ true
-cover_armed flag ready r none = grind arith
 
 -- Pairs
 
@@ -154,9 +142,6 @@ pair_changed {r = r} {p = p} Target {t = t} ok change came kept more tells = rec
       (end_more (or_then (r Target) t.told (more Target) tells) (change.covered p.target (r Target) (ok.covered Target)));
   directions = by_direction _ (same_gave kept (destination_changed change (ok.directions Up))) (same_gave came (source_changed change (ok.directions Down)));
 }
-
-denied : (b : Bool) → not b ≡ true → b ≡ true → ⊥
-denied b n h = grind arith
 
 pub nonempty_more : (xs ys : List ℕ) → is_nonempty ys ≡ true → is_nonempty (xs ++ ys) ≡ true
 nonempty_more xs ys h = grind (arith, nat_tests, length-append xs ys)

@@ -201,9 +201,6 @@ turned_elsewhere st w {k} {d} e i g there does before after =
 pub sure : (b : Bool) → 1 ≤ one b → b ≡ true
 sure b some = grind arith
 
-pub unless : (b : Bool) → not b ≡ true → b ≡ false
-unless b h = grind arith
-
 -- a note more, and the ticket that it brings
 
 pub some_more : (xs : List ℕ) (x : ℕ) → is_nonempty (xs ++ x ∷ []) ≡ true
@@ -216,9 +213,6 @@ none_more (y ∷ ys) x none = absurd (cc)
 are_own_more : (g : ℕ) (xs : List ℕ) → are_own g xs ≡ true → are_own g (xs ++ g ∷ []) ≡ true
 are_own_more g [] own = rw (eq-eqb g g refl) refl
 are_own_more g (x ∷ xs) own = let parts = and_parts (x == g) (are_own g xs) own in rw (parts.0) (are_own_more g xs parts.1)
-
-noted_tickets : (held some : Bool) (n m : ℕ) → n ≡ one (not held && some) → m ≡ n + one (not (held || some)) → m ≡ one (not held && true)
-noted_tickets held some n m was more = grind arith
 
 -- a hand that may get one more ticket
 pub handed : (f : Ticket → ℕ) (b : Bool) (s g : ℕ) (hand : List Ticket) {n : ℕ} → f (record { slot = s; generation = g }) ≡ n
@@ -310,9 +304,6 @@ pub record Waiting (p : SlotState) : Type 0 where
   pub some : is_nonempty p.notes ≡ true
   pub lies : is_some p.connection ≡ true
 
-unheld : (h : Holder) (some : Bool) → 1 ≤ one (not (is_held h) && some) → (h ≡ Nobody) × (some ≡ true)
-unheld h some n = grind arith
-
 pub own_generation : (f : Facts) (p : SlotState) (c : Connection) → place_of c.pair ≡ standing f p.generation → c.pair.generation ≡ p.generation
 own_generation f p c stands = grind arith
 
@@ -372,12 +363,6 @@ pub record Held (f : Facts) (p : SlotState) (has : Bool) : Type 0 where
   pub holding : f.holding ≡ one has
   pub closing : f.closing ≡ one (not has)
   pub gone : f.gone ≤ 0
-
-by_one : (h : Holder) (b : Bool) → 1 ≤ one (is_by_worker h && b) → (w : ℕ) × (h ≡ By w) × (b ≡ true)
-by_one h b n = grind arith
-
-held_so : {f : Facts} {p : SlotState} {has : Bool} (by : ℕ) → SlotOk f p → p.holder ≡ By by → is_some p.connection ≡ has → Held f p has
-held_so by sv holder some = grind (arith, sv)
 
 pub held_slot : {st : State} {w : ℕ} (h : Holding st w) → Turns st → Held (facts st h.s h.p.generation) h.p true
 held_slot {st} {w} h turns = grind (arith, turns.each h.s h.p h.lies, total_at (worker_holds h.s) st.workers w h.k h.there, doing_so h.s 0 h.does, one_same h.s)
