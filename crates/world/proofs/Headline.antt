@@ -56,10 +56,6 @@ reports_one a (End b ∷ names) h = or_then (same (End a) (End b)) (has (End a) 
 reported : (st : State) (a : EndName) (notes : List ℕ) → notes ≡ [] → has_report st a notes ≡ true → is_reported st a.slot a.generation ≡ true
 reported st a notes none h = grind (arith, reports_one a st.kernel.queue, reports_one a st.batch)
 
--- a flag that is down at an end that is ready is reported
-uncovered : (flag armed ready rep : Bool) → flag ≡ false → ready ≡ true → is_covered flag armed ready rep ≡ true → rep ≡ true
-uncovered flag armed ready rep down is h = grind arith
-
 open_one : (o : Option Registered) → gives o ≡ true → (x : Registered) × (o ≡ Some x) × (is_readable x.socket ≡ true)
 open_one o h = grind arith
 
@@ -91,16 +87,12 @@ module _ (st : State) (s : ℕ) (p : SlotState) (c : Connection) (r : Rests st s
   reads_due : (side : Side) → (flags_of c.pair side).read ≡ false → gives (end_of st c side) ≡ true → is_reported st s c.pair.generation ≡ true
   reads_due side down ready =
       let x = open_one (end_of st c side) ready in
-      let t : EndName = record { slot = s; side = side; generation = c.pair.generation } in
-      reported st t p.notes r.none (uncovered (flags_of c.pair side).read x.0.socket.read_armed (is_readable x.0.socket) (has_report st t p.notes) down x.2
-      (edges s p c side x.0 r.lies r.is x.1).read)
+      grind (arith, reported st (record { slot = s; side = side; generation = c.pair.generation }) p.notes r.none, edges s p c side x.0 r.lies r.is x.1, x)
 
   writes_due : (side : Side) → (flags_of c.pair side).write ≡ false → takes (end_of st c side) ≡ true → is_reported st s c.pair.generation ≡ true
   writes_due side down ready =
       let x = room_one (end_of st c side) ready in
-      let t : EndName = record { slot = s; side = side; generation = c.pair.generation } in
-      reported st t p.notes r.none (uncovered (flags_of c.pair side).write x.0.socket.write_armed (is_writable x.0.socket) (has_report st t p.notes) down x.2
-      (edges s p c side x.0 r.lies r.is x.1).write)
+      grind (arith, reported st (record { slot = s; side = side; generation = c.pair.generation }) p.notes r.none, edges s p c side x.0 r.lies r.is x.1, x)
 
   comes_in : (d : Direction) → has_place st.limits.ring (stream_of c.pair d) ≡ true → gives (end_of st c (source d)) ≡ true → is_reported st s c.pair.generation ≡ true
   comes_in d place ready = reads_due (source d) ((r.rest d).unread (grind arith) (grind (arith, nat_tests, capacity_of c.pair s p.generation st.limits.ring d r.stands))) ready
@@ -144,11 +136,6 @@ held_due : (laws : CoreLaws) (st : State) (s : ℕ) (p : SlotState) (c : Connect
     → SlotOk (facts st s p.generation) p → EdgesHold st → could_move st.limits.ring st.kernel c ≡ true
     → (is_by_worker h || (is_reported st s c.pair.generation || is_ticketed st s c.pair.generation)) ≡ true
 held_due laws st s p c h held lies is sv edges moving = grind (arith, unheld_due laws st s p c (is_nonempty p.notes) refl)
-
-due_there : (laws : CoreLaws) (st : State) (s : ℕ) (p : SlotState) (o : Option Connection) → p.connection ≡ o → slice_get st.slots s ≡ Some p → Turns st → EdgesHold st
-    → moves_if_any st.limits.ring st.kernel o ≡ true → due_place st s p o ≡ true
-due_there laws st s p None is lies turns edges moving = absurd (cc)
-due_there laws st s p (Some c) is lies turns edges moving = held_due laws st s p c p.holder refl lies is (turns.each s p lies) edges moving
 
 pub movable_is_due : (laws : CoreLaws) (st : State) → Turns st → EdgesHold st → (s : ℕ) → movable st s ≡ true → due st s ≡ true
 movable_is_due laws st turns edges s moving = grind (arith, held_due laws st s, turns.each s)
@@ -306,29 +293,20 @@ module _ (laws : CoreLaws) (l : Limits) {st : State} (done : List Event) (ran : 
     lasts i p c here lying = let w = was i p here in elim (w.connection c lying) [
       | inl b ↦ (let last = all.times.moved i w.old b.0 w.there b.1 in let since = b.2.since last.now in record {
         now = since.1;
-        each = rw (b.2.generation) (throughout_more {Each = MovesBy b.0.pair.moved (named i b.0.pair.generation)} (opening l) done last.each
-            (λ q d by is. (let before = by is in let more = since.0 in omega arith)));
+        each = rw (b.2.generation) (throughout_more {Each = MovesBy b.0.pair.moved (named i b.0.pair.generation)} (opening l) done last.each (grind (arith, since)));
       })
-      | inr fresh ↦ record {
-        now = rw (fresh.moved) (le_refl st.second);
-        each = rw (fresh.moved) (throughout_more {Each = ComesBy st.second} (opening l) done all.times.past (λ q d by is. by));
-      }
+      | inr fresh ↦ record { now = grind (arith, fresh); each = throughout_more {Each = ComesBy st.second} (opening l) done all.times.past (grind (arith, fresh)) }
     ]
 
     times_after : TimesOk (opening l) (done ++ e ∷ []) q
-    times_after =
-        let on = clock h in
-        let later = on.1 in record {
-          limits = on.0 ∙ all.times.limits;
-          past = throughout_further (ComesBy q.second) (opening l) st done e ran later
-              (throughout_more {Each = ComesBy st.second} (opening l) done all.times.past (λ m d by. (let before = by in omega arith)));
-          moved = λ i p c here lying.
-              let last = lasts i p c here lying in
-              let now = last.now in record {
-                now = omega arith;
-                each = throughout_further (MovesBy c.pair.moved (named i c.pair.generation)) (opening l) st done e ran (moves_on h i p c here lying) last.each;
-              };
-        }
+    times_after = record {
+      limits = grind (arith, clock h, all.times);
+      past = throughout_further (ComesBy q.second) (opening l) st done e ran (clock h).1 (throughout_more {Each = ComesBy st.second} (opening l) done all.times.past (grind (arith, clock h)));
+      moved = λ i p c here lying. let last = lasts i p c here lying in record {
+        now = grind (arith, clock h, last);
+        each = throughout_further (MovesBy c.pair.moved (named i c.pair.generation)) (opening l) st done e ran (moves_on h i p c here lying) last.each;
+      };
+    }
 
     failures_after : FailuresOk (known (opening l) (done ++ e ∷ [])) q
     failures_after =

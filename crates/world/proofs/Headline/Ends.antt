@@ -74,9 +74,6 @@ after_event past st e = λ s g side. past s g side ++ given_by st s g side e
 none_after : (a : Bool) → (a && false) ≡ false
 none_after a = grind arith
 
-other_number : (side : Side) → (side_number side == side_number (other_side side)) ≡ false
-other_number side = grind arith
-
 nothing : (b : Bool) → ◌≡◌ {A = List ℕ} (if b then [] else []) []
 nothing b = grind arith
 
@@ -90,10 +87,10 @@ module _ (past : History) (st : State) (s : ℕ) (side : Side) (change : Change)
   next = after_event past st (event.Network s side change)
 
   elsewhere : (i g : ℕ) (t : Side) → (i ≡ s → ⊥) → next i g t ≡ past i g t
-  elsewhere i g t differ = rw (given_if st s side change i g t, ne_eqb s i (λ same. differ (sym same))) (append-nil (past i g t))
+  elsewhere i g t differ = grind (arith, given_if st s side change i g t, append-nil (past i g t))
 
   younger : (g : ℕ) (t : Side) → (l.place.generation ≡ g → ⊥) → next s g t ≡ past s g t
-  younger g t differ = rw (given_if st s side change s g t, eq-eqb s s refl, l.there, ne_eqb l.place.generation g differ, none_after (side_number side == side_number t)) (append-nil (past s g t))
+  younger g t differ = grind (arith, given_if st s side change s g t, append-nil (past s g t))
 
   came : next s l.place.generation side ≡ past s l.place.generation side ++ brought change
   came = rw (
@@ -105,7 +102,7 @@ module _ (past : History) (st : State) (s : ℕ) (side : Side) (change : Change)
   ) refl
 
   came_not : next s l.place.generation (other_side side) ≡ past s l.place.generation (other_side side)
-  came_not = rw (given_if st s side change s l.place.generation (other_side side), eq-eqb s s refl, other_number side) (append-nil (past s l.place.generation (other_side side)))
+  came_not = grind (arith, given_if st s side change s l.place.generation (other_side side), append-nil (past s l.place.generation (other_side side)))
 
   network_keeps : (r : Registered) (t : Told EndState Bool) → end_of st c side ≡ Some r → change_of change r.socket ≡ Some t → AllOk past st
       → AllOk next (record st {
@@ -200,22 +197,14 @@ not_this st m n entry other = grind (arith, same_end_is m n)
 
 module _ {past : History} {st : State} {s : ℕ} {p : SlotState} {c d : Connection} {notes : List ℕ} (is : p.connection ≡ Some c) (ok : EndsOk past st s p.generation p.notes c → EndsOk past st s p.generation notes d) where
   connected_ok : PlaceOk past st s p → PlaceOk past st s (record p { notes = notes; connection = Some d })
-  connected_ok slot = record {
-    entry = slot.entry;
-    later = slot.later;
-    connection = λ b here. (let same : d ≡ b = cc in subst (λ (x : Connection). EndsOk past st s p.generation notes x) same (ok (slot.connection c is)));
-  }
+  connected_ok slot = grind (arith, ok, slot)
 
 held_ok : {past : History} {st : State} {s : ℕ} {p : SlotState} {h : Holder} → PlaceOk past st s p → PlaceOk past st s (record p { holder = h })
 held_ok ok = grind arith
 
 heard_ok : {past : History} {st : State} {s g : ℕ} {notes : List ℕ} {c : Connection} (b : Bool) → is_nonempty notes ≡ b
     → EndsOk past st s g notes c → EndsOk past st s g [] (if b then record c { pair = noted c.pair } else c)
-heard_ok true some ok = renewed ok refl refl refl (record {
-  covered = by_side _ (record { read = refl; write = refl }) (record { read = refl; write = refl });
-  directions = by_direction _ (ok.pair.directions Up) (ok.pair.directions Down);
-})
-heard_ok false none ok = renewed ok refl refl refl (pair_more ok.pair (λ side. refl) (grind arith))
+heard_ok b some ok = grind (arith, ok.pair.covered, ok.pair.directions, ok.there, some)
 
 -- an overdue connection fails, and keeps all else
 timed_out_ok : {past : History} {st : State} {s g : ℕ} {notes : List ℕ} {c : Connection} → EndsOk past st s g notes c → EndsOk past st s g notes (record c { pair = timed_out c.pair })
@@ -246,19 +235,11 @@ abbrev with_client : KernelState → ℕ → ℕ → List (Option Registered)
 with_client k s g = with_end k.ends (lowest_free k.ends) (registered s g Client (opened Client))
 
 fresh_direction : (gave : List ℕ) (ring : ℕ) (lead : List ℕ) (x y : Side) → gave ≡ lead → DirectionOk gave (empty_stream ring lead) (opened x) (opened y)
-fresh_direction gave ring lead x y same = record {
-  bytes = same ∙ sym (append-nil (lead ++ []) ∙ append-nil lead);
-  ended = λ h. absurd (cc);
-  read = λ h. refl;
-  last = record { ended = λ h. absurd (cc); empty = λ h. absurd (cc) };
-}
+fresh_direction gave ring lead x y same = grind (arith, append-nil lead, append-nil (lead ++ []))
 
 fresh_pair : {h : Side → List ℕ} {r : Side → Bool} (s g : ℕ) (l : Limits) (now : ℕ) → ((side : Side) → h side ≡ before l side)
     → PairOk h r (fresh s g l.ring now l.lead) (record { client = opened Client; target = opened Target })
-fresh_pair {h} s g l now same = record {
-  covered = by_side _ (record { read = refl; write = refl }) (record { read = refl; write = refl });
-  directions = by_direction _ (fresh_direction (h Client) l.ring l.lead Client Target (same Client)) (fresh_direction (h Target) l.ring [] Target Client (same Target));
-}
+fresh_pair {h} s g l now same = grind (arith, fresh_direction (h Client) l.ring l.lead Client Target, fresh_direction (h Target) l.ring [] Target Client)
 
 fresh_keeps : {past : History} {st : State} (s g : ℕ) (p : SlotState) → slice_get st.slots s ≡ Some p → slice_get st.table s ≡ Some g → AllOk past st
     → AllOk past (fresh_world st s (g + 1))
@@ -473,13 +454,8 @@ record Whole (past : History) (st : State) : Type 0 where
 module _ (laws : CoreLaws) {past : History} {st : State} (all : AllOk past st) where
   -- an event brings nothing to a closed connection
   none_given : {ev : Event} {q : State} (e : Past) (side : Side) → Happens st ev q → ClosedOk past st e → given_by st e.slot e.generation side ev ≡ []
-  none_given e side (Changes s other change c r t lies there now) ok = rw (given_if st s other change e.slot e.generation side) (elim (cases_eq s e.slot) [
-    | inl same ↦ (let l = lies_in (slice_get st.slots s) c lies in
-        let here = subst (λ (i : ℕ). slice_get st.slots i ≡ Some l.place) same l.there in
-        let less = ok.over l.place c here l.connection in
-        rw (here, ne_eqb l.place.generation e.generation (λ is. omega arith), none_after (s == e.slot && side_number other == side_number side)) refl)
-    | inr apart ↦ rw (ne_eqb s e.slot apart) refl
-  ])
+  none_given e side (Changes s other change c r t lies there now) ok = let l = lies_in (slice_get st.slots s) c lies in
+      rw (given_if st s other change e.slot e.generation side) (grind (arith, l, ok.over l.place c, none_after (s == e.slot && side_number other == side_number side)))
   none_given e side _ ok = refl
 
   still_closed : {ev : Event} {q : State} (e : Past) → Happens st ev q → ClosedOk past st e → ClosedOk (after_event past st ev) q e
@@ -488,9 +464,8 @@ module _ (laws : CoreLaws) {past : History} {st : State} (all : AllOk past st) w
       (λ side. rw (none_given e side h ok) (append-nil (past e.slot e.generation side))) in
       let was = was_in laws (λ s p there. (all.each s p there).entry) h e.slot in
       record {
-        older = λ p here. let w = was p here in let old = ok.older w.old w.there in let more = w.older in omega arith;
-        over = λ p c here is. let w = was p here in let old = ok.older w.old w.there in let more = w.older in ⊎_elim
-            (λ b. let less = ok.over w.old b.0 w.there b.1 in omega arith) (λ fresh. let less = fresh.older in omega arith) (w.connection c is);
+        older = λ p here. let w = was p here in grind (arith, w, ok.older w.old);
+        over = λ p c here is. let w = was p here in grind (arith, w.connection c is, w, ok.older w.old, ok.over w.old);
         beginning = λ d. ((ok.beginning d).0, same (source d) ∙ (ok.beginning d).1);
         all = λ done d. same (source d) ∙ ok.all done d;
       }

@@ -65,20 +65,8 @@ pub record AllOk (past : History) (st : State) : Type 0 where
 pub end_more : {flags : Flags} {e : EndState} {r q : Bool} → (r ≡ true → q ≡ true) → EndCovered flags e r → EndCovered flags e q
 end_more more h = grind arith
 
--- it gets ready, and a report comes where it was armed
-cover_report : (flag armed ready r told now : Bool) → (armed ≡ true → told ≡ true) → now ≡ true → is_covered flag armed ready r ≡ true → is_covered flag false now (r || told) ≡ true
-cover_report flag armed ready r told now tells is h = grind arith
-
 pub end_unready : {flags : Flags} {e : EndState} {r q : Bool} → is_readable e ≡ false → is_writable e ≡ false → EndCovered flags e r → EndCovered flags e q
 end_unready unread unwritten h = grind arith
-
--- the flag is up
-pub cover_flag : (flag armed ready r : Bool) → flag ≡ true → is_covered flag armed ready r ≡ true
-cover_flag flag armed ready r up = grind arith
-
--- it is armed and not ready
-pub cover_armed : (flag ready r : Bool) → ready ≡ false → is_covered flag true ready r ≡ true
-cover_armed flag ready r none = grind arith
 
 -- Pairs
 
@@ -155,9 +143,6 @@ pair_changed {r = r} {p = p} Target {t = t} ok change came kept more tells = rec
   directions = by_direction _ (same_gave kept (destination_changed change (ok.directions Up))) (same_gave came (source_changed change (ok.directions Down)));
 }
 
-denied : (b : Bool) → not b ≡ true → b ≡ true → ⊥
-denied b n h = grind arith
-
 pub nonempty_more : (xs ys : List ℕ) → is_nonempty ys ≡ true → is_nonempty (xs ++ ys) ≡ true
 nonempty_more xs ys h = grind (arith, nat_tests, length-append xs ys)
 
@@ -221,10 +206,7 @@ unread_none xs h = nil_from_length xs (grind (arith, nat_tests))
 
 -- all that wait, after the first n of them
 taken_out : (taken waits left unread : List ℕ) (n : ℕ) → left ≡ drop n waits → taken ++ (waits ++ unread) ≡ (taken ++ take n waits) ++ (left ++ unread)
-taken_out taken waits left unread n same = rw same
-    (ap (λ (all : List ℕ). taken ++ (all ++ unread)) (sym (take-append-drop n waits))
-    ∙ (ap (λ (all : List ℕ). taken ++ all) (append_assoc (take n waits) (drop n waits) unread)
-    ∙ sym (append_assoc taken (take n waits) (drop n waits ++ unread))))
+taken_out taken waits left unread n same = grind (arith, append_assoc, take-append-drop n waits)
 
 -- none wait after a write, where none did before
 none_left : (s : Stream) (n : ℕ) → waiting s ≡ [] → waiting (dropped s n) ≡ []
@@ -330,8 +312,7 @@ module _ {past : History} {st : State} {s g : ℕ} {notes : List ℕ} {c : Conne
   its_end side r there = cc (ok.there side)
 
   told_is : (call : Call) (said : Reply) → told_of (record { kernel = st.kernel; connection = c }) call said ≡ told_by (socket_of ok.ends (side_of call)) call said
-  told_is (Read side most) (reply.Bytes n) = rw (ok.there side)
-  told_is _ _ = refl
+  told_is call said = grind (arith, ok.there)
 
   -- after a call the pair and its ends are in order
   pub pair_called : {r : Reply} (m : Made st c r)
@@ -345,12 +326,7 @@ module _ {past : History} {st : State} {s g : ℕ} {notes : List ℕ} {c : Conne
   -- the end of the other side is left, and this one changes
   pub ends_there : (side : Side) (e : EndState) (other : Side) → end_at (ends_with st c side (Some (registered s g side e))) (descriptor c.ends other)
       ≡ Some (registered s g other (socket_of (with_socket ok.ends side e) other))
-  ends_there Client e Client = end_same st.kernel.ends c.ends.client (registered s g Client ok.ends.client) _ (ok.there Client)
-  ends_there Client e Target = end_kept st.kernel.ends c.ends.client c.ends.target _ (ok.there Client) (ok.there Target)
-      (λ same. let sides = ap (λ (n : EndName). n.side) same in absurd (cc))
-  ends_there Target e Client = end_kept st.kernel.ends c.ends.target c.ends.client _ (ok.there Target) (ok.there Client)
-      (λ same. let sides = ap (λ (n : EndName). n.side) same in absurd (cc))
-  ends_there Target e Target = end_same st.kernel.ends c.ends.target (registered s g Target ok.ends.target) _ (ok.there Target)
+  ends_there side e other = grind (arith, end_same, end_kept, ok.there)
 
   -- a change at one end leaves the ends of other slots
   pub others_kept : {i : ℕ} (side : Side) (o : Option Registered) → (i ≡ s → ⊥) → (d : ℕ) (r : Registered) → end_at st.kernel.ends d ≡ Some r → r.token.slot ≡ i

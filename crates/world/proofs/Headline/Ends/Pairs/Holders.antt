@@ -201,9 +201,6 @@ turned_elsewhere st w {k} {d} e i g there does before after =
 pub sure : (b : Bool) → 1 ≤ one b → b ≡ true
 sure b some = grind arith
 
-pub unless : (b : Bool) → not b ≡ true → b ≡ false
-unless b h = grind arith
-
 -- a note more, and the ticket that it brings
 
 pub some_more : (xs : List ℕ) (x : ℕ) → is_nonempty (xs ++ x ∷ []) ≡ true
@@ -216,9 +213,6 @@ none_more (y ∷ ys) x none = absurd (cc)
 are_own_more : (g : ℕ) (xs : List ℕ) → are_own g xs ≡ true → are_own g (xs ++ g ∷ []) ≡ true
 are_own_more g [] own = rw (eq-eqb g g refl) refl
 are_own_more g (x ∷ xs) own = let parts = and_parts (x == g) (are_own g xs) own in rw (parts.0) (are_own_more g xs parts.1)
-
-noted_tickets : (held some : Bool) (n m : ℕ) → n ≡ one (not held && some) → m ≡ n + one (not (held || some)) → m ≡ one (not held && true)
-noted_tickets held some n m was more = grind arith
 
 -- a hand that may get one more ticket
 pub handed : (f : Ticket → ℕ) (b : Bool) (s g : ℕ) (hand : List Ticket) {n : ℕ} → f (record { slot = s; generation = g }) ≡ n
@@ -283,34 +277,32 @@ opened_turns : (st : State) (s g : ℕ) (p : SlotState) (t : Told KernelState De
 opened_turns st s g p t first lies turns =
     let new : Ticket = record { slot = s; generation = g } in
     let sv = turns.each s p lies in
-    let free = first_free st s p lies first turns in
-    let within = right_within st s g in
-    let more = total_push (of_slot s) st.hand new in
-    let more_right = total_push (names s g) st.hand new in
-    let this = one_same s in
-    let this_right = names_own s g in
-    keep_others s turns lies refl (λ j i apart.
-    let other = one_other s j apart in
-    let other_right = names_other j i new apart in
-    let same = total_push (of_slot j) st.hand new in
-    let same_right = total_push (names j i) st.hand new in
-    let split = total_first (is_number j) st.free s first in
-    record { entry = sym (get-set_other st.table s j g apart); counts = omega arith }) (record {
-      entry = get-set_same st.table s p.generation g sv.entry;
-      notes = rw (eq-eqb g g refl) refl;
-      counts = omega arith;
-      shape = refl;
-      connection = λ c is. opened_connection st s g t.told (facts (opened_world st s g t) s g) c refl refl is;
-    })
+    keep_others s turns lies refl (λ j i apart. grind (
+      arith,
+      one_other s j apart,
+      names_other j i new apart,
+      total_push (of_slot j) st.hand new,
+      total_push (names j i) st.hand new,
+      total_first (is_number j) st.free s first,
+      get-set_other st.table s j g apart,
+    ))
+    (grind (
+      arith,
+      first_free st s p lies first turns,
+      right_within st s g,
+      total_push (of_slot s) st.hand new,
+      total_push (names s g) st.hand new,
+      one_same s,
+      names_own s g,
+      get-set_same st.table s p.generation g sv.entry,
+      opened_connection st s g t.told (facts (opened_world st s g t) s g),
+    ))
 
 -- a ticket is claimed: a slot of which there is a ticket is held by nobody, and has notes
 pub record Waiting (p : SlotState) : Type 0 where
   pub holder : p.holder ≡ Nobody
   pub some : is_nonempty p.notes ≡ true
   pub lies : is_some p.connection ≡ true
-
-unheld : (h : Holder) (some : Bool) → 1 ≤ one (not (is_held h) && some) → (h ≡ Nobody) × (some ≡ true)
-unheld h some n = grind arith
 
 pub own_generation : (f : Facts) (p : SlotState) (c : Connection) → place_of c.pair ≡ standing f p.generation → c.pair.generation ≡ p.generation
 own_generation f p c stands = grind arith
@@ -329,23 +321,16 @@ module _ (st : State) (w : ℕ) (k : WorkerState) (t : Ticket) (p : SlotState) (
   claimed_turns : Turns (doing (with_place st t.slot (record p { holder = By w })) w k (Holds t.slot st.limits.budget))
   claimed_turns =
       let s = t.slot in
-      let sv = turns.each s p lies in
-      let wait = waiting in
-      let r = turned st w (Holds s st.limits.budget) s p.generation there does in
-      let this = one_same s in
-      let had = rw (wait.holder, wait.some) at sv.tickets in
-      let within = right_within (doing st w k (Holds s st.limits.budget)) s p.generation in
-      let holding = rw wait.holder at sv.holding in
-      let closing = rw wait.holder at sv.closing in
-      let gone = rw wait.holder at sv.gone in
       keep_others s turns lies refl
-      (λ j g apart. let away = one_other s j apart in turned_elsewhere st w (Holds s st.limits.budget) j g there does (omega arith) (omega arith)) (record {
-        entry = sv.entry;
-        notes = sv.notes;
-        counts = record { tickets = omega arith; right = omega arith; holding = rw wait.lies (omega arith); closing = rw wait.lies (omega arith); gone = omega arith };
-        shape = refl;
-        connection = λ c is. record { stands = (sv.connection c is).stands; live = λ h. absurd (cc); rest = λ h n. absurd (cc) };
-      })
+      (λ j g apart. let away = one_other s j apart in turned_elsewhere st w (Holds s st.limits.budget) j g there does (omega arith) (omega arith))
+      (grind (
+        arith,
+        turns.each s p lies,
+        waiting,
+        turned st w (Holds s st.limits.budget) s p.generation there does,
+        one_same s,
+        right_within (doing st w k (Holds s st.limits.budget)) s p.generation,
+      ))
 
   pub names_it : t.generation ≡ p.generation
   names_it =
@@ -379,12 +364,6 @@ pub record Held (f : Facts) (p : SlotState) (has : Bool) : Type 0 where
   pub closing : f.closing ≡ one (not has)
   pub gone : f.gone ≤ 0
 
-by_one : (h : Holder) (b : Bool) → 1 ≤ one (is_by_worker h && b) → (w : ℕ) × (h ≡ By w) × (b ≡ true)
-by_one h b n = grind arith
-
-held_so : {f : Facts} {p : SlotState} {has : Bool} (by : ℕ) → SlotOk f p → p.holder ≡ By by → is_some p.connection ≡ has → Held f p has
-held_so by sv holder some = grind (arith, sv)
-
 pub held_slot : {st : State} {w : ℕ} (h : Holding st w) → Turns st → Held (facts st h.s h.p.generation) h.p true
 held_slot {st} {w} h turns = grind (arith, turns.each h.s h.p h.lies, total_at (worker_holds h.s) st.workers w h.k h.there, doing_so h.s 0 h.does, one_same h.s)
 
@@ -393,20 +372,8 @@ keeps_held : {st next : State} {w : ℕ} (h : Holding st w) (notes : List ℕ) (
     → next.slots ≡ slice_set st.slots h.s (record h.p { notes = notes; connection = Some c }) → ((j g : ℕ) → Same (facts st j g) (facts next j g))
     → are_own h.p.generation notes ≡ true → place_of c.pair ≡ place_of h.c.pair → Turns next
 keeps_held {st} {next} h notes c turns all same own stands =
-    let sv = turns.each h.s h.p h.lies in
-    let held = held_slot h turns in
-    let m = same h.s h.p.generation in
-    keep_others h.s turns h.lies all (λ j g apart. same j g) (record {
-      entry = rw (← m.entry) sv.entry;
-      notes = own;
-      counts = record { tickets = rw held.holder (omega arith); right = omega arith; holding = rw held.holder (omega arith); closing = rw held.holder (omega arith); gone = omega arith };
-      shape = rw held.holder refl;
-      connection = λ d at. let same : c ≡ d = (cc) in rw (← same) (record {
-        stands = rw (← m.ring, ← m.slot) (stands ∙ (sv.connection h.c h.is).stands);
-        live = λ none. absurd (cc held.holder);
-        rest = λ none empty. absurd (cc held.holder);
-      });
-    })
+    let sv = turns.each h.s h.p h.lies in keep_others h.s turns h.lies all (λ j g apart. same j g)
+    (grind (arith, sv, held_slot h turns, same h.s h.p.generation, sv.connection h.c h.is))
 
 heard_stands : (c : Connection) (some : Bool) → place_of (if some then record c { pair = noted c.pair } else c).pair ≡ place_of c.pair
 heard_stands c some = grind arith
@@ -435,47 +402,31 @@ released_turns : {st : State} {w : ℕ} (h : Holding st w) → may_release h.c (
 released_turns {st} {w} h may turns =
     let s = h.s in
     let g = h.p.generation in
-    let sv = turns.each s h.p h.lies in
-    let held = held_slot h turns in
-    let free = lets_go h.c (is_nonempty h.p.notes) may in
     let next : WorkerState = record { doing = Idle; hand = hand_after h } in
-    let r = replaced st w next s g h.there in
-    let did = doing_so s g h.does in
-    let this = one_same s in
-    let more = handed (of_slot s) (is_nonempty h.p.notes) s g h.k.hand (one_same s) in
-    let more_right = handed (names s g) (is_nonempty h.p.notes) s g h.k.hand (names_own s g) in
-    keep_others s turns h.lies refl (λ j i apart.
-    let m = replaced st w next j i h.there in
-    let away = one_other s j apart in
-    let a = doing_so j i h.does in
-    let x = handed (of_slot j) (is_nonempty h.p.notes) s g h.k.hand away in
-    let y = handed (names j i) (is_nonempty h.p.notes) s g h.k.hand (names_other j i (record { slot = s; generation = g }) apart) in
-    record { entry = refl; counts = omega arith }) (record {
-      entry = sv.entry;
-      notes = sv.notes;
-      counts = omega arith;
-      shape = held.some;
-      connection = λ d at. let same : h.c ≡ d = cc h.is in record {
-        stands = (sv.connection d at).stands;
-        live = λ none. rw (← same) free.0;
-        rest = λ none empty. rw (← same) (free.1 (rw empty refl));
-      };
-    })
+    let some = is_nonempty h.p.notes in
+    keep_others s turns h.lies refl (λ j i apart. grind (
+      arith,
+      replaced st w next j i h.there,
+      doing_so j i h.does,
+      handed (of_slot j) some s g h.k.hand (one_other s j apart),
+      handed (names j i) some s g h.k.hand (names_other j i (record { slot = s; generation = g }) apart),
+    ))
+    (grind (
+      arith,
+      turns.each s h.p h.lies,
+      held_slot h turns,
+      lets_go h.c some may,
+      replaced st w next s g h.there,
+      doing_so s g h.does,
+      one_same s,
+      handed (of_slot s) some s g h.k.hand (one_same s),
+      handed (names s g) some s g h.k.hand (names_own s g),
+    ))
 
 closed_turns : {st : State} {w : ℕ} (h : Holding st w) (t : Told KernelState Sockets) → Turns st → Turns (closed_world st w h.k h.s h.p h.c t)
-closed_turns {st} {w} h t turns =
-    let sv = turns.each h.s h.p h.lies in
-    let held = held_slot h turns in
-    let r = turned st w (Closed h.s) h.s h.p.generation h.there h.does in
-    let this = one_same h.s in
-    keep_others h.s turns h.lies refl
-    (λ j g apart. let away = one_other h.s j apart in turned_elsewhere st w (Closed h.s) j g h.there h.does (omega arith) (omega arith)) (record {
-      entry = sv.entry;
-      notes = sv.notes;
-      counts = record { tickets = rw held.holder (omega arith); right = omega arith; holding = rw held.holder (omega arith); closing = rw held.holder (omega arith); gone = omega arith };
-      shape = rw held.holder refl;
-      connection = λ d at. absurd (cc);
-    })
+closed_turns {st} {w} h t turns = keep_others h.s turns h.lies refl
+    (λ j g apart. let away = one_other h.s j apart in turned_elsewhere st w (Closed h.s) j g h.there h.does (omega arith) (omega arith))
+    (grind (arith, turns.each h.s h.p h.lies, held_slot h turns, turned st w (Closed h.s) h.s h.p.generation h.there h.does, one_same h.s))
 
 -- the slot is retired
 
@@ -485,18 +436,9 @@ module _ (st : State) (w : ℕ) (k : WorkerState) (s : ℕ) (p : SlotState) (the
   closed_by = grind (arith, turns.each s p lies, total_at (worker_closes s) st.workers w k there, doing_so s 0 does, one_same s)
 
   retired_turns : Turns (doing (with_place st s (record p { holder = Free })) w k (Retired s))
-  retired_turns =
-      let sv = turns.each s p lies in
-      let held = closed_by in
-      let r = turned st w (Retired s) s p.generation there does in
-      let this = one_same s in
-      keep_others s turns lies refl (λ j g apart. let away = one_other s j apart in turned_elsewhere st w (Retired s) j g there does (omega arith) (omega arith)) (record {
-        entry = sv.entry;
-        notes = sv.notes;
-        counts = omega arith;
-        shape = rw held.some refl;
-        connection = λ c at. absurd (let some : is_some p.connection ≡ true = rw at refl in (cc held.some));
-      })
+  retired_turns = keep_others s turns lies refl
+      (λ j g apart. let away = one_other s j apart in turned_elsewhere st w (Retired s) j g there does (omega arith) (omega arith))
+      (grind (arith, turns.each s p lies, closed_by, turned st w (Retired s) s p.generation there does, one_same s))
 
 freed_most : (i : ℕ) (slots : List ℕ) (s : ℕ) (p : SlotState) → total (is_number i) (freed slots s p) ≤ total (is_number i) slots + one (s == i)
 freed_most i slots s p = grind (arith, total_push (is_number i) slots s)
@@ -610,12 +552,7 @@ own_after laws l events w ran = tried_throughout laws (opening l) events w ran (
 
 -- an event that changes no slot and makes no step
 untouched : {st next : State} {e : Event} → next.slots ≡ st.slots → ((s : ℕ) → steps st e s ≡ []) → ((s : ℕ) → tickets next s ≡ tickets st s) → WordsMove st e next
-untouched all none same s p there = record {
-  place = p;
-  there = rw all there;
-  word = rw (none s);
-  tickets = rw (none s) (omega (arith, same s));
-}
+untouched all none same s p there = record { place = p; there = rw all there; word = rw (none s); tickets = rw (none s) (omega (arith, same s)) }
 
 moves_at : {st next : State} {e : Event} (s i : ℕ) {p : SlotState} (r : SlotState) {old : SlotState} (kinds : List StepKind) → (s ≡ i) ⊎ (s ≢ i) → slice_get st.slots s ≡ Some p
     → next.slots ≡ slice_set st.slots s r → steps st e i ≡ at_slot i s kinds → word_at r ≡ after_all kinds (word_at p)

@@ -278,10 +278,6 @@ hears names = has Listener names
 pub record Listens (st : State) : Type 0 where
   pub covered : is_covered st.flag st.kernel.armed (nat_lt 0 st.kernel.backlog) (hears st.kernel.queue || hears st.batch) ≡ true
 
--- more may be reported
-pub cover_more : (flag armed ready r q : Bool) → (r ≡ true → q ≡ true) → is_covered flag armed ready r ≡ true → is_covered flag armed ready q ≡ true
-cover_more flag armed ready r q more h = grind arith
-
 -- nothing is known of a report where it isn't ready
 pub cover_unready : (flag armed ready r q : Bool) → ready ≡ false → is_covered flag armed ready r ≡ true → is_covered flag armed ready q ≡ true
 cover_unready flag armed ready r q none h = grind arith

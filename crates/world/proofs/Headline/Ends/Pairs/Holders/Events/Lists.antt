@@ -1,11 +1,11 @@
 -- Lists, totals over them, names, and what a step leaves. What this file imports is passed on to those above it.
-pub use Rattle.std.{proofs.{Common.{Bool, Err, Global, IfOk, List, None, Ok, Option, Result, Some, [], ap, append-nil, append_assoc, arith, cond, drop, eq-eqb, eqb-true, false, if◌then◌else◌, inl, inr, is_none, is_some, le_refl, leb-true, length, length-append, lt-ltb, ltb-false, ltb-true, nat_lt, ne_eqb, not, one-add, option_and_then, option_map, refl, replicate, slice_get, slice_set, subst, suc, sym, take, take-append-drop, Vec, true, unwrap_or, zero, ℕ, ⊎_elim, ◌&&◌, ◌*◌, ◌++◌, ◌+◌, ◌-◌, ◌<◌, ◌==◌, ◌||◌, ◌∙◌, ◌∷◌, ◌≡◌, ◌≢◌, ◌≤◌, ◌⊎◌}, Math.Seq.{drop-nil, take-append_seam}, lemmas.{Bool.{and_parts, cases_eq, lt-leb, Decides.nat_tests}, Grind.common_steps, List.{nil_from_length, take_more}, Option.{get_or_from_slice_get, gets, slice_get_within}}}, specs.{Cmp.{first_so, second_so}, List.{list_all, list_any, position_or_len}, Option.{option_flatten, option_or}, Prelude.nat_le}}
+pub use Rattle.std.{proofs.{Common.{Bool, Err, Global, IfOk, List, None, Ok, Option, Result, Some, [], ap, append-nil, append_assoc, arith, cond, drop, eq-eqb, eqb-true, false, if◌then◌else◌, inl, inr, is_none, is_some, le_refl, length, length-append, lt-ltb, nat_lt, ne_eqb, not, option_and_then, option_map, refl, replicate, slice_get, slice_set, subst, suc, sym, take, take-append-drop, Vec, true, unwrap_or, zero, ℕ, ⊎_elim, ◌&&◌, ◌*◌, ◌++◌, ◌+◌, ◌-◌, ◌<◌, ◌==◌, ◌||◌, ◌∙◌, ◌∷◌, ◌≡◌, ◌≢◌, ◌≤◌, ◌⊎◌}, Math.Seq.{drop-nil, take-append_seam}, lemmas.{Bool.{and_parts, cases_eq, lt-leb, Decides.nat_tests}, Grind.common_steps, List.{nil_from_length, take_more}, Option.{get_or_from_slice_get, gets, slice_get_within}}}, specs.{Cmp.{first_so, second_so}, List.{list_all, list_any, position_or_len}, Option.{option_flatten, option_or}, Prelude.nat_le}}
 pub use Rattle.claims.specs.Words.{StepKind, some_wait}
 pub use Rattle.flow.{proofs.Front.{take-front, waiting-dropped, waiting_ends}, specs.Stream.{Stream, closed, dropped, empty_stream, ended, front, taken_in, waiting}}
 pub use Rattle.kernel_model.specs.{Ends.{EndState, arrival, finish, is_nonempty, is_readable, is_writable, new_room, opened}, Kernel.{KernelState, Registered, changed, end_at, is_quiet_end, lowest_free, name_of, open_both, reported, with_end}, Names.{has, same, same_end, with_name, without_name, without_names}, Outcome.{Meets, Told, guard}, Replies.{after_join, after_read, after_shut, after_write, bytes_read, is_count}, declared.{accepting.Accepting.{Accepting, TheVariants.{Accepted, Blocked}}, both.{Descriptors.Descriptors, Sockets.Sockets}, refusal.Refusal.{Refusal, TheVariants.{NoMemory, NotAllowed}}, reply.Reply.Reply}}
-pub use Rattle.relay_core.specs.{Idle.{is_overdue, timed_out}, Calls.side_of, Laws.{IsAtRest, IsClosedLast, IsDrained, IsOverdue, Place as Standing, TellsOf, place_of}, Order.{call_for, is_drained, is_open, is_waiting, next_call, offer}, Pairs.{PairState, flags_of, fresh, is_joined, is_live, noted, stream_of, verdict, verdict_of}, Replies.{after, fits, moves}, declared.{call.Call.{Call, TheVariants.{Join, Read, Shut, Write}}, flags.Flags.Flags, verdict.{Fault.{Fault, TheVariants.Broken}, Verdict.{Verdict, TheVariants.{Done, Failed, Live}}}}}
+pub use Rattle.relay_core.specs.{Idle.{is_overdue, timed_out}, Calls.side_of, Laws.{IsAtRest, IsClosedLast, IsDrained, IsOverdue, Place as Standing, place_of}, Order.{call_for, is_drained, is_open, is_waiting, next_call, offer}, Pairs.{PairState, flags_of, fresh, is_joined, is_live, noted, stream_of, verdict, verdict_of}, Replies.{after, fits, moves}, declared.{call.Call.{Call, TheVariants.{Join, Read, Shut, Write}}, flags.Flags.Flags, verdict.{Fault.{Fault, TheVariants.Broken}, Verdict.{Verdict, TheVariants.{Done, Failed, Live}}}}}
 pub use Rattle.token.specs.{Names.EndName, Sides.{destination, inward, opposite, other_side, side_number, source}, declared.{direction.Direction.{Direction, TheVariants.{Down, Up}}, kind.Kind.Kind, name.Name.{Name, TheVariants.{End, Listener, Waker}}, side.Side.{Side, TheVariants.{Client, Target}}}}
-pub use Rattle.world.specs.{Acts.busy, Calls.{OpenConnection, descriptor, made, plain, replied, told_of, when}, CoreLaws.CoreLaws, Due.{due, due_at, due_place, flows, gives, has_place, has_ticket, is_report, is_reported, is_ticket, is_ticketed, movable, movable_at, moves as could_move, moves_if_any, takes, tries}, Headline.{BytesAndEndsHold, ClaimsByOwnTicket, ClosedHold, DirectionHolds, FailedAfter, FailedBy, Failure, FailuresHold, HeadlineHolds, ListenerHolds, Named, TakesOwnNotes, Throughout, TriedOnOwn, end_of, failure, failure_by, fault_of, given, given_by, has_generation, held_connection, is_movement, moved_by, named, next_opened, preamble, socket_of}, LeadLaws.is_padded, Memory.{free_length, grows}, Runs.run, Slots.{SlotState, WorkerState, is_by_worker, is_held}, States.{State, is_entry, numbers_below, opening, resting, unused}, Steps.{acted, brings_ticket, call, change_at, claim, closed_world, connection_at, delivered, delivered_at, doing, free, freed, heard, is_limited, is_worn, listen, may_accept, opened_place, opened_world, over_kernel, polled, popped, post, post_at, posted, put_by_poller, release, retire, step, token_of, watched_of, with_note, with_place, with_ticket, with_worker}, Support.{EdgesHold, EndCovered, SupportHolds, TableHolds, has_report, is_covered, of_slot, one, tickets, total, tried, worker_tickets}, Words.{WordMoves, WordsMove, WordsMoveInRuns, after_all, at_slot, claims, count_wakes, is_free, steps, word_at}, declared.{actors.{Doing.{Doing, TheVariants.{Closed, Holds, Idle, Retired, Tries}}, Holder.{Holder, TheVariants.{By, Free, Nobody}}, Ticket.Ticket}, connection.Connection.Connection, event.{Act.Act, Change.{Change, TheVariants.{Arrive, Fin, Reset, Room}}, Event.Event, Listening.Listening, Polling.Polling, Reported.Reported}, limits.Limits.Limits, past.Past.Past}}
+pub use Rattle.world.specs.{Acts.busy, Calls.{OpenConnection, descriptor, made, plain, replied, told_of, when}, CoreLaws.CoreLaws, Due.{due, flows, gives, has_place, has_ticket, is_report, is_reported, is_ticket, is_ticketed, movable, moves as could_move, takes, tries}, Headline.{BytesAndEndsHold, ClaimsByOwnTicket, ClosedHold, DirectionHolds, FailedAfter, FailedBy, Failure, FailuresHold, HeadlineHolds, ListenerHolds, Named, TakesOwnNotes, Throughout, TriedOnOwn, end_of, failure, failure_by, fault_of, given, given_by, has_generation, held_connection, is_movement, moved_by, named, next_opened, preamble, socket_of}, LeadLaws.is_padded, Memory.{free_length, grows}, Runs.run, Slots.{SlotState, WorkerState, is_by_worker, is_held}, States.{State, is_entry, numbers_below, opening, resting, unused}, Steps.{acted, brings_ticket, call, change_at, claim, closed_world, connection_at, delivered, delivered_at, doing, free, freed, heard, is_limited, listen, may_accept, opened_place, opened_world, over_kernel, polled, popped, post, post_at, posted, put_by_poller, release, retire, step, token_of, watched_of, with_note, with_place, with_ticket, with_worker}, Support.{EdgesHold, EndCovered, SupportHolds, TableHolds, has_report, is_covered, of_slot, one, tickets, total, tried, worker_tickets}, Words.{WordMoves, WordsMove, WordsMoveInRuns, after_all, at_slot, claims, count_wakes, is_free, steps, word_at}, declared.{actors.{Doing.{Doing, TheVariants.{Closed, Holds, Idle, Retired, Tries}}, Holder.{Holder, TheVariants.{By, Free, Nobody}}, Ticket.Ticket}, connection.Connection.Connection, event.{Act.Act, Change.{Change, TheVariants.{Arrive, Fin, Reset, Room}}, Event.Event, Listening.Listening, Polling.Polling, Reported.Reported}, limits.Limits.Limits, past.Past.Past}}
 unfoldable pub use Rattle.world.specs.{Calls.called, Steps.{may_release, slot_call}}
 pub use Rattle.claims.specs.Words as words
 pub use Rattle.kernel_model.specs.Ends as model
@@ -68,7 +68,7 @@ kept_through f (Some x) k = k.kept
 -- one element more at the end
 pub total_push : {X : Type 0} (f : X → ℕ) (xs : List X) (x : X) → total f (xs ++ x ∷ []) ≡ total f xs + f x
 total_push f [] x = omega arith
-total_push f (y ∷ ys) x = let more = total_push f ys x in omega arith
+total_push f (y ∷ ys) x = omega (arith, total_push f ys x)
 
 -- the first element of a list goes to the end of another
 pub total_moved : {X : Type 0} (f : X → ℕ) (xs ys rest : List X) (x : X) → ys ≡ x ∷ rest → total f (xs ++ x ∷ []) + total f rest ≡ total f xs + total f ys
@@ -77,21 +77,21 @@ total_moved f xs ys rest x is = grind (arith, total_push f xs x)
 -- an element that is replaced gives up its part for the new one's
 pub total-set : {X : Type 0} (f : X → ℕ) (xs : List X) (w : ℕ) (old new : X) → slice_get xs w ≡ Some old → total f (slice_set xs w new) + f old ≡ total f xs + f new
 total-set f [] w old new there = absurd (cc)
-total-set f (x ∷ xs) zero old new there = let same : x ≡ old = cc in let parts = ap f same in omega arith
-total-set f (x ∷ xs) (suc w) old new there = let more = total-set f xs w old new there in omega arith
+total-set f (x ∷ xs) zero old new there = grind arith
+total-set f (x ∷ xs) (suc w) old new there = omega (arith, total-set f xs w old new there)
 
 pub total_at : {X : Type 0} (f : X → ℕ) (xs : List X) (w : ℕ) (x : X) → slice_get xs w ≡ Some x → f x ≤ total f xs
 total_at f [] w x there = absurd (cc)
-total_at f (y ∷ ys) zero x there = let same : y ≡ x = cc in let part = ap f same in omega arith
-total_at f (y ∷ ys) (suc w) x there = let more = total_at f ys w x there in omega arith
+total_at f (y ∷ ys) zero x there = grind arith
+total_at f (y ∷ ys) (suc w) x there = omega (arith, total_at f ys w x there)
 
 pub total_le : {X : Type 0} (f g : X → ℕ) (xs : List X) → ((x : X) → f x ≤ g x) → total f xs ≤ total g xs
 total_le f g [] each = omega arith
-total_le f g (x ∷ xs) each = let more = total_le f g xs each in let here = each x in omega arith
+total_le f g (x ∷ xs) each = omega (arith, total_le f g xs each, each x)
 
 pub total_none : {X : Type 0} (f : X → ℕ) (n : ℕ) (x : X) → f x ≡ 0 → total f (replicate n x) ≡ 0
 total_none f zero x none = refl
-total_none f (suc n) x none = let more = total_none f n x none in omega arith
+total_none f (suc n) x none = omega (arith, total_none f n x none)
 
 pub get-set_same : {X : Type 0} (xs : List X) (i : ℕ) (old new : X) → slice_get xs i ≡ Some old → slice_get (slice_set xs i new) i ≡ Some new
 get-set_same [] i old new there = absurd (cc)
@@ -119,16 +119,8 @@ get_beside (suc n) (suc i) x y z there = get_beside n i x y z there
 -- what one element has more counts in the whole
 pub total_le_at : {X : Type 0} (f g : X → ℕ) (xs : List X) (w : ℕ) (x : X) → ((y : X) → f y ≤ g y) → slice_get xs w ≡ Some x → total f xs + g x ≤ total g xs + f x
 total_le_at f g [] w x each there = absurd (cc)
-total_le_at f g (y ∷ ys) zero x each there =
-    let same : y ≡ x = (cc) in
-    let a = ap f same in
-    let b = ap g same in
-    let rest = total_le f g ys each in
-    omega arith
-total_le_at f g (y ∷ ys) (suc w) x each there =
-    let more = total_le_at f g ys w x each there in
-    let here = each y in
-    omega arith
+total_le_at f g (y ∷ ys) zero x each there = grind (arith, total_le f g ys each)
+total_le_at f g (y ∷ ys) (suc w) x each there = omega (arith, total_le_at f g ys w x each there, each y)
 
 -- what lies in a list after one element was replaced: the new one, or what lay there
 pub at_one : {X : Type 0} (xs : List X) {ys : List X} {s : ℕ} (i : ℕ) {old new x : X} → slice_get xs s ≡ Some old → ys ≡ slice_set xs s new → slice_get ys i ≡ Some x
@@ -149,8 +141,7 @@ append_get (z ∷ xs) ys (suc i) x here = append_get xs ys i x here
 
 -- an element of a list with one more is one of before, or that one
 pub last_of : {X : Type 0} (xs : List X) (i : ℕ) (x y : X) → slice_get (xs ++ x ∷ []) i ≡ Some y → (slice_get xs i ≡ Some y) ⊎ (x ≡ y)
-last_of [] zero x y here = inr (cc)
-last_of [] (suc i) x y here = absurd (cc)
+last_of [] i x y here = grind arith
 last_of (z ∷ xs) zero x y here = inl here
 last_of (z ∷ xs) (suc i) x y here = last_of xs i x y here
 
@@ -240,7 +231,7 @@ pub end_same : (ends : List (Option Registered)) (d : ℕ) (r : Registered) (o :
 end_same ends d r o here = grind (arith, flattened, get-set_same ends d (Some r) o)
 
 end_other : (ends : List (Option Registered)) (d other : ℕ) (o : Option Registered) → (other ≡ d → ⊥) → end_at (slice_set ends d o) other ≡ end_at ends other
-end_other ends d other o apart = ap option_flatten (get-set_other ends d other o (λ same. apart (sym same)))
+end_other ends d other o apart = grind (arith, get-set_other ends d other o)
 
 -- two open ends with different tokens have different descriptors, so a write at one leaves the other
 pub end_kept : (ends : List (Option Registered)) (d other : ℕ) {a b : Registered} (o : Option Registered)
@@ -260,9 +251,6 @@ first_free : (ends : List (Option Registered)) → IsFree ends (position_or_len 
 first_free [] = Behind refl
 first_free (None ∷ ends) = Hole refl
 first_free (Some r ∷ ends) = lower ends r (position_or_len is_none ends) (first_free ends)
-
-irreflexive : (n : ℕ) → nat_lt n n ≡ false
-irreflexive n = grind (arith, nat_tests)
 
 found : (ends : List (Option Registered)) (k : ℕ) → IsFree ends k → unwrap_or (cond (nat_lt k (length ends)) (Some k) None) (length ends) ≡ k
 found ends k free = grind (arith, nat_tests, slice_get_within ends k None)
