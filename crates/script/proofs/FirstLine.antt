@@ -1,5 +1,5 @@
 -- The lines of a text, which are read one by one.
-use Rattle.std.proofs.Common.{◌≡◌, ℕ, true, List, [], ◌∷◌, ◌++◌, Option, Some, Result, Ok, Err, refl, ap, ◌∙◌, append_assoc}
+use Rattle.std.proofs.Common.{◌≡◌, ℕ, true, List, [], ◌∷◌, ◌++◌, Option, Some, Result, Ok, Err, refl, ◌∙◌, append_assoc}
 use Rattle.script.specs.{declared.fault.Fault.Fault, Faults.and_then, Scripts.{lines_as, starts_with}}
 use Rattle.script_text.specs.Texts.{NumberedLine}
 

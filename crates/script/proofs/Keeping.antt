@@ -1,9 +1,9 @@
 -- Every step keeps the bytes in order and whole, and the end after them.
 use Rattle.std.{proofs.{Common.{◌≡◌, ℕ, List, [], ◌∷◌, ◌++◌, Bool, true, false, not, ◌||◌, cond, Option, Some, None, Ok, take, drop, refl, sym, ◌∙◌, ap, arith, append_assoc, append-nil, subst, length, nat_lt, nat_le, ◌≤◌}, lemmas.{Bool.{and_parts, both_ways, not-true, ltb-false, leb-true}, List.{take-append-drop, nil_from_length}}, Math.{Bool.{or-false, or-true, or_assoc}, Seq.drop-nil}}, specs.Prelude.{option_map, IfSome}}
 use Rattle.flow.{specs.Stream.{waiting, front, dropped}, proofs.Front.{waiting-dropped, take-front, waiting_ends}}
-use Rattle.kernel_model.specs.{Ends.is_nonempty, Replies.is_count}
+use Rattle.kernel_model.specs.{Ends.is_nonempty}
 use Rattle.script_text.specs.{declared.steps.{Step.{Step, TheVariants.{Arrive, Fin, Room, Read, End, Wrote, Shut}}, NumberedStep.NumberedStep}, Events.word_of}
-use Rattle.script.specs.{declared.transfer.Transfer.Transfer, Faults.{and_then, or_not_allowed, played}, Plans.FlowPlan, Transfers.{opening, stepped, read_size, line_stepped, brought, given, is_fin, has_ended, KeepsBytes, KeepsEnd}}
+use Rattle.script.specs.{declared.transfer.Transfer.Transfer, Faults.{and_then, or_not_allowed, played}, Plans.FlowPlan, Transfers.{opening, stepped, line_stepped, brought, given, is_fin, has_ended, KeepsBytes, KeepsEnd}}
 
 -- the bytes are in order, the end and the shutdown come after them, and there is no lead
 abbrev Sound : Transfer → Type 0

@@ -32,8 +32,8 @@ abbrev pub report_of : Reached → List ℕ
 report_of (reached.Flow transfer) = report transfer
 report_of (reached.World state) = world_report state
 
--- What a text leads to: the state after the whole script that it is, or its first fault. The whole text is parsed before
--- the first step is made. Memory runs out only for a text that takes some.
+-- What a text leads to: the state after the whole script that it is, or its first fault. The whole text is parsed
+-- before the first step is made. Memory runs out only for a text that takes some.
 abbrev pub LeadsTo : List ℕ → Result Reached Fault → Type 0
 LeadsTo text (Ok reached) = (script : Script) × ((parsed text ≡ Ok (said_by script)) × (reached_by script ≡ Ok reached))
 LeadsTo text (Err NoMemory) = TakesMemory text

@@ -77,12 +77,12 @@ abbrev pub begins_well : List NumberedLine → Bool
 begins_well [] = false
 begins_well (l ∷ ls) = goes_on (header_of l.text) ls
 
--- A text of a script's size that begins with a good header and a good line after it. Lines that follow may be malformed:
--- a list is made of the lines as they are read.
+-- A text of a script's size that begins with a good header and a good line after it. Lines that follow may be
+-- malformed: a list is made of the lines as they are read.
 abbrev pub BeginsWell : List ℕ → Type 0
 BeginsWell text = (length text ≤ most_bytes) × IsTrue (begins_well (telling_lines 1 (lines_of text)))
 
--- What takes memory once it was read: a script, for which a machine is made, and what begins well. So memory can't run out
--- for a text that is too long, has no line or a malformed header, or a malformed line right after that.
+-- What takes memory once it was read: a script, for which a machine is made, and what begins well. So memory can't run
+-- out for a text that is too long, has no line or a malformed header, or a malformed line right after that.
 abbrev pub TakesMemory : List ℕ → Type 0
 TakesMemory text = IsScript text ⊎ BeginsWell text

@@ -16,8 +16,8 @@ opening ring = record { source = opened Client; flow = empty_stream ring []; des
 abbrev pub read_size : Stream → ℕ
 read_size flow = min (free_room flow) 16384
 
--- the ends and the ring after a step, if it is allowed: what comes and what a socket replies by the rules of sockets, and
--- no read once the end was seen, no shutdown before the last byte has left
+-- the ends and the ring after a step, if it is allowed: what comes and what a socket replies by the rules of sockets,
+-- and no read once the end was seen, no shutdown before the last byte has left
 abbrev pub stepped : Transfer → Step → Option Transfer
 stepped t (Arrive bytes) = option_map (λ r. record t { source = r.value }) (arrival t.source bytes)
 stepped t Fin = option_map (λ r. record t { source = r.value }) (finish t.source)

@@ -10,9 +10,9 @@ use script_text::Lines;
 use std::alloc::{AllocError, Global};
 use std::io::{Read, Write};
 
-/// Does what [`run`](crate::run) does, and writes the report after each step in place of the one at the end: the line of
-/// the script's header and then of each step, as `> LINE`, and below it those lines of the report after it that are not
-/// in the report before. The step of a line is written before the next one is made.
+/// Does what [`run`](crate::run) does, and writes the report after each step in place of the one at the end: the line
+/// of the script's header and then of each step, as `> LINE`, and below it those lines of the report after it that are
+/// not in the report before. The step of a line is written before the next one is made.
 ///
 /// The faults are those of `run`. What is written before a step that is not allowed stands, and the line of the fault
 /// follows. `explain` is called once for a fault, before its line, also if memory runs out for what is to be written.

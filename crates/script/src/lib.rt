@@ -2,14 +2,14 @@
 //! describes both.
 //!
 //! [`parse`] reads the whole text before the first step is made, [`Script::carry_out`] makes the steps one by one, and
-//! [`Reached::report`] is the report. [`run`] does all three, from a reader to a writer; [`run_each`] writes what is new
-//! in the report after each step.
+//! [`Reached::report`] is the report. [`run`] does all three, from a reader to a writer; [`run_each`] writes what is
+//! new in the report after each step.
 //!
 //! A script that has a fault gives one line in place of the report. [`cause`] says more, and [`run`] passes text and
 //! fault to its [`Explain`].
 //!
-//! What a line says, and what is printed of a world, is the crate `script_text`. `specs/` has definitions: `Scripts` for
-//! the text, `Transfers` and `Runs` for the steps, what is written, and what holds for every run.
+//! What a line says, and what is printed of a world, is the crate `script_text`. `specs/` has definitions: `Scripts`
+//! for the text, `Transfers` and `Runs` for the steps, what is written, and what holds for every run.
 #![tactic(auto)]
 
 mod causes;

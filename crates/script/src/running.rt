@@ -51,8 +51,8 @@ pub enum ScriptFault {
 /// at once. If memory runs out, the line is `out of memory`: so never for an input without a byte, nor, once it was
 /// read, for one that is too long, or whose header or first line after it is malformed.
 ///
-/// `explain` is called once, before anything is written, if the script that was read has a fault; not if memory runs out
-/// before it was read, or for its output.
+/// `explain` is called once, before anything is written, if the script that was read has a fault; not if memory runs
+/// out before it was read, or for its output.
 #[tactic(auto, using(crate::proofs::Telling::every_byte, crate::proofs::Telling::every_end, crate::proofs::Telling::every_run))]
 pub fn run<R: Read, W: Write, X: Explain>(
     alloc: Global,

@@ -8,8 +8,8 @@ use std::net::Ipv4Addr;
 /// The four numbers of an IPv4 address, from left to right, and a port.
 pub type Address = ([u8; 4], u16);
 
-/// The address that a text stands for: four numbers with `.` between them, `:` and the port, all decimal without leading
-/// zeros.
+/// The address that a text stands for: four numbers with `.` between them, `:` and the port, all decimal without
+/// leading zeros.
 pub(crate) fn address_of(text: &str) -> Option<Address>
     ensures some { IfSome result (λ a. IsAddress a × (text.now ≡ address_text a)) }
     ensures only { IfSome result (λ a. (b : SocketAddress) → IsAddress b → text.now ≡ address_text b → b ≡ a) }

@@ -49,8 +49,8 @@ impl fmt::Display for KeyText {
     }
 }
 
-/// The first thing that is wrong in a settings text: it is not TOML; then the first unknown key, in byte order; and then
-/// the fault of the first key, in the order of [`Key`], that has one.
+/// The first thing that is wrong in a settings text: it is not TOML; then the first unknown key, in byte order; and
+/// then the fault of the first key, in the order of [`Key`], that has one.
 #[derive(Debug, Drop)]
 pub enum SettingsFault {
     /// The bytes are not UTF-8, or not a TOML document.

@@ -196,8 +196,8 @@ impl<'a> Wanted<'a> {
         }
     }
 
-    /// In place of what a line has for a key, where that is no value of TOML. None of a text that is wrong in another way
-    /// than by its quotes.
+    /// In place of what a line has for a key, where that is no value of TOML. None of a text that is wrong in another
+    /// way than by its quotes.
     pub(crate) fn in_place_of_written(written: &'a str, key: Key) -> Option<Wanted<'a>> {
         match key.takes() {
             Takes::Address(_) | Takes::Level if !written.is_empty() => quotes_of(written, key),

@@ -27,7 +27,8 @@ pub returns-clause-some : goal.returns-clause-some
 returns-clause-some c =
     let parts = split_parts 58 c.args.text.now c.split_once.result c.split_once.ensures.cases (omega arith) in
     let here = rw c.in_ok-host.was at parts in
-    let four : IsDotted c.in_ok-host.host.now c.octets.result = rw c.octets.ensures (read_as _ c.in_ok-host-2.host c.parse.result c.parse.ensures.value (sym c.ok.ensures.value ∙ c.in_ok-host-2.was)) in
+    let four : IsDotted c.in_ok-host.host.now c.octets.result =
+    rw c.octets.ensures (read_as _ c.in_ok-host-2.host c.parse.result c.parse.ensures.value (sym c.ok.ensures.value ∙ c.in_ok-host-2.was)) in
     let address : IsAddress (c.octets.result, c.in_ok-port.port) = grind (arith, common_steps) in
     (address, here.0 ∙ undotted _ _ _ _ four c.in_ok-port.ensures.some)
 
