@@ -114,9 +114,7 @@ pub trait Acts {
         ensures capacity { free.new.capacity ≡ free.old.capacity };
 }
 
-/// The place of each slot's connection, which nothing but [`Moves`] reaches.
-///
-/// In a clause it is the number of slots.
+/// The place of each slot's connection, which only [`Moves`] reaches. In a clause it is the number of slots.
 #[derive(Drop)]
 pub struct Places<C, T> {
     berths: Berths<C, T>,

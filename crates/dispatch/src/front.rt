@@ -78,7 +78,7 @@ pub struct Opened<T> {
     pub route: Route,
 }
 
-/// How long a poller may wait for reports.
+/// How long a poller may wait.
 #[derive(Clone, Copy, PartialEq, Eq)]
 pub enum Waiting {
     No,

@@ -6,9 +6,7 @@ use crate::limits::HEAVY_MARKS;
 use std::alloc::{AllocError, Global};
 use std::marker::Model;
 
-/// Each slot's heavy marks: how many of its next tickets are for the workers.
-///
-/// In a clause it is the list of these numbers.
+/// How many of each slot's next tickets are for the workers. In a clause it is the list of these numbers.
 #[derive(Drop)]
 pub struct HeavyMarks {
     marks: Vec<u8>,

@@ -42,6 +42,7 @@ pub trait Gate {
     fn all_started(&self) {}
 
     fn before_turn(&self, slot: usize);
+
     fn after_turn(&self, slot: usize);
 }
 

@@ -151,7 +151,7 @@ pub struct Own {
     pub buffer: Box<[u8; MAX_READ]>,
 }
 
-/// What the threads of a server are made from: for each of them a seat and an end of the queue of tickets.
+/// What the threads of a server are made from: a seat and an end of the queue of tickets for each.
 #[derive(Drop)]
 pub struct Parts {
     pub seats: Vec<ClaimSeat>,

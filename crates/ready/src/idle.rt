@@ -97,7 +97,7 @@ impl IdleEnds {
         self.wake_all(&seen);
     }
 
-    // Wakes every end of a queue whose mark is known to be set.
+    // The mark is known to be set.
     fn wake_all(&self, _seen: &MarkSeen)
         requires { _seen.now.closed ≡ true }
     {

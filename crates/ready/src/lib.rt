@@ -12,10 +12,9 @@
 //! 3. The queue holds the items of the other places, in order.
 //! 4. The places that one end puts rise, and so do those that it takes.
 //!
-//! So each ticket has been taken once or is still there, first in, first out. Full is answered only if some
-//! lawful state with this end's history was full, and none only if one was empty (`specs/Rule.antt`, `specs/Steps.antt`).
-//!
-//! That a call returns, and that a sleeping end wakes, is not proved. Tests show it.
+//! So each ticket has been taken once or is still there, first in, first out. Full is answered only if some lawful state
+//! with this end's history was full, and none only if one was empty. That a call returns, and that a sleeping end wakes,
+//! is not proved. Tests show it.
 //!
 //! # How an end sleeps, and who wakes it
 //!
@@ -28,8 +27,7 @@
 //! ticket. Each later put wakes an end, and so does each put of an end that never calls `take`. An end that has tickets to
 //! put may first look whether any end sleeps ([`ReadyQueue::all_busy`]).
 //!
-//! No thread spins. `src/flags.rt` has the atomic steps, with the step that each pairs with, `src/sleeper.rt` how an end
-//! goes to sleep, and `src/idle.rt` how it is woken.
+//! No thread spins.
 //!
 //! # Inside
 //!

@@ -1,5 +1,5 @@
 -- Which ends of the queues of free slots the threads get, and in which order the threads are made.
-use Rattle.std.{proofs.{Common.{◌≡◌, ℕ, zero, suc, ◌+◌, List, [], ◌∷◌, ◌++◌, length, length-append, length-set, map, All, slice_index_or, Some, ◌-◌, ◌<◌, refl, sym, ◌∙◌, append_assoc, append-nil, arith}, Math.ListN.get_or-append, lemmas.List.{length_push, length-map, map-append, nil_from_length, reverse-append, Elements.{All-push, All-weaker, Contains-push}}}, specs.{Prelude.{Option, None, IfSome, option_to_list, Contains}, List.{slice_set, enumerate_from, range_with_len}}}
+use Rattle.std.{proofs.{Common.{◌≡◌, ℕ, zero, suc, ◌+◌, List, [], ◌∷◌, ◌++◌, length, length-append, length-set, map, All, slice_index_or, Some, ◌-◌, ◌<◌, refl, sym, ◌∙◌, append_assoc, append-nil, arith}, Math.ListN.get_or-append, lemmas.List.{length_push, length-map, map-append, nil_from_length, reverse-append, Elements.{All-push, All-weaker, Contains-push}}}, specs.{Prelude.{Option, None, IfSome, option_to_list}, List.{slice_set, enumerate_from, range_with_len}}}
 use Rattle.ready.specs.Steps.{EndState}
 use Rattle.threads.specs.Divided.{numbered, IsEndOf, AreEndsFrom, AreLeft, HasOneOfEach}
 

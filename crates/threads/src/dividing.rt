@@ -150,7 +150,7 @@ where
 }
 
 impl Rest {
-    /// What the next thread shares with all others, and what it owns, with an end of this poller's queue of free slots.
+    /// What the next thread shares with all others, and what it owns, with an end of this poller's queue.
     fn next_own<F: Front>(
         &mut self,
         alloc: Global,
@@ -177,7 +177,7 @@ impl Rest {
         }
     }
 
-    /// An end of each queue of free slots but the first poller's, in order.
+    /// An end of each queue but the first poller's, in order.
     fn other_ends(&mut self, alloc: Global) -> Result<Vec<FreeQueue>, ServerFault>
         ensures parts { OnOk result (self.new.parts ≡ self.old.parts) }
         ensures ends { IfOk result (λ ends. AreEndsFrom self.old.free 1 ends.items) }
@@ -195,7 +195,7 @@ impl Rest {
         Ok(ends)
     }
 
-    /// The next end of this poller's queue of free slots.
+    /// The next end of this poller's queue.
     fn next_end(&mut self, poller: usize) -> Option<FreeQueue>
         ensures parts { self.new.parts ≡ self.old.parts }
         ensures end { IfSome result (λ free. IsEndOf self.old.free poller free) }

@@ -91,8 +91,8 @@ where
     }
 
     /// One step of the thread: a round, and the turns of the tickets that it leaves to the poller's own thread, 32 at
-    /// most. It is refused if the thread ends: the poller is over, a fault is recorded before the round or before one
-    /// of the turns, or this step met one.
+    /// most. It is refused if the thread ends: the poller is over, a fault is recorded before the round or one of the
+    /// turns, or this step met one.
     pub fn step<G: Gate, C: Clock, R: Wait + Log, S: StopFlag>(
         &mut self,
         context: &Context<'_, G, C, R, S>,
@@ -160,7 +160,7 @@ where
         }
     }
 
-    /// Runs the tickets in hand that are for its own thread, until a fault is recorded.
+    /// Runs the tickets in hand that stay, until a fault is recorded.
     fn run_turns<G: Gate, C: Clock, R: Wait + Log, S: StopFlag>(
         &mut self,
         context: &Context<'_, G, C, R, S>,
