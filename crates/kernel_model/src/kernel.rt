@@ -197,18 +197,9 @@ impl Kernel {
         ensures { MeetsAlways (accept self.old reply) self.old self.new result }
     {
         match reply {
-            Accepting::Accepted => {
-                if self.backlog == 0 {
-                    return Err(Refusal::NotAllowed);
-                }
-                self.backlog -= 1;
-            }
-            Accepting::Blocked => {
-                if self.backlog > 0 {
-                    return Err(Refusal::NotAllowed);
-                }
-                self.armed = true;
-            }
+            Accepting::Accepted if self.backlog > 0 => self.backlog -= 1,
+            Accepting::Blocked if self.backlog == 0 => self.armed = true,
+            Accepting::Accepted | Accepting::Blocked => return Err(Refusal::NotAllowed),
             Accepting::Again | Accepting::Starved => {}
         }
         Ok(())

@@ -1,6 +1,6 @@
 // What arrives at the open ends of a kernel, and the calls on them.
 ghost use Rattle.std.specs.Prelude.{◌≡◌, ◌<◌, ◌||◌, IsErrOf, IsTrue};
-ghost use Rattle.kernel_model.specs.{Outcome.{Meets, MeetsAlways}, Ends.EndState, Replies.needs_memory, Changes.{brings_bytes, change_of, told, lengthens}, Kernel.{Registered, queues_more, changed, arrive, fin, reset, room, read, write, join, shut}};
+ghost use Rattle.kernel_model.specs.{Outcome.{Meets, MeetsAlways}, Ends.EndState, Replies.needs_memory, Changes.{brings_bytes, change_of, told, lengthens, watch}, Kernel.{Registered, queues_more, changed, arrive, fin, reset, room, read, write, join, shut}};
 
 use crate::change::Change;
 use crate::kernel::{Kernel, Open};
@@ -129,13 +129,10 @@ impl Kernel {
 
 /// A change at an open end, whose name is queued if the end is armed for it.
 fn tell(registered: &mut Open, queue: &mut Vec<Name>, change: Change<'_>) -> Result<(), Refusal>
-    ensures outcome { Meets (told change.entry (record { registered = registered.old; queue = queue.old.items }))
-        (record { registered = registered.old; queue = queue.old.items })
-        (record { registered = registered.new; queue = queue.new.items }) result }
-    ensures memory { IsErrOf result Refusal.NoMemory
-        → IsTrue (brings_bytes change.entry || lengthens
-        (record { registered = registered.old; queue = queue.old.items })
-        (told change.entry (record { registered = registered.old; queue = queue.old.items }))) }
+    ensures outcome { Meets (told change.entry (watch registered.old queue.old.items)) (watch registered.old queue.old.items)
+        (watch registered.new queue.new.items) result }
+    ensures memory { IsErrOf result Refusal.NoMemory → IsTrue (brings_bytes change.entry
+        || lengthens (watch registered.old queue.old.items) (told change.entry (watch registered.old queue.old.items))) }
 {
     if !registered.socket.may_change(change) {
         return Err(Refusal::NotAllowed);
