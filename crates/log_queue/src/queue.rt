@@ -15,7 +15,6 @@ use std::sync::atomic::{AtomicBool, Ordering};
 #[derive(Drop)]
 pub struct LogQueue {
     pub(crate) lines: ParkedQueue<LogLine, 1>,
-    /// How they begin.
     form: Form,
     /// Lines that found the queue full, and were not logged as left out yet.
     left_out: Missing,
@@ -27,7 +26,7 @@ pub struct LogQueue {
 pub struct Written(());
 
 impl LogQueue {
-    /// An empty queue, for lines of this form. It takes memory for all its lines; no later call takes any.
+    /// An empty queue. It takes memory for all its lines; no later call takes any.
     pub fn new(alloc: Global, form: Form) -> Result<LogQueue, AllocError>
         ensures room { IfOk result (λ made. made.lines ≡ 4096 ∷ []) }
     {
@@ -39,19 +38,17 @@ impl LogQueue {
         })
     }
 
-    /// How its lines begin.
     pub fn form(&self) -> Form {
         self.form
     }
 
-    /// Puts a line after the others, or counts it if the queue is full, and wakes a writer that sleeps.
+    /// Puts a line after the others, or counts it if the queue is full.
     pub fn put(&self, rt: &impl Wait, line: LogLine) {
         if !self.lines.put(rt, 0, line) {
             self.lines.count(&self.left_out);
         }
     }
 
-    /// The oldest line, to be written.
     pub(crate) fn take(&self, rt: &impl Wait) -> Option<Unwritten> {
         match self.lines.take(rt, 0) {
             Some(line) => Some(Unwritten::new(line)),
@@ -59,7 +56,6 @@ impl LogQueue {
         }
     }
 
-    /// How many lines were left out since the last call.
     pub(crate) fn take_left_out(&self) -> u64 {
         self.left_out.take()
     }
@@ -69,12 +65,10 @@ impl LogQueue {
         self.lines.close();
     }
 
-    /// Whether every line was written, and the writer has ended.
     pub fn is_written(&self) -> bool {
         self.is_written.load(Ordering::SeqCst)
     }
 
-    /// The writer has found the queue closed and then empty, and ends.
     pub(crate) fn end(&self, _drained: Drained) -> Written {
         self.is_written.store(true, Ordering::SeqCst);
         Written(())

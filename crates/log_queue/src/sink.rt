@@ -11,7 +11,6 @@ use std::fmt::{Display, Write};
 use std::io::Eprint;
 use std::sync::Wait;
 
-/// How the lines of the log begin.
 #[derive(Clone, Copy)]
 pub enum Form {
     /// With the level.
@@ -21,7 +20,6 @@ pub enum Form {
 }
 
 impl Form {
-    /// What stands before a line of this level.
     fn mark(self, level: Level) -> &'static str
         ensures { result.now ≡ mark_of self level }
     {
@@ -35,8 +33,7 @@ impl Form {
     }
 }
 
-/// Puts each record into the queue as the line that a console would show. It takes no memory, and no system call
-/// unless the writer sleeps.
+/// Puts each record into the queue as the line that a console would show. It takes no memory.
 #[derive(Drop)]
 pub struct Queued<'q, R> {
     pub rt: R,

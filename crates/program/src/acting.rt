@@ -36,23 +36,15 @@ pub fn report_arguments_fault<E: Write>(errors: &mut E, fault: ArgumentsFault) -
     match fault {
         ArgumentsFault::NoMemory => report_fault(errors, ProgramFault::from(AllocError)),
         ArgumentsFault::NotText => {
-            // If this can't be written either, only the status is left to report it.
             let _ = writeln!(errors, "error: an argument is not UTF-8");
             USAGE
         }
     }
 }
 
-/// Runs the program. `arguments` are those of the command line; the first is the program's own name.
-///
-/// | command | what it does |
-/// |---|---|
-/// | `sim`, or none | runs the script that `reader` has, and writes its report or its fault's line to `writer` |
-/// | `sim --each` | the same, but writes each step to `writer`, and below it what it changes in the report |
-/// | `check --config FILE` | reads a settings file, writes each setting to `writer`, and warns as `run` would |
-/// | `forward LISTEN TARGET` | does the same as `run` with the settings of the command line |
-/// | `replay FILE` | plays a recording on the machine; writes to `writer` which connection is no run of it, if any |
-/// | `run --config FILE` | reads a settings file, and serves; what it prints and logs goes to the process's own streams |
+/// Runs the program by the arguments of the command line, of which the first is the program's own name (`relayd(1)`).
+/// A script comes from `reader`, and what a command has to print goes to `writer`; but what a relay prints and logs goes
+/// to the process's own streams.
 ///
 /// Returns the exit status: 0 if the command was carried out, or help or the version printed; 1 for a fault, which is
 /// written to `errors` after `relayd: ` unless it is a fault of the script itself; 2 for a usage error, which is
@@ -106,10 +98,9 @@ where
     }
 }
 
-/// Tells somebody at a terminal that a script is waited for.
 fn tell_if_typed<I: IsTerminal, E: Write>(command: &Command<'_>, reader: &I, errors: &mut E) {
     if matches!(command, Command::Simulate { .. }) && reader.is_terminal() {
-        // If this can't be written, the script is read all the same.
+        // Without this the script is read all the same.
         let _ = writeln!(
             errors,
             "relayd: waiting for a script; Ctrl-D ends it (see relayd --help)"
@@ -117,7 +108,7 @@ fn tell_if_typed<I: IsTerminal, E: Write>(command: &Command<'_>, reader: &I, err
     }
 }
 
-/// The arguments as string slices, which the parser of the command line takes.
+/// The arguments as the parser of the command line takes them.
 pub(crate) fn texts(alloc: Global, arguments: &[String]) -> Result<Vec<&str>, AllocError> {
     arguments
         .iter()
@@ -165,7 +156,6 @@ where
     }
 }
 
-/// The settings of a file, with another level if one is named.
 fn settings_of_file<R: AllocGlobal + Files, L: Log>(
     rt: &R,
     log: &L,
@@ -176,7 +166,6 @@ fn settings_of_file<R: AllocGlobal + Files, L: Log>(
     config::at_level(log, rt.alloc(), settings, level).map_err(ProgramFault::of_arguments)
 }
 
-/// The settings of a command line.
 fn settings_of_arguments<L: Log>(
     alloc: Global,
     log: &L,
@@ -185,7 +174,6 @@ fn settings_of_arguments<L: Log>(
     config::parse_arguments(log, alloc, text.as_bytes()).map_err(ProgramFault::of_arguments)
 }
 
-/// Prints the settings of a file, and warns of what they need.
 fn check<R, L: Log, O: Write>(
     rt: &R,
     log: &L,
@@ -202,7 +190,6 @@ where
     print(rt.alloc(), &settings, &mut stream("output", writer, log))
 }
 
-/// Runs a script, and shows each step if it is asked to.
 fn simulate_by<L: Log, I: Read, O: Write>(
     alloc: Global,
     log: &L,
@@ -230,7 +217,6 @@ fn simulate_by<L: Log, I: Read, O: Write>(
     }
 }
 
-/// A stream of this name whose errors are logged.
 pub(crate) fn stream<'a, S, L>(
     name: &'static str,
     inner: S,
@@ -239,8 +225,7 @@ pub(crate) fn stream<'a, S, L>(
     Stream { name, inner, log }
 }
 
-/// Runs a script. Returns 0 if its report was written, and 1 if the line of its fault was. The cause of a fault is
-/// logged.
+/// Returns 0 if the report was written, and 1 if the line of a fault was, whose cause is logged.
 fn simulate<L: Log, I: Read, O: Write>(
     alloc: Global,
     log: &L,
@@ -261,7 +246,6 @@ fn simulate<L: Log, I: Read, O: Write>(
     }
 }
 
-/// Prints each setting.
 fn print(alloc: Global, settings: &Settings, writer: &mut impl Write) -> Result<u8, ProgramFault>
     ensures done { IfOk result (λ status. status ≡ 0) }
     ensures fault { IfErr result (λ fault. status_of fault ≡ 1) }
@@ -271,7 +255,7 @@ fn print(alloc: Global, settings: &Settings, writer: &mut impl Write) -> Result<
     Ok(DONE)
 }
 
-/// Listens as the settings say, looks at what they need, makes the file to record into at a path, and serves.
+/// Listens, looks at what the settings need, makes the file to record into, and serves.
 fn run<R, S>(
     rt: &R,
     settings: Settings,
@@ -298,7 +282,6 @@ where
     }
 }
 
-/// Writes all of a text, and flushes it.
 pub(crate) fn write(writer: &mut impl Write, text: &str) -> Result<(), ProgramFault>
     ensures { IfErr result (λ fault. status_of fault ≡ 1) }
 {
@@ -308,11 +291,10 @@ pub(crate) fn write(writer: &mut impl Write, text: &str) -> Result<(), ProgramFa
     Ok(())
 }
 
-/// Writes a fault to `errors`, and returns its status.
 pub(crate) fn report_fault(errors: &mut impl Write, fault: ProgramFault) -> u8
     ensures { result ≡ status_of fault }
 {
-    // If this can't be written either, only the status is left to report it.
+    // Where this fails, too, only the status is left to report it.
     let _ = writeln!(errors, "relayd: {fault}");
     fault.status()
 }

@@ -1,16 +1,13 @@
-//! The fixed values of the program: its statuses, its version, and the limit of a settings file.
+//! The fixed values of the program.
 
 /// The status after a command was carried out.
 pub const DONE: u8 = 0;
 
-/// The status after a fault.
 pub const FAULT: u8 = 1;
 
-/// The status after a usage error.
 pub const USAGE: u8 = 2;
 
-/// The version that `--version` prints.
 pub const VERSION: &str = "0.1.0";
 
-/// The maximum size of a settings file, in bytes.
+/// The most bytes of a settings file.
 pub const MAX_CONFIG_BYTES: usize = 65_536;

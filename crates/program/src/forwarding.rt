@@ -6,7 +6,6 @@ use settings::{Key, ROWS, Row, has_leading_zero};
 use std::alloc::{AllocError, Global};
 use std::fmt;
 
-/// Adds an argument for each setting.
 pub fn add_settings<'a>(alloc: Global, arguments: &mut Vec<Arg<'a>>) -> Result<(), AllocError> {
     for row in all_arguments() {
         arguments.push(argument(alloc, *row))?;
@@ -14,7 +13,7 @@ pub fn add_settings<'a>(alloc: Global, arguments: &mut Vec<Arg<'a>>) -> Result<(
     Ok(())
 }
 
-/// The argument of a setting. Help shows its default.
+/// Help shows the default of a setting.
 fn argument<'a>(alloc: Global, row: Row) -> Arg<'a> {
     let argument = without_default(alloc, row);
     match row.key.default() {
@@ -23,7 +22,6 @@ fn argument<'a>(alloc: Global, row: Row) -> Arg<'a> {
     }
 }
 
-/// The argument of a setting, with no default.
 fn without_default<'a>(alloc: Global, row: Row) -> Arg<'a> {
     let argument = Arg::new(alloc, row.key.name())
         .value_name(row.value_name)
@@ -35,7 +33,6 @@ fn without_default<'a>(alloc: Global, row: Row) -> Arg<'a> {
     }
 }
 
-/// The arguments of all settings.
 pub(crate) fn all_arguments() -> &'static [Row] {
     &ROWS
 }
@@ -51,7 +48,6 @@ pub fn settings_text(alloc: Global, matches: &ArgMatches<'_>) -> Result<String, 
     Ok(text)
 }
 
-/// Adds a line to such a text.
 fn add_line(alloc: Global, text: &mut String, key: Key, value: &str) -> Result<(), AllocError> {
     let line = setting_text(alloc, key, value)?;
     text.push_str(line.as_str())?;
@@ -73,7 +69,6 @@ struct Assignment<'a> {
 }
 
 impl Assignment<'_> {
-    /// Whether the value stands for itself as a truth value.
     fn is_true_or_false(&self) -> bool {
         self.key.takes_truth() && matches!(self.value, "true" | "false")
     }

@@ -7,15 +7,13 @@ use std::alloc::Global;
 use std::fmt;
 use std::io::{self, Read, Write};
 
-/// A stream, such as standard input or a file. An error of the system is logged when it comes, since the fault that
-/// follows does not include it.
+/// A stream, such as standard input or a file. An error of the system is logged when it comes: the fault that follows
+/// does not include it.
 #[derive(Drop)]
 pub struct Stream<'a, S, N, L> {
     /// What the log calls the stream.
     pub name: N,
-    /// Where bytes come from, or go to.
     pub inner: S,
-    /// Where errors are logged.
     pub log: &'a L,
 }
 
@@ -51,12 +49,10 @@ impl<W: Write, N: fmt::Display, L: Log> Write for Stream<'_, W, N, L> {
     }
 }
 
-/// Logs what is wrong with a stream, or with what was read from it.
 pub fn log_error<N: fmt::Display, E: fmt::Display>(log: &impl Log, name: &N, error: &E) {
     error!(log; target: "relayd", "{name}: {error}");
 }
 
-/// A file that could not be opened, and why.
 #[derive(Drop)]
 pub(crate) struct Unopened<'a> {
     pub(crate) path: &'a str,
@@ -76,9 +72,7 @@ impl fmt::Display for Unopened<'_> {
 /// Logs the cause of each fault, if one is known and there is memory for it.
 #[derive(Drop)]
 pub struct LoggedCauses<'a, L> {
-    /// The memory for the text of a cause.
     pub alloc: Global,
-    /// Where causes are logged.
     pub log: &'a L,
 }
 

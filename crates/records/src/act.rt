@@ -12,33 +12,30 @@ pub struct Record {
     pub act: Act,
 }
 
-/// What happened.
 #[derive(Clone, Copy)]
 pub enum Act {
     /// The poller with this number did this.
     Poller(usize, Polling),
     /// The clock showed this second, to a turn or to a round.
     Second(u64),
-    /// The gate's first call of a turn at this slot.
+    /// The beginning of a turn at this slot.
     Begin(usize),
-    /// The gate's second call of a turn at this slot.
+    /// Its end.
     End(usize),
     /// This was done with the wire of an end.
     Wire(Token, Made),
     /// The relay ended, and everything is recorded. It is the last record.
     Ended,
-    /// There was no room for a record, so that the recording stops here. It is the last record.
+    /// There was no room for a record. It is the last one.
     Full,
 }
 
-/// What a poller did.
 #[derive(Clone, Copy)]
 pub enum Polling {
     /// A wait for reports gave this many.
     Gave(usize),
     /// A signal ended a wait for reports.
     Interrupted,
-    /// A wait for reports failed.
     Failed,
     /// The last wait reported this.
     Reported(Name),
@@ -57,7 +54,6 @@ pub enum Accepted {
     Starved,
 }
 
-/// Whether a front opened a connection.
 #[derive(Clone, Copy)]
 pub enum Opening {
     Opened,
@@ -67,7 +63,6 @@ pub enum Opening {
     Register,
 }
 
-/// What was done with a wire.
 #[derive(Clone, Copy)]
 pub enum Made {
     /// A read of at most this many bytes. Its answer is a number of bytes, the end, or no success.
@@ -89,22 +84,18 @@ pub enum Made {
 pub enum Answer {
     /// This many bytes moved.
     Moved(usize),
-    /// The end of input.
     End,
-    /// The socket is connected.
     Joined,
     /// The end of input was passed on.
     Shut,
     /// The call would have had to wait.
     Blocked,
-    /// A signal interrupted the call, and nothing moved.
+    /// A signal interrupted the call.
     Interrupted,
-    /// The call failed.
     Failed(Kind),
 }
 
 impl Accepted {
-    /// The word for it in a recording.
     pub(crate) fn name(self) -> &'static str
         ensures { result.now ≡ accepted_name self }
     {
@@ -118,7 +109,6 @@ impl Accepted {
 }
 
 impl Opening {
-    /// The word for it in a recording.
     pub(crate) fn name(self) -> &'static str
         ensures { result.now ≡ opening_name self }
     {
@@ -130,7 +120,6 @@ impl Opening {
     }
 }
 
-/// The word for a truth value.
 pub(crate) fn yes_or_no(is_so: bool) -> &'static str
     ensures { result.now ≡ yes_or_no is_so }
 {

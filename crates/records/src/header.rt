@@ -83,7 +83,6 @@ fn value_after(wanted: &str, word: &[u8]) -> Option<usize> {
     number(word.strip_prefix(key.as_bytes())?.strip_prefix(b"=")?)
 }
 
-/// Whether targets are told addresses.
 fn proxy<'a>(words: &mut Pieces<'a>) -> Result<bool, Wrong<'a>> {
     let wanted = "proxy=yes or proxy=no is wanted";
     match word(words, wanted)? {

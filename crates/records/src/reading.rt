@@ -13,7 +13,6 @@ pub struct Wrong<'a> {
     pub wanted: &'static str,
 }
 
-/// The next word, whatever it is.
 pub(crate) fn word<'a>(
     words: &mut Pieces<'a>,
     wanted: &'static str,
@@ -21,7 +20,6 @@ pub(crate) fn word<'a>(
     words.next().ok_or(Wrong { word: None, wanted })
 }
 
-/// The next word, which is a number.
 fn number<'a>(words: &mut Pieces<'a>, wanted: &'static str) -> Result<usize, Wrong<'a>> {
     let word = word(words, wanted)?;
     said(input::number(word), word, wanted)
@@ -47,7 +45,6 @@ pub(crate) fn said<'a, T>(
 
 /// What a call can be answered, other than that it was interrupted or failed.
 struct Answers {
-    /// Whether a number of bytes is an answer.
     counts: bool,
     /// The answers that have a word.
     named: &'static [(&'static str, Answer)],
@@ -78,11 +75,8 @@ static SHUT: Answers = Answers {
     wanted: "one of shut, interrupted and failed is wanted",
 };
 
-/// Reads the record of a line, which is given without its line feed. What is read from the text of a record is that
-/// record.
-///
-/// It refuses a line of another form, with its first word from the left that is wrong. Numbers are below 2^64 and have no
-/// leading zeros.
+/// Reads the record of a line without its line feed. Of what a record prints it reads that record. It refuses a line of
+/// another form, with its first word from the left that is wrong. Numbers are below 2^64 and have no leading zeros.
 pub fn read_line(line: &[u8]) -> Result<Record, Wrong<'_>> {
     let wanted = "the count before the act and the one after it are wanted";
     let mut words = Pieces::new(line, b' ');
@@ -120,7 +114,6 @@ fn act<'a>(words: &mut Pieces<'a>) -> Result<Act, Wrong<'a>> {
     }
 }
 
-/// The poller that `pP` names.
 fn poller_named(word: &[u8]) -> Option<usize> {
     input::number(word.strip_prefix(b"p")?)
 }
@@ -143,7 +136,6 @@ fn end_named(word: &[u8]) -> Option<Token> {
     Token::pack(slot, side, generation).ok()
 }
 
-/// The beginning or the end of a turn at a slot.
 fn turn<'a>(slot: usize, words: &mut Pieces<'a>) -> Result<Act, Wrong<'a>> {
     let wanted = "begin or end is wanted";
     match word(words, wanted)? {
@@ -153,7 +145,6 @@ fn turn<'a>(slot: usize, words: &mut Pieces<'a>) -> Result<Act, Wrong<'a>> {
     }
 }
 
-/// What a poller did.
 fn polling<'a>(words: &mut Pieces<'a>) -> Result<Polling, Wrong<'a>> {
     let wanted = "poll, report, accept or open is wanted";
     match word(words, wanted)? {
@@ -165,7 +156,6 @@ fn polling<'a>(words: &mut Pieces<'a>) -> Result<Polling, Wrong<'a>> {
     }
 }
 
-/// What a wait for reports gave.
 fn polled<'a>(words: &mut Pieces<'a>) -> Result<Polling, Wrong<'a>> {
     let wanted = "a number of reports, interrupted or failed is wanted";
     match word(words, wanted)? {
@@ -175,7 +165,6 @@ fn polled<'a>(words: &mut Pieces<'a>) -> Result<Polling, Wrong<'a>> {
     }
 }
 
-/// What a report names.
 fn reported<'a>(words: &mut Pieces<'a>) -> Result<Polling, Wrong<'a>> {
     let wanted = "listener, waker or S.G.SIDE is wanted";
     match word(words, wanted)? {
@@ -188,7 +177,6 @@ fn reported<'a>(words: &mut Pieces<'a>) -> Result<Polling, Wrong<'a>> {
     }
 }
 
-/// What accept(2) answered.
 fn accepted<'a>(words: &mut Pieces<'a>) -> Result<Accepted, Wrong<'a>> {
     let wanted = "one of again, blocked, ok and starved is wanted";
     match word(words, wanted)? {
@@ -217,7 +205,6 @@ fn opened<'a>(words: &mut Pieces<'a>) -> Result<Polling, Wrong<'a>> {
     Ok(Polling::Open(slot, generation, opening))
 }
 
-/// What was done with a wire.
 fn made<'a>(words: &mut Pieces<'a>) -> Result<Made, Wrong<'a>> {
     let wanted = "one of drop, join, read, settle, shut and write is wanted";
     match word(words, wanted)? {
@@ -237,7 +224,6 @@ fn made<'a>(words: &mut Pieces<'a>) -> Result<Made, Wrong<'a>> {
     }
 }
 
-/// What a call is answered.
 fn answered<'a>(words: &mut Pieces<'a>, answers: &Answers) -> Result<Answer, Wrong<'a>> {
     let word = word(words, answers.wanted)?;
     for (name, answer) in answers.named {
@@ -255,7 +241,6 @@ fn answered<'a>(words: &mut Pieces<'a>, answers: &Answers) -> Result<Answer, Wro
     }
 }
 
-/// A kind of failure.
 fn kind<'a>(words: &mut Pieces<'a>) -> Result<Kind, Wrong<'a>> {
     let word = word(words, KIND_WANTED)?;
     said(Kind::named(word), word, KIND_WANTED)

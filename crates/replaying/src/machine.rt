@@ -11,14 +11,13 @@ use world::{Act, Change, Event, Lead, Limits, Listening, Polling, Reported, Worl
 
 /// Why a replay stops.
 #[derive(Clone, Copy)]
-pub(crate) enum Flaw {
-    /// The world refuses the event that its machine keeps.
+pub enum Flaw {
+    /// The world refuses the event that is kept.
     Refused,
     /// The connection has another call to make, or none.
     NextCall,
-    /// This is why the record at hand can stand at no place.
+    /// The record at hand can stand at no place.
     Because(&'static str),
-    /// Memory ran out, so that nothing is wrong with the record.
     NoMemory,
 }
 
@@ -34,17 +33,17 @@ impl<T: Drop> From<AllocFailed<T>> for Flaw {
     }
 }
 
-/// A world, with each event that has happened there, and the one that it refused.
+/// A world, and the event that it refused.
 #[derive(Drop)]
-pub(crate) struct Machine {
+pub struct Machine {
     pub alloc: Global,
     pub history: History,
     pub refused: Option<Event>,
 }
 
 impl Machine {
-    /// The sizes of a world of one slot in which nothing is opened, so that no ring and no budget matters.
-    pub(crate) const LIMITS: Limits = Limits {
+    /// The sizes of a world in which nothing is opened, so that no ring and no budget matters.
+    pub const LIMITS: Limits = Limits {
         slots: 1,
         workers: 1,
         ring: 1,
@@ -54,8 +53,7 @@ impl Machine {
         lead: Lead::NONE,
     };
 
-    /// A world of these sizes, in which nothing has happened.
-    pub(crate) fn new(alloc: Global, limits: Limits) -> Result<Machine, AllocError>
+    pub fn new(alloc: Global, limits: Limits) -> Result<Machine, AllocError>
         requires { IsWithinLimits limits }
     {
         Ok(Machine {
@@ -65,8 +63,7 @@ impl Machine {
         })
     }
 
-    /// An event happens.
-    pub(crate) fn put(&mut self, event: Event) -> Result<(), Flaw> {
+    pub fn put(&mut self, event: Event) -> Result<(), Flaw> {
         match self.history.put(event) {
             Ok(()) => Ok(()),
             Err((Refusal::NoMemory, _)) => Err(Flaw::NoMemory),
@@ -77,8 +74,7 @@ impl Machine {
         }
     }
 
-    /// The worker does this, one act after the other.
-    pub(crate) fn work(&mut self, acts: &[Act]) -> Result<(), Flaw> {
+    pub fn work(&mut self, acts: &[Act]) -> Result<(), Flaw> {
         for act in acts {
             self.put(Event::Work(0, *act))?;
         }
@@ -86,7 +82,7 @@ impl Machine {
     }
 
     /// A turn begins: its ticket is put and taken, wherever it is, the slot is claimed, and its notes are taken.
-    pub(crate) fn claim(&mut self) -> Result<(), Flaw> {
+    pub fn claim(&mut self) -> Result<(), Flaw> {
         if self.world().poller_hand().is_empty() {
             self.put(Event::Work(0, Act::Put))?;
         } else {
@@ -96,7 +92,7 @@ impl Machine {
     }
 
     /// A report is polled and delivered. Where none is queued, it is one without cause.
-    pub(crate) fn deliver(&mut self, name: Name, who: Reported) -> Result<(), Flaw> {
+    pub fn deliver(&mut self, name: Name, who: Reported) -> Result<(), Flaw> {
         if !self.is_queued(&name) {
             self.put(Event::Spurious(who))?;
         }
@@ -105,52 +101,46 @@ impl Machine {
         self.put(Event::Poll(Polling::Deliver))
     }
 
-    pub(crate) fn is_queued(&self, name: &Name) -> bool {
+    pub fn is_queued(&self, name: &Name) -> bool {
         self.world().kernel().is_queued(name)
     }
 
-    /// The network changes something at an end.
-    pub(crate) fn change(&mut self, side: Side, change: Change) -> Result<(), Flaw> {
+    pub fn change(&mut self, side: Side, change: Change) -> Result<(), Flaw> {
         self.put(Event::Network(0, side, change))
     }
 
-    pub(crate) fn world(&self) -> &World {
+    pub fn world(&self) -> &World {
         self.history.world()
     }
 
-    /// Whether the slot has notes.
-    pub(crate) fn has_notes(&self) -> bool {
+    pub fn has_notes(&self) -> bool {
         match self.world().slots().first() {
             Some(slot) => slot.has_notes(),
             None => false,
         }
     }
 
-    /// The connection in the slot.
-    pub(crate) fn pair(&self) -> Option<&Pair> {
+    pub fn pair(&self) -> Option<&Pair> {
         match self.world().connection(0) {
             Some(connection) => Some(&connection.pair),
             None => None,
         }
     }
 
-    /// Whether it has ended.
-    pub(crate) fn is_over(&self) -> bool {
+    pub fn is_over(&self) -> bool {
         match self.pair() {
             Some(pair) => pair.verdict() != Verdict::Live,
             None => true,
         }
     }
 
-    /// One end of it.
-    pub(crate) fn end(&self, side: Side) -> Option<&End> {
+    pub fn end(&self, side: Side) -> Option<&End> {
         let connection = self.world().connection(0)?;
         let open = self.world().kernel().end(connection.descriptor(side))?;
         Some(&open.socket)
     }
 
-    /// An act of the poller.
-    pub(crate) fn listen(&mut self, act: &Recorded) -> Result<(), Flaw> {
+    pub fn listen(&mut self, act: &Recorded) -> Result<(), Flaw> {
         let Recorded::Poller(_, did) = act else {
             return Ok(());
         };
@@ -171,8 +161,8 @@ impl Machine {
         self.put(Event::Listen(Listening::Accept(reply)))
     }
 
-    /// A client comes in and is accepted. Where that is reported, the report vanishes: the poller was given it when
-    /// the client came, or did not have to be.
+    /// A client comes in and is accepted. Where that is reported, the report vanishes: the poller was given it when the
+    /// client came, or did not have to be.
     fn accept(&mut self) -> Result<(), Flaw> {
         let was_queued = self.is_queued(&Name::Listener);
         self.come_in()?;
@@ -182,8 +172,7 @@ impl Machine {
         Ok(())
     }
 
-    /// A client comes in just before it is accepted.
-    pub(crate) fn come_in(&mut self) -> Result<(), Flaw> {
+    pub fn come_in(&mut self) -> Result<(), Flaw> {
         self.put(Event::Listen(Listening::Connect))?;
         self.answer(Accepting::Accepted)
     }

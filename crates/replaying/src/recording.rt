@@ -2,21 +2,22 @@
 ghost use Rattle.std.specs.Prelude.{◌≡◌};
 ghost use Rattle.replaying.specs.Traces.{records_at, records_of};
 
+use crate::reading::{fault_of, wanted};
 use dispatch::Split;
-use records::{Act, Header, Polling, Record};
+use records::{Act, Header, Polling, Record, ReplayFault};
 use settings::pollers_for;
 use std::alloc::{AllocError, Global};
 
 /// A record, and its line in the file, from 1.
 #[derive(Clone, Copy)]
-pub(crate) struct Numbered {
+pub struct Numbered {
     pub line: u64,
     pub record: Record,
 }
 
 /// How a recording ends.
 #[derive(Clone, Copy, PartialEq, Eq)]
-pub(crate) enum Last {
+pub enum Last {
     /// The relay was stopped: what is there is a beginning.
     Stopped,
     /// There was no room for a record: so it is then.
@@ -25,9 +26,9 @@ pub(crate) enum Last {
     Ended,
 }
 
-/// What a file says.
 #[derive(Drop)]
-pub(crate) struct Recording {
+pub struct Recording {
+    pub alloc: Global,
     pub header: Header,
     /// Which slots are which poller's.
     pub split: Split,
@@ -39,12 +40,13 @@ pub(crate) struct Recording {
     pub failed: Option<u64>,
     /// The first count that is of no record: what ended before is all there.
     pub whole: u64,
+    /// How many records after the first lost one are left out.
+    pub left_out: usize,
     /// The last line, if it is cut off.
     pub cut: Option<u64>,
 }
 
-/// How the slots are dealt in a relay of these sizes, if there is such a relay.
-pub(crate) fn split_of(header: &Header) -> Option<Split> {
+pub fn split_of(header: &Header) -> Option<Split> {
     let (slots, workers) = (header.slots, header.workers);
     if slots == 0 || slots > 4_096 || workers == 0 || workers > 16 {
         return None;
@@ -58,29 +60,24 @@ pub(crate) fn split_of(header: &Header) -> Option<Split> {
 }
 
 impl Recording {
-    /// The recording of a relay of these sizes, without any record.
-    pub(crate) fn new(
-        alloc: Global,
-        header: Header,
-        split: Split,
-    ) -> Result<Recording, AllocError> {
-        let count = header
-            .slots
-            .saturating_add(header.pollers)
-            .saturating_add(1);
+    pub fn new(alloc: Global, header: Header, split: Split) -> Result<Recording, AllocError> {
+        let Header { slots, pollers, .. } = header;
+        let count = slots.saturating_add(pollers).saturating_add(1);
         Ok(Recording {
+            alloc,
             header,
             split,
             lists: lists(alloc, count)?,
             last: Last::Stopped,
             failed: None,
             whole: 0,
+            left_out: 0,
             cut: None,
         })
     }
 
-    /// Adds a record to its list, and an opening to both of its lists.
-    pub(crate) fn add(&mut self, line: u64, record: Record) -> Result<(), AllocError> {
+    /// An opening belongs to two lists.
+    pub fn add(&mut self, line: u64, record: Record) -> Result<(), AllocError> {
         match record.act {
             Act::Ended => self.last = Last::Ended,
             Act::Full => self.last = Last::Full,
@@ -95,14 +92,6 @@ impl Recording {
         }
     }
 
-    /// A wait for reports had failed by this count.
-    fn fail(&mut self, count: u64) {
-        self.failed = match self.failed {
-            Some(first) => Some(first.min(count)),
-            None => Some(count),
-        };
-    }
-
     fn lists_of(&self, act: &Act) -> (usize, Option<usize>) {
         match act {
             Act::Poller(poller, Polling::Open(slot, _, _)) => {
@@ -115,6 +104,11 @@ impl Recording {
         }
     }
 
+    fn fail(&mut self, count: u64) {
+        let first = self.failed.unwrap_or(u64::MAX);
+        self.failed = Some(first.min(count));
+    }
+
     fn add_to(&mut self, at: usize, line: u64, record: Record) -> Result<(), AllocError> {
         match self.lists.get_mut(at) {
             Some(list) => Ok(list.push(Numbered { line, record })?),
@@ -122,13 +116,16 @@ impl Recording {
         }
     }
 
+    pub fn broken(&self, line: u64, text: &'static str) -> ReplayFault {
+        fault_of(self.alloc, line, wanted(text))
+    }
+
     /// Whether each turn and each round is known to have read the clock, if it was over by this count.
-    pub(crate) fn reads_seconds(&self, count: u64) -> bool {
+    pub fn reads_seconds(&self, count: u64) -> bool {
         self.header.idle > 0 && count < self.whole
     }
 
-    /// What happened at a slot.
-    pub(crate) fn slot(&self, slot: usize) -> &[Numbered]
+    pub fn slot(&self, slot: usize) -> &[Numbered]
         ensures { result.now ≡ records_of self.now slot }
     {
         if slot < self.header.slots {
@@ -138,22 +135,20 @@ impl Recording {
         }
     }
 
-    /// Which list is that of a poller.
-    pub(crate) fn at_poller(&self, poller: usize) -> usize {
+    pub fn at_poller(&self, poller: usize) -> usize {
         self.header.slots.saturating_add(poller)
     }
 
-    /// What a poller did.
-    pub(crate) fn poller(&self, poller: usize) -> &[Numbered] {
+    pub fn poller(&self, poller: usize) -> &[Numbered] {
         self.list(self.at_poller(poller))
     }
 
-    /// What belongs to neither.
-    pub(crate) fn others(&self) -> &[Numbered] {
+    /// What is of no slot and of no poller.
+    pub fn others(&self) -> &[Numbered] {
         self.poller(self.header.pollers)
     }
 
-    pub(crate) fn list(&self, at: usize) -> &[Numbered]
+    pub fn list(&self, at: usize) -> &[Numbered]
         ensures { result.now ≡ records_at self.now at }
     {
         match self.lists.get(at) {
@@ -163,8 +158,7 @@ impl Recording {
     }
 }
 
-/// This many empty lists.
-pub(crate) fn lists<T: Drop>(alloc: Global, count: usize) -> Result<Vec<Vec<T>>, AllocError> {
+pub fn lists<T: Drop>(alloc: Global, count: usize) -> Result<Vec<Vec<T>>, AllocError> {
     let mut lists = Vec::new(alloc);
     for _list in 0..count {
         lists.push(Vec::new(alloc))?;
@@ -172,7 +166,7 @@ pub(crate) fn lists<T: Drop>(alloc: Global, count: usize) -> Result<Vec<Vec<T>>,
     Ok(lists)
 }
 
-/// Whether another list has this record, too: an opening in the list of its slot.
-pub(crate) fn is_twice(of_slot: bool, act: &Act) -> bool {
+/// Whether another list has this record, too: an opening in that of its slot.
+pub fn is_twice(of_slot: bool, act: &Act) -> bool {
     of_slot && matches!(act, Act::Poller(_, _))
 }

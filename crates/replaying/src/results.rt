@@ -11,9 +11,8 @@ use std::alloc::{AllocError, Global};
 use world::World;
 
 /// Bytes that were read at clients and at targets, and bytes that were written there.
-pub(crate) type Moved = [u64; 4];
+pub type Moved = [u64; 4];
 
-/// What became of a connection.
 #[derive(Clone, Copy)]
 struct Became {
     generation: u64,
@@ -21,9 +20,8 @@ struct Became {
     moved: Moved,
 }
 
-/// Whose act it was.
 #[derive(Clone, Copy)]
-pub(crate) enum Whose {
+pub enum Whose {
     Poller(usize),
     /// That of a slot and a generation, which is 0 where nothing was opened.
     Slot(usize, u64),
@@ -31,15 +29,14 @@ pub(crate) enum Whose {
 
 /// A record that can stand at no place, and the world in which it should have happened.
 #[derive(Drop)]
-pub(crate) struct Flawed {
+pub struct Flawed {
     pub whose: Whose,
     pub numbered: Numbered,
     pub machine: Machine,
 }
 
-/// What came of the worlds in which slots and listeners were replayed.
 #[derive(Drop)]
-pub(crate) struct Results {
+pub struct Results {
     pub wanted: Wanted,
     /// How many connections there were, how many events of each kind, and what moved.
     pub connections: u64,
@@ -49,7 +46,6 @@ pub(crate) struct Results {
     pub ends: String,
     /// The world of the connection whose script is wanted.
     pub script: Option<History>,
-    /// Where the replay stopped.
     pub flawed: Option<Flawed>,
 }
 
@@ -63,7 +59,6 @@ fn moved(client: &End, target: &End) -> Moved {
 }
 
 impl Became {
-    /// What became of the connection of a slot's world, if one was opened there.
     fn of(world: &World) -> Option<Became> {
         if let Some(connection) = world.connection(0) {
             let client = world.kernel().end(connection.ends.client)?;
@@ -84,7 +79,7 @@ impl Became {
 }
 
 impl Results {
-    pub(crate) fn new(alloc: Global, wanted: Wanted) -> Results {
+    pub fn new(alloc: Global, wanted: Wanted) -> Results {
         Results {
             wanted,
             connections: 0,
@@ -96,8 +91,7 @@ impl Results {
         }
     }
 
-    /// The replay stops at this record.
-    pub(crate) fn end(&mut self, whose: Whose, numbered: Numbered, machine: Machine) {
+    pub fn end(&mut self, whose: Whose, numbered: Numbered, machine: Machine) {
         self.flawed = Some(Flawed {
             whose,
             numbered,
@@ -105,23 +99,21 @@ impl Results {
         });
     }
 
-    /// The world of a slot or of a listener was replayed to its end, or as far as the recording goes.
-    pub(crate) fn take(&mut self, slot: usize, history: History) -> Result<(), Flaw> {
+    /// A world was replayed to its end, or as far as the recording goes.
+    pub fn take(&mut self, slot: usize, history: History) -> Result<(), Flaw> {
         for event in history.events() {
             self.counts.count(event);
         }
-        let became = Became::of(history.world());
-        if self.add(slot, &became)? {
-            self.script = Some(history);
+        if let Some(became) = Became::of(history.world()) {
+            if self.add(slot, &became)? {
+                self.script = Some(history);
+            }
         }
         Ok(())
     }
 
-    /// Adds what became of a connection, if one was opened. Answers whether its script is wanted.
-    fn add(&mut self, slot: usize, became: &Option<Became>) -> Result<bool, AllocError> {
-        let Some(became) = became else {
-            return Ok(false);
-        };
+    /// Answers whether the script of a connection is wanted.
+    fn add(&mut self, slot: usize, became: &Became) -> Result<bool, AllocError> {
         self.connections = self.connections.saturating_add(1);
         for (sum, more) in self.moved.iter_mut().zip(became.moved.iter()) {
             *sum = sum.saturating_add(*more);
@@ -136,12 +128,10 @@ impl Results {
         let generation = became.generation;
         let [_, _, down, up] = became.moved;
         match became.verdict {
-            Verdict::Live => {
-                writeln!(
-                    self.ends,
-                    "live s={slot} g={generation} up={up} down={down}"
-                )
-            }
+            Verdict::Live => writeln!(
+                self.ends,
+                "live s={slot} g={generation} up={up} down={down}"
+            ),
             Verdict::Done => {
                 let done = Done {
                     slot,

@@ -1,4 +1,3 @@
-//! One slot is replayed, act by act.
 ghost use Rattle.std.specs.Prelude.{OnOk};
 ghost use Rattle.replaying.specs.Traces.{AreRuns, IsConnection};
 
@@ -13,7 +12,7 @@ use token::{Side, Token};
 
 /// What was found out of a recording before its slots are replayed.
 #[derive(Clone, Copy)]
-pub(crate) struct Findings<'a> {
+pub struct Findings<'a> {
     pub recording: &'a Recording,
     pub clock: &'a Clock,
     pub posts: &'a [Vec<Post>],
@@ -21,9 +20,8 @@ pub(crate) struct Findings<'a> {
     pub rests: bool,
 }
 
-/// Where the replay of a slot stands.
 #[derive(Clone, Copy)]
-pub(crate) enum Phase {
+pub enum Phase {
     /// No connection is open.
     Free,
     /// A connection came to nothing, or the relay failed while it was open, and this end was dropped.
@@ -40,7 +38,7 @@ pub(crate) enum Phase {
 
 /// What is known of the connection in a slot, or of the last one there.
 #[derive(Clone, Copy)]
-pub(crate) struct State {
+pub struct State {
     pub phase: Phase,
     /// Its generation, 0 before the first one, and that of the connection that came to nothing.
     pub generation: u64,
@@ -56,9 +54,8 @@ pub(crate) struct State {
     pub moved: u64,
 }
 
-/// A slot that is replayed.
 #[derive(Drop)]
-pub(crate) struct SlotReplay<'a> {
+pub struct SlotReplay<'a> {
     pub findings: Findings<'a>,
     pub slot: usize,
     pub poller: usize,
@@ -74,7 +71,6 @@ pub(crate) struct SlotReplay<'a> {
 }
 
 impl State {
-    /// That of a slot in which nothing was opened yet.
     const NEW: State = State {
         phase: Phase::Free,
         generation: 0,
@@ -87,7 +83,6 @@ impl State {
         moved: 0,
     };
 
-    /// Whether this is an end of the connection in the slot.
     fn has(&self, token: Token) -> bool {
         match self.phase {
             Phase::Free => false,
@@ -112,8 +107,7 @@ fn opening_of(act: &Act) -> Option<(u64, Opening)> {
 }
 
 impl<'a> SlotReplay<'a> {
-    /// A slot that is to be replayed, whose first act is this one.
-    pub(crate) fn new(
+    pub fn new(
         findings: Findings<'a>,
         slot: usize,
         first: Numbered,
@@ -137,8 +131,7 @@ impl<'a> SlotReplay<'a> {
         }
     }
 
-    /// Replays all records of the slot.
-    pub(crate) fn run(
+    pub fn run(
         &mut self,
         recording: &Recording,
         records: &'a [Numbered],
@@ -167,7 +160,6 @@ impl<'a> SlotReplay<'a> {
         Ok(())
     }
 
-    /// Replays the records of one connection, and compares them with what happened in its world.
     fn replay_connection(
         &mut self,
         recording: &Recording,
@@ -185,19 +177,13 @@ impl<'a> SlotReplay<'a> {
             self.next = next;
             self.act(first.record, results)?;
         }
-        if is_connection(
-            self.machine.alloc,
-            recording,
-            &self.machine.history,
-            records,
-        )? {
+        if is_connection(recording, &self.machine.history, records)? {
             Ok(())
         } else {
             Err(Flaw::Because("the records are not those of the run"))
         }
     }
 
-    /// Nothing more happens in the slot.
     fn end_all(&mut self) -> Result<(), Flaw> {
         if self.findings.rests {
             self.rest()?;
@@ -222,7 +208,6 @@ impl<'a> SlotReplay<'a> {
         }
     }
 
-    /// Something was done with a wire.
     fn wire(&mut self, record: Record, token: Token, made: Made) -> Result<(), Flaw> {
         if !self.state.has(token) {
             return Err(Flaw::Because("it is no end of the connection in the slot"));

@@ -1,16 +1,13 @@
 //! The turns of a slot's connection.
 use crate::machine::Flaw;
-use crate::recording::Numbered;
 use crate::slot_replay::{Phase, SlotReplay};
 use crate::threads::{OWN_BUDGET, is_busy};
 use records::{Act as Recorded, Made, Record};
-use relay_core::Verdict;
 use token::Side;
 use world::{Act, Event};
 
 impl SlotReplay<'_> {
-    /// A turn begins: it has a note by then.
-    pub(crate) fn begin(&mut self, record: Record) -> Result<(), Flaw> {
+    pub fn begin(&mut self, record: Record) -> Result<(), Flaw> {
         match self.state.phase {
             Phase::Open => {}
             Phase::Free => return Err(Flaw::Because("no connection is open in the slot")),
@@ -28,7 +25,6 @@ impl SlotReplay<'_> {
         Ok(())
     }
 
-    /// Time passes up to this second, if it counts and is later.
     fn pass_to(&mut self, second: u64) -> Result<(), Flaw> {
         let now = self.now();
         if self.findings.recording.header.idle == 0 || second <= now {
@@ -37,15 +33,13 @@ impl SlotReplay<'_> {
         self.machine.put(Event::Tick(second - now))
     }
 
-    /// The second that it is in the world.
     fn now(&self) -> u64 {
         self.state
             .base
             .saturating_add(self.machine.world().second())
     }
 
-    /// A turn has made its calls.
-    pub(crate) fn end(&mut self, record: Record) -> Result<(), Flaw> {
+    pub fn end(&mut self, record: Record) -> Result<(), Flaw> {
         let Phase::Calling(calls) = self.state.phase else {
             return Err(Flaw::Because("no turn is in progress"));
         };
@@ -57,7 +51,7 @@ impl SlotReplay<'_> {
         if self.machine.next_call().is_some() {
             return self.end_due(calls);
         }
-        if is_dropped(self.next) {
+        if self.is_dropped_next() {
             self.pass_to(self.state.latest)?;
             self.state.phase = Phase::Closing(None);
             return self.machine.work(&[Act::Expire]);
@@ -66,7 +60,15 @@ impl SlotReplay<'_> {
         self.check_idle()
     }
 
-    /// A turn ends with a call left. Then it has made as many as it may, and posts a note for the next turn.
+    /// Whether the next act drops an end.
+    fn is_dropped_next(&self) -> bool {
+        match self.next.first() {
+            Some(first) => matches!(first.record.act, Recorded::Wire(_, Made::Drop)),
+            None => false,
+        }
+    }
+
+    /// A turn that ends with a call left has made as many as it may, and posts a note for the next turn.
     fn end_due(&mut self, calls: usize) -> Result<(), Flaw> {
         let budget = self.findings.recording.header.budget;
         if calls != budget && calls != OWN_BUDGET.min(budget) {
@@ -87,7 +89,7 @@ impl SlotReplay<'_> {
     }
 
     /// A turn has ended quiet, which the target's wire records. After that the slot is released.
-    pub(crate) fn settle(&mut self, side: Side, record: Record) -> Result<(), Flaw> {
+    pub fn settle(&mut self, side: Side, record: Record) -> Result<(), Flaw> {
         if !matches!(self.state.phase, Phase::Settling) {
             return Err(Flaw::Because("no turn has ended quiet"));
         }
@@ -100,7 +102,7 @@ impl SlotReplay<'_> {
     }
 
     /// An end is dropped. After the second one the slot is free.
-    pub(crate) fn drop_end(&mut self, side: Side, record: Record) -> Result<(), Flaw> {
+    pub fn drop_end(&mut self, side: Side, record: Record) -> Result<(), Flaw> {
         let phase = self.state.phase;
         match phase {
             Phase::Open if self.has_failed(record.before) => {
@@ -129,7 +131,6 @@ impl SlotReplay<'_> {
         }
     }
 
-    /// Whether the relay had failed by this count, so that it closed what was open.
     fn has_failed(&self, count: u64) -> bool {
         match self.findings.recording.failed {
             Some(failed) => failed < count,
@@ -143,7 +144,6 @@ impl SlotReplay<'_> {
         !self.has_failed(count) && is_busy(acts, self.state.free_from.saturating_add(1), count)
     }
 
-    /// An end is dropped outside a turn. After the second one the slot is free.
     fn drop_void(&mut self, side: Side, dropped: Option<Side>) -> Result<(), Flaw> {
         self.state.phase = match dropped {
             None => Phase::Void(Some(side)),
@@ -153,8 +153,7 @@ impl SlotReplay<'_> {
         Ok(())
     }
 
-    /// The relay has ended, and closed all its sockets.
-    pub(crate) fn ended(&self) -> Result<(), Flaw> {
+    pub fn ended(&self) -> Result<(), Flaw> {
         match self.state.phase {
             Phase::Free => Ok(()),
             _ => Err(Flaw::Because("the relay has ended, and the connection is not closed")),
@@ -162,7 +161,7 @@ impl SlotReplay<'_> {
     }
 
     /// Nothing is left to do in the slot. A flaw names the record that what is left came from.
-    pub(crate) fn rest(&mut self) -> Result<(), Flaw> {
+    pub fn rest(&mut self) -> Result<(), Flaw> {
         match self.state.phase {
             Phase::Free => return Ok(()),
             Phase::Open => {}
@@ -178,13 +177,5 @@ impl SlotReplay<'_> {
             return Err(Flaw::Because("the connection could move"));
         }
         Ok(())
-    }
-}
-
-/// Whether the next act drops an end.
-fn is_dropped(next: &[Numbered]) -> bool {
-    match next.first() {
-        Some(first) => matches!(first.record.act, Recorded::Wire(_, Made::Drop)),
-        None => false,
     }
 }

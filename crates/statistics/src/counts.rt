@@ -39,7 +39,6 @@ pub struct Counts {
 pub(crate) const COUNTS: usize = 13;
 
 impl Counts {
-    /// Nothing was counted.
     pub const NONE: Counts = Counts {
         opened: 0,
         dropped: 0,
@@ -56,7 +55,6 @@ impl Counts {
         down_ended: 0,
     };
 
-    /// The counts with these numbers.
     pub(crate) fn of(numbers: [u64; COUNTS]) -> Counts {
         let [
             up,
@@ -109,7 +107,6 @@ impl Counts {
         ]
     }
 
-    /// The counts once this event was counted, too.
     pub fn after(self, event: Event) -> Counts
         ensures { result ≡ after event self }
     {
@@ -127,7 +124,6 @@ impl Counts {
         counts
     }
 
-    /// The slot's connection has moved this many bytes in all.
     fn move_to(&mut self, up: u64, down: u64)
         ensures { self.new ≡ moved up down self.old }
     {
@@ -135,7 +131,6 @@ impl Counts {
         self.down = self.down_ended.saturating_add(down);
     }
 
-    /// The slot's connection has moved all that it will.
     fn close(&mut self)
         ensures { self.new ≡ closed self.old }
     {
@@ -143,7 +138,6 @@ impl Counts {
         self.down_ended = self.down;
     }
 
-    /// A connection ended like this.
     fn count_verdict(&mut self, verdict: Verdict)
         ensures { self.new ≡ verdict_counted verdict self.old }
     {
@@ -178,7 +172,6 @@ impl Counts {
         }
     }
 
-    /// The sums of these counts and others.
     pub(crate) fn plus(self, more: &Counts) -> Counts
         ensures { result ≡ plus self more.now }
     {
@@ -212,7 +205,6 @@ impl Counts {
     }
 }
 
-/// One more.
 fn more(count: u64) -> u64
     ensures { result ≡ more count }
 {

@@ -1,4 +1,3 @@
-// Where the counts of one slot are kept.
 ghost use Rattle.statistics.specs.Counts.{IsCounted, Step, Loaded, Stored};
 
 use crate::counts::{COUNTS, Counts};
@@ -6,10 +5,8 @@ use crate::event::Event;
 use std::array;
 use std::sync::atomic::{AtomicU64, Ordering};
 
-/// Memory for the counts of a slot, which threads share.
-///
-/// No clause can name what it holds, so the trait leaves open what a step does. What is proved of any such memory
-/// says which steps are made on it.
+/// Memory for the counts of a slot, which threads share. What it holds no clause can name, so the trait leaves open
+/// what a step does; what is proved of any such memory says which steps are made on it.
 pub trait Memory {
     // What a step may do: the step with what was read or given, and the memory.
     ghost did: { Step → Self → Type 0 };
@@ -28,7 +25,6 @@ pub trait Memory {
 pub struct Atomics([AtomicU64; COUNTS]);
 
 impl Atomics {
-    /// Nothing was counted.
     pub(crate) fn zero() -> Atomics {
         Atomics(array::from_fn(|_count| AtomicU64::new(0)))
     }
@@ -73,7 +69,7 @@ pub(crate) fn count<M: Memory>(place: &M, event: Event)
     place.store(counts.after(event));
 }
 
-/// All that a place has. It is read again if it changes meanwhile, a few times.
+/// It is read again if it changes meanwhile, a few times.
 pub(crate) fn read<M: Memory>(place: &M) -> Counts
     ensures { M.did (Loaded result) place.now }
 {

@@ -4,10 +4,8 @@ ghost use Rattle.statistics.specs.Counts.{added, failed_of, no_sums, opened_of, 
 use crate::counts::Counts;
 use std::fmt::{self, Display};
 
-/// The sums of what was counted at each of this many slots.
-///
-/// It prints as the line of the statistics. There the connections that were opened are those that are open, are done
-/// and have failed, and the failed ones those that failed by a call on either side's socket or by the idle limit.
+/// The sums of what was counted at each of this many slots. It prints as the line of the statistics. There opened are
+/// those that are open, are done and have failed; and failed those by a call on either socket or by the idle limit.
 #[derive(Clone, Copy)]
 pub struct Totals {
     pub slots: usize,
