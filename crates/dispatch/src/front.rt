@@ -65,6 +65,7 @@ pub struct Route {
 }
 
 impl Route {
+    /// Neither address is given.
     pub const UNTOLD: Route = Route {
         client: None,
         accepted: None,

@@ -10,6 +10,7 @@ pub struct Part {
 }
 
 impl Part {
+    /// Whether this slot is one of them.
     pub fn has(&self, slot: usize) -> bool
         ensures { IsTrue result ↔ IsIn self.now slot }
     {

@@ -64,6 +64,7 @@ impl Checks {
         }
     }
 
+    /// Whether all lines that are expected were logged.
     pub fn is_complete(&self) -> bool {
         self.expected.is_empty()
     }

@@ -23,6 +23,7 @@ pub struct KernelFront {
 }
 
 impl KernelFront {
+    /// Makes a front that has reported nothing.
     pub fn new(
         alloc: Global,
         outside: OutsideCell,

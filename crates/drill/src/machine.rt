@@ -36,10 +36,12 @@ impl Machine {
         })
     }
 
+    /// The world that the events lead to.
     pub fn world(&self) -> &World {
         self.made.world()
     }
 
+    /// The kernel of this world.
     pub fn kernel(&self) -> &Kernel {
         self.world().kernel()
     }
@@ -96,10 +98,12 @@ impl Machine {
         !self.world().free_slots().is_empty()
     }
 
+    /// The call that its connection makes next, if it has one to make.
     pub fn next_call(&self) -> Option<Call> {
         self.world().connection(0)?.pair.next()
     }
 
+    /// An end of its connection.
     pub fn end(&self, side: Side) -> Option<&End> {
         let descriptor = self.world().connection(0)?.descriptor(side);
         Some(&self.kernel().end(descriptor)?.socket)
@@ -111,6 +115,7 @@ impl Machine {
         Some((pair.generation(), pair.verdict(), pair.counts()))
     }
 
+    /// Counts the events.
     pub fn count(&self, counts: &mut Counts) {
         for event in self.made.events() {
             counts.count(event);

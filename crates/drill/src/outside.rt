@@ -56,6 +56,7 @@ impl OutsideCell {
         })
     }
 
+    /// Another handle of the same.
     pub fn share(&self) -> Result<OutsideCell, AllocError> {
         Ok(OutsideCell {
             cell: self.cell.clone()?,
@@ -198,6 +199,7 @@ impl Outside {
         }
     }
 
+    /// Whether any poller listens.
     pub fn is_listening(&self) -> bool {
         self.pollers.iter().any(|model| model.listens)
     }
@@ -213,6 +215,7 @@ impl Outside {
         }
     }
 
+    /// Wakes the poller that has this slot.
     pub fn wake(&mut self, slot: usize) {
         if let Some(model) = self.model_of(slot) {
             model.wake();

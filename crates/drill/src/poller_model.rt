@@ -61,11 +61,13 @@ impl PollerModel {
         self.machine.kernel().is_queued(&Name::Listener)
     }
 
+    /// Wakes the poller.
     pub fn wake(&mut self) {
         self.machine.happen(Event::Spurious(Reported::Waker));
         self.woken = self.woken.saturating_add(1);
     }
 
+    /// Expects that the poller is woken in this step.
     pub fn expect_wake(&mut self) {
         self.to_wake = self.to_wake.saturating_add(1);
     }
@@ -118,10 +120,12 @@ impl PollerModel {
         self.listens = false;
     }
 
+    /// Whether the poller has opened all that it may open.
     pub fn has_opened_all(&self) -> bool {
         self.left == 0
     }
 
+    /// Counts a connection that was opened.
     pub fn open(&mut self) {
         self.left = self.left.saturating_sub(1);
     }
@@ -142,6 +146,7 @@ impl PollerModel {
         is_due
     }
 
+    /// Ends a round, after which all the poller's slots are free, or not.
     pub fn end_round(&mut self, all_free: bool) {
         self.in_round = false;
         self.is_over = self.has_opened_all() && all_free;

@@ -99,6 +99,7 @@ impl Plan {
         }
     }
 
+    /// Plans what the server gets at a later point.
     pub fn add(&mut self, point: Point, planned: Planned) -> Result<(), AllocError> {
         self.planned.push_back((point, planned))?;
         Ok(())

@@ -60,6 +60,7 @@ impl Outside {
         }
     }
 
+    /// Counts a call of the turn in progress.
     pub fn count_call(&mut self) {
         if let Some(turn) = &mut self.turn {
             turn.calls = turn.calls.saturating_add(1);
@@ -103,6 +104,7 @@ impl Outside {
         }
     }
 
+    /// Closes an end.
     pub fn close(&mut self, token: Token) {
         match &mut self.turn {
             Some(turn) if turn.slot == token.slot() && turn.logged => {
@@ -152,6 +154,7 @@ impl Outside {
         }
     }
 
+    /// Begins a step of a worker's thread.
     pub fn begin_work(&mut self) {
         self.poller = None;
     }

@@ -22,6 +22,7 @@ pub struct EndWire {
 }
 
 impl EndWire {
+    /// A wire over the end with this token. A client's wire is joined, and a target's is not yet.
     pub fn new(outside: OutsideCell, token: Option<Token>, joined: bool) -> EndWire {
         EndWire {
             outside,
@@ -37,6 +38,7 @@ impl EndWire {
         self.token = Some(token);
     }
 
+    /// The address of its client. None if it is not open.
     pub fn peer(&self) -> Option<SocketAddr> {
         let token = self.token?;
         Some(peer_of(token.slot(), token.generation()))

@@ -229,6 +229,7 @@ impl Kernel {
     }
 }
 
+/// The lowest descriptor that is not open.
 pub fn lowest_free(ends: &[Option<Open>]) -> usize
     ensures { result ≡ lowest_free ends.now }
 {

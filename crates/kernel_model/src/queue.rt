@@ -11,6 +11,7 @@ fn same(a: &Name, b: &Name) -> bool
     *a == *b
 }
 
+/// Whether a name is one of these.
 pub fn has(name: &Name, names: &[Name]) -> bool
     ensures { result ≡ has name.now names.now }
 {
@@ -29,18 +30,21 @@ pub fn add(names: &mut Vec<Name>, name: Name) -> Result<(), AllocError>
     Ok(())
 }
 
+/// Removes a name if it is there.
 pub fn remove(names: &mut Vec<Name>, name: &Name)
     ensures { names.new.items ≡ without_name name.now names.old.items }
 {
     names.retain(|other| !same(name, other));
 }
 
+/// Removes these names.
 pub fn remove_all(names: &mut Vec<Name>, taken: &[Name])
     ensures { names.new.items ≡ without_names taken.now names.old.items }
 {
     names.retain(|other| !has(other, taken));
 }
 
+/// Whether no two names are equal.
 pub fn are_distinct(names: &[Name]) -> bool
     ensures { result ≡ are_distinct names.now }
 {
@@ -50,6 +54,7 @@ pub fn are_distinct(names: &[Name]) -> bool
     }
 }
 
+/// Whether all of these names are among those.
 pub fn are_among(those: &[Name], these: &[Name]) -> bool
     ensures { result ≡ are_among those.now these.now }
 {

@@ -42,12 +42,14 @@ impl Missing {
 }
 
 impl<C: Count> Missing<C> {
+    /// One more was left out.
     pub(crate) fn add(&self)
         ensures { C.did Added self.now.0 }
     {
         self.0.add();
     }
 
+    /// How many were, since the last call.
     pub(crate) fn take(&self) -> u64
         ensures { C.did (Taken result) self.now.0 }
     {

@@ -23,6 +23,7 @@ impl Model for LogLine {
 }
 
 impl LogLine {
+    /// A line without text.
     pub fn new() -> LogLine
         ensures { result ≡ record { text = []; cut = false } }
     {
@@ -48,6 +49,7 @@ impl LogLine {
         self.is_cut = true;
     }
 
+    /// Whether the text begins so.
     pub fn begins_with(&self, start: &str) -> bool
         ensures { IsTrue result ↔ (take (length start.now) self.now.text ≡ start.now) }
     {

@@ -45,6 +45,7 @@ pub struct ParkedQueue<T: Drop, const QUEUES: usize> {
     writer: Parker,
 }
 
+/// What a writer does with the items.
 pub trait Drain {
     type Error;
 
@@ -62,6 +63,7 @@ impl<T: Drop, const QUEUES: usize> Model for ParkedQueue<T, QUEUES> {
 }
 
 impl<T: Drop, const QUEUES: usize> ParkedQueue<T, QUEUES> {
+    /// Queues that nothing else uses.
     pub fn new(queues: [ArrayQueue<T>; QUEUES]) -> ParkedQueue<T, QUEUES>
         ensures { result ≡ map queue_capacity queues }
     {
@@ -112,6 +114,7 @@ impl<T: Drop, const QUEUES: usize> ParkedQueue<T, QUEUES> {
         }
     }
 
+    /// The oldest item of a queue.
     pub fn take(&self, rt: &impl Wait, at: usize) -> Option<T>
         requires { at < QUEUES }
     {

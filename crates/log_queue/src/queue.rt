@@ -38,6 +38,7 @@ impl LogQueue {
         })
     }
 
+    /// How its lines begin.
     pub fn form(&self) -> Form {
         self.form
     }
@@ -49,6 +50,7 @@ impl LogQueue {
         }
     }
 
+    /// The oldest line, to be written.
     pub(crate) fn take(&self, rt: &impl Wait) -> Option<Unwritten> {
         match self.lines.take(rt, 0) {
             Some(line) => Some(Unwritten::new(line)),
@@ -56,6 +58,7 @@ impl LogQueue {
         }
     }
 
+    /// How many lines were left out since the last call.
     pub(crate) fn take_left_out(&self) -> u64 {
         self.left_out.take()
     }
@@ -65,10 +68,12 @@ impl LogQueue {
         self.lines.close();
     }
 
+    /// Whether every line was written, and the writer has ended.
     pub fn is_written(&self) -> bool {
         self.is_written.load(Ordering::SeqCst)
     }
 
+    /// The writer has found the queue closed and then empty, and ends.
     pub(crate) fn end(&self, _drained: Drained) -> Written {
         self.is_written.store(true, Ordering::SeqCst);
         Written(())

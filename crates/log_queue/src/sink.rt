@@ -11,6 +11,7 @@ use std::fmt::{Display, Write};
 use std::io::Eprint;
 use std::sync::Wait;
 
+/// How the lines of the log begin.
 #[derive(Clone, Copy)]
 pub enum Form {
     /// With the level.

@@ -217,6 +217,7 @@ fn simulate_by<L: Log, I: Read, O: Write>(
     }
 }
 
+/// A stream of this name whose errors are logged.
 pub(crate) fn stream<'a, S, L>(
     name: &'static str,
     inner: S,
@@ -282,6 +283,7 @@ where
     }
 }
 
+/// Writes all of a text, and flushes it.
 pub(crate) fn write(writer: &mut impl Write, text: &str) -> Result<(), ProgramFault>
     ensures { IfErr result (λ fault. status_of fault ≡ 1) }
 {
@@ -291,6 +293,7 @@ pub(crate) fn write(writer: &mut impl Write, text: &str) -> Result<(), ProgramFa
     Ok(())
 }
 
+/// Writes a fault to `errors`, and returns its status.
 pub(crate) fn report_fault(errors: &mut impl Write, fault: ProgramFault) -> u8
     ensures { result ≡ status_of fault }
 {

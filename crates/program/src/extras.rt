@@ -33,6 +33,7 @@ pub(crate) struct TypedExtras<'a> {
 }
 
 impl<'a> TypedExtras<'a> {
+    /// As the arguments of a command say.
     pub(crate) fn of(matches: &ArgMatches<'a>) -> TypedExtras<'a> {
         TypedExtras {
             stats: matches.get_str(SecondsOption::Stats.name()),

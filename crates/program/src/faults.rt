@@ -74,6 +74,7 @@ impl ProgramFault {
         }
     }
 
+    /// The exit status: that of a refused command line, or of any other fault.
     pub(crate) fn status(&self) -> u8
         ensures { result ≡ status_of self.now }
     {

@@ -6,6 +6,7 @@ use settings::{Key, ROWS, Row, has_leading_zero};
 use std::alloc::{AllocError, Global};
 use std::fmt;
 
+/// Adds an argument for each setting.
 pub fn add_settings<'a>(alloc: Global, arguments: &mut Vec<Arg<'a>>) -> Result<(), AllocError> {
     for row in all_arguments() {
         arguments.push(argument(alloc, *row))?;
@@ -33,6 +34,7 @@ fn without_default<'a>(alloc: Global, row: Row) -> Arg<'a> {
     }
 }
 
+/// The arguments of all settings.
 pub(crate) fn all_arguments() -> &'static [Row] {
     &ROWS
 }

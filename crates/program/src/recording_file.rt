@@ -102,6 +102,7 @@ fn keep<R: AllocGlobal + Files>(rt: &R, log: &impl Log, path: &str) -> Result<()
     Ok(())
 }
 
+/// Whether the file at a path begins as a recording does.
 pub(crate) fn is_recording(rt: &impl Files, path: &str) -> io::Result<bool> {
     let mut first = [0u8; 17];
     let length = File::open(rt, path)?.read(&mut first)?;

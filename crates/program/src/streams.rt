@@ -49,10 +49,12 @@ impl<W: Write, N: fmt::Display, L: Log> Write for Stream<'_, W, N, L> {
     }
 }
 
+/// Logs what is wrong with a stream, or with what was read from it.
 pub fn log_error<N: fmt::Display, E: fmt::Display>(log: &impl Log, name: &N, error: &E) {
     error!(log; target: "relayd", "{name}: {error}");
 }
 
+/// A file that could not be opened, and why.
 #[derive(Drop)]
 pub(crate) struct Unopened<'a> {
     pub(crate) path: &'a str,

@@ -205,12 +205,14 @@ impl ClosedMark {
         ClosedMark(AtomicBool::new(false))
     }
 
+    /// Reads the mark.
     pub(crate) fn read(&self) -> MarkSeen {
         // Pairs with `set`. Read after the queue, a ticket that was put before the close and after the look would be left.
         let closed = self.0.load(SeqCst);
         MarkSeen { closed }
     }
 
+    /// Sets the mark.
     pub(crate) fn set(&self) -> MarkSeen
         ensures { result.closed ≡ true }
     {
@@ -221,6 +223,7 @@ impl ClosedMark {
 }
 
 impl MarkSeen {
+    /// Whether the queue was closed.
     pub(crate) fn is_closed(&self) -> bool
         ensures { result ≡ self.now.closed }
     {

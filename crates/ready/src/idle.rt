@@ -27,10 +27,12 @@ impl IdleEnds {
         }
     }
 
+    /// Reads the mark of a closed queue.
     pub(crate) fn mark(&self) -> MarkSeen {
         self.mark.read()
     }
 
+    /// Marks an end as idle.
     pub(crate) fn announce(&self, sleeper: &Sleeper, empty: FoundEmpty) -> Announced
         requires open { empty.0.closed ≢ true }
         ensures { result.end ≡ sleeper.now.number }
@@ -92,6 +94,7 @@ impl IdleEnds {
         None
     }
 
+    /// Sets the mark and wakes every end.
     pub(crate) fn close(&self) {
         let seen = self.mark.set();
         self.wake_all(&seen);

@@ -61,6 +61,7 @@ impl<T> Split<History<T>> for NextEnd {
     ghost right = { λ v. blank };
 }
 
+/// Puts an item at the back. Full gives it back: the queue was full at one moment during the call.
 pub(crate) fn push<T, R: Wait>(
     rt: &R,
     line: &Line<T>,
@@ -79,6 +80,7 @@ pub(crate) fn push<T, R: Wait>(
     }
 }
 
+/// Takes the item at the front. None: the queue was empty at one moment during the call.
 pub(crate) fn pop<T, R: Wait>(rt: &R, line: &Line<T>, pass: &mut LinePass<T>) -> Option<T>
     requires { IsPassOf line.now pass.old }
     ensures same { IsSamePass pass.old pass.new }

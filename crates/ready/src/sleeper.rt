@@ -28,6 +28,7 @@ pub(crate) struct LookedInVain(Announced);
 /// An end that has looked since it announced itself, and has slept if it found nothing. It has to withdraw.
 pub(crate) struct Awake(Announced);
 
+/// Looks at the queue, for an end that has just read the mark.
 pub(crate) fn look<R: Wait>(
     rt: &R,
     seen: MarkSeen,
@@ -45,6 +46,7 @@ pub(crate) fn look<R: Wait>(
     }
 }
 
+/// Looks at the queue again, for an end that has announced that it is idle.
 pub(crate) fn look_again<R: Wait>(
     rt: &R,
     announced: Announced,
@@ -65,6 +67,7 @@ pub(crate) fn look_again<R: Wait>(
 }
 
 impl FoundEmpty {
+    /// Whether the queue was closed before the look.
     pub(crate) fn was_closed(&self) -> bool
         ensures { result ≡ self.now.0.closed }
     {
@@ -80,6 +83,7 @@ impl Sleeper {
         Sleeper { number, parker }
     }
 
+    /// Announces that this end is idle.
     pub(crate) fn announce(&self, idle: &IdleBits, empty: FoundEmpty) -> Announced
         requires open { empty.0.closed ≢ true }
         ensures { result.end ≡ self.now.number }

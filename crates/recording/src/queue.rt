@@ -65,6 +65,7 @@ impl RecordQueue {
         self.count.fetch_add(count, Ordering::SeqCst)
     }
 
+    /// Whether nothing is recorded any more.
     pub(crate) fn is_over(&self) -> bool {
         self.is_over.load(Ordering::SeqCst)
     }

@@ -51,12 +51,14 @@ pub(crate) struct Gone(Option<u64>);
 pub(crate) struct Inner<T>(T);
 
 impl<S: Sink> Recorder<S> {
+    /// What records into this sink.
     pub fn new(sink: S) -> Recorder<S>
         ensures { result.sink ≡ sink }
     {
         Recorder { sink }
     }
 
+    /// Another one for the same records.
     pub fn another(&self) -> Recorder<S>
         ensures { S.did Another self.now.sink result.sink }
     {
@@ -65,6 +67,7 @@ impl<S: Sink> Recorder<S> {
         }
     }
 
+    /// An act is about to begin.
     pub(crate) fn begin(&mut self) -> Begun
         ensures { S.did (Began result.0) self.old.sink self.new.sink }
     {
@@ -80,6 +83,7 @@ impl<S: Sink> Recorder<S> {
         self.record_from(before, act);
     }
 
+    /// The wire of this end was dropped.
     pub(crate) fn record_gone(&mut self, gone: Gone, name: Token)
         ensures { Ends S.did gone.0 (dropped name ∷ []) self.old.sink self.new.sink }
     {
@@ -127,12 +131,14 @@ impl<S: Sink> Recorder<S> {
 }
 
 impl Begun {
+    /// Of an act that is not recorded.
     pub(crate) fn unrecorded() -> Begun
         ensures { result.0 ≡ None }
     {
         Begun(None)
     }
 
+    /// An act that is not recorded has ended.
     pub(crate) fn skip(self)
         requires { self.0 ≡ None }
     {
@@ -141,6 +147,7 @@ impl Begun {
 }
 
 impl Gone {
+    /// That is not recorded.
     pub(crate) fn skip(self)
         requires { self.0 ≡ None }
     {
@@ -180,6 +187,7 @@ impl<T> Inner<T> {
         &mut self.0
     }
 
+    /// The part, for an act that has begun and does not change it.
     pub(crate) fn shown(&self, _begun: &Begun) -> &T
         ensures { result.now ≡ self.now }
     {

@@ -22,6 +22,7 @@ pub struct RecordedWire<W: Drop, S: Sink> {
 }
 
 impl<W: Drop, S: Sink> RecordedWire<W, S> {
+    /// A wire that has this name, if any.
     pub fn new(inner: W, name: Option<Token>, recorder: Recorder<S>) -> RecordedWire<W, S>
         ensures inner { result.inner ≡ inner }
         ensures name { result.name ≡ name }

@@ -12,6 +12,7 @@ pub struct Record {
     pub act: Act,
 }
 
+/// What happened.
 #[derive(Clone, Copy)]
 pub enum Act {
     /// The poller with this number did this.
@@ -30,6 +31,7 @@ pub enum Act {
     Full,
 }
 
+/// What a poller did.
 #[derive(Clone, Copy)]
 pub enum Polling {
     /// A wait for reports gave this many.
@@ -54,6 +56,7 @@ pub enum Accepted {
     Starved,
 }
 
+/// Whether a front opened a connection.
 #[derive(Clone, Copy)]
 pub enum Opening {
     Opened,
@@ -63,6 +66,7 @@ pub enum Opening {
     Register,
 }
 
+/// What was done with a wire.
 #[derive(Clone, Copy)]
 pub enum Made {
     /// A read of at most this many bytes. Its answer is a number of bytes, the end, or no success.
@@ -96,6 +100,7 @@ pub enum Answer {
 }
 
 impl Accepted {
+    /// The word for it in a recording.
     pub(crate) fn name(self) -> &'static str
         ensures { result.now ≡ accepted_name self }
     {
@@ -109,6 +114,7 @@ impl Accepted {
 }
 
 impl Opening {
+    /// The word for it in a recording.
     pub(crate) fn name(self) -> &'static str
         ensures { result.now ≡ opening_name self }
     {
@@ -120,6 +126,7 @@ impl Opening {
     }
 }
 
+/// The word for a truth value.
 pub(crate) fn yes_or_no(is_so: bool) -> &'static str
     ensures { result.now ≡ yes_or_no is_so }
 {

@@ -13,6 +13,7 @@ pub struct Wrong<'a> {
     pub wanted: &'static str,
 }
 
+/// The next word, whatever it is.
 pub(crate) fn word<'a>(
     words: &mut Pieces<'a>,
     wanted: &'static str,

@@ -25,6 +25,7 @@ pub enum Outcome {
     NoRun,
 }
 
+/// Replays recordings.
 pub trait Replay {
     /// Reads a recording, plays it, and writes what is wanted of it. `rests`: the relay had come to rest when it was
     /// stopped.

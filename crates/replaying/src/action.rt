@@ -12,7 +12,7 @@ use world::{Act as Work, Event, Polling as Poll, World};
 /// What a relay did and has a record of, and what the machine does in an event. The first number is the generation of
 /// the connection.
 #[derive(Clone, Copy)]
-pub enum Action {
+pub(crate) enum Action {
     Opened(u64),
     Began,
     /// This call offered so many bytes, and got this answer.
@@ -23,7 +23,7 @@ pub enum Action {
 }
 
 /// What a record is, by the act before it.
-pub fn action_of(last: &Act, act: &Act) -> Option<Action>
+pub(crate) fn action_of(last: &Act, act: &Act) -> Option<Action>
     ensures { result ≡ action_of last.now act.now }
 {
     match *act {
@@ -87,7 +87,7 @@ fn written(answer: Answer) -> Answer
 }
 
 /// What an event is that happens next in this world.
-pub fn action_in(world: &World, event: &Event) -> Option<Action>
+pub(crate) fn action_in(world: &World, event: &Event) -> Option<Action>
     ensures { result ≡ action_in world.now event.now }
 {
     match event {
@@ -145,7 +145,8 @@ fn action_of_release(pair: &Pair) -> Option<Action>
     }
 }
 
-pub fn offered(pair: &Pair, call: Call) -> usize
+/// How many bytes a call offers.
+pub(crate) fn offered(pair: &Pair, call: Call) -> usize
     ensures { result ≡ offered pair.now call }
 {
     match call {
@@ -171,7 +172,8 @@ fn answer_of(reply: Reply) -> Answer
     }
 }
 
-pub fn are_same(run: &[Action], records: &[Action]) -> bool
+/// Whether these are the same actions.
+pub(crate) fn are_same(run: &[Action], records: &[Action]) -> bool
     ensures { IsTrue result → run.now ≡ records.now }
 {
     if run.len() != records.len() {

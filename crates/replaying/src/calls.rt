@@ -15,13 +15,14 @@ const MAX_ARRIVAL: usize = 1_024;
 
 /// A call, and how many bytes it asks for or offers.
 #[derive(Clone, Copy)]
-pub struct Asked {
+pub(crate) struct Asked {
     pub call: Call,
     pub bytes: usize,
 }
 
 impl SlotReplay<'_> {
-    pub fn call(&mut self, side: Side, made: Made) -> Result<(), Flaw> {
+    /// A call was made at an end, and got this answer.
+    pub(crate) fn call(&mut self, side: Side, made: Made) -> Result<(), Flaw> {
         let Phase::Calling(calls) = self.state.phase else {
             return Err(Flaw::Because("no turn is in progress"));
         };
@@ -94,7 +95,8 @@ fn moves(reply: Reply) -> bool {
 }
 
 impl Machine {
-    pub fn next_call(&self) -> Option<Asked> {
+    /// The connection's next call.
+    pub(crate) fn next_call(&self) -> Option<Asked> {
         let pair = self.pair()?;
         let call = pair.next()?;
         let bytes = match call {

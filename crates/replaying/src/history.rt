@@ -8,7 +8,7 @@ use world::{Event, Limits, World};
 /// A world from its opening on, with each event that has happened in it, and what they were of what records have.
 /// Nothing else makes one or changes it, so its world is the one after its events.
 #[derive(Drop)]
-pub struct History {
+pub(crate) struct History {
     limits: Limits,
     world: World,
     events: Vec<Event>,
@@ -32,7 +32,7 @@ impl History {
     ghost use Rattle.replaying.specs.Traces.{IsHistory};
 
     /// The opening world with these limits, in which nothing has happened yet.
-    pub fn new(alloc: Global, limits: Limits) -> Result<History, AllocError>
+    pub(crate) fn new(alloc: Global, limits: Limits) -> Result<History, AllocError>
         requires { IsWithinLimits limits }
         ensures { IfOk result (λ history. (history.limits ≡ limits) × (history.events ≡ [])) }
     {
@@ -45,7 +45,7 @@ impl History {
     }
 
     /// An event happens. A refusal is that of the world, or `NoMemory`, and changes nothing.
-    pub fn put(&mut self, event: Event) -> Result<(), (Refusal, Event)>
+    pub(crate) fn put(&mut self, event: Event) -> Result<(), (Refusal, Event)>
         ensures put { OnOk result (self.new.events ≡ self.old.events ++ event ∷ []) }
         ensures limits { self.new.limits ≡ self.old.limits }
         ensures refused { OnErr result (self.new ≡ self.old) }
@@ -68,28 +68,28 @@ impl History {
     }
 
     /// The limits of the world.
-    pub fn limits(&self) -> Limits
+    pub(crate) fn limits(&self) -> Limits
         ensures { result ≡ self.now.limits }
     {
         self.limits
     }
 
     /// The world after all events.
-    pub fn world(&self) -> &World
+    pub(crate) fn world(&self) -> &World
         ensures { result.now ≡ self.now.world }
     {
         &self.world
     }
 
     /// The events that have happened, in order.
-    pub fn events(&self) -> &[Event]
+    pub(crate) fn events(&self) -> &[Event]
         ensures { result.now ≡ self.now.events }
     {
         self.events.as_slice()
     }
 
     /// What the events were.
-    pub fn trace(&self) -> &[Action]
+    pub(crate) fn trace(&self) -> &[Action]
         ensures value { result.now ≡ self.now.trace }
         ensures of_run { IsHistory self.now }
     {

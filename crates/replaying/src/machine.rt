@@ -11,7 +11,7 @@ use world::{Act, Change, Event, Lead, Limits, Listening, Polling, Reported, Worl
 
 /// Why a replay stops.
 #[derive(Clone, Copy)]
-pub enum Flaw {
+pub(crate) enum Flaw {
     /// The world refuses the event that is kept.
     Refused,
     /// The connection has another call to make, or none.
@@ -35,7 +35,7 @@ impl<T: Drop> From<AllocFailed<T>> for Flaw {
 
 /// A world, and the event that it refused.
 #[derive(Drop)]
-pub struct Machine {
+pub(crate) struct Machine {
     pub alloc: Global,
     pub history: History,
     pub refused: Option<Event>,
@@ -43,7 +43,7 @@ pub struct Machine {
 
 impl Machine {
     /// The sizes of a world in which nothing is opened, so that no ring and no budget matters.
-    pub const LIMITS: Limits = Limits {
+    pub(crate) const LIMITS: Limits = Limits {
         slots: 1,
         workers: 1,
         ring: 1,
@@ -53,7 +53,8 @@ impl Machine {
         lead: Lead::NONE,
     };
 
-    pub fn new(alloc: Global, limits: Limits) -> Result<Machine, AllocError>
+    /// A world of these sizes, in which nothing has happened.
+    pub(crate) fn new(alloc: Global, limits: Limits) -> Result<Machine, AllocError>
         requires { IsWithinLimits limits }
     {
         Ok(Machine {
@@ -63,7 +64,8 @@ impl Machine {
         })
     }
 
-    pub fn put(&mut self, event: Event) -> Result<(), Flaw> {
+    /// An event happens.
+    pub(crate) fn put(&mut self, event: Event) -> Result<(), Flaw> {
         match self.history.put(event) {
             Ok(()) => Ok(()),
             Err((Refusal::NoMemory, _)) => Err(Flaw::NoMemory),
@@ -74,7 +76,8 @@ impl Machine {
         }
     }
 
-    pub fn work(&mut self, acts: &[Act]) -> Result<(), Flaw> {
+    /// The worker does this, one act after the other.
+    pub(crate) fn work(&mut self, acts: &[Act]) -> Result<(), Flaw> {
         for act in acts {
             self.put(Event::Work(0, *act))?;
         }
@@ -82,7 +85,7 @@ impl Machine {
     }
 
     /// A turn begins: its ticket is put and taken, wherever it is, the slot is claimed, and its notes are taken.
-    pub fn claim(&mut self) -> Result<(), Flaw> {
+    pub(crate) fn claim(&mut self) -> Result<(), Flaw> {
         if self.world().poller_hand().is_empty() {
             self.put(Event::Work(0, Act::Put))?;
         } else {
@@ -92,7 +95,7 @@ impl Machine {
     }
 
     /// A report is polled and delivered. Where none is queued, it is one without cause.
-    pub fn deliver(&mut self, name: Name, who: Reported) -> Result<(), Flaw> {
+    pub(crate) fn deliver(&mut self, name: Name, who: Reported) -> Result<(), Flaw> {
         if !self.is_queued(&name) {
             self.put(Event::Spurious(who))?;
         }
@@ -101,46 +104,52 @@ impl Machine {
         self.put(Event::Poll(Polling::Deliver))
     }
 
-    pub fn is_queued(&self, name: &Name) -> bool {
+    pub(crate) fn is_queued(&self, name: &Name) -> bool {
         self.world().kernel().is_queued(name)
     }
 
-    pub fn change(&mut self, side: Side, change: Change) -> Result<(), Flaw> {
+    /// The network changes something at an end.
+    pub(crate) fn change(&mut self, side: Side, change: Change) -> Result<(), Flaw> {
         self.put(Event::Network(0, side, change))
     }
 
-    pub fn world(&self) -> &World {
+    pub(crate) fn world(&self) -> &World {
         self.history.world()
     }
 
-    pub fn has_notes(&self) -> bool {
+    /// Whether the slot has notes.
+    pub(crate) fn has_notes(&self) -> bool {
         match self.world().slots().first() {
             Some(slot) => slot.has_notes(),
             None => false,
         }
     }
 
-    pub fn pair(&self) -> Option<&Pair> {
+    /// The connection in the slot.
+    pub(crate) fn pair(&self) -> Option<&Pair> {
         match self.world().connection(0) {
             Some(connection) => Some(&connection.pair),
             None => None,
         }
     }
 
-    pub fn is_over(&self) -> bool {
+    /// Whether it has ended.
+    pub(crate) fn is_over(&self) -> bool {
         match self.pair() {
             Some(pair) => pair.verdict() != Verdict::Live,
             None => true,
         }
     }
 
-    pub fn end(&self, side: Side) -> Option<&End> {
+    /// One end of it.
+    pub(crate) fn end(&self, side: Side) -> Option<&End> {
         let connection = self.world().connection(0)?;
         let open = self.world().kernel().end(connection.descriptor(side))?;
         Some(&open.socket)
     }
 
-    pub fn listen(&mut self, act: &Recorded) -> Result<(), Flaw> {
+    /// An act of the poller.
+    pub(crate) fn listen(&mut self, act: &Recorded) -> Result<(), Flaw> {
         let Recorded::Poller(_, did) = act else {
             return Ok(());
         };
@@ -172,7 +181,8 @@ impl Machine {
         Ok(())
     }
 
-    pub fn come_in(&mut self) -> Result<(), Flaw> {
+    /// A client comes in just before it is accepted.
+    pub(crate) fn come_in(&mut self) -> Result<(), Flaw> {
         self.put(Event::Listen(Listening::Connect))?;
         self.answer(Accepting::Accepted)
     }

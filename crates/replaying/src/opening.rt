@@ -18,7 +18,8 @@ const LEAST_LEAD: usize = 32;
 const MOST_LEAD: usize = 56;
 
 impl SlotReplay<'_> {
-    pub fn open(
+    /// The front was asked to open a connection here.
+    pub(crate) fn open(
         &mut self,
         results: &mut Results,
         record: Record,
@@ -125,7 +126,7 @@ fn first_offer(next: &[Numbered], generation: u64) -> usize
 }
 
 /// Those of the world of one slot, which begins before this generation.
-pub fn limits_of(header: &Header, generation: u64, lead: Lead) -> Option<Limits>
+pub(crate) fn limits_of(header: &Header, generation: u64, lead: Lead) -> Option<Limits>
     ensures { IfSome result (λ limits. IsWithinLimits limits) }
 {
     let (ring, budget, idle) = (header.ring, header.budget, header.idle);

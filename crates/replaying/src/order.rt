@@ -10,7 +10,7 @@ use std::alloc::AllocError;
 /// of a slot or of a poller are in another order, if what one thread at a time does overlaps, if two acts have the same
 /// count, if the last record has not the greatest counts, or if a recording that says it is complete is not. Where one
 /// was stopped, threads lost what they had not handed over: then only the records before the first lost one are left.
-pub fn put_in_order(recording: &mut Recording) -> Result<(), ReplayFault> {
+pub(crate) fn put_in_order(recording: &mut Recording) -> Result<(), ReplayFault> {
     sort(recording)?;
     check_sequences(recording)?;
     let counts = counts_of(recording)?;
@@ -210,7 +210,7 @@ fn leave_out(recording: &mut Recording, lost: u64) {
 
 /// The place of the first of these acts, of a slot or of a poller, that does not follow the one before it, or how many
 /// there are.
-pub fn first_overlap(list: &[Numbered]) -> usize
+pub(crate) fn first_overlap(list: &[Numbered]) -> usize
     ensures within { result ≤ length list.now }
     ensures before { (place : ℕ) → place < result → 1 ≤ place → FollowsAt list.now place }
     ensures found { result < length list.now → (1 ≤ result) × (FollowsAt list.now result → ⊥) }

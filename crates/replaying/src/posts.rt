@@ -8,7 +8,7 @@ use world::{Event, Polling as Polled, Reported};
 
 /// What a poller may have posted: by a report, or by the sweep of the round after a poll.
 #[derive(Clone, Copy)]
-pub struct Post {
+pub(crate) struct Post {
     /// The place of the report or of the poll among what the poller did.
     pub place: usize,
     /// The generation of which an end was reported. None for a sweep.
@@ -23,10 +23,11 @@ pub struct Post {
 
 /// Posts in the order in which they were made, without those that were made in the world.
 #[derive(Clone, Copy)]
-pub struct Queue<'a>(pub &'a [Post]);
+pub(crate) struct Queue<'a>(pub &'a [Post]);
 
+/// What the poller of a slot may have posted there.
 #[derive(Clone, Copy)]
-pub struct Posts<'a> {
+pub(crate) struct Posts<'a> {
     pub reports: Queue<'a>,
     pub sweeps: Queue<'a>,
 }
@@ -48,7 +49,8 @@ impl Post {
     }
 }
 
-pub fn posts_at(lists: &[Vec<Post>], at: usize) -> Queue<'_> {
+/// The posts of a list of lists.
+pub(crate) fn posts_at(lists: &[Vec<Post>], at: usize) -> Queue<'_> {
     match lists.get(at) {
         Some(list) => Queue(list.as_slice()),
         None => Queue(&[]),
@@ -117,7 +119,7 @@ impl Posts<'_> {
 impl SlotReplay<'_> {
     /// A turn begins before this count, so the slot has a note by then. Answers from which count on the turn has its
     /// ticket.
-    pub fn gather_notes(&mut self, before: u64) -> Result<u64, Flaw> {
+    pub(crate) fn gather_notes(&mut self, before: u64) -> Result<u64, Flaw> {
         let mut since = self.state.free_from;
         for _post in 0..self.posts.reports.0.len().saturating_add(1) {
             let has_notes = self.machine.has_notes();
@@ -137,7 +139,7 @@ impl SlotReplay<'_> {
     }
 
     /// While the slot is held for the last time, whatever can have been reported of its connection is.
-    pub fn note_while_held(&mut self) -> Result<(), Flaw> {
+    pub(crate) fn note_while_held(&mut self) -> Result<(), Flaw> {
         for _post in 0..self.posts.reports.0.len() {
             let before = self.state.taken_by;
             let Some(post) = self.posts.reports.first(&self.state, before) else {
@@ -150,7 +152,7 @@ impl SlotReplay<'_> {
     }
 
     /// Whatever was reported after the last turn took its notes was posted by the end, and so was each sweep.
-    pub fn note_the_rest(&mut self) -> Result<(), Flaw> {
+    pub(crate) fn note_the_rest(&mut self) -> Result<(), Flaw> {
         self.posts.sweeps.pass_over(&self.state);
         let report = self.posts.reports.first_after(&self.state);
         match report.or(self.posts.sweeps.first_after(&self.state)) {

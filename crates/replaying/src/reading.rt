@@ -24,7 +24,7 @@ struct Lines {
 }
 
 /// Reads a recording to its end. Refuses with `Broken` for the first line that is none of a recording.
-pub fn read<R: Read>(alloc: Global, reader: &mut R) -> Result<Recording, ReplayFault> {
+pub(crate) fn read<R: Read>(alloc: Global, reader: &mut R) -> Result<Recording, ReplayFault> {
     let mut lines = Lines {
         alloc,
         recording: None,
@@ -133,7 +133,8 @@ fn takes_both(act: &Act) -> bool {
     )
 }
 
-pub fn wanted<'a>(wanted: &'static str) -> Wrong<'a> {
+/// This is wanted of a line whose words are right.
+pub(crate) fn wanted<'a>(wanted: &'static str) -> Wrong<'a> {
     Wrong { word: None, wanted }
 }
 

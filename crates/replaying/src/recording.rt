@@ -10,14 +10,14 @@ use std::alloc::{AllocError, Global};
 
 /// A record, and its line in the file, from 1.
 #[derive(Clone, Copy)]
-pub struct Numbered {
+pub(crate) struct Numbered {
     pub line: u64,
     pub record: Record,
 }
 
 /// How a recording ends.
 #[derive(Clone, Copy, PartialEq, Eq)]
-pub enum Last {
+pub(crate) enum Last {
     /// The relay was stopped: what is there is a beginning.
     Stopped,
     /// There was no room for a record: so it is then.
@@ -26,8 +26,9 @@ pub enum Last {
     Ended,
 }
 
+/// What a file says.
 #[derive(Drop)]
-pub struct Recording {
+pub(crate) struct Recording {
     pub alloc: Global,
     pub header: Header,
     /// Which slots are which poller's.
@@ -46,7 +47,8 @@ pub struct Recording {
     pub cut: Option<u64>,
 }
 
-pub fn split_of(header: &Header) -> Option<Split> {
+/// How the slots are dealt in a relay of these sizes, if there is such a relay.
+pub(crate) fn split_of(header: &Header) -> Option<Split> {
     let (slots, workers) = (header.slots, header.workers);
     if slots == 0 || slots > 4_096 || workers == 0 || workers > 16 {
         return None;
@@ -60,7 +62,12 @@ pub fn split_of(header: &Header) -> Option<Split> {
 }
 
 impl Recording {
-    pub fn new(alloc: Global, header: Header, split: Split) -> Result<Recording, AllocError> {
+    /// The recording of a relay of these sizes, without any record.
+    pub(crate) fn new(
+        alloc: Global,
+        header: Header,
+        split: Split,
+    ) -> Result<Recording, AllocError> {
         let Header { slots, pollers, .. } = header;
         let count = slots.saturating_add(pollers).saturating_add(1);
         Ok(Recording {
@@ -77,7 +84,7 @@ impl Recording {
     }
 
     /// An opening belongs to two lists.
-    pub fn add(&mut self, line: u64, record: Record) -> Result<(), AllocError> {
+    pub(crate) fn add(&mut self, line: u64, record: Record) -> Result<(), AllocError> {
         match record.act {
             Act::Ended => self.last = Last::Ended,
             Act::Full => self.last = Last::Full,
@@ -121,11 +128,12 @@ impl Recording {
     }
 
     /// Whether each turn and each round is known to have read the clock, if it was over by this count.
-    pub fn reads_seconds(&self, count: u64) -> bool {
+    pub(crate) fn reads_seconds(&self, count: u64) -> bool {
         self.header.idle > 0 && count < self.whole
     }
 
-    pub fn slot(&self, slot: usize) -> &[Numbered]
+    /// What happened at a slot.
+    pub(crate) fn slot(&self, slot: usize) -> &[Numbered]
         ensures { result.now ≡ records_of self.now slot }
     {
         if slot < self.header.slots {
@@ -135,20 +143,22 @@ impl Recording {
         }
     }
 
-    pub fn at_poller(&self, poller: usize) -> usize {
+    /// Which list is that of a poller.
+    pub(crate) fn at_poller(&self, poller: usize) -> usize {
         self.header.slots.saturating_add(poller)
     }
 
-    pub fn poller(&self, poller: usize) -> &[Numbered] {
+    /// What a poller did.
+    pub(crate) fn poller(&self, poller: usize) -> &[Numbered] {
         self.list(self.at_poller(poller))
     }
 
     /// What is of no slot and of no poller.
-    pub fn others(&self) -> &[Numbered] {
+    pub(crate) fn others(&self) -> &[Numbered] {
         self.poller(self.header.pollers)
     }
 
-    pub fn list(&self, at: usize) -> &[Numbered]
+    pub(crate) fn list(&self, at: usize) -> &[Numbered]
         ensures { result.now ≡ records_at self.now at }
     {
         match self.lists.get(at) {
@@ -158,7 +168,8 @@ impl Recording {
     }
 }
 
-pub fn lists<T: Drop>(alloc: Global, count: usize) -> Result<Vec<Vec<T>>, AllocError> {
+/// This many empty lists.
+pub(crate) fn lists<T: Drop>(alloc: Global, count: usize) -> Result<Vec<Vec<T>>, AllocError> {
     let mut lists = Vec::new(alloc);
     for _list in 0..count {
         lists.push(Vec::new(alloc))?;
@@ -167,6 +178,6 @@ pub fn lists<T: Drop>(alloc: Global, count: usize) -> Result<Vec<Vec<T>>, AllocE
 }
 
 /// Whether another list has this record, too: an opening in that of its slot.
-pub fn is_twice(of_slot: bool, act: &Act) -> bool {
+pub(crate) fn is_twice(of_slot: bool, act: &Act) -> bool {
     of_slot && matches!(act, Act::Poller(_, _))
 }

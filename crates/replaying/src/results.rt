@@ -11,7 +11,7 @@ use std::alloc::{AllocError, Global};
 use world::World;
 
 /// Bytes that were read at clients and at targets, and bytes that were written there.
-pub type Moved = [u64; 4];
+pub(crate) type Moved = [u64; 4];
 
 #[derive(Clone, Copy)]
 struct Became {
@@ -20,8 +20,9 @@ struct Became {
     moved: Moved,
 }
 
+/// Whose act it was.
 #[derive(Clone, Copy)]
-pub enum Whose {
+pub(crate) enum Whose {
     Poller(usize),
     /// That of a slot and a generation, which is 0 where nothing was opened.
     Slot(usize, u64),
@@ -29,14 +30,15 @@ pub enum Whose {
 
 /// A record that can stand at no place, and the world in which it should have happened.
 #[derive(Drop)]
-pub struct Flawed {
+pub(crate) struct Flawed {
     pub whose: Whose,
     pub numbered: Numbered,
     pub machine: Machine,
 }
 
+/// What came of the worlds in which slots and listeners were replayed.
 #[derive(Drop)]
-pub struct Results {
+pub(crate) struct Results {
     pub wanted: Wanted,
     /// How many connections there were, how many events of each kind, and what moved.
     pub connections: u64,
@@ -79,7 +81,7 @@ impl Became {
 }
 
 impl Results {
-    pub fn new(alloc: Global, wanted: Wanted) -> Results {
+    pub(crate) fn new(alloc: Global, wanted: Wanted) -> Results {
         Results {
             wanted,
             connections: 0,
@@ -91,7 +93,8 @@ impl Results {
         }
     }
 
-    pub fn end(&mut self, whose: Whose, numbered: Numbered, machine: Machine) {
+    /// The replay stops at this record.
+    pub(crate) fn end(&mut self, whose: Whose, numbered: Numbered, machine: Machine) {
         self.flawed = Some(Flawed {
             whose,
             numbered,
@@ -100,7 +103,7 @@ impl Results {
     }
 
     /// A world was replayed to its end, or as far as the recording goes.
-    pub fn take(&mut self, slot: usize, history: History) -> Result<(), Flaw> {
+    pub(crate) fn take(&mut self, slot: usize, history: History) -> Result<(), Flaw> {
         for event in history.events() {
             self.counts.count(event);
         }

@@ -27,7 +27,10 @@ struct Rounds<'a> {
 /// connection.
 ///
 /// Refuses with `Broken` for a poll with other reports than it gave.
-pub fn find_posts(recording: &Recording, clock: &Clock) -> Result<Vec<Vec<Post>>, ReplayFault> {
+pub(crate) fn find_posts(
+    recording: &Recording,
+    clock: &Clock,
+) -> Result<Vec<Vec<Post>>, ReplayFault> {
     let mut posts = lists(recording.alloc, recording.lists.len())?;
     for poller in 0..recording.header.pollers {
         let mut rounds = Rounds {

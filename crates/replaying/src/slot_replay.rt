@@ -12,7 +12,7 @@ use token::{Side, Token};
 
 /// What was found out of a recording before its slots are replayed.
 #[derive(Clone, Copy)]
-pub struct Findings<'a> {
+pub(crate) struct Findings<'a> {
     pub recording: &'a Recording,
     pub clock: &'a Clock,
     pub posts: &'a [Vec<Post>],
@@ -20,8 +20,9 @@ pub struct Findings<'a> {
     pub rests: bool,
 }
 
+/// Where the replay of a slot stands.
 #[derive(Clone, Copy)]
-pub enum Phase {
+pub(crate) enum Phase {
     /// No connection is open.
     Free,
     /// A connection came to nothing, or the relay failed while it was open, and this end was dropped.
@@ -38,7 +39,7 @@ pub enum Phase {
 
 /// What is known of the connection in a slot, or of the last one there.
 #[derive(Clone, Copy)]
-pub struct State {
+pub(crate) struct State {
     pub phase: Phase,
     /// Its generation, 0 before the first one, and that of the connection that came to nothing.
     pub generation: u64,
@@ -54,8 +55,9 @@ pub struct State {
     pub moved: u64,
 }
 
+/// A slot that is replayed.
 #[derive(Drop)]
-pub struct SlotReplay<'a> {
+pub(crate) struct SlotReplay<'a> {
     pub findings: Findings<'a>,
     pub slot: usize,
     pub poller: usize,
@@ -107,7 +109,8 @@ fn opening_of(act: &Act) -> Option<(u64, Opening)> {
 }
 
 impl<'a> SlotReplay<'a> {
-    pub fn new(
+    /// A slot that is to be replayed, whose first act is this one.
+    pub(crate) fn new(
         findings: Findings<'a>,
         slot: usize,
         first: Numbered,
@@ -131,7 +134,8 @@ impl<'a> SlotReplay<'a> {
         }
     }
 
-    pub fn run(
+    /// Replays all records of the slot.
+    pub(crate) fn run(
         &mut self,
         recording: &Recording,
         records: &'a [Numbered],

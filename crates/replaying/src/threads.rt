@@ -6,7 +6,7 @@ use records::{Act, Made, Record, ReplayFault};
 use std::alloc::AllocError;
 
 /// The most calls of a turn that a poller's own thread runs.
-pub const OWN_BUDGET: usize = 8;
+pub(crate) const OWN_BUDGET: usize = 8;
 
 /// What one thread did at a slot without a break: a turn, with the closing that follows it, or another closing.
 #[derive(Clone, Copy)]
@@ -33,7 +33,7 @@ struct Change {
 }
 
 /// Refuses with `Broken` a turn for which no thread is left.
-pub fn check_threads(recording: &Recording) -> Result<(), ReplayFault> {
+pub(crate) fn check_threads(recording: &Recording) -> Result<(), ReplayFault> {
     let mut spans = Vec::new(recording.alloc);
     for slot in 0..recording.header.slots {
         for span in spans_of(recording, slot)? {
@@ -113,7 +113,7 @@ fn add(changes: &mut Vec<Change>, acts: &[Numbered], span: Span) -> Result<(), A
 }
 
 /// Whether a poller, which did these acts one after the other, did one between these two counts.
-pub fn is_busy(acts: &[Numbered], from: u64, to: u64) -> bool {
+pub(crate) fn is_busy(acts: &[Numbered], from: u64, to: u64) -> bool {
     let ended = acts.partition_point(|act| act.record.after < from);
     match acts.get(ended) {
         Some(act) => act.record.before < to,

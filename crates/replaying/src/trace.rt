@@ -26,7 +26,7 @@ fn trace_of_records(alloc: Global, records: &[Numbered]) -> Result<Vec<Action>, 
 
 /// Whether these records, which are those of one connection, are those of this run, or had no turn, so that no run is
 /// asked of them.
-pub fn is_connection(
+pub(crate) fn is_connection(
     recording: &Recording,
     run: &History,
     records: &[Numbered],
@@ -76,7 +76,7 @@ fn may_close(failed: Option<u64>, run: &[Action], records: &[Action]) -> bool
 }
 
 /// How many records belong to the connection that the first of these opened: those before the next opening.
-pub fn connection_len(records: &[Numbered]) -> usize
+pub(crate) fn connection_len(records: &[Numbered]) -> usize
     requires { 0 < length records.now }
     ensures some { 0 < result }
     ensures within { result ≤ length records.now }

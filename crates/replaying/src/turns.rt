@@ -7,7 +7,8 @@ use token::Side;
 use world::{Act, Event};
 
 impl SlotReplay<'_> {
-    pub fn begin(&mut self, record: Record) -> Result<(), Flaw> {
+    /// A turn begins: it has a note by then.
+    pub(crate) fn begin(&mut self, record: Record) -> Result<(), Flaw> {
         match self.state.phase {
             Phase::Open => {}
             Phase::Free => return Err(Flaw::Because("no connection is open in the slot")),
@@ -39,7 +40,8 @@ impl SlotReplay<'_> {
             .saturating_add(self.machine.world().second())
     }
 
-    pub fn end(&mut self, record: Record) -> Result<(), Flaw> {
+    /// A turn has made its calls.
+    pub(crate) fn end(&mut self, record: Record) -> Result<(), Flaw> {
         let Phase::Calling(calls) = self.state.phase else {
             return Err(Flaw::Because("no turn is in progress"));
         };
@@ -89,7 +91,7 @@ impl SlotReplay<'_> {
     }
 
     /// A turn has ended quiet, which the target's wire records. After that the slot is released.
-    pub fn settle(&mut self, side: Side, record: Record) -> Result<(), Flaw> {
+    pub(crate) fn settle(&mut self, side: Side, record: Record) -> Result<(), Flaw> {
         if !matches!(self.state.phase, Phase::Settling) {
             return Err(Flaw::Because("no turn has ended quiet"));
         }
@@ -102,7 +104,7 @@ impl SlotReplay<'_> {
     }
 
     /// An end is dropped. After the second one the slot is free.
-    pub fn drop_end(&mut self, side: Side, record: Record) -> Result<(), Flaw> {
+    pub(crate) fn drop_end(&mut self, side: Side, record: Record) -> Result<(), Flaw> {
         let phase = self.state.phase;
         match phase {
             Phase::Open if self.has_failed(record.before) => {
@@ -153,7 +155,8 @@ impl SlotReplay<'_> {
         Ok(())
     }
 
-    pub fn ended(&self) -> Result<(), Flaw> {
+    /// The relay has ended, and closed all its sockets.
+    pub(crate) fn ended(&self) -> Result<(), Flaw> {
         match self.state.phase {
             Phase::Free => Ok(()),
             _ => Err(Flaw::Because("the relay has ended, and the connection is not closed")),
@@ -161,7 +164,7 @@ impl SlotReplay<'_> {
     }
 
     /// Nothing is left to do in the slot. A flaw names the record that what is left came from.
-    pub fn rest(&mut self) -> Result<(), Flaw> {
+    pub(crate) fn rest(&mut self) -> Result<(), Flaw> {
         match self.state.phase {
             Phase::Free => return Ok(()),
             Phase::Open => {}

@@ -11,7 +11,8 @@ use world::Event;
 
 const AT_ONCE: usize = 256;
 
-pub fn write_results<W: Write>(
+/// Writes what is wanted of a recording of runs.
+pub(crate) fn write_results<W: Write>(
     output: &mut W,
     results: &Results,
     recording: &Recording,
@@ -25,7 +26,7 @@ pub fn write_results<W: Write>(
 }
 
 /// Writes which record can stand at no place and why, and the script that leads there.
-pub fn write_flaw<W: Write>(
+pub(crate) fn write_flaw<W: Write>(
     alloc: Global,
     output: &mut W,
     flawed: &Flawed,

@@ -15,12 +15,14 @@ pub(crate) struct Owed {
 }
 
 impl Owed {
+    /// The line that counts this many more, or with 0 the line about one drop.
     pub(crate) fn new(cause: Cause, more: u64) -> Owed
         ensures { result ≡ record { cause = cause; more = more } }
     {
         Owed { cause, more }
     }
 
+    /// Logs the line.
     pub(crate) fn log<L: Logs>(self, rt: &L)
         ensures { L.logged rt.now level.Warn (Some (line_of self)) }
     {
@@ -51,6 +53,7 @@ impl Model for Dropped {
 }
 
 impl Dropped {
+    /// Logs why a connection is closed unopened at this second, or counts it among these drops.
     pub(crate) fn log(rt: &impl Logs, drops: &mut Drops, cause: Cause, second: u64) -> Dropped
         ensures cause { result ≡ cause }
         ensures drops { drops.new ≡ dropped_for cause second drops.old }

@@ -47,6 +47,7 @@ pub struct Episodes {
 }
 
 impl Episodes {
+    /// Nothing was logged that still lasts.
     pub(crate) fn none() -> Episodes
         ensures { result ≡ no_episodes }
     {
@@ -149,6 +150,7 @@ pub struct Drops {
 }
 
 impl Drops {
+    /// Nothing was logged, and nothing is counted.
     pub(crate) fn none() -> Drops
         ensures { result ≡ no_drops }
     {
@@ -160,6 +162,7 @@ impl Drops {
         }
     }
 
+    /// Adds a drop for this cause at this second. Returns the line that must be logged, if the drop is not counted.
     pub(crate) fn add(&mut self, cause: Cause, second: u64) -> Option<Owed>
         ensures drops { self.new ≡ dropped_for cause second self.old }
         ensures owed { result ≡ owed_for cause second (tally_of cause self.old) }
@@ -172,6 +175,7 @@ impl Drops {
         }
     }
 
+    /// Logs at this second what is counted of each cause, unless the second has had a line of that cause.
     pub(crate) fn log_counted(&mut self, rt: &impl Logs, second: u64)
         ensures logged { self.new ≡ all_logged_at second self.old }
         ensures all { AreLogged second self.new }
@@ -195,6 +199,7 @@ impl Drops {
         }
     }
 
+    /// Logs all that is counted. The next drop of each cause has a line of its own again.
     pub(crate) fn end(&mut self, rt: &impl Logs)
         ensures { self.new ≡ no_drops }
     {

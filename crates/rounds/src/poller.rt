@@ -198,6 +198,7 @@ impl<F: Front> Poller<F> {
         self.opened >= self.most
     }
 
+    /// The reports of the last wait, which the round delivers.
     pub(crate) fn batch(&self) -> &[u64]
         ensures batch { result.now ≡ self.now.batch }
         ensures few { length result.now ≤ 256 }
@@ -222,6 +223,7 @@ impl<F: Front> Poller<F> {
         self.second = second;
     }
 
+    /// A round may try accept(2) this many times again, and has left no client.
     pub(crate) fn reset_tries(&mut self)
         ensures { self.new ≡ record self.old { tries = max_accepts; left = false } }
     {
@@ -229,6 +231,7 @@ impl<F: Front> Poller<F> {
         self.left = false;
     }
 
+    /// Whether the next client is left to other pollers ([`Front::leaves`]).
     pub(crate) fn leaves(&mut self) -> bool
         ensures { self.new ≡ record self.old { left = result } }
     {
@@ -303,6 +306,8 @@ impl<F: Front> Poller<F> {
         self.episodes.starved = false;
     }
 
+    /// A round closed an accepted connection unopened, which was logged, or is counted for a later line. Its slot is in
+    /// hand. The statistics count it there, too.
     pub(crate) fn count_dropped(
         &mut self,
         shared: &Shared<F>,

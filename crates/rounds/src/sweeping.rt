@@ -43,6 +43,8 @@ pub(crate) fn keep_time<F: Front, C: Clock>(
     Ok(())
 }
 
+/// Whether a sweep is due: at the second of the last round the limit, if there is one, had passed since the last
+/// sweep.
 pub(crate) fn is_due<F: Front>(poller: &Poller<F>, limit: u64) -> bool
     ensures { result ≡ is_due limit poller.now }
 {

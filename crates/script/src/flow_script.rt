@@ -25,6 +25,7 @@ impl Model for FlowScript {
 }
 
 impl FlowScript {
+    /// A script of these steps. Allocates no memory.
     pub fn new(ring: usize, steps: Vec<NumberedStep>) -> FlowScript
         requires least { 1 ≤ ring }
         requires most { ring ≤ 65536 }
@@ -33,6 +34,7 @@ impl FlowScript {
         FlowScript { ring, steps }
     }
 
+    /// The steps, in order.
     pub fn steps(&self) -> &[NumberedStep]
         ensures { result.now ≡ self.now.steps }
     {

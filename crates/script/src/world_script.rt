@@ -28,6 +28,7 @@ impl Model for WorldScript {
 }
 
 impl WorldScript {
+    /// A script of these events. Allocates no memory.
     pub fn new(limits: Limits, events: Vec<NumberedEvent>) -> WorldScript
         requires { IsWithinLimits limits }
         ensures { result ≡ record { limits = limits; events = events.items } }
@@ -35,6 +36,7 @@ impl WorldScript {
         WorldScript { limits, events }
     }
 
+    /// The events, in order.
     pub fn events(&self) -> &[NumberedEvent]
         ensures { result.now ≡ self.now.events }
     {

@@ -29,6 +29,7 @@ const NONE: usize = usize::MAX;
 type Way = [usize; 7];
 
 impl Outline {
+    /// The part that this event may change, before it.
     pub fn new(alloc: Global, world: &World, event: &Event) -> Result<Outline, AllocError> {
         let worker = match event {
             Event::Work(worker, _) => *worker,

@@ -54,8 +54,10 @@ pub struct Counts {
 }
 
 impl Counts {
+    /// None has happened.
     pub const NONE: Counts = Counts { kinds: [0; KINDS] };
 
+    /// Counts an event.
     pub fn count(&mut self, event: &Event) {
         let (word, more) = kind_of(event);
         for kind in 0..KINDS {
@@ -73,6 +75,7 @@ impl Counts {
         }
     }
 
+    /// How many there are of all kinds.
     pub fn sum(&self) -> u64 {
         let mut sum: u64 = 0;
         for count in &self.kinds {

@@ -33,6 +33,7 @@ impl<'a> Model for Lines<'a> {
 }
 
 impl<'a> Lines<'a> {
+    /// The lines of a text.
     pub fn new(text: &'a [u8]) -> Lines<'a>
         requires { length text.now < 2 ^ 62 }
         ensures { result ≡ telling_lines 1 (lines_of text.now) }

@@ -176,12 +176,14 @@ pub fn put_stream<'a>(page: &mut Page, ring: &'a [u8], unread: &'a [u8], ended: 
     ]);
 }
 
+/// A truth value as shown in a report.
 pub(crate) fn yes_or_no(is_so: bool) -> &'static str
     ensures { result.now ≡ yes_or_no is_so }
 {
     if is_so { "yes" } else { "no" }
 }
 
+/// One of two words.
 pub(crate) fn one_of(is_first: bool, first: &'static str, second: &'static str) -> &'static str
     ensures { result.now ≡ (if is_first then first.now else second.now) }
 {

@@ -12,10 +12,13 @@ use token::Side;
 /// Of a world: the most slots, workers, calls of one turn, and seconds of an idle limit.
 pub(crate) const MAX_SLOTS: usize = 64;
 
+/// The most workers of a world.
 pub(crate) const MAX_WORKERS: usize = 16;
 
+/// The most calls of one turn.
 pub(crate) const MAX_BUDGET: usize = 1_024;
 
+/// The most seconds of an idle limit.
 pub(crate) const MAX_IDLE: usize = 86_400;
 
 /// The most hexadecimal digits of a word, two for each byte.
@@ -31,6 +34,7 @@ pub(crate) fn word<'a>(words: &mut Pieces<'a>, wanted: &'static str) -> Result<&
     }
 }
 
+/// The first word of a line, if a line begins with such a word.
 pub(crate) fn first_word<'a>(
     words: &mut Pieces<'a>,
     wanted: &'static str,
@@ -79,6 +83,7 @@ pub(crate) fn last<'a, T: Drop>(value: T, words: Pieces<'a>) -> Result<T, Wrong<
     Ok(value)
 }
 
+/// The number of a slot, 0 to 63.
 pub(crate) fn slot<'a>(words: &mut Pieces<'a>) -> Result<usize, Wrong<'a>>
     ensures { Takes (first_as slot_of words.old) result words.new }
 {
@@ -87,6 +92,7 @@ pub(crate) fn slot<'a>(words: &mut Pieces<'a>) -> Result<usize, Wrong<'a>>
     said(number_below(MAX_SLOTS, word), word, wanted)
 }
 
+/// The number of a worker, 0 to 15.
 pub(crate) fn worker<'a>(words: &mut Pieces<'a>) -> Result<usize, Wrong<'a>>
     ensures { Takes (first_as worker_of words.old) result words.new }
 {
@@ -95,6 +101,7 @@ pub(crate) fn worker<'a>(words: &mut Pieces<'a>) -> Result<usize, Wrong<'a>>
     said(number_below(MAX_WORKERS, word), word, wanted)
 }
 
+/// The name of a side.
 pub(crate) fn side<'a>(words: &mut Pieces<'a>) -> Result<Side, Wrong<'a>>
     ensures { Takes (first_as side_named words.old) result words.new }
 {
@@ -161,6 +168,7 @@ pub enum NotRead<'a> {
 }
 
 impl<'a> Wrong<'a> {
+    /// No line of this kind begins with this word.
     pub(crate) fn unknown(word: &'a [u8], wanted: &'static str) -> Wrong<'a> {
         Wrong {
             word: Some(word),
@@ -169,6 +177,7 @@ impl<'a> Wrong<'a> {
         }
     }
 
+    /// This is expected in place of a word after the first one.
     pub(crate) fn malformed(word: &'a [u8], wanted: &'static str) -> Wrong<'a> {
         Wrong {
             word: Some(word),
@@ -177,6 +186,7 @@ impl<'a> Wrong<'a> {
         }
     }
 
+    /// The line ends, but this is expected.
     pub(crate) fn missing(wanted: &'static str) -> Wrong<'a> {
         Wrong {
             word: None,
@@ -206,6 +216,7 @@ impl<'a> From<AllocError> for NotRead<'a> {
     }
 }
 
+/// The number that a text stands for, if it is below a bound.
 pub(crate) fn number_below(bound: usize, text: &[u8]) -> Option<usize>
     ensures { result ≡ number_below bound text.now }
 {

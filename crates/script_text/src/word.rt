@@ -72,6 +72,7 @@ static WORDS: [(Word, &str); 29] = [
 ];
 
 impl Word {
+    /// The word that a text is, if it is one.
     pub(crate) fn named(text: &[u8]) -> Option<Word>
         ensures { result ≡ word_named text.now }
     {
@@ -83,6 +84,7 @@ impl Word {
         None
     }
 
+    /// The word as written in a script.
     pub fn text(self) -> &'static str
         ensures { result.now ≡ word_text self }
     {

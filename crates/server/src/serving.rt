@@ -99,6 +99,7 @@ where
     }
 }
 
+/// Runs a server that was made as the settings say.
 pub(crate) fn run<F, G: Gate + Sync, C: Clock + Sync, R: Wait + Threads + Log + Sync>(
     rt: &R,
     alloc: Global,

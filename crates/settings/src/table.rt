@@ -69,6 +69,7 @@ impl Key {
         ROWS[self as usize].default
     }
 
+    /// What the key takes.
     pub(crate) fn takes(self) -> Takes
         ensures { Tells (row_of self).kind result }
     {
@@ -159,6 +160,7 @@ pub(crate) const SLOTS: NumberRow = NumberRow {
     default: 1_024,
 };
 
+/// 0 stands for no limit.
 pub(crate) const STOP_AFTER: NumberRow = NumberRow {
     key: Key::StopAfter,
     low: 0,

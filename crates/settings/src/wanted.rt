@@ -168,6 +168,7 @@ pub(crate) enum Wanted<'a> {
 }
 
 impl<'a> Wanted<'a> {
+    /// What a key takes.
     pub(crate) fn by(key: Key) -> Wanted<'a> {
         Wanted::Value(key.takes())
     }

@@ -48,6 +48,7 @@ impl Patience {
         keepalive: None,
     };
 
+    /// That of a client's socket, which is connected.
     pub(crate) fn of_client(self) -> Patience
         ensures { result ≡ unlimited self }
     {

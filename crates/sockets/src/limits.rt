@@ -14,6 +14,7 @@ pub(crate) const PROBES: u32 = 5;
 /// A poller leaves no client to another that has fewer by this many or less, nor by this part of that one's number.
 pub(crate) const LEAST_MARGIN: usize = 2;
 
+/// Nor to one that has fewer by this part of its own number or less.
 pub(crate) const MARGIN_PART: usize = 8;
 
 /// A poller that has left a client this many times in a row takes the next one.

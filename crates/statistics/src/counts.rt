@@ -39,6 +39,7 @@ pub struct Counts {
 pub(crate) const COUNTS: usize = 13;
 
 impl Counts {
+    /// Nothing was counted.
     pub const NONE: Counts = Counts {
         opened: 0,
         dropped: 0,
@@ -107,6 +108,7 @@ impl Counts {
         ]
     }
 
+    /// The counts once this event was counted, too.
     pub fn after(self, event: Event) -> Counts
         ensures { result ≡ after event self }
     {
@@ -172,6 +174,7 @@ impl Counts {
         }
     }
 
+    /// The sums of these counts and others.
     pub(crate) fn plus(self, more: &Counts) -> Counts
         ensures { result ≡ plus self more.now }
     {

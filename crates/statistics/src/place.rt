@@ -25,6 +25,7 @@ pub trait Memory {
 pub struct Atomics([AtomicU64; COUNTS]);
 
 impl Atomics {
+    /// Nothing was counted.
     pub(crate) fn zero() -> Atomics {
         Atomics(array::from_fn(|_count| AtomicU64::new(0)))
     }

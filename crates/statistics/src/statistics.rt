@@ -36,6 +36,7 @@ impl Statistics {
 }
 
 impl<M: Memory> Statistics<M> {
+    /// Counts in these places, one for each slot.
     pub fn over(places: Vec<M>) -> Statistics<M>
         ensures { result ≡ places.items }
     {

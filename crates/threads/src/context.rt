@@ -61,6 +61,7 @@ impl<G, C, R: Wait, S> Context<'_, G, C, R, S> {
         Some(recorded)
     }
 
+    /// Wakes all pollers.
     pub(crate) fn wake_pollers<F: Front>(&self, shared: &Shared<F>)
         ensures { AllWoken (F.woke shared.now.waker) self.now.split }
     {

@@ -81,6 +81,7 @@ impl Ended {
     }
 }
 
+/// Goes on unless the poller is over.
 pub(crate) fn end_if_over<F: Front>(poller: &Poller<F>) -> Result<(), Ended>
     ensures open { OnOk result (poller.now.over ≡ false) }
     ensures over { IfErr result (λ ended. (ended.why ≡ Why.PollerOver) × (poller.now.over ≡ true)) }
@@ -144,6 +145,7 @@ impl Ending {
         self.recorded.load(SeqCst)
     }
 
+    /// Goes on only if no fault is recorded.
     pub(crate) fn look(&self) -> Result<NoFault, Ended>
         ensures { IfErr result (λ ended. ended.why ≡ Why.FaultFound) }
     {
@@ -155,6 +157,7 @@ impl Ending {
         }
     }
 
+    /// The same before the turn of a ticket for which the thread may have slept.
     pub(crate) fn look_after_take(&self, ticket: Ticket) -> Result<Cleared, Ended>
         ensures ticket { IfOk result (λ cleared. cleared.ticket ≡ ticket) }
         ensures found { IfErr result (λ ended. ended.why ≡ Why.FaultFound) }

@@ -43,12 +43,14 @@ pub struct Outcome {
 }
 
 impl Earliest {
+    /// No fault was met yet.
     pub(crate) const fn new() -> Earliest
         ensures { result.kept ≡ None }
     {
         Earliest { kept: None }
     }
 
+    /// Compares the fault of the thread with this number with the one that is kept, and keeps that of the first thread.
     pub(crate) fn keep(&mut self, number: usize, fault: ServerFault) -> Kept
         ensures kept { self.new.kept ≡ Some (earliest self.old.kept (number, fault)) }
         ensures same { result ≡ record { number = number; fault = fault } }
@@ -61,6 +63,7 @@ impl Earliest {
         Kept { number, fault }
     }
 
+    /// How the server ended, once all its threads have: by the fault that was kept, if any.
     pub(crate) fn outcome(self) -> Outcome
         ensures { result.fault ≡ option_map (λ first. first.1) self.kept }
     {

@@ -107,6 +107,7 @@ pub(crate) fn put_in<F: Front, A: Moves<F>, R: Wait>(
 }
 
 impl<F: Front> Visit<F> {
+    /// The connection's pair.
     pub(crate) fn pair(&self) -> &Pair
         ensures { result.now ≡ self.now.berth.value.pair }
     {
@@ -145,10 +146,12 @@ impl<F: Front> Visit<F> {
         acts.settle(self.ticket.slot, &mut *self.berth);
     }
 
+    /// The client's address, if it is known.
     pub(crate) fn peer(&self) -> Option<SocketAddr> {
         F::peer(&self.berth.client)
     }
 
+    /// Whether the target's socket is connected, as the system says, if it says that.
     pub(crate) fn is_connected(&self) -> Option<bool> {
         self.berth.target.is_connected()
     }
@@ -181,12 +184,14 @@ impl<F: Front> Visit<F> {
 }
 
 impl Back {
+    /// The slot is released.
     pub(crate) fn spend(self) {
         let Back { slot: _ } = self;
     }
 }
 
 impl Closed {
+    /// The slot is given back, unless it had its last generation.
     pub(crate) fn spend(self) {
         let Closed { slot: _ } = self;
     }

@@ -102,6 +102,7 @@ impl Slot {
         Ok(!is_quiet)
     }
 
+    /// A new connection is opened in it, for this generation, with these notes. Nobody holds it.
     pub(crate) fn open(&mut self, generation: u64, connection: Connection, notes: Vec<u64>)
         ensures { self.new ≡ record { generation = generation; connection = Some connection; holder = Holder.Nobody; notes = notes.items } }
     {
@@ -111,6 +112,7 @@ impl Slot {
         self.notes = notes;
     }
 
+    /// It has no connection any more.
     pub(crate) fn clear(&mut self)
         ensures { self.new ≡ record self.old { connection = None } }
     {

@@ -51,18 +51,21 @@ impl Worker {
         self.hand.as_slice()
     }
 
+    /// The ticket that it has to put.
     pub(crate) fn ticket(&self) -> Option<Ticket>
         ensures { self.now.hand ≡ option_to_list result }
     {
         self.hand
     }
 
+    /// It has put its ticket.
     pub(crate) fn put(&mut self)
         ensures { self.new ≡ record self.old { hand = [] } }
     {
         self.hand = None;
     }
 
+    /// It does something else.
     pub(crate) fn turn_to(&mut self, doing: Doing)
         requires { (doing ≡ Doing.Idle) ⊎ (self.old.hand ≡ []) }
         ensures { self.new ≡ record self.old { doing = doing } }
@@ -70,6 +73,7 @@ impl Worker {
         self.doing = doing;
     }
 
+    /// It is idle again. If there are notes in the slot that it held, it takes a ticket for it in hand.
     pub(crate) fn release(&mut self, noted: bool, slot: usize, generation: u64)
         requires { self.old.hand ≡ [] }
         ensures { self.new ≡ record { doing = Doing.Idle; hand = with_ticket noted slot generation self.old.hand } }

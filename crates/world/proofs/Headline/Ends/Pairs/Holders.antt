@@ -619,7 +619,8 @@ words_on st turns (Opens s g p first lies entry) =
     let new : Ticket = record { slot = s; generation = g + 1 } in
     let more = total_push (of_slot s) st.hand new in
     let this = one_same s in
-    touched s (opened_place s (g + 1) st.limits st.second (open_both st.kernel (token_at s Client (g + 1)) (token_at s Target (g + 1))).told) (words.adopt ∷ words.take ∷ words.post ∷ words.release ∷ []) lies refl (λ i. rw first) refl (rw f.holder (omega arith))
+    touched s (opened_place s (g + 1) st.limits st.second (open_both st.kernel (token_at s Client (g + 1)) (token_at s Target (g + 1))).told)
+    (words.adopt ∷ words.take ∷ words.post ∷ words.release ∷ []) lies refl (λ i. rw first) refl (rw f.holder (omega arith))
     (λ i apart. let other = one_other s i apart in let same = total_push (of_slot i) st.hand new in omega arith)
 words_on st turns (Hears first) = untouched refl (λ s. rw first) (λ s. refl)
 words_on st turns (Wakes first) = untouched refl (λ s. rw first) (λ s. refl)

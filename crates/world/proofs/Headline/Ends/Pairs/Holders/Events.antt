@@ -164,7 +164,8 @@ module _ (st : State) where
 
   listens : (l : Listening) → On (event.Listen l) (listen st l)
   listens listening.Connect = kept_over _ _ (kept_guard _ _ (λ room. Connects))
-  listens (listening.Accept Accepted) = kept_when (may_accept st) _ (λ may. kept_over _ (kernel.accept st.kernel Accepted) (kept_guard _ _ (λ some. Accepts (and_parts st.flag (not st.accepted && is_nonempty st.free) may).0)))
+  listens (listening.Accept Accepted) = kept_when (may_accept st) _ (λ may. kept_over _ (kernel.accept st.kernel Accepted)
+      (kept_guard _ _ (λ some. Accepts (and_parts st.flag (not st.accepted && is_nonempty st.free) may).0)))
   listens (listening.Accept Blocked) = kept_when (may_accept st) _ (λ may. kept_over _ (kernel.accept st.kernel Blocked) (kept_guard _ _ (λ none. Blocks none)))
   listens (listening.Accept reply) = kept_when (may_accept st) _ (λ may. kept_some (Misses reply))
   listens listening.Drop = kept_guard _ _ (λ had. Drops)
@@ -242,7 +243,8 @@ module _ (st : State) where
       kept_guard _ _ (λ may. Releases w (holding w s left hand there p c lies is) may)))
   acts w act.Expire (Holds s left) hand there = kept_bind _ (slice_get st.slots s) (λ p lies. kept_over _ _ (kept_bind _ p.connection (λ c is. kept_over _ _
       (kept_guard _ _ (λ over. Expires w (holding w s left hand there p c lies is) over)))))
-  acts w act.Close (Holds s left) hand there = kept_bind _ (slice_get st.slots s) (λ p lies. kept_bind _ p.connection (λ c is. kept_when (not (is_live (verdict c.pair))) _ (λ dead. kept_over _ _ (kept_through _ _
+  acts w act.Close (Holds s left) hand there = kept_bind _ (slice_get st.slots s) (λ p lies. kept_bind _ p.connection (λ c is.
+      kept_when (not (is_live (verdict c.pair))) _ (λ dead. kept_over _ _ (kept_through _ _
       (kept_map _ (end_of st c Client) (λ one at. kept_over _ _ (kept_map _ (end_at (ends_with st c Client None) c.ends.target) (λ two as_well.
       Closes w (holding w s left hand there p c lies is) one two at as_well))))))))
   acts w act.Retire (Closed s) hand there = kept_map _ (slice_get st.slots s) (λ p lies. Retires w _ s p there refl lies)
@@ -289,7 +291,8 @@ goes_on : {st next : State} → next.flag ≡ st.flag → next.kernel.armed ≡ 
 goes_on {st} {next} flag armed backlog queue batch l = grind arith
 
 -- another queue has it where this one has
-queues_on : {st : State} {ends : List (Option Registered)} {queue : List Name} {slots : List SlotState} {workers : List WorkerState} {past : List Past} → (hears st.kernel.queue ≡ true → hears queue ≡ true)
+queues_on : {st : State} {ends : List (Option Registered)} {queue : List Name} {slots : List SlotState} {workers : List WorkerState} {past : List Past}
+    → (hears st.kernel.queue ≡ true → hears queue ≡ true)
     → Listens st → Listens (record st { kernel = record st.kernel { ends = ends; queue = queue }; slots = slots; workers = workers; past = past })
 queues_on {st} {queue = queue} more l = grind arith
 
@@ -310,7 +313,10 @@ listens_on st l (Changes s side change c r t lies there now) = queues_on (has_re
 listens_on st l (Reports who n) = queues_on (has_with Listener n st.kernel.queue) l
 listens_on st l (WithdrawsListener none) =
     let none = eqb-true st.kernel.backlog 0 none in
-    record { covered = rw none (cover_unready st.flag st.kernel.armed false (hears st.kernel.queue || hears st.batch) (hears (without_name Listener st.kernel.queue) || hears st.batch) refl (rw none at l.covered)) }
+    record {
+      covered = rw none (cover_unready st.flag st.kernel.armed false (hears st.kernel.queue || hears st.batch)
+          (hears (without_name Listener st.kernel.queue) || hears st.batch) refl (rw none at l.covered));
+    }
 listens_on st l WithdrawsWaker = queues_on (has_without Listener Waker st.kernel.queue refl) l
 listens_on st l (Withdraws s side c r lies there quiet) = queues_on (has_without Listener (End r.token) st.kernel.queue refl) l
 listens_on st l Connects = record {
@@ -325,7 +331,8 @@ listens_on st l (Hears first) = record { covered = refl }
 listens_on st l (Wakes first) = shorter Waker first refl l
 listens_on st l (Passes n first other) = shorter (End n) first refl l
 listens_on st l (Delivers n p first entry lies) = shorter (End n) first refl l
-listens_on st l (Closes w h one two at as_well) = queues_on (λ h. has_without Listener (End two.token) (without_name (End one.token) st.kernel.queue) refl (has_without Listener (End one.token) st.kernel.queue refl h)) l
+listens_on st l (Closes w h one two at as_well) = queues_on (λ h. has_without Listener (End two.token) (without_name (End one.token) st.kernel.queue) refl
+    (has_without Listener (End one.token) st.kernel.queue refl h)) l
 listens_on st l _ = record { covered = l.covered }
 
 tells : (armed ready rep none : Bool) → (ready ≡ false → none ≡ true) → is_covered false armed ready rep ≡ true → (none || rep) ≡ true
