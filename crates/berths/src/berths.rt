@@ -22,8 +22,8 @@ pub struct Berth<C, T> {
 #[derive(Drop)]
 pub struct Occupied<B>(pub B);
 
-/// A place for each slot, empty or with one berth, which the threads share by `&`. A berth is some 460 bytes, and a turn
-/// hands it on several times, so it stays where it was made.
+/// A place for each slot, empty or with one berth, which the threads share by `&`. A berth is some 460 bytes, and a
+/// turn hands it on several times, so it stays where it was made.
 ///
 /// In a clause it is the number of slots.
 #[derive(Drop)]
@@ -40,8 +40,8 @@ impl<C, T> Model for Berths<C, T> {
 }
 
 impl<C, T> Berths<C, T> {
-    /// An empty place for each of `slots` slots. This allocates all the memory that the places ever use, and fails only if
-    /// there is not enough.
+    /// An empty place for each of `slots` slots. This allocates all the memory that the places ever use, and fails only
+    /// if there is not enough.
     pub fn new(alloc: Global, slots: usize) -> Result<Berths<C, T>, AllocError>
     where
         C: Drop,
@@ -62,7 +62,8 @@ impl<C, T> Berths<C, T> {
         self.places.len()
     }
 
-    /// Puts a berth into the place of a slot that the caller's seat holds. Occupied gives it back, and the place is as it was.
+    /// Puts a berth into the place of a slot that the caller's seat holds. Occupied gives it back, and the place is as
+    /// it was.
     pub fn put_in(
         &self,
         rt: &impl Wait,

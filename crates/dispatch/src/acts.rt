@@ -14,8 +14,9 @@ use std::sync::Wait;
 use token::Token;
 
 /// The acts of a thread at a slot's word, and those by which it hands on the slot. Each is one call on what all threads
-/// share, but for `enter`. A turn and an opening are generic over this trait, so that their clauses can say which acts they
-/// make, in which order: a proof has `made ..` only from a call. The product's `()` makes each act and nothing else.
+/// share, but for `enter`. A turn and an opening are generic over this trait, so that their clauses can say which acts
+/// they make, in which order: a proof has `made ..` only from a call. The product's `()` makes each act and nothing
+/// else.
 pub trait Acts {
     ghost use Rattle.std.specs.Prelude.{◌≡◌, ◌<◌, ℕ, [], ◌∷◌, length, slice_set, IfErr, OnOk, OnErr};
     ghost use Rattle.claims.specs.{Seats.{Holds, Adds}, Calls.{PostChange, ClaimChange, ReleaseChange, AdoptChange}};

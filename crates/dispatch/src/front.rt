@@ -56,8 +56,8 @@ impl From<Unopened> for Cause {
     }
 }
 
-/// The client's own address, and that on which it was accepted. One that is not known, not of IPv4, or not asked for, is
-/// None.
+/// The client's own address, and that on which it was accepted. One that is not known, not of IPv4, or not asked for,
+/// is None.
 #[derive(Clone, Copy)]
 pub struct Route {
     pub client: Option<SocketAddrV4>,

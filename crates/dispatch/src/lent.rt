@@ -46,7 +46,7 @@ pub trait Gate {
     fn after_turn(&self, slot: usize);
 }
 
-/// The gate that holds nothing back.
+/// It holds nothing back.
 pub struct OpenGate;
 
 impl Gate for OpenGate {

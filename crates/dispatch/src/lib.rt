@@ -15,8 +15,8 @@
 //!
 //! # Inside
 //!
-//! The statistics count a turn and an end by the pair's own counts and verdict (`moved_by`, `ended_by`). The clause of each
-//! call that counts says what, and at which slot, over any [`Counting`].
+//! The statistics count a turn and an end by the pair's own counts and verdict (`moved_by`, `ended_by`). The clause of
+//! each call that counts says what, and at which slot, over any [`Counting`].
 #![tactic(auto)]
 
 mod acts;

@@ -64,8 +64,9 @@ impl Fullness {
     }
 }
 
-/// A front of a server whose threads count. The trait leaves open what was counted: over any such front a proof has a fact
-/// `counted ..` only from a call that was made. Every front implements it, and for one front alone the fact says nothing.
+/// A front of a server whose threads count. The trait leaves open what was counted: over any such front a proof has a
+/// fact `counted ..` only from a call that was made. Every front implements it, and for one front alone the fact says
+/// nothing.
 pub trait Counting: Front {
     ghost use Rattle.std.specs.Prelude.{ℕ};
     ghost use Rattle.statistics.specs.declared.event.Event.{Event};

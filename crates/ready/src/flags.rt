@@ -12,7 +12,8 @@ use std::sync::atomic::Ordering::SeqCst;
 use std::sync::atomic::{AtomicBool, AtomicU64};
 
 /// A word of bits that threads share. Each method is one step, and there is no other: none reads the bits in one step
-/// and writes them in another, between which a second thread's step could be lost. The trait leaves open what a step does.
+/// and writes them in another, between which a second thread's step could be lost. The trait leaves open what a step
+/// does.
 pub(crate) trait Bits {
     // What a step may do: the step with its answer, and the word.
     ghost did: { BitStep → Self → Type 0 };
@@ -49,24 +50,24 @@ impl Bits for AtomicU64 {
 #[derive(Drop)]
 pub(crate) struct IdleBits<W = AtomicU64>(W);
 
-/// One look found no end idle. Only [`IdleBits::all_busy`] makes one, and it cannot be copied: who asks for one asks for a
-/// look of its own.
+/// One look found no end idle. Only [`IdleBits::all_busy`] makes one, and it cannot be copied: who asks for one asks
+/// for a look of its own.
 #[derive(Drop)]
 pub struct AllBusy {
     bits: u64,
     ghost none: { bits ≡ 0 },
 }
 
-/// An end that has announced that it is idle. Only [`IdleBits::announce`] makes one. It can be neither copied nor dropped,
-/// so each announcement is withdrawn once.
+/// An end that has announced that it is idle. Only [`IdleBits::announce`] makes one. It can be neither copied nor
+/// dropped, so each announcement is withdrawn once.
 pub(crate) struct Announced {
     end: usize,
     ghost few: { end < 32 },
 }
 
 /// An idle end has to be woken for a ticket that is in the queue. Only [`push_ticket`] makes one, and
-/// [`IdleBits::withdraw`], where another thread has woken an end that finds a ticket by itself. It can be neither copied nor
-/// dropped: it wakes one end, or a look after the put found no end idle, or the end that has it looks again.
+/// [`IdleBits::withdraw`], where another thread has woken an end that finds a ticket by itself. It can be neither
+/// copied nor dropped: it wakes one end, or a look after the put found no end idle, or the end that has it looks again.
 pub(crate) struct Wake(());
 
 /// An end whose bit was cleared to wake it. Only [`IdleBits::wake`] makes one. It can be neither copied nor dropped.
@@ -103,7 +104,7 @@ impl Wake {
 }
 
 impl Woken {
-    /// Wakes the end. There is one in this order for each.
+    /// There is one in this order for each end.
     pub(crate) fn unpark(self, wake: Wake, unparkers: &[Unparker])
         requires { self.end < length unparkers.now }
     {
@@ -126,8 +127,8 @@ impl<W: Bits> IdleBits<W> {
         ensures same { result.end ≡ end }
         ensures set { (before : ℕ) × W.did (SetBits (bit_of end) before) self.now.0 }
     {
-        // Pairs with `look_for`. A put pushes and then reads the bits; an end sets its bit and then looks. So one of the
-        // two sees the other's step. The other way round, the end could park beside the ticket of a put in between.
+        // Pairs with `look_for`. A put pushes and then reads the bits; an end sets its bit and then looks. So one of
+        // the two sees the other's step. The other way round, the end could park beside the ticket of a put in between.
         self.0.set(1u64 << end);
         Announced { end }
     }
@@ -138,8 +139,8 @@ impl<W: Bits> IdleBits<W> {
         ensures cleared { (before : ℕ) × W.did (ClearedBits (bit_of announced.end) before) self.now.0
             × (IsSome result ↔ IsTrue (not (has_bit announced.end before))) }
     {
-        // Pairs with `wake`: only one of the two finds the bit. If both could, nobody would pass that wake on: the other
-        // put's ticket would wait until this end comes back, while a third end sleeps.
+        // Pairs with `wake`: only one of the two finds the bit. If both could, nobody would pass that wake on: the
+        // other put's ticket would wait until this end comes back, while a third end sleeps.
         let Announced { end } = announced;
         let bit = 1u64 << end;
         let was_woken = self.0.clear(bit) & bit == 0;
@@ -167,7 +168,8 @@ impl<W: Bits> IdleBits<W> {
         ensures looked { (bits : ℕ) × W.did (ReadBits bits) self.now.0 × (IsNone result ↔ bits ≡ 0)
             × IfSome result (λ found. found.0 ≡ bits) }
     {
-        // Pairs with `announce`. An end whose bit is set after this looks at the queue later, and finds what was pushed.
+        // Pairs with `announce`. An end whose bit is set after this looks at the queue later, and finds what was
+        // pushed.
         let bits = self.0.read();
         if bits != 0 {
             return Some((bits, wake));
@@ -207,7 +209,8 @@ impl ClosedMark {
 
     /// Reads the mark.
     pub(crate) fn read(&self) -> MarkSeen {
-        // Pairs with `set`. Read after the queue, a ticket that was put before the close and after the look would be left.
+        // Pairs with `set`. Read after the queue, a ticket that was put before the close and after the look would be
+        // left.
         let closed = self.0.load(SeqCst);
         MarkSeen { closed }
     }

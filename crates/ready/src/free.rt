@@ -11,8 +11,8 @@ use std::sync::{Arc, Wait};
 
 /// One thread's end of the queue of free slots. No thread sleeps on it.
 ///
-/// In a clause it is the queue's capacity and the end's history: what it has put and taken, each with its place among all
-/// that was ever put.
+/// In a clause it is the queue's capacity and the end's history: what it has put and taken, each with its place among
+/// all that was ever put.
 #[derive(Drop)]
 pub struct FreeQueue {
     line: Arc<Line<usize>>,
@@ -31,8 +31,8 @@ impl Model for FreeQueue {
 }
 
 impl FreeQueue {
-    /// Makes a queue that holds this many slots, from the first on, in order, as its first end has put them, and its ends.
-    /// This allocates all the memory that it ever uses, and fails only if there is not enough.
+    /// Makes a queue that holds this many slots, from the first on, in order, as its first end has put them, and its
+    /// ends. This allocates all the memory that it ever uses, and fails only if there is not enough.
     #[tactic(auto, using(crate::proofs::Moves::begins, crate::proofs::Moves::one_end_more))]
     pub fn new(
         rt: &impl Wait,

@@ -40,8 +40,8 @@ impl IdleEnds {
         sleeper.announce(&self.idle, empty)
     }
 
-    /// Marks the end as awake, after its last look at the queue or its sleep, and gives back what the look found. If that is
-    /// a ticket, and another put had spent its wake on this end, the wake is passed on.
+    /// Marks the end as awake, after its last look at the queue or its sleep, and gives back what the look found. If
+    /// that is a ticket, and another put had spent its wake on this end, the wake is passed on.
     pub(crate) fn withdraw(
         &self,
         rt: &impl Wait,

@@ -12,20 +12,20 @@
 //! 3. The queue holds the items of the other places, in order.
 //! 4. The places that one end puts rise, and so do those that it takes.
 //!
-//! So each ticket has been taken once or is still there, first in, first out. Full is answered only if some lawful state
-//! with this end's history was full, and none only if one was empty. That a call returns, and that a sleeping end wakes,
-//! is not proved. Tests show it.
+//! So each ticket has been taken once or is still there, first in, first out. Full is answered only if some lawful
+//! state with this end's history was full, and none only if one was empty. That a call returns, and that a sleeping end
+//! wakes, is not proved. Tests show it.
 //!
 //! # How an end sleeps, and who wakes it
 //!
-//! One word has a bit for each end that is idle. An end that is about to park in [`ReadyQueue::take`] sets its bit, looks
-//! at the queue again, and only then parks. A put first pushes its ticket, and then clears the lowest bit that is set and
-//! unparks that end. So at most one end is woken for a ticket, and no ticket is left while all ends sleep: either the put
-//! finds the bit, or the end's second look finds the ticket. A ticket may wait for an end that is awake.
+//! One word has a bit for each end that is idle. An end that is about to park in [`ReadyQueue::take`] sets its bit,
+//! looks at the queue again, and only then parks. A put first pushes its ticket, and then clears the lowest bit that is
+//! set and unparks that end. So at most one end is woken for a ticket, and no ticket is left while all ends sleep:
+//! either the put finds the bit, or the end's second look finds the ticket. A ticket may wait for an end that is awake.
 //!
 //! After each `take` that gave a ticket, the end's first put wakes nobody: the end itself comes back, and takes one
-//! ticket. Each later put wakes an end, and so does each put of an end that never calls `take`. An end that has tickets to
-//! put may first look whether any end sleeps ([`ReadyQueue::all_busy`]).
+//! ticket. Each later put wakes an end, and so does each put of an end that never calls `take`. An end that has tickets
+//! to put may first look whether any end sleeps ([`ReadyQueue::all_busy`]).
 //!
 //! No thread spins.
 //!

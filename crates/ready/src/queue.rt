@@ -14,8 +14,8 @@ use std::alloc::{AllocError, Global};
 use std::marker::Model;
 use std::sync::{Arc, Wait};
 
-/// One thread's end of a queue of tickets. After each ticket that [`ReadyQueue::take`] gave, it must be called again, until
-/// the answer is none: the end's next put relies on that. No clause asks for it.
+/// One thread's end of a queue of tickets. After each ticket that [`ReadyQueue::take`] gave, it must be called again,
+/// until the answer is none: the end's next put relies on that. No clause asks for it.
 ///
 /// In a clause it is what a [`FreeQueue`](crate::FreeQueue) is.
 #[derive(Drop)]
@@ -34,8 +34,8 @@ impl Model for ReadyQueue {
 }
 
 impl ReadyQueue {
-    /// Makes a queue for at most `capacity` tickets, and its ends. This allocates all the memory that it ever uses, and fails
-    /// only if there is not enough.
+    /// Makes a queue for at most `capacity` tickets, and its ends. This allocates all the memory that it ever uses, and
+    /// fails only if there is not enough.
     #[tactic(auto, using(crate::proofs::Moves::begins))]
     pub fn new(alloc: Global, capacity: usize, ends: usize) -> Result<Vec<ReadyQueue>, AllocError>
         requires capacity { (1 ≤ capacity) × (capacity ≤ 32768) }
@@ -63,8 +63,8 @@ impl ReadyQueue {
         Ok(all)
     }
 
-    /// Puts a ticket at the back, and wakes an idle end for it unless this end will come back for it itself. Full gives the
-    /// ticket back, and nothing has changed.
+    /// Puts a ticket at the back, and wakes an idle end for it unless this end will come back for it itself. Full gives
+    /// the ticket back, and nothing has changed.
     pub fn put(&mut self, rt: &impl Wait, ticket: Ticket) -> Result<(), Full<Ticket>>
         ensures put { OnOk result (PutOne self.old.history ticket self.new.history) }
         ensures given_back { IfErr result (λ full. full.0 ≡ ticket) }

@@ -152,7 +152,8 @@ fn share_of(stop_after: u32, pollers: usize, number: usize) -> u64
     }
 }
 
-/// What this many threads share, of which this many poll, and for each of them a seat and an end of the queue of tickets.
+/// What this many threads share, of which this many poll, and for each of them a seat and an end of the queue of
+/// tickets.
 fn shared_of<F: Front>(
     alloc: Global,
     settings: &Settings,
@@ -189,8 +190,8 @@ where
     Ok((shared, Parts { seats, ready }))
 }
 
-/// Whether workers run light tickets, too. Where several threads poll, as many as work, a worker that sleeps says nothing of
-/// an idle processor: it would wait for one, and so would its tickets.
+/// Whether workers run light tickets, too. Where several threads poll, as many as work, a worker that sleeps says
+/// nothing of an idle processor: it would wait for one, and so would its tickets.
 fn shares_light(pollers: usize, workers: usize) -> bool
     ensures { IsTrue result ↔ SharesLight pollers workers }
 {

@@ -21,9 +21,9 @@ use std::thread::{self, Threads};
 use threads::Outcome;
 
 /// Serves as [`serve`](crate::serve) does, and records into the file what each thread does, until the server ends: then
-/// the last line says that all is recorded. A thread of its own writes the file, and the call returns once all is written.
-/// If records come faster than it can write, or the file cannot be written, the recording ends, a warning is logged, and
-/// the server serves on. By `NoMemory` or `Threads` it may also refuse to begin.
+/// the last line says that all is recorded. A thread of its own writes the file, and the call returns once all is
+/// written. If records come faster than it can write, or the file cannot be written, the recording ends, a warning is
+/// logged, and the server serves on. By `NoMemory` or `Threads` it may also refuse to begin.
 pub fn serve_recorded<
     G: Gate + Sync,
     C: Clock + Sync,

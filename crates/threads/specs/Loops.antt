@@ -103,8 +103,8 @@ pub record SlotsGiven (now_free : List ℕ) (old new : Own) (others others_new :
   pub slots : (slot : ℕ) → times_in slot new.hand.slots + times_given slot (new.free ∷ others_new)
       ≡ times_in slot old.hand.slots + times_given slot (old.free ∷ others) + times_in slot now_free
 
--- A worker made these turns. What it was to put before, what they made, and these tickets that are left, are put or in
--- hand, and so are free slots
+-- A worker made these turns. What it was to put before, what they made, and these tickets, are put or in hand, and so are
+-- free slots
 pub record WorkerTurns (ran : List Run) (left : List Ticket) (old new : Own) (others others_new : List (EndState ℕ)) : Type 0 where
   pub turns : TurnsMade ran old.seat new.seat
   pub tickets : (t : Ticket) → times_of t (tickets_out new)

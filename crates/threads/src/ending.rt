@@ -27,8 +27,8 @@ pub enum Why {
     Met(ServerFault),
 }
 
-/// A thread's loop has ended. It cannot be dropped, and only [`Ending::end`] takes it. Only what [`Why`] names makes one,
-/// all in this file.
+/// A thread's loop has ended. It cannot be dropped, and only [`Ending::end`] takes it. Only what [`Why`] names makes
+/// one, all in this file.
 pub struct Ended {
     why: Why,
 }
@@ -41,8 +41,8 @@ pub struct Ending {
     polling: AtomicUsize,
 }
 
-/// A look found no fault recorded. Only [`Ending::look`] makes one. It cannot be copied: each round and each turn asks for
-/// one of its own.
+/// A look found no fault recorded. Only [`Ending::look`] makes one. It cannot be copied: each round and each turn asks
+/// for one of its own.
 #[derive(Drop)]
 pub(crate) struct NoFault {
     recorded: bool,
@@ -95,8 +95,8 @@ pub(crate) fn end_if_over<F: Front>(poller: &Poller<F>) -> Result<(), Ended>
     }
 }
 
-/// Takes a ticket, and may sleep until there is one. So it uses up the look for a fault, and what was in hand must have been
-/// put, as far as the queue had room. It refuses once the queue of tickets is closed and empty.
+/// Takes a ticket, and may sleep until there is one. So it uses up the look for a fault, and what was in hand must have
+/// been put, as far as the queue had room. It refuses once the queue of tickets is closed and empty.
 pub(crate) fn take(rt: &impl Wait, own: &mut Own, _seen: NoFault) -> Result<Ticket, Ended>
     requires put { PutAll own.old.ready own.old.hand.tickets }
     ensures taken { IfOk result (λ ticket. Took ticket own.old own.new) }

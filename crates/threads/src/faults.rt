@@ -92,7 +92,7 @@ impl Outcome {
         Outcome { fault: Some(fault) }
     }
 
-    /// The fault by which the server ended, if it did not end well.
+    /// The fault by which the server ended, if one did.
     pub fn into_result(self) -> Result<(), ServerFault>
         ensures well { IsOk result ↔ self.fault ≡ None }
         ensures fault { IfErr result (λ fault. self.fault ≡ Some fault) }

@@ -117,8 +117,8 @@ where
         }
     }
 
-    /// If the flag that stops openings is set, this poller opens no more connections, and wakes all others, which see the
-    /// flag, too.
+    /// If the flag that stops openings is set, this poller opens no more connections, and wakes all others, which see
+    /// the flag, too.
     fn stop_if_asked<G: Gate, C: Clock, R: Wait + Log, S: StopFlag>(
         &mut self,
         context: &Context<'_, G, C, R, S>,
