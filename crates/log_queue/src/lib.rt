@@ -2,9 +2,9 @@
 //! writes them to standard error.
 //!
 //! A thread that logs prints its line into the queue ([`Queued`]). That takes no memory, and no system call but the one
-//! that wakes a writer that sleeps. If the queue is full, because whoever reads standard error is slow or gone, the line
-//! is left out and counted. [`write_lines`] writes the lines, in the order in which each thread logged them, and how
-//! many were left out:
+//! that wakes a writer that sleeps. If the queue is full, because whoever reads standard error is slow or gone, the
+//! line is left out and counted. [`write_lines`] writes the lines, in the order in which each thread logged them, and
+//! how many were left out:
 //!
 //! ```text
 //! [WARN  relayd] log: 312 lines left out
@@ -14,8 +14,9 @@
 //!
 //! [`ParkedQueue`] is what the log and a recording have in common: bounded queues for a thread that writes. It sleeps
 //! only after it has announced that and then found them open and empty, is woken only once there is something for it
-//! (`There`), and ends only with a value that it gets once they were closed and then empty ([`Drained`]). A line that was
-//! taken cannot be dropped unwritten (`Unwritten`). Lines left out are counted by a type with no other step (`Missing`).
+//! (`There`), and ends only with a value that it gets once they were closed and then empty ([`Drained`]). A line that
+//! was taken cannot be dropped unwritten (`Unwritten`). Lines left out are counted by a type with no other step
+//! (`Missing`).
 #![tactic(auto)]
 
 mod left_out;

@@ -42,14 +42,13 @@ pub fn report_arguments_fault<E: Write>(errors: &mut E, fault: ArgumentsFault) -
     }
 }
 
-/// Runs the program by the arguments of the command line, of which the first is the program's own name (`relayd(1)`).
-/// A script comes from `reader`, and what a command has to print goes to `writer`; but what a relay prints and logs goes
+/// Runs the program by the arguments of the command line, of which the first is the program's own name (`relayd(1)`). A
+/// script comes from `reader`, and what a command has to print goes to `writer`; but what a relay prints and logs goes
 /// to the process's own streams.
 ///
 /// Returns the exit status: 0 if the command was carried out, or help or the version printed; 1 for a fault, which is
 /// written to `errors` after `relayd: ` unless it is a fault of the script itself; 2 for a usage error, which is
-/// written to `errors`. Where the command line is refused, nothing has been read from `reader` or written to
-/// `writer`.
+/// written to `errors`. Where the command line is refused, nothing has been read from `reader` or written to `writer`.
 ///
 /// `serve` serves on a bound socket with the process's own handle: a thread can only be started with that one. It is
 /// given the other options and the file to record into, if there is one, and returns whether it could print where it

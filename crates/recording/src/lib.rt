@@ -2,9 +2,9 @@
 //! thread of its own writes them to a file.
 //!
 //! A server is made of parts that record: [`RecordedFront`] records its waits for reports, what it accepts and what it
-//! opens; [`RecordedWire`] its calls and its end; [`RecordedGate`] where turns begin and end, and [`RecordedClock`] what
-//! second was told. Each does and promises what the part in it does and promises. Of the bytes only how many there were
-//! is recorded.
+//! opens; [`RecordedWire`] its calls and its end; [`RecordedGate`] where turns begin and end, and [`RecordedClock`]
+//! what second was told. Each does and promises what the part in it does and promises. Of the bytes only how many there
+//! were is recorded.
 //!
 //! A thread that records waits for nobody, and takes no memory: its record goes into a bounded queue ([`RecordQueue`]),
 //! and a writer that sleeps is woken ([`write_records`]). Where a queue is full the recording ends, which its last line
@@ -13,8 +13,8 @@
 //! # Inside
 //!
 //! Only a [`Recorder`] takes counts and makes records, over any [`Sink`]. The wrapped part asks for the count before an
-//! act (`Begun`, `Inner`), which cannot be dropped: so each act is made after it and recorded. That a wire was closed is
-//! recorded by what its drop returns (`Gone`).
+//! act (`Begun`, `Inner`), which cannot be dropped: so each act is made after it and recorded. That a wire was closed
+//! is recorded by what its drop returns (`Gone`).
 #![tactic(auto)]
 
 mod clock;
