@@ -60,7 +60,9 @@ impl From<Unopened> for Cause {
 /// is None.
 #[derive(Clone, Copy)]
 pub struct Route {
+    /// The client's own address.
     pub client: Option<SocketAddrV4>,
+    /// The address on which the client was accepted.
     pub accepted: Option<SocketAddrV4>,
 }
 
@@ -75,13 +77,16 @@ impl Route {
 /// A connection to the target that was started, and the addresses of the client's connection.
 #[derive(Drop)]
 pub struct Opened<T> {
+    /// The wire of the target.
     pub target: T,
+    /// The addresses of the client's connection.
     pub route: Route,
 }
 
 /// How long a poller may wait.
 #[derive(Clone, Copy, PartialEq, Eq)]
 pub enum Waiting {
+    /// Not at all.
     No,
     /// A millisecond at most.
     Brief,

@@ -17,6 +17,7 @@ pub trait Clock {
 /// A server's clock and idle limit.
 #[derive(Clone, Copy)]
 pub struct Timing<'a, C> {
+    /// From where the second is read.
     pub clock: &'a C,
     /// After this many seconds in which it moved nothing a connection without a call worth trying fails. 0: it never
     /// does.
@@ -41,8 +42,10 @@ pub trait Gate {
     /// All threads have been started. The thread that serves calls this before it polls.
     fn all_started(&self) {}
 
+    /// A turn at this slot is about to begin.
     fn before_turn(&self, slot: usize);
 
+    /// A turn at this slot has ended.
     fn after_turn(&self, slot: usize);
 }
 

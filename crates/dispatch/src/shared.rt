@@ -21,12 +21,15 @@ use std::sync::atomic::Ordering::SeqCst;
 pub struct Shared<F: Front> {
     /// Who holds which slot, and how many notes wait there.
     pub claims: Claims,
+    /// The place of each slot's connection.
     pub places: Places<F::Client, F::Target>,
+    /// What ends the poller's wait.
     pub waker: F::Waker,
     /// The most calls that one turn makes, 1 to 1,024.
     pub budget: usize,
     /// Where connections are counted, with a place for each slot; None if they are not.
     pub statistics: Option<Arc<Statistics>>,
+    /// How many pollers found all their slots taken.
     pub full: Fullness,
     /// Whether workers that sleep run light tickets, too: not where several threads poll, as many as work.
     pub shares_light: bool,
@@ -143,10 +146,13 @@ fn ended_by(pair: &Pair) -> Event
 /// What one thread owns.
 #[derive(Drop)]
 pub struct Own {
+    /// Its seat at the claim words.
     pub seat: ClaimSeat,
+    /// Its end of the queue of tickets.
     pub ready: ReadyQueue,
     /// Its end of a queue of free slots: a poller's own, and for a worker that of the poller to which its turn gives.
     pub free: FreeQueue,
+    /// What it has put into no queue yet.
     pub hand: Hand,
     /// What its turns read into.
     pub buffer: Box<[u8; MAX_READ]>,

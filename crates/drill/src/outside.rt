@@ -27,6 +27,7 @@ pub struct Outside {
     pub plan: Plan,
     /// The poller whose thread makes the step in progress. None: a worker's does.
     pub poller: Option<usize>,
+    /// The turn in progress.
     pub turn: Option<Turn>,
     pub checks: Checks,
     pub state: State,

@@ -16,6 +16,7 @@ use world::{Event, Listening, Reported};
 pub struct PollerModel {
     /// A machine of its listener and its waker, in which no connection is ever opened.
     pub machine: Machine,
+    /// The poller's slots.
     pub part: Part,
     /// How many connections the poller may still open.
     left: u64,
@@ -26,9 +27,11 @@ pub struct PollerModel {
     pub listens: bool,
     /// Whether a client was accepted that is neither opened nor closed yet.
     pub has_accepted: bool,
+    /// Whether a round has begun and not ended.
     pub in_round: bool,
     /// Whether it has opened all that it may, and all its slots were free when its last round ended.
     pub is_over: bool,
+    /// Whether a poll has failed.
     pub has_failed: bool,
     /// How often it was woken in this step, and how often it must be.
     woken: u64,

@@ -107,7 +107,9 @@ fn run_on<R: Wait + AllocGlobal + Print>(
 enum Outcome {
     /// Nothing is compared after the line.
     Nothing,
+    /// The server and the machines agree after it.
     Agreed,
+    /// They differ after it.
     Differs,
     /// It is no step, or its script has no header.
     Malformed,

@@ -14,6 +14,7 @@ const MAX_POLLERS: usize = 16;
 pub struct Sizes {
     /// Without a lead.
     pub limits: Limits,
+    /// Which poller has which slots.
     pub split: Split,
     /// After how many connections the server ends. 0 means never.
     pub stop_after: u64,

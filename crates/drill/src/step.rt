@@ -7,6 +7,7 @@ use world::Event;
 /// A step of a script (`tests/drill/README.md`).
 #[derive(Drop)]
 pub enum Step {
+    /// An event outside of the server.
     Outside(Outer),
     /// A step of this poller's thread.
     Round(usize),
@@ -16,7 +17,9 @@ pub enum Step {
     Later(Point, Planned),
     /// An event of this slot's machine alone.
     Machine(usize, Event),
+    /// No more connections may be opened.
     Stop,
+    /// The scripts and the reports of the slots' machines are printed, and the log.
     Show,
 }
 
@@ -60,13 +63,16 @@ pub enum Wanted {
     Short(usize),
     /// The same, and a write leaves no room.
     Full(usize),
+    /// A signal interrupts it.
     Interrupted,
+    /// It fails.
     Failed(Kind),
 }
 
 /// The outcome of opening a connection that was accepted.
 #[derive(Clone, Copy)]
 pub enum Opening {
+    /// It is opened.
     Plain,
     /// The target cannot be connected to.
     Connect,
@@ -77,6 +83,7 @@ pub enum Opening {
 /// How a poll gives the names that are queued.
 #[derive(Clone, Copy)]
 pub enum Polled {
+    /// It gives none, since a signal interrupts it.
     Interrupted,
     /// At most this many of them.
     First(usize),

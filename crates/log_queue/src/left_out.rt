@@ -11,6 +11,7 @@ pub(crate) trait Count {
     // What a step may do: the step with its answer, and the count.
     ghost did: { CountStep → Self → Type 0 };
 
+    /// Adds 1.
     fn add(&self)
         ensures { did Added self.now };
 

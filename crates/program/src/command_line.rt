@@ -17,6 +17,7 @@ pub enum Command<'a> {
     Run(&'a str, Option<&'a str>, Option<&'a str>, TypedExtras<'a>),
     /// Serve as this text of settings says.
     Forward(String, Option<&'a str>, TypedExtras<'a>),
+    /// Replay the recording in a file.
     Replay(Replayed<'a>),
 }
 

@@ -19,6 +19,7 @@ pub enum ProgramFault {
     /// The settings have a fault, or memory ran out, for them or for anything else.
     #[error(transparent)]
     Config(ConfigFault),
+    /// The script could not be read, or its outcome could not be written.
     #[error(transparent)]
     Script(ScriptFault),
     /// An argument of the command line has a value that its setting does not take.
@@ -30,18 +31,22 @@ pub enum ProgramFault {
     /// `--script` has a value that names no connection.
     #[error("options: script: wrong kind")]
     Connection,
+    /// The server could not start, or failed.
     #[error(transparent)]
     Server(ServerFault),
+    /// A recording could not be replayed.
     #[error(transparent)]
     Replay(ReplayFault),
     /// The file to replay does not begin as a recording does.
     #[error("recording: malformed")]
     NoRecording,
+    /// The file to record into could not be created.
     #[error("record: cannot be created")]
     Record,
     /// The process may have this many descriptors open, and with one connection it needs more.
     #[error("descriptors: the limit is {limit}, and {needed} are needed for one connection (ulimit -n)")]
     Descriptors { limit: u64, needed: u64 },
+    /// The requested output could not be written.
     #[error("output: cannot be written")]
     Write,
 }
@@ -89,13 +94,16 @@ impl ProgramFault {
 /// A fault of the settings, in a file or in the arguments. Its text is what a person sees after `relayd: `.
 #[derive(Debug, Drop, Error)]
 pub enum ConfigFault {
+    /// The settings file could not be opened or read.
     #[error("config: cannot be read")]
     Read,
     /// There are more than 65,536 bytes.
     #[error("config: too long")]
     Long,
+    /// The text of the settings has a fault.
     #[error(transparent)]
     Settings(SettingsFault),
+    /// Memory ran out.
     #[error("out of memory")]
     NoMemory,
 }
@@ -123,7 +131,9 @@ impl From<SettingsFault> for ConfigFault {
 /// Why the arguments of the command line cannot be read.
 #[derive(Clone, Copy)]
 pub enum ArgumentsFault {
+    /// Memory ran out.
     NoMemory,
+    /// An argument is not UTF-8.
     NotText,
 }
 

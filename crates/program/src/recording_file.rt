@@ -20,9 +20,11 @@ const MOST_KEPT: u32 = 9_999;
 /// Why a file cannot be recorded into.
 #[derive(Drop)]
 enum Unmade {
+    /// The system gave an error.
     System(io::Error),
     /// A file is there that is neither empty nor a recording.
     Taken,
+    /// Memory ran out.
     NoMemory,
 }
 

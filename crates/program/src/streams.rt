@@ -13,7 +13,9 @@ use std::io::{self, Read, Write};
 pub struct Stream<'a, S, N, L> {
     /// What the log calls the stream.
     pub name: N,
+    /// Where bytes come from, or go to.
     pub inner: S,
+    /// Where errors are logged.
     pub log: &'a L,
 }
 
@@ -74,7 +76,9 @@ impl fmt::Display for Unopened<'_> {
 /// Logs the cause of each fault, if one is known and there is memory for it.
 #[derive(Drop)]
 pub struct LoggedCauses<'a, L> {
+    /// The memory for the text of a cause.
     pub alloc: Global,
+    /// Where causes are logged.
     pub log: &'a L,
 }
 

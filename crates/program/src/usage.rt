@@ -193,8 +193,11 @@ fn indent_of(line: &str) -> usize {
 /// What to type.
 #[derive(Clone, Copy)]
 pub(crate) enum Tip<'a> {
+    /// This command with a settings file.
     Config(&'a str, &'a str),
+    /// `relayd forward` with these two addresses.
     Forward(&'a str, &'a str),
+    /// `relayd sim` with this script as its standard input.
     Script(&'a str),
     /// An option of `relayd forward`, which stands in the settings file.
     Setting(&'a str),

@@ -18,6 +18,7 @@ pub(crate) trait Bits {
     // What a step may do: the step with its answer, and the word.
     ghost did: { BitStep → Self → Type 0 };
 
+    /// The bits.
     fn read(&self) -> u64
         ensures { did (ReadBits result) self.now };
 

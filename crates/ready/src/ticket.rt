@@ -3,6 +3,7 @@
 /// The right to try a slot.
 #[derive(Clone, Copy, PartialEq, Eq)]
 pub struct Ticket {
+    /// The slot to try.
     pub slot: usize,
     /// That of the connection that the slot had when the ticket was made.
     pub generation: u64,

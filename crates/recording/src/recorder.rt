@@ -30,6 +30,7 @@ pub trait Sink: Drop {
     fn put(&mut self, item: Record)
         ensures { did (Put item) self.old self.new };
 
+    /// Another handle.
     fn another(&self) -> Self
         ensures { did Another self.now result };
 }

@@ -38,6 +38,7 @@ pub enum Polling {
     Gave(usize),
     /// A signal ended a wait for reports.
     Interrupted,
+    /// A wait for reports failed.
     Failed,
     /// The last wait reported this.
     Reported(Name),
@@ -88,7 +89,9 @@ pub enum Made {
 pub enum Answer {
     /// This many bytes moved.
     Moved(usize),
+    /// The end of input.
     End,
+    /// The socket is connected.
     Joined,
     /// The end of input was passed on.
     Shut,
@@ -96,6 +99,7 @@ pub enum Answer {
     Blocked,
     /// A signal interrupted the call.
     Interrupted,
+    /// The call failed.
     Failed(Kind),
 }
 

@@ -42,15 +42,19 @@ pub trait Replay {
 /// Why a recording is not replayed. Its text is what a person sees.
 #[derive(Debug, Drop, Error)]
 pub enum ReplayFault {
+    /// The reader gave an error.
     #[error("recording: cannot be read")]
     Read,
     /// A line is malformed, with what is wanted there, or no relay acts in that order.
     #[error("recording: malformed")]
     Broken(String),
+    /// The recording has no such connection.
     #[error("recording: no such connection")]
     Unknown,
+    /// The outcome could not be written.
     #[error("output: cannot be written")]
     Write,
+    /// Memory ran out.
     #[error("out of memory")]
     NoMemory,
 }

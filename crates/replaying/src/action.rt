@@ -13,12 +13,15 @@ use world::{Act as Work, Event, Polling as Poll, World};
 /// the connection.
 #[derive(Clone, Copy)]
 pub(crate) enum Action {
+    /// A connection of this generation was opened.
     Opened(u64),
+    /// A turn began.
     Began,
     /// This call offered so many bytes, and got this answer.
     Called(u64, Call, usize, Answer),
     /// A turn ended, and left no call to make.
     Quiet(u64),
+    /// The connection of this generation was closed.
     Closed(u64),
 }
 

@@ -18,6 +18,7 @@ pub(crate) enum Flaw {
     NextCall,
     /// The record at hand can stand at no place.
     Because(&'static str),
+    /// Memory ran out, so that nothing is wrong with the record.
     NoMemory,
 }
 

@@ -48,6 +48,7 @@ pub(crate) struct Results {
     pub ends: String,
     /// The world of the connection whose script is wanted.
     pub script: Option<History>,
+    /// Where the replay stopped.
     pub flawed: Option<Flawed>,
 }
 

@@ -20,6 +20,7 @@ use std::marker::Model;
 /// What a poller keeps between its rounds (`PollerState` of `specs/Pollers.antt`).
 #[derive(Drop)]
 pub struct Poller<F: Front> {
+    /// Where connections and reports come from.
     pub(crate) front: F,
     pub(crate) table: Vec<u64>,
     pub(crate) batch: Vec<u64>,

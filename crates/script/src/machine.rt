@@ -19,6 +19,7 @@ pub(crate) trait Machine: Drop {
     /// Makes a step: the lines of the report after it that are not in the report before.
     fn show(&mut self, alloc: Global, step: &Self::Step) -> Result<String, Fault>;
 
+    /// The report of the state. Fails only if memory for it ran out.
     fn report(&self, alloc: Global) -> Result<String, AllocError>;
 
     /// Why a step is not allowed in this state, for a person.

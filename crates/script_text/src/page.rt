@@ -10,6 +10,7 @@ use world::Ticket;
 #[derive(Clone, Copy)]
 pub enum Piece<'a> {
     Text(&'a str),
+    /// A number in decimal digits.
     Number(u64),
     /// A text, and a number right after it.
     Named(&'a str, u64),

@@ -162,6 +162,7 @@ pub struct Wrong<'a> {
 /// Why a line is not read, if reading it takes memory.
 #[derive(Drop)]
 pub enum NotRead<'a> {
+    /// This word is wrong.
     Malformed(Wrong<'a>),
     /// The line may be right.
     NoMemory,

@@ -68,14 +68,18 @@ pub enum Step {
 /// A step, and the number of its line in the text, from 1; skipped lines count.
 #[derive(Drop)]
 pub struct NumberedStep {
+    /// The line number; skipped lines count.
     pub line: u64,
+    /// What the line says.
     pub step: Step,
 }
 
 /// The same of an event of a world.
 #[derive(Drop)]
 pub struct NumberedEvent {
+    /// The line number; skipped lines count.
     pub line: u64,
+    /// What the line says.
     pub event: Event,
 }
 

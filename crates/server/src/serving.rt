@@ -20,6 +20,7 @@ use threads::{Outcome, Server, run_threads};
 /// What a server is lent while it serves.
 #[derive(Clone, Copy)]
 pub struct Lent<'a, G, C> {
+    /// Called once all threads have been started, and before and after each turn.
     pub gate: &'a G,
     /// By it the idle limit is counted.
     pub clock: &'a C,

@@ -57,6 +57,7 @@ pub enum SettingsFault {
     NotToml,
     /// It is at the top level.
     UnknownKey(KeyText),
+    /// A required key that the text leaves out.
     Missing(Key),
     /// A value of another kind than its key takes, such as a number for a text.
     WrongKind(Key),

@@ -22,15 +22,25 @@ pub fn pollers_for(slots: usize, workers: usize) -> usize
 /// each is for.
 #[derive(Clone, Copy, Debug, PartialEq, Eq)]
 pub enum Key {
+    /// The address to which clients connect.
     Listen,
+    /// The address to which each connection is forwarded.
     Target,
+    /// Bytes buffered for each direction of a connection.
     Ring,
+    /// The most calls of the core that are made for one connection before another gets its turn.
     Budget,
+    /// Worker threads.
     Workers,
+    /// The maximum number of connections at a time.
     Slots,
+    /// How many connections are opened before the relay ends; 0 for no such limit.
     StopAfter,
+    /// The level of the messages on standard error.
     Log,
+    /// How many seconds a connection may move nothing before it fails; 0 for ever.
     Idle,
+    /// Whether the target is first sent a line with the client's address.
     Proxy,
 }
 
@@ -179,9 +189,13 @@ pub(crate) const IDLE: NumberRow = NumberRow {
 /// What a key takes.
 #[derive(Clone, Copy)]
 pub(crate) enum Takes {
+    /// An address, as this row says.
     Address(AddressRow),
+    /// A whole number, as this row says.
     Number(NumberRow),
+    /// The name of a level.
     Level,
+    /// A truth value.
     Truth,
 }
 
