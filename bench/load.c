@@ -2,12 +2,12 @@
 // Every byte is checked where it arrives.
 //
 //   load serve THREADS
-//       Listens on 127.0.0.1 and prints the port. THREADS are for requests, and as many for all else. Ends when
-//       standard input ends, with status 1 where a connection broke the rules.
+//       Prints its port on 127.0.0.1. THREADS are for requests, and as many for all else. Ends when standard input
+//       ends, with status 1 where a connection broke the rules.
 //   load client PORT SECONDS THREADS KIND CONNECTIONS [KIND CONNECTIONS]
 //       Opens its connections and prints "ready"; at a line on standard input it runs and prints a line of results;
-//       when standard input ends it ends, and its connections with it. A second load runs beside the first from the
-//       same start to the same deadline, in threads of its own; its results stand after those. KIND is
+//       when standard input ends it ends. A second load runs beside the first from the same start to the same
+//       deadline, in threads of its own. KIND is
 //         up       bytes one way, as fast as they go
 //         both     bytes both ways
 //         ask      requests and answers of 64 bytes, one at a time on each connection
@@ -19,8 +19,7 @@
 //
 // A connection begins with a hello of the client. Then each direction is a stream: the pattern, from a place that the
 // hello names; with its first 64 bytes the server answers the hello. A byte that is lost, doubled or another
-// connection's differs from the pattern. A stream of bulk ends where the pattern does, so that its reader notices that
-// the end is missing, unless that has just a multiple of the pattern's bytes.
+// connection's differs from the pattern. A stream of bulk ends where the pattern does.
 
 #define _GNU_SOURCE
 #include <arpa/inet.h>
@@ -345,9 +344,8 @@ static void record(struct load *load, uint64_t took)
     load->units++;
 }
 
-// Counts what is done: a request that has its answer, or a connection that is at its end. True where there is time for
-// another. A connection of requests stays open until the client ends. An answer after the deadline is no part of the
-// rate, but its time counts: or the longest waits would be left out.
+// Counts a request that has its answer, or a connection that is at its end. True where there is time for another. An
+// answer after the deadline is no part of the rate, but its time counts: or the longest waits would be left out.
 static bool complete(struct load *load, struct connection *c)
 {
     uint64_t time = now();

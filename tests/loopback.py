@@ -27,7 +27,7 @@ AT_REST = re.compile(r"(\d+ \d+ (p\d+ poll 0|second \d+)\n)+")
 
 
 def in_thread(work, *args):
-    """Does this in a thread; answers what has its result, or its error."""
+    """Does this in a thread; answers its result to come."""
     result = concurrent.futures.Future()
 
     def run():
@@ -71,7 +71,7 @@ def settings_file(settings):
 
 
 def allowed(descriptors, closed=()):
-    """What allows so many descriptors to the process that calls it, if there is to be a limit, and closes these."""
+    """What allows so many descriptors to its process, if there is to be a limit, and closes these."""
 
     def prepare():
         if descriptors is not None:
@@ -85,9 +85,9 @@ def allowed(descriptors, closed=()):
 
 class Relay:
     """A relay that forwards to a port, or to this process itself, with these settings beside the two addresses or in their
-    place: from a file, with other options after it, or on the command line; and with the library put before others, told by
-    these variables. It records what it does, unless it is to have no thread and no descriptor beyond those of a relay that
-    does not. It begins with these standard streams closed, and inherits these descriptors and variables."""
+    place: from a file, or if `typed` on the command line, with options after them; and if there is a `preload`, with the
+    library, told by these variables. It records what it does, unless it is to have no thread or descriptor beyond those of a
+    relay that does not. It begins with these standard streams closed, and inherits these descriptors and variables."""
 
     program = None
     library = None
@@ -168,11 +168,10 @@ class Relay:
         return [int(name) for name in os.listdir(f"/proc/{self.process.pid}/fd")]
 
     def tasks(self):
-        """The numbers of its threads."""
         return os.listdir(f"/proc/{self.process.pid}/task")
 
     def status(self, name, task=None):
-        """The number of this name in the status of one of its threads, the first where none is named (proc(5))."""
+        """The number of this name in the status of one of its threads, or the first (proc(5))."""
         text = pathlib.Path(f"/proc/{self.process.pid}/task/{task or self.process.pid}/status").read_text()
         return int(re.search(rf"^{name}:\s+(\d+)", text, re.M)[1])
 
@@ -209,7 +208,7 @@ def replay(path, *options):
 
 def compare(path, relay, totals):
     """Holds a recording against the machine, and against what the log of its relay says of each connection, where that is
-    known. How often each kind of event occurred is added to the totals. A recording that is not right is kept."""
+    known, and adds how often each kind of event occurred to the totals. A recording that is not right is kept."""
     try:
         told = replay(path, *(["--rest"] if relay and relay.rests else []))
         for count, kind in re.findall(r"^(?:count |(?=\d+ connections,))(\d+) ([a-z ]+)", told, re.M):
@@ -282,7 +281,7 @@ def send_and_shut(connection, data):
 
 
 def until(is_so):
-    """Waits until something is so, for 10 seconds at most; whether it is."""
+    """Whether something is so within 10 seconds."""
     for _ in range(200):
         if is_so():
             return True

@@ -1,9 +1,8 @@
 /* What a test preloads, and sets by environment variables.
  *
- * An allocator that refuses one growth of the program: its call number GROWTHS_REFUSE of malloc(3), calloc(3) or
- * realloc(3), counted from 1, answers NULL. Calls that the C library makes for itself are neither counted nor refused,
- * but with GROWTHS_OF_ALL. The count stands in the 8 bytes of the file GROWTHS_COUNT, also where the program ends by a
- * signal.
+ * The program's call number GROWTHS_REFUSE of malloc(3), calloc(3) or realloc(3), counted from 1, answers NULL. Calls that
+ * the C library makes for itself are neither counted nor refused, but with GROWTHS_OF_ALL. The count stands in the 8 bytes
+ * of the file GROWTHS_COUNT, also where the program ends by a signal.
  *
  * With MOST_THREADS so many threads can be started, and no more. With TIMES_FASTER clocks go so many times as fast. With
  * POLL_FAILS the call of epoll_wait(2) with this number fails, counted from 1 over all threads. */
@@ -67,17 +66,13 @@ static int is_refused(const void *caller) {
   return 1;
 }
 
-void *malloc(size_t size) {
-  return is_refused(__builtin_return_address(0)) ? NULL : __libc_malloc(size);
-}
+#define UNLESS_REFUSED(answer) (is_refused(__builtin_return_address(0)) ? NULL : answer)
 
-void *calloc(size_t number, size_t size) {
-  return is_refused(__builtin_return_address(0)) ? NULL : __libc_calloc(number, size);
-}
+void *malloc(size_t size) { return UNLESS_REFUSED(__libc_malloc(size)); }
 
-void *realloc(void *old, size_t size) {
-  return is_refused(__builtin_return_address(0)) ? NULL : __libc_realloc(old, size);
-}
+void *calloc(size_t number, size_t size) { return UNLESS_REFUSED(__libc_calloc(number, size)); }
+
+void *realloc(void *old, size_t size) { return UNLESS_REFUSED(__libc_realloc(old, size)); }
 
 int pthread_create(pthread_t *thread, const pthread_attr_t *attributes, void *(*run)(void *), void *argument) {
   static atomic_int started;

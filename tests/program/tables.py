@@ -1,11 +1,11 @@
 r"""Reads the rows of this folder: what each run of the program is given, and what it must give.
 
-`transcripts` and `help` have runs. All that a run gives is compared to the byte. These are its lines:
+`transcripts` and `help` have runs, of which all output is compared to the byte. These are the lines of a run:
 
     == NAME             a run begins
     $ relayd WORDS      the command, as a shell reads it. After `<`, `>` and `2>`, in this order, stands where a stream goes:
-                        a file, `closed` (nowhere), `gone` (a pipe that nobody reads) or `terminal` (one where the input is
-                        typed, and then Ctrl-D). Where there are several commands, each gives the same
+                        a file, `closed`, `gone` (a pipe that nobody reads) or `terminal` (one where the input is typed,
+                        and then Ctrl-D). Where there are several commands, each gives the same
     < TEXT              a line of standard input
     NAME: TEXT          a line of the file NAME, which lies where the program runs; so does the folder `examples`
     > TEXT              a line of standard output
@@ -15,10 +15,10 @@ r"""Reads the rows of this folder: what each run of the program is given, and wh
 
 A line of a transcript that ends with `\` has no line feed.
 
-The others are tables. A row is `GIVEN => WANTED`; in both ` | ` is a line feed. A line `begins: TEXT` says how what is given
-in the rows below it begins, or, where TEXT has `%s`, what stands around it; `begins:` that it is whole. `N * (TEXT)` is TEXT N
-times, as lines, or as words where it does not begin a line; in it `{}` counts from 0 up. Where GIVEN has `{A / B}` there is a
-row for each of these, and it stands for each `{}` of the row. A line that ends with ` |`, ` /` or ` =>` goes on in the next.
+The others are tables. A row is `GIVEN => WANTED`. A line `begins: TEXT` says how what is given in the rows below it begins, or,
+where TEXT has `%s`, what stands around it; `begins:` that it is whole. `N * (TEXT)` is TEXT N times, as lines, or as words where
+it does not begin a line; in it `{}` counts from 0 up. Where GIVEN has `{A / B}` there is a row for each of these, and it stands
+for each `{}` of the row.
 
 `reports` has scripts, or a file of `examples`, and the whole report of each, which for a world leaves out what is as in a world
 in which nothing has happened: lists are empty, workers idle, directions have no bytes, and slots are free.
@@ -32,8 +32,8 @@ in which nothing has happened: lists are empty, workers idle, directions have no
 reports get those of their poll. A last one that ends with `\` has no line feed. After `rests:`, in place of `begins:`, all has
 come to rest when the relay is stopped; after `scripts:` the script of 0.1 is wanted, which WANTED `too long` says that it is
 for `sim`.
-WANTED is `N connections; LINES`, lines of the output, or `WHOSE: ACT: WHY` of the act that can stand nowhere, or `malformed: CAUSE`,
-where CAUSE has the act in place of its line.
+WANTED is `N connections; LINES`, lines of the output, or `WHOSE: ACT: WHY` of an act that can stand nowhere, or
+`malformed: CAUSE`, which has the act in place of its line.
 
 `settings` has settings texts, on which `relayd check` is run. WANTED is the fault that is reported, and after ` | ` the cause
 that the log has, or the settings that differ from their defaults, as `ring=1 log=off`.
@@ -41,8 +41,9 @@ that the log has, or the settings that differ from their defaults, as `ring=1 lo
 `words` has the words after `relayd`, as a shell reads them, that are refused. WANTED is such a fault with its cause, or what
 the parser of arguments prints.
 
-In all of them `\xHH` is a byte, and `\xHH*N` that byte N times, but in what the log has of a fault, which is as it stands.
-Lines that begin with `#` are comments.
+In all files, after a line `[NAME]: TEXT`, `[NAME]` stands for TEXT, ` | ` for a line feed, `\xHH` for a byte and `\xHH*N` for
+that byte N times, but in what the log has of a fault, which is as it stands. A line that ends with ` |`, ` /` or ` =>` goes on
+in the next. Lines that begin with `#` are comments.
 """
 
 import functools
@@ -88,6 +89,19 @@ def lines_of(path):
                 begun = ""
 
 
+def named(lines):
+    """The lines with the texts for which names in them stand, but for those that say what a name stands for."""
+    texts = {}
+    for number, line in lines:
+        for name, text in texts.items():
+            line = line.replace(name, text)
+        naming = re.fullmatch(r"(\[[a-z ]+\]): (.*)", line)
+        if naming:
+            texts[naming[1]] = naming[2]
+        else:
+            yield number, line
+
+
 def repeated(text, between=" | "):
     """A text in which `N * (TEXT)` stands for TEXT N times."""
 
@@ -99,18 +113,16 @@ def repeated(text, between=" | "):
 
 
 def bytes_of(text):
-    """The bytes of a text, with those that stand in it as numbers."""
+    """The bytes of a text, in which some stand as numbers."""
     number = re.compile(rb"\\x([0-9a-f]{2})(?:\*([0-9]+))?")
     return number.sub(lambda found: bytes([int(found[1], 16)]) * int(found[2] or 1), text.encode())
 
 
 def line_of(text):
-    """The bytes of a line of a transcript."""
     return bytes_of(text[:-1]) if text.endswith("\\") else bytes_of(text) + b"\n"
 
 
 def lines_as_bytes(text):
-    """The bytes of lines of a table, each with its line feed."""
     return bytes_of(text.replace(" | ", "\n") + "\n")
 
 
@@ -123,9 +135,8 @@ def printed(different):
 
 
 def transcript(lines):
-    """The runs of a transcript."""
     runs = []
-    for number, line in lines:
+    for number, line in named(lines):
         mark, _, text = line.partition(" ")
         command = re.fullmatch(r"relayd(| .*?)(?: < (\S+))?(?: > (\S+))?(?: 2> (\S+))?", text)
         if mark == "==":
@@ -137,7 +148,7 @@ def transcript(lines):
         elif mark == "<":
             row.given += line_of(text)
         elif mark == ">":
-            row.output += line_of(text)
+            row.output += line_of(text.replace(" | ", "\n"))
         elif mark == "!":
             row.errors += line_of(text)
         elif mark == "settings":
@@ -165,7 +176,7 @@ def choices(line):
 def sides(lines):
     """The rows of a table: how their section is marked, the name of each, and its two sides."""
     mark, begins = "begins", ""
-    for number, line in lines:
+    for number, line in named(lines):
         section = re.fullmatch(r"(begins|rests|scripts): ?(.*)", line)
         if section:
             mark, begins = section.groups()
@@ -179,7 +190,6 @@ def sides(lines):
 
 
 def about(line):
-    """What a line of a report is about."""
     words = line.split(" ")
     return words[0] if words[0] in QUIET else " ".join(words[:2])
 
@@ -196,12 +206,11 @@ def report_of(script, told):
         lines[f"slot {slot}"] = f"slot {slot} free gen={header.get('gen', 0)} notes=0"
         if re.search(" (live|done|failed) ", told.get(f"slot {slot}", "")):
             lines |= {f"{slot} {way}": f"{slot} {way} sent=- ring=- unread=- end=no shut=no" for way in ("up", "down")}
-    # What is reported of other things, which are connections of the past, comes last.
+    # Connections of the past come last.
     return " | ".join({**lines, **told}.values())
 
 
 def scripts(lines):
-    """The rows of a table of scripts, each with its report or its fault."""
     for _, name, script, wanted in sides(lines):
         script = script.replace(" | ", "\n")
         if script.startswith("examples/"):
@@ -222,8 +231,7 @@ def scripts(lines):
 
 
 def with_each_step(row):
-    """The row of a world's script whose steps are all shown: each has its line, and what is shown last of everything is the
-    report."""
+    """The row of a world's script whose steps are all shown: what is shown last of everything is the report."""
     script = [line for line in row.given.decode().split("\n") if line and line[0] != "#"]
     report = row.output.decode().splitlines()
 
@@ -260,7 +268,7 @@ def numbered(acts):
 
 
 def is_malformed(wanted, text, status, output, errors):
-    """Whether a text is reported to be no recording for this cause, in which the act of the line stands for its number."""
+    """Whether a text is no recording for this cause, in which the act of the line stands for its number."""
 
     def act(line):
         return re.sub(r"^\d+ \d+ ", "", text.split("\n")[int(line[1]) - 1]) + ": "
@@ -287,7 +295,6 @@ def is_told(wanted, text, status, output, errors):
 
 
 def recordings(lines):
-    """The rows of a table of recordings."""
     for mark, name, acts, wanted in sides(lines):
         words = [b"replay", *{"rests": [b"--rest"], "scripts": [b"--script", b"0.1"]}.get(mark, []), b"t.record"]
         text = numbered(acts.split(" | "))
@@ -300,12 +307,11 @@ def error(cause):
 
 
 def fault(told, cause):
-    """What is printed of a fault: a line with its topic and the cause, and the fault."""
+    """What is printed of a fault."""
     return error(f"{told.split(':')[0]}: {cause}") + f"relayd: {told}\n".encode()
 
 
 def settings(lines):
-    """The rows of a table of settings texts."""
     for _, name, text, wanted in sides(lines):
         row = Row(name, [b"check", b"--config", b"t.toml"], files={"t.toml": lines_as_bytes(text)})
         told, _, cause = wanted.partition(" | ")
@@ -317,7 +323,6 @@ def settings(lines):
 
 
 def words(lines):
-    """The rows of a table of words that are refused."""
     for _, name, text, wanted in sides(lines):
         row = Row(name, [bytes_of(word) for word in shlex.split(text)], status=2)
         told, _, cause = wanted.partition(" | ")

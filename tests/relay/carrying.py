@@ -11,7 +11,7 @@ import tempfile
 import time
 
 from loopback import WAIT, Relay, echo, in_thread, read_all, send_and_shut, start, target, until
-from shared import asked, is_open, left_out, line_of, name_of, reset, served, unused_port
+from shared import asked, connected, is_open, left_out, line_of, name_of, reset, served, unused_port
 
 
 # refuses bit_down_after_a_short_read: a wire stops reading after a short read
@@ -84,7 +84,7 @@ def makes_no_call_that_nobody_asked_for():
         words = ["strace", "-f", "-e", "trace=%network,epoll_ctl", "-o", file.name, Relay.program, "forward", "127.0.0.1:0"]
         words += [f"127.0.0.1:{target(echo)}", "--workers", "1", "--slots", "1", "--stop-after", "1"]
         relay = start(words, stdout=subprocess.PIPE, stderr=subprocess.DEVNULL)
-        with socket.create_connection(("127.0.0.1", int(relay.stdout.readline().rpartition(":")[2]))) as client:
+        with connected(int(relay.stdout.readline().rpartition(":")[2])) as client:
             assert all([asked(client) for _ in range(3)])
         assert relay.wait(WAIT) == 0
         _, accepted, after = re.split(r"(accept4.* = \d+\n)", file.read())
@@ -96,8 +96,8 @@ def makes_no_call_that_nobody_asked_for():
 
 # refuses client_never_sends_at_once: a client's socket is never told to send at once
 def sends_small_parts_at_once():
-    # A socket that waits for more to send would hold the second byte back until the first is acknowledged, which takes
-    # its peer 40 ms here. Now and then a machine under load takes as long, so not every time counts.
+    # A socket that waits for more would hold the second byte back until the first is acknowledged, which takes its peer 40 ms
+    # here. Now and then a machine under load takes as long.
     for first in 0, 1:
         ends = Relay().pair()
         sender, receiver = ends[first], ends[1 - first]
@@ -117,8 +117,8 @@ def sends_small_parts_at_once():
 
 
 def sends_a_line_first():
-    # With rings that are smaller than the line, and a call a turn; a client without bytes; and other addresses of loopback:
-    # the accepted address is not the one that is listened on.
+    # With rings that are smaller than the line; a client without bytes; and other addresses: the accepted one is not that which
+    # is listened on.
     data = os.urandom(12_000_000)
     for sent, settings, addresses in (
         (data, {}, {}),
@@ -141,7 +141,7 @@ def sends_a_line_first():
 
 # refuses accepted_address_is_kept: a poller asks only for the accepted address of its first client
 def tells_each_target_its_own_client():
-    # Five workers and as many pollers; all clients come at once, each from its own address to its own.
+    # Five pollers; all clients come at once, each from its own address to its own.
     relay = Relay(proxy=True, listen="0.0.0.0:0", slots=320, workers=5)
     clients = [relay.connect(own=f"127.0.1.{number}", to=f"127.0.2.{number}") for number in range(1, 101)]
     lines = [line_of(client) for client in clients]
@@ -151,7 +151,7 @@ def tells_each_target_its_own_client():
     assert sorted(told) == sorted(2 * line for line in lines)
 
 
-# Servers that read the line, and answer and log what it says: how each is started, with which settings.
+# Servers that read the line, and answer and log what it says.
 HAPROXY = """
 defaults
     mode http

@@ -12,26 +12,21 @@ import time
 
 from loopback import Relay, echo, port_of, target, unheard, until
 from shared import (
-    answers_soon, ask_once, asked, at_once, drops_in, few, having, is_closed_soon, leave_one_descriptor, left_out, reset, served,
-    too_few,
+    answers_soon, ask_once, asked, asking, at_once, drops_in, few, having, is_closed_soon, left_out, reset, served,
 )
 
 
 # refuses recording_is_no_descriptor: the file of a recording is not counted among the descriptors
 def waits_where_descriptors_are_few():
-    # The limit covers 17 connections, or 18, with a descriptor to spare or none, and one less in every other case with a
-    # recording. Nobody is accepted only to be closed.
+    # The limit covers 17 connections, or 18, with a descriptor to spare or none. Nobody is accepted only to be closed.
     for most, recorded in (40, 0), (41, 0), (42, 0), (43, 0), (41, 1), (42, 1):
         relay = Relay(target(echo), descriptors=most, recorded=recorded)
         recorded = int(bool(relay.record))
-        clients = [relay.connect() for _ in range(40)]
-        for client in clients:
-            client.sendall(b"?")
-        for client in clients:
+        for client in asking(relay, 40):
             # One client after another gives up its place.
             assert client.recv(1) == b"?"
             client.close()
-        # Whether a client comes when all slots are taken, or before the last one is, is left to the schedule.
+        # Whether a client comes when all slots are taken is left to the schedule.
         first, *lines = [line for line in relay.end() if "] slots: all " not in line]
         assert first == few((most - 6 - recorded) // 2, most, 2060 + recorded)
         assert not any("WARN" in line or "ERROR" in line for line in lines)
@@ -46,13 +41,13 @@ def needs_descriptors_for_one_connection():
                 needed = 8 + recorded + len(inherited)
                 how = {"recorded": recorded, "inherited": inherited, "log": "off"}
                 ask_once(Relay(target(echo), descriptors=needed, **how))
-                assert Relay(descriptors=needed - 1, **how).ended(1) == [too_few(needed - 1, needed)]
+                limit = f"the limit is {needed - 1}, and {needed} are needed for one connection (ulimit -n)"
+                assert Relay(descriptors=needed - 1, **how).ended(1) == [f"relayd: descriptors: {limit}"]
 
 
 # refuses cause_is_off: at level off nothing says why a relay could not start
 def nothing_to_poll_with():
-    # Beside the three standard streams there is a descriptor for the listening socket, and none for epoll(7), or to read the
-    # limit by. The cause is logged at each level.
+    # Beside the three standard streams there is a descriptor for the listening socket, and none for epoll(7).
     fault = ["[ERROR relayd] poll: Too many open files (os error 24)", "relayd: poll: failed"]
     for level in "info", "off":
         assert Relay(descriptors=4, recorded=False, log=level).ended(1, within=10) == fault
@@ -63,8 +58,7 @@ def logs_nothing_at_level_off_while_it_serves():
     relay = Relay(target(echo), slots=64, log="off")
     (_client,) = served(relay, 1)
     relay.limit(resource.RLIMIT_NOFILE, max(relay.descriptors()) + 1)
-    waiting = relay.connect()
-    waiting.sendall(b"?")
+    (waiting,) = asking(relay, 1)
     assert not answers_soon(waiting) and relay.end() == []
 
 
@@ -92,7 +86,7 @@ def no_thread_for_some():
 def a_poll_that_fails():
     if not Relay.library:
         return left_out("cc")
-    # Two threads poll, which call epoll_wait(2) at least five times a second each, and two more are workers.
+    # Two threads poll, at least five times a second each, and two more are workers.
     fault = ["[ERROR relayd] poll: Input/output error (os error 5)", "relayd: poll: failed"]
     for level in "info", "off":
         relay = Relay(target(echo), preload={"POLL_FAILS": "20"}, slots=128, workers=2, log=level)
@@ -103,20 +97,18 @@ def a_poll_that_fails():
 
 
 def out_of_descriptors():
-    # With one poller: each logs by itself that it lacks descriptors.
+    # With one poller, since each logs that it lacks descriptors.
     relay = Relay(target(echo), slots=100)
     clients = served(relay, 1)
     # Two connections more take the last descriptors, two each, so the fourth is not accepted.
     relay.limit(resource.RLIMIT_NOFILE, max(relay.descriptors()) + 1 + 2 * 2)
     clients += served(relay, 2)
-    waiting = [relay.connect() for _ in range(2)]
-    for client in waiting:
-        client.sendall(b"?")
+    waiting = asking(relay, 2)
     assert not any([answers_soon(client) for client in waiting])
     before = relay.run_time(relay.tasks())
     time.sleep(2)
     assert relay.run_time(relay.tasks()) - before <= 0.1 and all([asked(client) for client in clients])
-    # Each of the two is served when another has gone. Then there are no descriptors again, and that is logged again.
+    # Each of the two is served when another has gone. Then that there are no descriptors is logged again.
     for client in waiting:
         clients.pop().close()
         assert answers_soon(client)
@@ -131,8 +123,7 @@ def closes_what_it_has_opened():
         reset(client)
 
     server, nobody, closing = target(echo), unheard(), target(socket.socket.close)
-    acts = (server, asked), (server, ask_and_reset), (port_of(nobody), is_closed_soon), (closing, is_closed_soon)
-    for port, act in acts:
+    for port, act in (server, asked), (server, ask_and_reset), (port_of(nobody), is_closed_soon), (closing, is_closed_soon):
         relay = Relay(port, slots=64, log="off")
         # It has no more descriptors after 40 connections than after one.
         for number in range(41):
@@ -142,22 +133,6 @@ def closes_what_it_has_opened():
                 time.sleep(0.5)
                 before = len(relay.descriptors())
         assert until(lambda: len(relay.descriptors()) <= before)
-
-
-def floods_nothing_without_descriptors():
-    # Each of four pollers logs the first of each kind, and a count once a second.
-    relay = Relay(target(echo), log="warn")
-    leave_one_descriptor(relay)
-    ended = time.monotonic() + 3
-
-    def connect_again_and_again():
-        while time.monotonic() < ended:
-            with contextlib.suppress(ConnectionError), relay.connect() as client:
-                client.recv(1)
-
-    at_once(*[connect_again_and_again] * 8)
-    lines = relay.end()
-    assert len(having(lines, "] accept: ")) <= 4 and len(lines) <= 32 and drops_in(lines) > 100
 
 
 def out_of_memory():

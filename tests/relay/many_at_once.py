@@ -11,34 +11,32 @@ import threading
 import time
 
 from loopback import WAIT, Relay, echo, in_thread, port_of, target, unheard, until
-from shared import answer_and_read, asked, having, is_silent, left_out, move_much, numbers_in, served
+from shared import answer_and_read, asked, asking, having, is_silent, left_out, move_much, numbers_in, served
 
 FUTEX = "202"  # the number of the system call in which a worker sleeps
 PTRACE_SEIZE, PTRACE_INTERRUPT, PTRACE_DETACH, WALL = 0x4206, 0x4207, 17, 0x40000000  # ptrace(2), waitpid(2)
 
 
-def send_at_once(pairs):
-    """Has both ends of each connection send."""
+def send_both(pairs):
     for client, end in pairs:
         client.sendall(b"u")
         end.sendall(b"d")
 
 
 def have_it(pairs):
-    """Whether all have what the others sent."""
     return all([end.recv(1) == b"u" and client.recv(1) == b"d" for client, end in pairs])
 
 
 # refuses half_of_a_batch_told: of 256 reports only the first 128 reach the wires
 def answers_a_full_batch_and_a_client():
-    # With one poller: as many reports as one wait gives, of both ends of each connection, and a client that comes with them.
+    # As many reports as one wait gives, of both ends of each connection, and a client that comes with them.
     relay = Relay(slots=300, workers=1, log="off")
     pairs = [relay.pair() for _ in range(128)]
-    send_at_once(pairs)
+    send_both(pairs)
     assert have_it(pairs)
     for _ in range(3):
         with relay.stopped():
-            send_at_once(pairs)
+            send_both(pairs)
             late = relay.connect()
         assert have_it(pairs)
         pairs.append((late, relay.listener.accept()[0]))
@@ -51,7 +49,7 @@ def uses_each_of_4096_slots():
     pairs = [relay.pair() for _ in range(4096)]
     # In the second round a report has to reach each wire.
     for _ in range(2):
-        send_at_once(pairs)
+        send_both(pairs)
         assert have_it(pairs)
 
 
@@ -61,21 +59,19 @@ def serves_all_slots_of_several_pollers():
     relay = Relay(target(echo), slots=256)
     clients = [served(relay, 1)[0] for _ in range(256)]
     for freed in (0, 63, 64, 100, 191, 200, 255, 1, 128, 254, 7, 77):
-        waiting = relay.connect()
-        waiting.sendall(b"?")
+        (waiting,) = asking(relay, 1)
         assert is_silent(waiting, 0.1)
         clients[freed].close()
         clients[freed] = waiting
         assert waiting.recv(1) == b"?"
     slots = [int(line.split("s=")[1].split(" ")[0]) for line in having(relay.end(), "] open ")]
-    # The first clients are reported to several pollers, while each has slots for all of them.
     assert len({slot // 64 for slot in slots[:64]}) > 1 and sorted(slots[:256]) == list(range(256)) and len(slots) == 268
 
 
 # refuses late_generations_are_not_told: no report whose number has over 32 bits reaches its wire
 # refuses numbers_of_32_bits: a socket is registered under the lowest 32 bits of its number
 def serves_65539_in_one_slot():
-    # Numbers have over 32 bits from generation 65,536 on. All clients but the last four find their target out of reach.
+    # Numbers have over 32 bits from generation 65,536 on. All but the last four find their target out of reach.
     listener = unheard()
     with tempfile.TemporaryFile("w+") as errors:
         relay = Relay(port_of(listener), errors=errors, slots=1)
@@ -100,21 +96,20 @@ def wakes_the_poller_of_a_freed_slot():
     clients, slow = served(relay, 128), 0
     for _ in range(20):
         with clients.pop(0) as client:
-            waiting = relay.connect()
-            waiting.sendall(b"?")
+            (waiting,) = asking(relay, 1)
             move_much(relay, client)
             before = time.monotonic()
             client.shutdown(socket.SHUT_WR)
             assert waiting.recv(1) == b"?"
             slow += time.monotonic() - before > 0.1
         clients.append(waiting)
-    # A poller that nobody wakes waits for 200 ms, unless the slot is free before it begins to wait, as about half of these are.
+    # A poller that nobody wakes waits for 200 ms, unless the slot is free before it waits, as about half of these are.
     assert slow < 4
 
 
 # refuses clients_are_not_dealt: a poller takes each client that it can, however many more than others it has
 def deals_clients_to_pollers_with_fewer():
-    # Four pollers have 256 slots each. One keeps its clients and the others lose theirs, before 24 come at once, ten times.
+    # Of four pollers one keeps its clients and the others lose theirs, before 24 come at once, ten times.
     with tempfile.NamedTemporaryFile("w") as errors:
         relay = Relay(target(echo), errors=errors, slots=1024)
 
@@ -167,8 +162,7 @@ def serves_clients_that_another_poller_leaves():
 
 
 def burst(relay, clients):
-    """Has each of these clients send a byte while the relay is stopped, so that it finds all at once. How long it takes until
-    the last of them has its answer."""
+    """How long it takes until the last of these clients has its answer, if the relay finds a byte of each at once."""
     with relay.stopped():
         for client in clients:
             client.sendall(b"!")
@@ -223,7 +217,7 @@ def wakes_workers_for_what_is_over_16():
         others = [task for task in relay.tasks() if relay.system_call(task) == FUTEX]
 
         def worked(many):
-            """How long other threads than the pollers run, by a burst of this many."""
+            """How long the others run by a burst of this many."""
             time.sleep(0.1)
             before = relay.run_time(others)
             burst(relay, clients[:many])
@@ -248,7 +242,7 @@ def runs_as_many_threads_as_are_set():
 
 def rings_are_as_large_as_is_set():
     def grown(ring):
-        """How many bytes more it has by 32 connections, with a ring each way."""
+        """How many bytes more it has by 32 connections."""
         # With one poller, whose thread is the first. The queues of a recording leave holes in the heap.
         relay = Relay(target(echo), recorded=False, ring=ring, slots=64)
         first, before = served(relay, 1), relay.status("VmData")
@@ -271,8 +265,7 @@ def accepts_without_waiting():
 
 # refuses waits_two_seconds: a poller waits two seconds for a report
 def sleeps_while_idle():
-    # One thread that polls wakes five times a second, and several together ten times. The log's writer does not, before and
-    # after it has written.
+    # One thread that polls wakes five times a second, and several together ten times. The log's writer does not.
     def sleeps():
         return sum(relay.status("voluntary_ctxt_switches", task) for task in relay.tasks())
 

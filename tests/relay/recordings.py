@@ -25,7 +25,7 @@ def serves_on_where_nothing_can_be_recorded():
 def records_what_it_did():
     if not Relay.records:
         return left_out("recording")
-    # Two of these end well, and one by a reset. The replay says that what is recorded is a run, up to the end of each.
+    # Two of these end well, and one by a reset.
     relay = Relay(slots=130, workers=3, ring=1000, idle=30, stop_after=3, proxy=True)
     pairs = [relay.pair() for _ in range(3)]
     lines = [line_of(client) for client, _ in pairs]
@@ -53,7 +53,7 @@ def has_written_what_it_did_when_it_rests():
 
 # refuses record_empties_a_file: a file that is there is emptied to record into it
 def keeps_what_was_there():
-    # A recording that is there gets the first free name after its own, an empty file is used, and any other is left as it is.
+    # A recording gets the first free name after its own, an empty file is used, and any other is left as it is.
     with tempfile.TemporaryDirectory() as folder:
         path = pathlib.Path(folder, "relay.record")
         path.touch()
@@ -74,7 +74,7 @@ def keeps_what_was_there():
 
 # refuses full_is_not_told: a recording that lacks records ends as a whole one
 def stops_recording_when_nobody_reads_it():
-    # Nobody reads the pipe until a queue of records is full. The relay warns once, ends its recording, and serves on.
+    # Nobody reads the pipe until a queue of records is full.
     is_over = threading.Event()
 
     def ask():

@@ -1,13 +1,12 @@
 """What the checks of several topics use."""
 
 import re
-import resource
 import select
 import socket
 import struct
 import time
 
-from loopback import WAIT, Relay, echo, in_thread, port_of, read_all, target, until
+from loopback import WAIT, Relay, echo, in_thread, port_of, read_all, target
 
 LONGEST = 100  # the longest that a check may take, in seconds
 OWN = "[WARN  relayd] target: the relay itself listens there, so a connection would go round without end"
@@ -18,11 +17,6 @@ def few(served, limit, needed=2060):
     """The warning of too few descriptors."""
     most = f"at most {served} of 1024 connections are served at a time"
     return f"[WARN  relayd] slots: {most}, since the limit is {limit} descriptors and {needed} are needed (ulimit -n)"
-
-
-def too_few(limit, needed):
-    """The fault of descriptors that are not enough for one connection."""
-    return f"relayd: descriptors: the limit is {limit}, and {needed} are needed for one connection (ulimit -n)"
 
 
 def at_once(*works):
@@ -48,6 +42,19 @@ def served(relay, many):
     clients = [relay.connect() for _ in range(many)]
     assert all([asked(client) for client in clients])
     return clients
+
+
+def asking(relay, many):
+    """This many clients, each of which has sent a byte."""
+    clients = [relay.connect() for _ in range(many)]
+    for client in clients:
+        client.sendall(b"?")
+    return clients
+
+
+def connected(port):
+    """A client at a port of this machine, for what is no `Relay`."""
+    return socket.create_connection(("127.0.0.1", port), timeout=WAIT)
 
 
 def reset(connection):
@@ -77,19 +84,17 @@ def is_closed_soon(client, seconds=3):
 
 def is_open(port):
     try:
-        socket.create_connection(("127.0.0.1", port), timeout=WAIT).close()
+        connected(port).close()
         return True
     except OSError:
         return False
 
 
 def name_of(client):
-    """Its own address and port."""
     return "%s:%d" % client.getsockname()
 
 
 def having(lines, *words):
-    """The lines that have all of these."""
     return [line for line in lines if all(word in line for word in words)]
 
 
@@ -126,20 +131,12 @@ def told(*options, **settings):
 
 
 def numbers_in(line):
-    """The numbers of a log line, by their names."""
     return {name: int(number) for name, number in re.findall(r"(\w+)=(\d+)", line)}
 
 
 def drops_in(lines):
     """How many clients were closed unopened, by these lines."""
     return sum(numbers_in(line).get("more", 1) for line in having(lines, "] drop"))
-
-
-def leave_one_descriptor(relay):
-    """Leaves one for a client, and none for its target."""
-    # Four pollers have two each, beside the listener's, three streams and the recording's.
-    assert until(lambda: len(relay.descriptors()) == 12 + bool(relay.record))
-    relay.limit(resource.RLIMIT_NOFILE, max(relay.descriptors()) + 2)
 
 
 def line_of(client):

@@ -10,7 +10,7 @@ import sys
 import time
 
 from loopback import TESTS, WAIT, Relay, echo, in_thread, port_of, read_all, send_and_shut, target, unanswered, until
-from shared import IDLE, answers_soon, asked, having, is_closed_soon, is_silent, left_out, numbers_in, served
+from shared import IDLE, answers_soon, asked, asking, having, is_closed_soon, is_silent, left_out, numbers_in, served
 
 PIDFD_GETFD = 438  # pidfd_getfd(2)
 TCP_WAITS = [socket.TCP_USER_TIMEOUT, socket.TCP_KEEPIDLE, socket.TCP_KEEPINTVL, socket.TCP_KEEPCNT]
@@ -23,8 +23,7 @@ def ends_connections_once_they_are_silent():
     for _ in range(10):
         time.sleep(0.5)
         assert asked(client)
-    waiting, _other = relay.connect(), relay.connect()
-    waiting.sendall(b"?")
+    waiting, _other = asking(relay, 2)
     assert is_closed_soon(client, 5) and answers_soon(waiting)
     taken = "[WARN  relayd] slots: all 1 are taken; further clients wait"
     assert relay.end()[:4] == ["[INFO  relayd] open s=0 g=1", taken, IDLE, "[INFO  relayd] open s=0 g=2"]
@@ -161,15 +160,3 @@ def gives_up_peers_that_are_gone():
     assert is_silent(waiting, 1) and is_silent(next_one, 7) and asked(next_one)
     for each, side in (relay, "client"), (other, "target"):
         assert having(each.end(), f"side={side} call=read kind=timedout")
-
-
-def ends_a_receiver_that_stalls():
-    relay = Relay(slots=1, ring=4096, idle=1)
-    client, _end = relay.pair()
-    client.settimeout(0.5)
-    with contextlib.suppress(ConnectionError):
-        with contextlib.suppress(TimeoutError):
-            while client.send(bytes(65536)):
-                pass
-        assert is_closed_soon(client)
-    assert relay.end()[-1] == IDLE

@@ -18,8 +18,8 @@ from loopback import (
     TESTS, WAIT, Relay, allowed, echo, in_thread, port_of, read_all, send_and_shut, settings_file, start, target, until,
 )
 from shared import (
-    OWN, answer_and_read, ask_once, asked, at_once, few, having, is_open, is_silent, left_out, line_of, move_much, served,
-    unused_port,
+    OWN, answer_and_read, ask_once, asked, at_once, connected, few, having, is_open, is_silent, left_out, line_of, move_much,
+    served, unused_port,
 )
 
 
@@ -41,7 +41,7 @@ def goes_on_behind_its_first_poller():
 # refuses no_wake_behind_the_last: nobody wakes a poller whose last connection a worker has ended
 # refuses pollers_behind_the_eighth_are_not_woken: of 16 pollers, those after the eighth have the eighth's waker
 def ends_soon_behind_its_last():
-    # Each poller has one connection. A poller that nobody wakes waits for 200 ms, and for 1.6 s if it is one of 16.
+    # Each poller has one connection. One that nobody wakes waits for 200 ms, and for 1.6 s if it is one of 16.
     def taken(pollers):
         relay = Relay(target(answer_and_read), slots=64 * pollers, workers=pollers, stop_after=pollers, log="off")
         clients = served(relay, pollers)
@@ -56,27 +56,9 @@ def ends_soon_behind_its_last():
         assert sorted(taken(pollers) for _ in range(7))[3] < most
 
 
-def gives_up_its_port(relay, clients):
-    """Clients are refused and another relay listens there, while these go on, each of which echoes. Answers the log."""
-    assert until(lambda: not is_open(relay.port))
-    ask_once(Relay(target(echo), listen=f"127.0.0.1:{relay.port}", log="off"))
-    for client in clients:
-        assert asked(client) and relay.process.poll() is None
-        client.close()
-    return relay.ended()
-
-
-def closes_its_socket_behind_its_last():
-    # One poller; and four, of which each has its share of the connections, 3, 3, 2 and 2.
-    for most, settings in (4, {"workers": 1, "slots": 4}), (10, {"slots": 256}):
-        relay = Relay(target(echo), stop_after=most, **settings)
-        lines = gives_up_its_port(relay, served(relay, most))
-        assert len(having(lines, "] open ")) == most
-
-
 # refuses waits_while_it_listens: a poller that may open nothing waits for reports with the listening socket open
 def refuses_who_comes_behind_its_last():
-    # Of sixteen pollers fifteen may open none, and wait for 1.6 seconds at a time. A client would wake them.
+    # Of sixteen pollers fifteen may open none, and wait for 1.6 seconds. A client would wake them.
     relay = Relay(target(echo), slots=1024, workers=16, stop_after=1)
     (client,) = served(relay, 1)
     time.sleep(0.3)
@@ -89,7 +71,8 @@ def refuses_who_comes_behind_its_last():
 
 # refuses end_of_input_overlooked: a relay with --until-eof goes on to accept clients after the end of its standard input
 def ends_behind_its_standard_input():
-    # What it reads there is thrown away. With 4 pollers and 16, from a file and on the command line.
+    # What it reads there is thrown away. Then clients are refused and another relay listens there, while the others go on. With 4
+    # pollers and 16, from a file and on the command line.
     for settings in {}, {"workers": 16}, {"typed": True}:
         relay = Relay(target(echo), options=["--until-eof"], stdin=subprocess.PIPE, **settings)
         relay.process.stdin.write("x" * 1_000_000)
@@ -98,8 +81,12 @@ def ends_behind_its_standard_input():
         assert relay.process.poll() is None
         relay.process.stdin.close()
         relay.process.stdin = None
-        told = "[INFO  relayd] input: has ended, so no more clients are accepted"
-        assert told in gives_up_its_port(relay, clients)
+        assert until(lambda: not is_open(relay.port))
+        ask_once(Relay(target(echo), listen=f"127.0.0.1:{relay.port}", log="off"))
+        for client in clients:
+            assert asked(client) and relay.process.poll() is None
+            client.close()
+        assert "[INFO  relayd] input: has ended, so no more clients are accepted" in relay.ended()
 
 
 def ends_where_there_is_no_input():
@@ -113,7 +100,7 @@ def ends_where_there_is_no_input():
 
 # refuses closed_streams_are_not_held: a socket or a file gets the number of a standard stream that is closed
 def gives_no_closed_stream_to_another():
-    # With each set of streams closed: every client has its own bytes alone, and a recording none of another. Without an output
+    # With each set of streams closed every client has its own bytes alone, and a recording none of another. Without an output
     # nobody can read where it listens.
     bad = "Bad file descriptor (os error 9)"
 
@@ -156,8 +143,8 @@ def gives_no_closed_stream_to_another():
 
 @contextlib.contextmanager
 def replaceable():
-    """A folder with the settings of a relay that listens at a port, and a program that is the relay, and where that serves
-    records what it does. The folder, the port, the settings' path and the program's."""
+    """A folder with the settings of a relay, and a program that is the relay, which records where it serves. The folder, the
+    port at which that listens, the settings' path and the program's."""
     with tempfile.TemporaryDirectory() as folder:
         port, settings, program = unused_port(), f"{folder}/relay.toml", f"{folder}/relayd"
         pathlib.Path(settings).write_text(f'listen = "127.0.0.1:{port}"\ntarget = "127.0.0.1:{target(echo)}"\n')
@@ -175,35 +162,41 @@ def replace(folder, settings, program):
     return subprocess.run(words, stdout=subprocess.PIPE, stderr=subprocess.PIPE, text=True, timeout=WAIT, env=env)
 
 
+def end_holder(folder):
+    os.kill(int(pathlib.Path(folder, "holder").read_text()), signal.SIGTERM)
+
+
 def is_replaced_at_another_address():
-    # One that cannot start leaves the other as it is, with its log and no other; one that listens elsewhere starts beside it.
+    # One that cannot start leaves the other as it is, with its log alone; one that listens elsewhere starts beside it.
     with replaceable() as (folder, port, settings, program), socket.create_server(("127.0.0.1", 0)) as taken:
         text, names = pathlib.Path(settings).read_text(), lambda: {path.name for path in pathlib.Path(folder).glob("log*")}
-        assert replace(folder, settings, program).stdout == f"listening 127.0.0.1:{port}\n"
-        with socket.create_connection(("127.0.0.1", port)) as client:
+
+        def at(address):
+            pathlib.Path(settings).write_text(text.replace(f"127.0.0.1:{port}", address))
+            return replace(folder, settings, program)
+
+        assert at(f"127.0.0.1:{port}").stdout == f"listening 127.0.0.1:{port}\n"
+        with connected(port) as client:
             before, other = names(), unused_port()
-            pathlib.Path(settings).write_text(text.replace(f":{port}", f":{port_of(taken)}"))
-            failed = replace(folder, settings, program)
+            failed = at(f"127.0.0.1:{port_of(taken)}")
             assert failed.returncode == 1 and "relayd: listen: failed\n" in failed.stderr and names() == before
             assert asked(client) and is_open(port)
-            pathlib.Path(settings).write_text(text.replace(f"127.0.0.1:{port}", f"0.0.0.0:{other}"))
-            assert replace(folder, settings, program).stdout == f"listening 0.0.0.0:{other}\n"
+            assert at(f"0.0.0.0:{other}").stdout == f"listening 0.0.0.0:{other}\n"
             assert until(lambda: not is_open(port)) and is_open(other) and asked(client) and len(names()) == 3
-            pathlib.Path(settings).write_text(text.replace(f":{port}", f":{other}"))
-            assert replace(folder, settings, program).stdout == f"listening 127.0.0.1:{other}\n" and asked(client)
-        os.kill(int(pathlib.Path(folder, "holder").read_text()), signal.SIGTERM)
+            assert at(f"127.0.0.1:{other}").stdout == f"listening 127.0.0.1:{other}\n" and asked(client)
+        end_holder(folder)
         assert until(lambda: not is_open(other))
 
 
 def is_replaced_under_load():
-    # By the script of the examples, twice, beside clients that ask one after the other, each time on a connection of its own,
-    # and clients that keep theirs. No client that was accepted is cut: each has its line `done`.
+    # Twice, beside clients that ask one after the other, each time on a connection of its own, and clients that keep theirs. No
+    # client that was accepted is cut: each has its line `done`.
     counts, is_over = collections.Counter(), threading.Event()
 
     def come_and_go():
         while not is_over.is_set():
             try:
-                with socket.create_connection(("127.0.0.1", port), timeout=WAIT) as client:
+                with connected(port) as client:
                     assert asked(client, b"?" * 100)
                 counts["answered"] += 1
             except ConnectionRefusedError:
@@ -213,7 +206,7 @@ def is_replaced_under_load():
                 counts["reset"] += 1
 
     def stay():
-        with socket.create_connection(("127.0.0.1", port), timeout=WAIT) as client:
+        with connected(port) as client:
             while not is_over.is_set():
                 assert asked(client, b"!" * 100)
                 time.sleep(0.01)
@@ -234,14 +227,14 @@ def is_replaced_under_load():
         time.sleep(1)
         is_over.set()
         assert not any(each.result(WAIT) for each in load)
-        os.kill(int(pathlib.Path(folder, "holder").read_text()), signal.SIGTERM)
+        end_holder(folder)
         assert until(lambda: not is_open(port) and lines("] open ") == lines("] done "))
         assert lines("] fail ") == lines("] drop ") == [0] * 3 and counts["answered"] > 100 and counts["reset"] <= 8
 
 
 def is_replaced_by_systemd():
-    # What the drop-in says is done, one command after the other, as systemd makes it for an instance whose folder this is: to
-    # stop waits for the last connection, and fails no more where the relay has ended.
+    # What the drop-in says is done, as systemd does it for an instance whose folder this is: to stop waits for the last
+    # connection, and fails no more where the relay has ended.
     with replaceable() as (folder, port, settings, program):
         text = pathlib.Path(TESTS, "../packaging/replace.conf").read_text().replace("\\\n", "").replace("$$", "$")
         text = text.replace("%t/relayd-%i", folder).replace("/usr/local/bin/relayd", program)
@@ -250,7 +243,7 @@ def is_replaced_by_systemd():
         subprocess.run(make, shell=True, check=True)
         relay = start(["/bin/sh", "-c", "exec " + begin], stdout=subprocess.PIPE, stderr=subprocess.DEVNULL)
         assert relay.stdout.readline() == f"listening 127.0.0.1:{port}\n"
-        with socket.create_connection(("127.0.0.1", port)) as client:
+        with connected(port) as client:
             assert asked(client)
             stopping = start(["/bin/sh", "-c", stop.replace("${MAINPID}", str(relay.pid))])
             assert until(lambda: not is_open(port))
@@ -264,7 +257,7 @@ def is_replaced_by_systemd():
 def forwards_by_its_command_line():
     settings = {"ring": 1, "budget": 2, "workers": 3, "slots": 1, "stop_after": 2, "log": "error", "proxy": True}
     relay = Relay(target(echo), typed=True, recorded=False, **settings)
-    # The second client waits for the only slot, of which a warning is logged if it comes after the first one's opening.
+    # The second client waits for the only slot.
     first, second = relay.connect(), relay.connect()
     lines = [line_of(first), line_of(second)]
     send_and_shut(second, b"two")
@@ -317,7 +310,7 @@ def warns_before_it_runs():
 # refuses listens_on_every_address: a server listens on every address
 def listens_on_its_address_alone():
     relay = Relay(target(echo))
-    # The port at other addresses of loopback is left to others, and nobody is there.
+    # The port at other addresses is left to others, and nobody is there.
     socket.create_server(("127.0.0.3", relay.port)).close()
     with contextlib.suppress(ConnectionRefusedError):
         relay.connect(to="127.0.0.2").close()
@@ -329,7 +322,7 @@ def listens_on_its_address_alone():
 
 
 def stops_as_the_first_process():
-    # In a process namespace of its own, as in a container, by the signal that the Containerfile names.
+    # In a process namespace of its own, by the signal that the Containerfile names.
     (stop,) = re.findall(r"^STOPSIGNAL (\w+)$", pathlib.Path(TESTS, "../packaging/Containerfile").read_text(), re.M)
     unshare = ["unshare", "--pid", "--fork", "--kill-child"]
     if not shutil.which("unshare") or subprocess.run([*unshare, "true"], stderr=subprocess.DEVNULL).returncode != 0:
@@ -338,7 +331,7 @@ def stops_as_the_first_process():
     process = start([*unshare, *words], stdout=subprocess.PIPE, stderr=subprocess.DEVNULL)
     assert process.stdout.readline().startswith("listening ")
     first = int(pathlib.Path(f"/proc/{process.pid}/task/{process.pid}/children").read_text())
-    # While it starts its threads it blocks signals for moments, and one that comes then may end it.
+    # While it starts its threads it blocks signals for moments.
     time.sleep(0.5)
     os.kill(first, signal.SIGTERM)
     time.sleep(0.5)

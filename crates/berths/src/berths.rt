@@ -18,12 +18,12 @@ pub struct Berth<C, T> {
     pub target: T,
 }
 
-/// The place already held a berth. This gives back the one that was to be put there.
+/// The place already held a berth. This is the one that was to be put there.
 #[derive(Drop)]
 pub struct Occupied<B>(pub B);
 
-/// A place for each slot, empty or with one berth, which the threads share by `&`. A berth is some 460 bytes, and a turn
-/// hands it on several times, so it stays where it was made.
+/// A place for each slot, empty or with one berth, which the threads share by `&`. A berth is some 460 bytes, and a
+/// turn hands it on several times, so it stays where it was made.
 ///
 /// In a clause it is the number of slots.
 #[derive(Drop)]
@@ -40,9 +40,8 @@ impl<C, T> Model for Berths<C, T> {
 }
 
 impl<C, T> Berths<C, T> {
-    /// An empty place for each of `slots` slots. This allocates all the memory that the places ever use.
-    ///
-    /// Fails only if there is not enough memory; then no place is made.
+    /// An empty place for each of `slots` slots. This allocates all the memory that the places ever use, and fails only
+    /// if there is not enough.
     pub fn new(alloc: Global, slots: usize) -> Result<Berths<C, T>, AllocError>
     where
         C: Drop,
@@ -63,9 +62,8 @@ impl<C, T> Berths<C, T> {
         self.places.len()
     }
 
-    /// Puts a berth into the place of a slot that the caller's seat holds.
-    ///
-    /// Occupied gives the berth back, and the place is as it was.
+    /// Puts a berth into the place of a slot that the caller's seat holds. Occupied gives it back, and the place is as
+    /// it was.
     pub fn put_in(
         &self,
         rt: &impl Wait,
@@ -81,7 +79,7 @@ impl<C, T> Berths<C, T> {
         fill(&mut place, berth)
     }
 
-    /// Takes the berth out of the place of a slot that the caller's seat holds. None means Gone: the place was empty.
+    /// Takes the berth out of the place of a slot that the caller's seat holds. None: the place was empty.
     pub fn take_out(
         &self,
         rt: &impl Wait,
@@ -94,7 +92,6 @@ impl<C, T> Berths<C, T> {
         self.place(rt, seat, slot).take()
     }
 
-    // The place of a slot, for the one seat that holds it.
     fn place(
         &self,
         rt: &impl Wait,
@@ -108,7 +105,7 @@ impl<C, T> Berths<C, T> {
     }
 }
 
-// Puts a berth into a place, unless one is there. Its wires need not be droppable, so it cannot be lost here.
+// Its wires need not be droppable, so it cannot be lost here.
 fn fill<C, T>(
     place: &mut Option<Box<Berth<C, T>>>,
     berth: Box<Berth<C, T>>,

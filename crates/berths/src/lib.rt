@@ -1,15 +1,10 @@
-//! The berths of a relay: for each slot, a place where its connection waits between two turns.
+//! For each slot, a place where its connection waits between two turns. The thread whose seat holds a slot takes the
+//! [`Berth`] out ([`Berths::take_out`]), works on it, and puts it back ([`Berths::put_in`]) before it releases the
+//! slot.
 //!
-//! A [`Berth`] is a connection: its pair and its two wires. The thread whose seat holds a slot takes the berth out
-//! ([`Berths::take_out`]), works on it, and puts it back ([`Berths::put_in`]) before it releases the slot.
-//!
-//! # What the lock is for
-//!
-//! Each place has a lock of its own, since a value that threads share by `&` can be moved in and out only under a
-//! lock. The lock is never contended: only the seat that holds a slot may touch its place, and a slot has one holder.
-//! So taking the lock is one atomic exchange, and releasing it is another.
-//!
-//! # What is not promised
+//! Each place has a lock, since a value that threads share by `&` can be moved in and out only under one. It is never
+//! contended: only the seat that holds a slot may touch its place. So taking it is one atomic exchange, and releasing
+//! it another.
 //!
 //! No clause can name what a place holds, since another seat may have held the slot since. So only tests show that
 //! the berth which the next holder takes out is the one that was put in.

@@ -1,16 +1,15 @@
 -- For callers: where a seat has changed, and that it holds nothing.
-use Rattle.claims.proofs.Steps.Rule.Histories.{same_at, ◌≡◌, ℕ, ◌+◌, List, [], ◌∷◌, ◌++◌, refl, sym, subst, ap, ◌∙◌, arith, append_assoc, append-nil, dite, ℕ_discrete, Account, Exchange, Posted, Wake, Quiet, Worn, one, blank, after, after_all, account_of, minted_by, TableId, SeatState, account_at, HoldsNot, HoldsNothing, OnlyAt, Adds, fresh_seat, trace_at, PostChange}
-pub use Rattle.claims.proofs.Steps.Rule.Histories.{posted_of}
+use Rattle.claims.proofs.Steps.Rule.Histories.{same_at, ◌≡◌, ℕ, ◌+◌, List, [], ◌∷◌, ◌++◌, refl, ap, ◌∙◌, arith, append_assoc, append-nil, dite, ℕ_discrete, Account, Exchange, Posted, Wake, Quiet, Worn, one, blank, after, after_all, account_of, minted_by, TableId, SeatState, account_at, HoldsNot, HoldsNothing, OnlyAt, Adds, fresh_seat, PostChange}
+pub use Rattle.claims.proofs.Steps.Rule.Histories.{after_both, posted_of}
 use Rattle.claims.specs.declared.view.Exchange.TheVariants as exchange
 
 -- a seat that has done nothing
 pub fresh_holds_nothing : (table : TableId) (s : SeatState) → s ≡ fresh_seat table → HoldsNothing s
-fresh_holds_nothing table s is =
-    subst HoldsNothing (sym is) (record { nowhere = λ slot. ap (λ (t : List Exchange). (account_of t).holds) (same_at table.words slot []) })
+fresh_holds_nothing table s is = rw is (record { nowhere = λ slot. rw same_at })
 
 module _ {slot : ℕ} where
   pub only_at_none : {old new : SeatState} → new ≡ old → OnlyAt slot old new
-  only_at_none is = record { table = ap (λ (s : SeatState). s.table) is; others = λ other ne. ap (λ (s : SeatState). trace_at s other) is }
+  only_at_none is = rw is (record { table = refl; others = λ other ne. refl })
 
   -- one change after the other
   pub only_at_twice : {first second third : SeatState} → OnlyAt slot first second → OnlyAt slot second third → OnlyAt slot first third
@@ -18,30 +17,21 @@ module _ {slot : ℕ} where
 
   -- who held nothing, and holds nothing at the one slot where it changed
   pub holds_nothing_again : {old new : SeatState} → HoldsNothing old → OnlyAt slot old new → HoldsNot new slot → HoldsNothing new
-  holds_nothing_again {old} {new} nothing only here = record {
-    nowhere = λ other. dite (ℕ_discrete other slot)
-        (λ same. subst (λ (i : ℕ). HoldsNot new i) (sym same) here)
-        (λ ne. ap (λ (t : List Exchange). (account_of t).holds) (only.others other ne) ∙ nothing.nowhere other);
+  holds_nothing_again nothing only here = record {
+    nowhere = λ other. dite (ℕ_discrete other slot) (λ same. rw same here) (λ ne. rw (only.others other ne) (nothing.nowhere other));
   }
 
 -- no exchange, and some after others
 pub adds_none : (slot : ℕ) (s : SeatState) → Adds slot [] s s
-adds_none slot s = record { here = sym (append-nil (trace_at s slot)); only = record { table = refl; others = λ other ne. refl } }
+adds_none slot s = record { here = rw append-nil; only = record { table = refl; others = λ other ne. refl } }
 
 pub adds_both : (slot : ℕ) (es fs : List Exchange) (a b c : SeatState) → Adds slot es a b → Adds slot fs b c → Adds slot (es ++ fs) a c
-adds_both slot es fs a b c one two = record {
-  here = two.here ∙ ap (λ (t : List Exchange). t ++ fs) one.here ∙ append_assoc (trace_at a slot) es fs;
-  only = only_at_twice one.only two.only;
-}
+adds_both slot es fs a b c one two = record { here = rw (two.here, one.here, append_assoc); only = only_at_twice one.only two.only }
 
 -- the account after such exchanges
 
-pub after_both : (t u : List Exchange) (a : Account) → after_all (t ++ u) a ≡ after_all u (after_all t a)
-after_both [] u a = refl
-after_both (e ∷ t) u a = after_both t u (after e a)
-
 pub account_after : (slot : ℕ) (es : List Exchange) (old new : SeatState) → Adds slot es old new → account_at new slot ≡ after_all es (account_at old slot)
-account_after slot es old new adds = ap account_of adds.here ∙ after_both (trace_at old slot) es blank
+account_after slot es old new adds = rw (adds.here, after_both)
 
 -- a post, whatever it answers
 module _ (slot : ℕ) (old new : SeatState) where

@@ -49,12 +49,8 @@
 //! That Busy or NotFree was necessary, any order between threads that never synchronized, or progress. A seat that is
 //! dropped while it holds a slot leaves the slot held. A [`Claims::peek`] is not an exchange, and in no trace.
 //!
-//! # Where to look
-//!
-//! `specs/Words.antt` has the word and its steps, `specs/Rule.antt` the history and the rule, `specs/Views.antt` what
-//! a trace says, its account, `specs/Calls.antt` which exchange each answer is, and `src/calls.rt` the calls.
-//! [`laws`] says in plain words what follows from the rule. For callers, `specs/Seats.antt` says when a seat holds
-//! nothing and when it changed at only one slot, and `proofs/Seats.antt` how this carries over from call to call.
+//! [`laws`] says in plain words what follows from the rule, `specs/Calls.antt` which exchange each answer is, and
+//! `proofs/Seats.antt` how what a seat holds carries over from call to call.
 #![tactic(auto)]
 
 mod answers;

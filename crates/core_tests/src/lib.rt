@@ -1,6 +1,5 @@
-//! Tests of the crates below `dispatch`, and of `world` and its kernel: what threads do, what a log is handed, what a
-//! wire in memory plays, of which nothing is promised, calls that the programs do not make, and mutants that no row
-//! shows.
+//! Tests of the crates below `dispatch`, and of `world` and its kernel: what threads do, what a log is handed, calls that
+//! the programs do not make, and mutants that no row shows.
 //!
 //! They are a crate of their own since the tests of a crate are proved together with all of its functions again.
 #![tactic(auto)]
@@ -27,8 +26,8 @@ use std::process::Abort;
 #[cfg(test)]
 use std::test::Fail;
 
-// What a test answers by what its helpers found. The helpers promise nothing and answer plain values, so that only
-// its run shows what a test asserts, and a test is cheap to prove.
+// What a test answers by what its helpers found, which promise nothing and answer plain values, so that it is cheap to
+// prove.
 
 /// Passes if all goes well. Where memory ran out, the test fails by that.
 #[cfg(test)]

@@ -4,7 +4,7 @@ use log::sink::Discard;
 use log::{Level, Logged};
 use log_queue::LogLine;
 use relay_core::Fault;
-use relay_log::{Cause, ClientsAt, done_text, drop_text, fail_text, log_peer, open_text};
+use relay_log::{ClientsAt, Done, Failed, log_peer};
 use std::alloc::{AllocError, Global};
 use std::cell::Cell;
 use std::fmt::{self, Write};
@@ -14,13 +14,21 @@ fn is(text: Result<String, AllocError>, wanted: &str) -> Result<bool, AllocError
     Ok(text?.as_str() == wanted)
 }
 
-/// Whether each message of which there are texts has its own.
 fn are_texts(alloc: Global) -> Result<bool, AllocError> {
+    let done = Done {
+        slot: 3,
+        generation: 1,
+        up: 12,
+        down: 4,
+    };
+    let failed = Failed {
+        slot: 3,
+        generation: 1,
+        fault: Fault::Idle,
+    };
     Ok(
-        is(open_text(alloc, 3, 1), "open s=3 g=1")?
-            && is(done_text(alloc, 3, 1, 12, 4), "done s=3 g=1 up=12 down=4")?
-            && is(fail_text(alloc, 3, 1, Fault::Idle), "fail s=3 g=1 idle")?
-            && is(drop_text(alloc, Cause::Memory), "drop kind=memory")?,
+        is(format!(in alloc; "{done}"), "done s=3 g=1 up=12 down=4")?
+            && is(format!(in alloc; "{failed}"), "fail s=3 g=1 idle")?,
     )
 }
 
@@ -30,7 +38,7 @@ fn texts_are_made(rt: HostRuntime) -> Result<(), Fail> {
     all_well(are_texts(rt.alloc()))
 }
 
-/// Whether a line that is longer than any that the program prints is cut where it is full.
+/// Whether a line that is longer than any of the program is cut where it is full.
 fn is_cut(alloc: Global) -> Result<bool, AllocError> {
     let mut line = LogLine::new();
     for _ in 0..40 {
@@ -61,12 +69,7 @@ impl fmt::Display for Noting {
 #[test]
 fn no_text_is_made_for_a_level_that_is_off(rt: HostRuntime) -> Result<(), Fail> {
     let from = Noting(Cell::new(false));
-    log_peer(
-        &Logged::new(&rt, Level::Info, Discard),
-        ClientsAt::Debug,
-        0,
-        1,
-        &from,
-    );
+    let log = Logged::new(&rt, Level::Info, Discard);
+    log_peer(&log, ClientsAt::Debug, 0, 1, &from);
     all_well(Ok(!from.0.get()))
 }

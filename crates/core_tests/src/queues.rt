@@ -33,7 +33,6 @@ struct Taker {
     is_rising: bool,
 }
 
-/// Notes a ticket that was taken.
 fn note(taker: &mut Taker, ticket: Ticket) {
     let slot = ticket.slot % 2;
     taker.is_rising = taker.is_rising && taker.last[slot] < ticket.generation;
@@ -41,7 +40,6 @@ fn note(taker: &mut Taker, ticket: Ticket) {
     taker.taken[slot][(ticket.generation % EACH) as usize] = true;
 }
 
-/// Takes until the queue is closed and empty.
 fn take_all(rt: &impl Wait, taker: &mut Taker) {
     for _ in rt.forever() {
         match taker.end.take(rt) {
@@ -51,7 +49,6 @@ fn take_all(rt: &impl Wait, taker: &mut Taker) {
     }
 }
 
-/// An end that has taken nothing yet.
 fn begin(end: Option<ReadyQueue>) -> Result<Taker, AllocError> {
     Ok(Taker {
         end: end.ok_or(AllocError)?,
@@ -72,8 +69,7 @@ fn are_all_taken_once([one, other]: &[Taker; 2]) -> bool {
     all
 }
 
-// The ends that take, of the highest numbers, sleep while the queue is empty, and once it stays so they are woken by
-// its end.
+// The ends that take, of the highest numbers, sleep while the queue is empty, and are woken by its end.
 #[test]
 fn each_ticket_is_taken_once(rt: HostRuntime) -> Result<(), Fail> {
     let mut ends = ReadyQueue::new(rt.alloc(), 8, 32)?;

@@ -1,4 +1,4 @@
-// Every form of a line is read and printed as it was, and a line that is cut or spoilt at any word is refused.
+// Every form of a line is read and printed as it was, and one that is spoilt at any word is refused.
 use crate::no_row;
 use records::{MAX_RECORD, read_line};
 use std::alloc::{AllocError, Global};
@@ -80,7 +80,7 @@ fn is_refused(line: &str, word: &str) -> bool {
     }
 }
 
-/// The first line that goes otherwise, those of the second list after those of the first.
+/// The first line that goes otherwise, of the first list or the second.
 fn first_wrong(alloc: Global) -> Result<Option<usize>, AllocError> {
     for (row, line) in LINES.iter().enumerate() {
         if !is_printed(alloc, line)? {

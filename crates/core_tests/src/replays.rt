@@ -22,8 +22,7 @@ fn put(alloc: Global, events: &mut Vec<Event>, line: &str) -> Result<bool, Alloc
     Ok(true)
 }
 
-/// Five connections, one after the other: a hundred events. The one at `wrong`, if there is one, is such that it
-/// cannot happen.
+/// Five connections, one after the other: a hundred events. The one at `wrong`, if there is one, cannot happen.
 fn session(alloc: Global, wrong: usize) -> Result<Vec<Event>, AllocError> {
     let mut events = Vec::new(alloc);
     for _ in 0..5 {
@@ -35,7 +34,6 @@ fn session(alloc: Global, wrong: usize) -> Result<Vec<Event>, AllocError> {
     Ok(events)
 }
 
-/// One slot and one worker, an idle limit, and a lead.
 fn limits() -> Limits
     ensures { IsWithinLimits result }
 {
@@ -63,8 +61,8 @@ fn goes(alloc: Global, wrong: usize) -> Result<bool, (usize, Refusal)> {
 }
 
 // refuses replay_blames_index_0: the first event is blamed for any event that fails
-// The event that cannot happen is reported, be it the first or the last. Where memory runs out, the index that is reported is that of
-// the event that lacked it: `tests/growths` looks that it rises with the growth that is refused.
+// Where memory runs out, the index of the event that lacked it is reported: `tests/growths` looks that it rises with the
+// growth that is refused.
 #[test]
 fn a_replay_leads_to_its_world_or_tells_where_it_ends(rt: HostRuntime) -> Result<(), Fail> {
     for wrong in [100, 0, 49, 99] {

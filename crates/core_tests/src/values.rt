@@ -1,6 +1,4 @@
-// What no row, no report and no clause shows of single values: what a refused change and an error leave of an end's
-// arms; what is counted at each slot, summed; numbers of ends at the edges of their parts; what a look answers; and what
-// only the system sees of a wire.
+// What no row and no clause shows of single values.
 use crate::all_well;
 use kernel_model::{End, Reply};
 use readiness::{Attention, Reports, Told};
@@ -141,7 +139,6 @@ fn numbers(_rt: HostRuntime) -> Result<(), Fail> {
     all_well(Ok(are_numbers() && are_refused()))
 }
 
-/// What two looks find.
 fn looks(reports: &Reports, slot: usize, side: Side) -> Result<[bool; 2], AllocError> {
     match Told::new(reports, slot, side)? {
         Some(told) => Ok([told.take(), told.take()]),

@@ -1,26 +1,9 @@
 -- What an end of a queue has put, and after it what is in hand.
-use Rattle.std.{proofs.{Common.{◌≡◌, ℕ, List, [], ◌∷◌, ◌++◌, drop, slice_get, sym, refl, ap, ◌∙◌, append_assoc}, lemmas.{List.{map-append, append-nil}, Option.{none-some, same_Some}}}, specs.Prelude.{Some, map}}
+use Rattle.std.{proofs.{Common.{◌≡◌, ℕ, List, [], ◌∷◌, ◌++◌, sym, refl, ◌∙◌, append_assoc}, lemmas.List.{map-append, append-nil}}, specs.Prelude.map}
 use Rattle.ready.specs.{declared.{history.History.History, ticket.Ticket.Ticket}, Steps.{PutOne, EndState}}
 use Rattle.dispatch.specs.{declared.shared.Own.Own, Hands.HandState, Outgoing.{outgoing, Inserted, TookNothing, tickets_out, slots_out}}
 
 module _ {T : Type 0} where
-  put_behind : (puts : List (ℕ × T)) (place : ℕ) (item : T) (left : List T) →
-      map (λ (put : ℕ × T). put.1) (puts ++ (place, item) ∷ []) ++ left ≡ map (λ (put : ℕ × T). put.1) puts ++ item ∷ left
-  put_behind puts place item left =
-      ap (λ (items : List T). items ++ left) (map-append (λ (put : ℕ × T). put.1) puts ((place, item) ∷ []))
-      ∙ append_assoc (map (λ (put : ℕ × T). put.1) puts) (item ∷ []) left
-
-  -- the oldest of what is in hand is put
-  pub put_oldest : (old new : History T) (item : T) (before left : List T) →
-      slice_get before 0 ≡ Some item → left ≡ drop 1 before → PutOne old item new →
-      outgoing new left ≡ outgoing old before
-  put_oldest old new item [] left is rest put = absurd (none-some item is)
-  put_oldest old new item (x ∷ xs) left is rest put =
-      ap (λ (h : History T). outgoing h left) put.put
-      ∙ put_behind old.put _ item left
-      ∙ ap (λ (items : List T). outgoing old (item ∷ items)) rest
-      ∙ ap (λ (first : T). outgoing old (first ∷ xs)) (sym (same_Some x item is))
-
   -- an item that was not in hand is put
   pub put_inserts : (old new : History T) (item : T) (hand : List T) → PutOne old item new →
       Inserted item (outgoing old hand) (outgoing new hand)
@@ -28,7 +11,7 @@ module _ {T : Type 0} where
     before = map (λ (put : ℕ × T). put.1) old.put;
     after = hand;
     was = refl;
-    is = ap (λ (h : History T). outgoing h hand) put.put ∙ put_behind old.put _ item hand;
+    is = rw (put.put, map-append, append_assoc);
   }
 
   -- it is kept in hand

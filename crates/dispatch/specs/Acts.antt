@@ -1,4 +1,4 @@
--- What a thread does at a slot, act by act: each is one call of what all threads share. Part of the promises.
+-- What a thread does at a slot, act by act. Part of the promises.
 use Rattle.std.specs.Prelude.{◌≡◌, ℕ, Bool, if◌then◌else◌, List, [], ◌∷◌}
 
 -- `Claim`, `TakeNotes`, `Post`, `Release`, `Retire`, `Adopt` and `Discard` are exchanges of the slot's word; `Discard`

@@ -1,7 +1,7 @@
 -- Numbers of the server that clauses name. Part of the promises.
 use Rattle.std.specs.Prelude.{ℕ}
 
--- the most turns of a poller's own thread after a round
+-- the most turns of a poller's thread after a round
 abbrev pub own_turns : ℕ
 own_turns = 32
 
@@ -13,6 +13,6 @@ first_light = 16
 abbrev pub own_budget : ℕ
 own_budget = 8
 
--- after such a turn that spent its budget, how many of the connection's next tickets go to the workers
+-- how many of a connection's tickets go to the workers after a turn that spent it
 abbrev pub heavy_marks : ℕ
 heavy_marks = 16

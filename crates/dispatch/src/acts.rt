@@ -14,9 +14,9 @@ use std::sync::Wait;
 use token::Token;
 
 /// The acts of a thread at a slot's word, and those by which it hands on the slot. Each is one call on what all threads
-/// share, except `enter`, which writes the poller's own table. A turn and an opening are generic over this trait, so
-/// that their clauses can say which acts they make, in which order: a proof has `made ..` only from a call. In the
-/// product this is `()`, which makes each act and nothing else.
+/// share, but for `enter`. A turn and an opening are generic over this trait, so that their clauses can say which acts
+/// they make, in which order: a proof has `made ..` only from a call. The product's `()` makes each act and nothing
+/// else.
 pub trait Acts {
     ghost use Rattle.std.specs.Prelude.{◌≡◌, ◌<◌, ℕ, [], ◌∷◌, length, slice_set, IfErr, OnOk, OnErr};
     ghost use Rattle.claims.specs.{Seats.{Holds, Adds}, Calls.{PostChange, ClaimChange, ReleaseChange, AdoptChange}};
@@ -42,7 +42,7 @@ pub trait Acts {
         ensures made { made act.TakeNotes slot self.old self.new }
         ensures change { Adds slot (exchange.Take result ∷ []) seat.old seat.new };
 
-    /// [`Claims::take`] of notes that are thrown away. Returns how many there were.
+    /// [`Claims::take`] of notes that are thrown away.
     fn discard(&mut self, claims: &Claims, seat: &mut ClaimSeat, slot: usize) -> u64
         requires same { seat.old.table ≡ claims.now }
         requires inside { slot < claims.now.words }
@@ -80,7 +80,7 @@ pub trait Acts {
         ensures made { made act.Adopt slot self.old self.new }
         ensures change { AdoptChange slot seat.old result seat.new };
 
-    /// Writes the ticket's generation into a poller's table of the slots' generations.
+    /// Writes the ticket's generation into a poller's own table.
     fn enter(&mut self, table: &mut Vec<u64>, ticket: Ticket)
         requires inside { ticket.slot < length table.old.items }
         ensures made { made act.Enter ticket.slot self.old self.new }
@@ -115,9 +115,7 @@ pub trait Acts {
         ensures capacity { free.new.capacity ≡ free.old.capacity };
 }
 
-/// The place of each slot's connection, which nothing but [`Moves`] reaches.
-///
-/// In a clause it is the number of slots.
+/// The place of each slot's connection, which only [`Moves`] reaches. In a clause it is the number of slots.
 #[derive(Drop)]
 pub struct Places<C, T> {
     berths: Berths<C, T>,
@@ -132,7 +130,7 @@ impl<C, T> Model for Places<C, T> {
 }
 
 impl<C, T> Places<C, T> {
-    /// An empty place for each of `slots` slots. Fails only if there is not enough memory ([`Berths::new`]).
+    /// [`Berths::new`].
     pub fn new(alloc: Global, slots: usize) -> Result<Places<C, T>, AllocError>
     where
         C: Drop,
@@ -159,8 +157,7 @@ pub trait Moves<F: Front>: Acts {
     // The bytes of this pair were counted at a slot.
     ghost counted: { ℕ → PairState → Self → Type 0 };
 
-    /// Starts the connection to the target, and registers both sockets ([`Front::open`]). If it is refused, no act is
-    /// made.
+    /// [`Front::open`]. If it is refused, no act is made.
     fn register<N: Log>(
         &mut self,
         rt: &N,
@@ -178,7 +175,7 @@ pub trait Moves<F: Front>: Acts {
         ensures waited { F.waited front.new ≡ F.waited front.old }
         ensures listens { F.listens front.new ≡ F.listens front.old };
 
-    /// Takes a connection out of its place, if one is there ([`Berths::take_out`]).
+    /// [`Berths::take_out`].
     fn take_out<R: Wait>(
         &mut self,
         rt: &R,
@@ -191,7 +188,7 @@ pub trait Moves<F: Front>: Acts {
         ensures made { Self.made act.TakeOut slot self.old self.new }
         ensures moved { IfSome result (λ berth. moved berth.value self.new) };
 
-    /// Puts a connection into its place, unless one is there ([`Berths::put_in`]).
+    /// [`Berths::put_in`].
     fn put_in<R: Wait>(
         &mut self,
         rt: &R,
@@ -205,7 +202,7 @@ pub trait Moves<F: Front>: Acts {
         ensures made { Self.made act.PutIn slot self.old self.new }
         ensures moved { moved berth.value self.new };
 
-    /// Has both sockets of a slot's connection send at once what they held back ([`Settle::settle`]).
+    /// [`Settle::settle`] of both sockets of a slot's connection.
     fn settle(&mut self, slot: usize, berth: &mut Berth<F::Client, F::Target>)
         ensures made { Self.made act.Settle slot self.old self.new }
         ensures pair { berth.new.pair ≡ berth.old.pair }

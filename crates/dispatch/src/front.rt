@@ -9,24 +9,23 @@ use std::net::{SocketAddr, SocketAddrV4};
 use thiserror::Error;
 use token::Token;
 
-/// A wire that may hold bytes back. Beside a wire's calls it has one for the quiet end of a turn on its connection, and
-/// two that only the log uses.
+/// A wire that may hold bytes back.
 pub trait Settle: Wire {
     // Whether it holds nothing back, if it says so.
     ghost settled: { Self → Type 0 } = { λ _. Unit {0} };
 
     /// A turn on this connection ended quiet: no call is worth trying before the next report. So what was held back is
-    /// sent now. This changes nothing that the wire specifies.
+    /// sent now.
     fn settle(&mut self)
         ensures same { Self.told self.new ≡ Self.told self.old }
         ensures settled { settled self.new };
 
-    /// The number of the system's error (errno(3)) of its last call that failed, if it keeps that.
+    /// The errno(3) of its last call that failed, if it keeps that. Only the log uses it.
     fn error(&self) -> Option<i32> {
         None
     }
 
-    /// Whether the system says that the socket is connected (getpeername(2)), if it is asked.
+    /// Whether the system says that the socket is connected (getpeername(2)), if it is asked. Only the log uses it.
     fn is_connected(&self) -> Option<bool> {
         None
     }
@@ -57,7 +56,8 @@ impl From<Unopened> for Cause {
     }
 }
 
-/// The two addresses of a client's connection. One that is not known, not of IPv4, or not asked for, is None.
+/// The client's own address, and that on which it was accepted. One that is not known, not of IPv4, or not asked for,
+/// is None.
 #[derive(Clone, Copy)]
 pub struct Route {
     /// The client's own address.
@@ -83,14 +83,14 @@ pub struct Opened<T> {
     pub route: Route,
 }
 
-/// How long a poller may wait for reports.
+/// How long a poller may wait.
 #[derive(Clone, Copy, PartialEq, Eq)]
 pub enum Waiting {
     /// Not at all.
     No,
     /// A millisecond at most.
     Brief,
-    /// For as long as its front waits.
+    /// For as long as the front waits.
     Long,
 }
 
@@ -98,13 +98,13 @@ pub enum Waiting {
 pub trait Front {
     ghost use Rattle.dispatch.specs.declared.front.{Unopened.Unopened, Route.Route};
 
-    // The numbers that the last wait for reports gave.
+    // What the last wait for reports gave.
     ghost reported: { Self → List ℕ };
 
-    // Whether the last wait for reports failed, and not by a signal, if it says so.
+    // Whether that wait failed, and not by a signal, if it says so.
     ghost failed: { Self → Bool } = { λ _. true };
 
-    // How many milliseconds its last wait for reports could take, if it says so: 0 if it had to return at once.
+    // How many milliseconds its last wait could take, if it says so: 0 if it had to return at once.
     ghost waited: { Self → ℕ } = { λ _. 0 };
 
     // Whether clients can still come to it.
@@ -119,17 +119,17 @@ pub trait Front {
     // Whether the wait of the thread that opens this slot was ended, if it says so.
     ghost woke: { Self.Waker → ℕ → Type 0 } = { λ _ _. Unit {0} };
 
-    /// The wire of a client.
+    /// A client's wire.
     type Client: Settle + Drop;
 
-    /// The wire of a target.
+    /// A target's wire.
     type Target: Settle + Drop;
 
     /// What another thread uses to end a wait for reports.
     type Waker;
 
-    /// Waits for reports, no longer than `wait` says, and replaces the contents of the batch by the numbers of their
-    /// tokens, at most [`MAX_BATCH`] (epoll_wait(2)). After an error the batch is empty. It allocates no memory.
+    /// Waits for reports, and replaces the contents of the batch by the numbers of their tokens (epoll_wait(2)). It
+    /// allocates no memory.
     fn poll(&mut self, batch: &mut Vec<u64>, wait: Waiting) -> io::Result<()>
         requires room { MAX_BATCH ≤ vec_capacity batch.old }
         ensures most { vec_len batch.new ≤ MAX_BATCH }
@@ -158,8 +158,7 @@ pub trait Front {
         ensures waited { waited self.new ≡ waited self.old }
         ensures listens { listens self.new ≡ listens self.old };
 
-    /// Gives up its share of the listening socket, which is closed with the last share. From now on it accepts no
-    /// client. A second call changes nothing.
+    /// Gives up its share of the listening socket, which is closed with the last share. A second call changes nothing.
     fn stop_listening(&mut self)
         ensures listens { listens self.new ≡ false }
         ensures reported { reported self.new ≡ reported self.old }
@@ -169,7 +168,7 @@ pub trait Front {
     /// Starts the connection to the target (connect(2)), and has both sockets reported for reading and writing, each
     /// under its token. It gives the addresses of the client's connection, if targets are sent them. After an error no
     /// target is left open, and the client may still be reported until it is closed; its wire may keep the cause for
-    /// the log. It changes nothing that the client's wire specifies. Only the log uses `rt`.
+    /// the log, for which alone `rt` is.
     fn open<N: Log>(
         &mut self,
         rt: &N,

@@ -29,7 +29,7 @@ impl Model for Hand {
 }
 
 impl Hand {
-    /// An empty hand for at most `capacity` tickets and as many slots. No later call allocates memory.
+    /// For at most `capacity` tickets and as many slots. No later call allocates memory.
     pub fn new(alloc: Global, capacity: usize) -> Result<Hand, AllocError>
         ensures { IfOk result (λ hand. hand ≡ empty_hand capacity) }
     {
@@ -90,7 +90,7 @@ impl Hand {
         let _ = self.slots.try_push_back(slot);
     }
 
-    /// Puts a ticket back at the front: it is the oldest again.
+    /// Puts a ticket back at the front.
     pub fn return_ticket(&mut self, ticket: Ticket)
         requires { length self.old.tickets < self.old.capacity }
         ensures { self.new ≡ record self.old { tickets = ticket ∷ self.old.tickets } }
@@ -98,7 +98,7 @@ impl Hand {
         let _ = self.tickets.try_push_front(ticket);
     }
 
-    /// Puts a slot back at the front: it is the oldest again.
+    /// Puts a slot back at the front.
     pub fn return_slot(&mut self, slot: usize)
         requires { length self.old.slots < self.old.capacity }
         ensures { self.new ≡ record self.old { slots = slot ∷ self.old.slots } }
@@ -125,7 +125,7 @@ impl Hand {
     }
 }
 
-/// Puts the tickets in hand, oldest first, until one is refused. That one remains the oldest.
+/// Puts the tickets in hand, oldest first, until one is refused.
 pub fn put_tickets<R: Wait>(rt: &R, ready: &mut ReadyQueue, hand: &mut Hand)
     ensures tickets { outgoing ready.new.history hand.new.tickets ≡ outgoing ready.old.history hand.old.tickets }
     ensures took { ready.new.history.taken ≡ ready.old.history.taken }
@@ -144,7 +144,7 @@ pub fn put_tickets<R: Wait>(rt: &R, ready: &mut ReadyQueue, hand: &mut Hand)
     }
 }
 
-/// Gives back the slots in hand, oldest first, until one is refused. That one remains the oldest.
+/// Gives back the slots in hand, oldest first, until one is refused.
 pub fn give_slots<R: Wait>(rt: &R, free: &mut FreeQueue, hand: &mut Hand)
     ensures slots { outgoing free.new.history hand.new.slots ≡ outgoing free.old.history hand.old.slots }
     ensures took { free.new.history.taken ≡ free.old.history.taken }

@@ -6,9 +6,7 @@ use crate::limits::HEAVY_MARKS;
 use std::alloc::{AllocError, Global};
 use std::marker::Model;
 
-/// Each slot's heavy marks: how many of its next tickets are for the workers.
-///
-/// In a clause it is the list of these numbers.
+/// How many of each slot's next tickets are for the workers. In a clause it is the list of these numbers.
 #[derive(Drop)]
 pub struct HeavyMarks {
     marks: Vec<u8>,
@@ -23,7 +21,7 @@ impl Model for HeavyMarks {
 }
 
 impl HeavyMarks {
-    /// No marks, of this many slots. Fails only if there is no memory for them.
+    /// Fails only if there is no memory.
     pub fn none(alloc: Global, slots: usize) -> Result<HeavyMarks, AllocError>
         ensures { IfOk result (λ marks. marks ≡ replicate slots 0) }
     {
@@ -31,8 +29,7 @@ impl HeavyMarks {
         Ok(HeavyMarks { marks })
     }
 
-    /// Whether the poller's own thread runs this slot's ticket. If the ticket goes to the workers, one of the slot's
-    /// marks is used up.
+    /// Whether the poller's own thread runs this slot's ticket. If not, one of the slot's marks is used up.
     #[tactic(auto, using(crate::proofs::Slots::looked_at_light))]
     pub fn is_light(&mut self, slot: usize) -> bool
         ensures light { IsTrue result ↔ slice_index self.old slot ≡ 0 }
@@ -47,7 +44,7 @@ impl HeavyMarks {
         }
     }
 
-    /// The slot's connection spent the budget of a turn in the poller's thread: its next tickets are for the workers.
+    /// The slot's connection spent the budget of a turn in the poller's thread.
     pub fn mark(&mut self, slot: usize)
         ensures { self.new ≡ slice_set self.old slot heavy_marks }
     {

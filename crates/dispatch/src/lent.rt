@@ -9,12 +9,12 @@ pub trait Clock {
     // Which seconds it may show, if it says so.
     ghost tells: { Self → ℕ → Type 0 } = { λ _ _. Unit {0} };
 
-    /// The second that it shows now. This never waits.
+    /// This never waits.
     fn second(&self) -> u64
         ensures { tells self.now result };
 }
 
-/// The clock and the idle limit of a server, which are lent to turns and rounds.
+/// A server's clock and idle limit.
 #[derive(Clone, Copy)]
 pub struct Timing<'a, C> {
     /// From where the second is read.
@@ -37,10 +37,9 @@ impl<'a, C: Clock> Timing<'a, C> {
     }
 }
 
-/// What is called once all threads have been started, and before and after each turn, so that a test can hold a turn
-/// back.
+/// What the threads call, so that a test can hold a turn back.
 pub trait Gate {
-    /// All threads have been started. The thread that serves calls this once, before it polls.
+    /// All threads have been started. The thread that serves calls this before it polls.
     fn all_started(&self) {}
 
     /// A turn at this slot is about to begin.
@@ -50,7 +49,7 @@ pub trait Gate {
     fn after_turn(&self, slot: usize);
 }
 
-/// The gate that holds nothing back.
+/// It holds nothing back.
 pub struct OpenGate;
 
 impl Gate for OpenGate {

@@ -3,16 +3,16 @@
 /// The most reports that one poll gives.
 pub const MAX_BATCH: usize = 256;
 
-/// The most turns that the poller's thread runs after one round.
+/// The most turns of a poller's thread after one round.
 pub const MAX_OWN_TURNS: usize = 32;
 
-/// This many light tickets stay with the poller before it looks for a worker that sleeps.
+/// How many light tickets stay with the poller before it looks for a worker that sleeps.
 pub const FIRST_LIGHT: usize = 16;
 
 /// The most calls of one of these turns, for which the reports of other connections wait.
 pub const OWN_BUDGET: usize = 8;
 
-/// This many tickets of a connection go to the workers after a turn that spent the poller's budget.
+/// How many tickets of a connection go to the workers after a turn that spent that budget.
 pub const HEAVY_MARKS: u8 = 16;
 
 /// The number under which the listening socket is reported.

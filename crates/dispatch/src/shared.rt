@@ -19,7 +19,7 @@ use std::sync::atomic::Ordering::SeqCst;
 /// What all threads of a server share.
 #[derive(Drop)]
 pub struct Shared<F: Front> {
-    /// The claim words: who holds which slot, and how many notes wait there.
+    /// Who holds which slot, and how many notes wait there.
     pub claims: Claims,
     /// The place of each slot's connection.
     pub places: Places<F::Client, F::Target>,
@@ -67,19 +67,16 @@ impl Fullness {
     }
 }
 
-/// A front of a server whose threads count.
-///
-/// No clause can name what an atomic number holds, so the trait leaves open what was counted. Over any such front a
-/// proof has a fact `counted ..` only from a call that was made. Every front implements it, and for one front alone the
-/// fact says nothing.
+/// A front of a server whose threads count. The trait leaves open what was counted: over any such front a proof has a
+/// fact `counted ..` only from a call that was made. Every front implements it, and for one front alone the fact says
+/// nothing.
 pub trait Counting: Front {
     ghost use Rattle.std.specs.Prelude.{ℕ};
     ghost use Rattle.statistics.specs.declared.event.Event.{Event};
 
-    // Which events were counted, and at which slots, if it says so.
     ghost counted: { ℕ → Event → Type 0 } = { λ _ _. Unit {0} };
 
-    /// Counts an event at a slot, if the server has statistics.
+    /// If the server has statistics.
     fn count(statistics: Option<&Statistics>, slot: usize, event: Event)
         ensures { counted slot event };
 }
@@ -93,28 +90,28 @@ impl<F: Front> Counting for F {
 }
 
 impl<F: Front + Counting> Shared<F> {
-    /// Counts a connection that is opened in a slot, which the poller's thread holds.
+    /// A connection is opened in a slot, which the poller's thread holds.
     pub fn count_opened(&self, slot: usize)
         ensures { F.counted slot Event.Opened }
     {
         self.count(slot, Event::Opened);
     }
 
-    /// Counts a connection that was accepted for a free slot, which its poller has in hand, and closed unopened.
+    /// One was accepted for a free slot, which its poller has in hand, and closed unopened.
     pub fn count_dropped(&self, slot: usize)
         ensures { F.counted slot Event.Dropped }
     {
         self.count(slot, Event::Dropped);
     }
 
-    /// Counts the bytes of a connection that a turn has left open, by the thread that holds its slot.
+    /// The thread that holds its slot has left a connection open after a turn.
     pub fn count_moved(&self, slot: usize, pair: &Pair)
         ensures { F.counted slot (moved_by pair.now) }
     {
         self.count(slot, moved_by(pair));
     }
 
-    /// Counts a connection that has ended, by the thread that holds its slot.
+    /// The thread that holds its slot has ended a connection.
     pub fn count_ended(&self, slot: usize, pair: &Pair)
         ensures { F.counted slot (ended_by pair.now) }
     {
@@ -128,7 +125,6 @@ impl<F: Front + Counting> Shared<F> {
     }
 }
 
-/// What is counted of a connection that a turn has left open.
 fn moved_by(pair: &Pair) -> Event
     ensures { result ≡ moved_by pair.now }
 {
@@ -136,7 +132,6 @@ fn moved_by(pair: &Pair) -> Event
     Event::Moved { up, down }
 }
 
-/// What is counted of a connection that has ended.
 fn ended_by(pair: &Pair) -> Event
     ensures { result ≡ ended_by pair.now }
 {
@@ -163,7 +158,7 @@ pub struct Own {
     pub buffer: Box<[u8; MAX_READ]>,
 }
 
-/// What the threads of a server are made from: for each of them a seat and an end of the queue of tickets.
+/// What the threads of a server are made from: a seat and an end of the queue of tickets for each.
 #[derive(Drop)]
 pub struct Parts {
     pub seats: Vec<ClaimSeat>,

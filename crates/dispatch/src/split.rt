@@ -2,8 +2,7 @@
 ghost use Rattle.std.specs.Prelude.{◌≡◌, ◌+◌, ◌*◌, ◌<◌, ◌≤◌, ◌↔◌, IsTrue};
 ghost use Rattle.dispatch.specs.Splits.{part_of, parts_of, IsIn};
 
-/// The slots of one poller: `slots` of them, from `first` on. It alone opens connections there and delivers their
-/// reports.
+/// The slots of one poller. It alone opens connections there and delivers their reports.
 #[derive(Clone, Copy)]
 pub struct Part {
     pub first: usize,

@@ -1,4 +1,3 @@
-// The server's log beside the lines that are expected, and the first failed check.
 use log::Level;
 use relay_core::{Fault, Verdict};
 use std::alloc::{AllocError, Global};
@@ -8,7 +7,6 @@ use std::collections::VecDeque;
 #[derive(Drop)]
 pub struct Checks {
     alloc: Global,
-    /// The lines that must be logged next, in order.
     expected: VecDeque<(Level, String)>,
     /// All lines that were logged.
     pub text: String,
@@ -34,7 +32,7 @@ impl Checks {
         }
     }
 
-    /// Expects a line, after those that are expected already.
+    /// Expects a line, after the others.
     pub fn expect(&mut self, level: Level, text: Result<String, AllocError>) {
         let added = match text {
             Ok(text) => self.expected.push_back((level, text)).is_ok(),
@@ -53,16 +51,15 @@ impl Checks {
         verdict: Verdict,
         counts: (u64, u64),
     ) {
-        let alloc = self.alloc;
         match verdict {
             Verdict::Live => {}
             Verdict::Done => {
-                let bytes = bytes_of(alloc, counts.0, counts.1);
-                self.expect(Level::Info, line_of(alloc, "done", slot, generation, bytes));
+                let line = done_line(self.alloc, slot, generation, counts);
+                self.expect(Level::Info, line);
             }
             Verdict::Failed(fault) => {
-                let cause = cause_of(alloc, fault);
-                self.expect(Level::Warn, line_of(alloc, "fail", slot, generation, cause));
+                let line = fail_line(self.alloc, slot, generation, fault);
+                self.expect(Level::Warn, line);
             }
         }
     }
@@ -72,7 +69,7 @@ impl Checks {
         self.expected.is_empty()
     }
 
-    /// Adds a line that was logged, without comparing it.
+    /// Adds a line that was logged, and is not compared.
     pub fn add(&mut self, text: &str) {
         let added = self.text.push_str(text).and(self.text.push_str("\n"));
         if added.is_err() {
@@ -83,18 +80,14 @@ impl Checks {
     /// Compares a line that was logged with the one that is expected next.
     pub fn write(&mut self, level: Level, text: &str) {
         self.add(text);
-        let expected = self.expected.pop_front();
-        if !is_expected(&expected, level, text) {
-            self.fail_at(text, &expected);
+        match &self.expected.pop_front() {
+            Some((wanted, line)) if *wanted == level && line.as_str() == text => {}
+            Some((_, line)) => self.fail_at(text, line.as_str()),
+            None => self.fail_at(text, "no line"),
         }
     }
 
-    /// Fails since this line was logged in place of the expected one.
-    fn fail_at(&mut self, text: &str, expected: &Option<(Level, String)>) {
-        let line = match expected {
-            Some((_, line)) => line.as_str(),
-            None => "no line",
-        };
+    fn fail_at(&mut self, text: &str, line: &str) {
         self.fail_with(format!(in self.alloc; "the log gets `{text}` in place of `{line}`"));
     }
 
@@ -114,39 +107,26 @@ impl Checks {
     }
 }
 
-/// Whether this line is the expected one.
-fn is_expected(expected: &Option<(Level, String)>, level: Level, text: &str) -> bool {
-    match expected {
-        Some((wanted, line)) => *wanted == level && line.as_str() == text,
-        None => false,
-    }
-}
-
-/// The line about the end of a connection.
-fn line_of(
+fn done_line(
     alloc: Global,
-    word: &str,
     slot: usize,
     generation: u64,
-    rest: Result<String, AllocError>,
+    (up, down): (u64, u64),
 ) -> Result<String, AllocError> {
-    let rest = rest?;
-    format!(in alloc; "{word} s={slot} g={generation} {rest}")
+    format!(in alloc; "done s={slot} g={generation} up={up} down={down}")
 }
 
-fn bytes_of(alloc: Global, up: u64, down: u64) -> Result<String, AllocError> {
-    format!(in alloc; "up={up} down={down}")
-}
-
-fn cause_of(alloc: Global, fault: Fault) -> Result<String, AllocError> {
+fn fail_line(
+    alloc: Global,
+    slot: usize,
+    generation: u64,
+    fault: Fault,
+) -> Result<String, AllocError> {
     match fault {
-        Fault::Idle => String::from_str(alloc, "idle"),
+        Fault::Idle => format!(in alloc; "fail s={slot} g={generation} idle"),
         Fault::Broken { side, call, kind } => {
-            broken_of(alloc, side.name(), call.name(), kind.name())
+            let (side, call, kind) = (side.name(), call.name(), kind.name());
+            format!(in alloc; "fail s={slot} g={generation} side={side} call={call} kind={kind}")
         }
     }
-}
-
-fn broken_of(alloc: Global, side: &str, call: &str, kind: &str) -> Result<String, AllocError> {
-    format!(in alloc; "side={side} call={call} kind={kind}")
 }

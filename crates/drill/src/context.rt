@@ -11,7 +11,7 @@ use std::fmt::Display;
 /// The second at which the server begins. It is second 0 of the machines.
 pub const START: u64 = 1_000;
 
-/// A clock in memory, which only steps of the script advance.
+/// A clock that only steps of the script advance.
 #[derive(Drop)]
 pub struct ScriptClock {
     second: Cell<u64>,
@@ -42,7 +42,7 @@ impl Clock for ScriptClock {
     }
 }
 
-/// Has each turn noted, as it begins and once it has made its last call.
+/// Notes each turn, as it begins and behind its last call.
 #[derive(Drop)]
 pub struct TurnGate<'a> {
     pub outside: &'a OutsideCell,
@@ -58,7 +58,7 @@ impl Gate for TurnGate<'_> {
     }
 }
 
-/// A logger that has each line compared with what is expected.
+/// A logger that compares each line with what is expected.
 #[derive(Drop)]
 pub struct Logger<'a> {
     pub alloc: Global,

@@ -24,7 +24,7 @@ pub struct ThreadCell<T> {
     pub has_ended: Cell<bool>,
 }
 
-/// The server's threads, and what is outside of the server.
+/// The server's threads, and what is outside of them.
 #[derive(Drop)]
 pub struct Driver {
     pub alloc: Global,
@@ -58,7 +58,6 @@ impl Driver {
         }
     }
 
-    /// What a thread is passed for a step.
     fn context<'a, R>(&'a self, rt: &'a R, gate: &'a TurnGate<'a>) -> StepContext<'a, R> {
         Context {
             rt,
@@ -88,7 +87,7 @@ impl Driver {
         }
     }
 
-    /// Makes the step of a poller's thread. Returns whether the thread ends with it.
+    /// Returns whether the thread ends with its step.
     fn round_of<R: Wait + Log>(
         &self,
         rt: &R,
@@ -119,7 +118,7 @@ impl Driver {
         }
     }
 
-    /// Makes the step of a worker's thread, unless it would wait. Returns whether the thread ends with it.
+    /// Returns whether the thread ends with its step.
     fn turn_of<R: Wait + Log>(&self, rt: &R, worker: &mut Worker<KernelFront>) -> bool {
         let Ok(has_ticket) = has_ticket(rt, self.alloc, &mut worker.own.ready) else {
             return false;
@@ -136,7 +135,7 @@ impl Driver {
         has_ended
     }
 
-    /// Whether a worker's thread must end with its next step, if a ticket is queued, or not.
+    /// Whether a worker's thread must end with its next step.
     fn worker_is_due(&self, has_ticket: bool) -> bool {
         let polling = self.pollers.iter().any(|cell| !cell.has_ended.get());
         let is_faulty = self.outside.with(false, |outside| outside.state.is_faulty);
@@ -151,7 +150,6 @@ impl Driver {
     }
 }
 
-/// Makes a step of a poller's thread. Returns whether that ended the thread.
 fn step_poller<R: Wait + Log>(
     context: &StepContext<'_, R>,
     thread: &mut PollerThread<KernelFront>,
@@ -165,7 +163,6 @@ fn step_poller<R: Wait + Log>(
     }
 }
 
-/// Makes a step of a worker's thread. Returns whether that ended the thread.
 fn step_worker<R: Wait + Log>(
     context: &StepContext<'_, R>,
     worker: &mut Worker<KernelFront>,
@@ -179,7 +176,7 @@ fn step_worker<R: Wait + Log>(
     }
 }
 
-/// Whether a ticket is queued. All tickets are taken out, and put back in the same order.
+/// Whether a ticket is queued: takes all out, and puts them back in the same order.
 fn has_ticket(rt: &impl Wait, alloc: Global, ready: &mut ReadyQueue) -> Result<bool, AllocError> {
     let mut tickets = Vec::with_capacity(alloc, MOST)?;
     for _ticket in 0..MOST {

@@ -1,5 +1,3 @@
-// The machine beside one slot or one listener: the events to which the server's steps amount, and the world that they
-// lead to.
 ghost use Rattle.drill.specs.Sizes.{IsServerSize};
 
 use crate::sizes::Sizes;
@@ -10,13 +8,13 @@ use std::alloc::{AllocError, Global};
 use token::Side;
 use world::{Act, Event, Lead, Limits, Polling, Reported, World};
 
-/// A machine of one slot, which makes each event at once. Its kernel gives the replies to the server's calls at this
-/// slot.
+/// The machine beside one slot or one listener: the events to which the server's steps amount, each of which it makes at
+/// once. Its kernel gives the replies to the server's calls there.
 #[derive(Drop)]
 pub struct Machine {
     pub alloc: Global,
     made: world::Tape,
-    /// The event of the server that the machine refused. After that it makes no events.
+    /// The server's event that it refused. After that it makes none.
     refused: Option<Event>,
 }
 
@@ -48,13 +46,12 @@ impl Machine {
         self.world().kernel()
     }
 
-    /// Whether the machine refused an event to which a step of the server amounts.
+    /// Whether it refused an event of the server.
     pub fn is_wrong(&self) -> bool {
         self.refused.is_some()
     }
 
-    /// Makes an event to which a step of the server amounts. Returns false if the machine refuses it now. The slot that
-    /// the event names must be 0.
+    /// Makes an event of the server, whose slot must be 0. Returns false if the machine refuses it now.
     pub fn put(&mut self, event: Event) -> bool {
         if self.is_wrong() {
             return true;
@@ -73,8 +70,8 @@ impl Machine {
         }
     }
 
-    /// Begins a turn: the ticket is put, if it is not yet in the ready queue, and taken. Returns false if the machine
-    /// refuses that, as it does if no ticket was made.
+    /// Begins a turn: the ticket is put, unless it is in the ready queue, and taken. Returns false if the machine refuses
+    /// that, as where no ticket was made.
     pub fn begin(&mut self) -> bool {
         let put = if !self.world().poller_hand().is_empty() {
             self.put(Event::Poll(Polling::Put))
@@ -86,7 +83,7 @@ impl Machine {
         put && self.act(Act::Pop) && self.act(Act::Claim) && self.act(Act::Take)
     }
 
-    /// Makes an act of the worker. Returns false if the machine refuses it.
+    /// `put` of an act of the worker.
     pub fn act(&mut self, act: Act) -> bool {
         self.put(Event::Work(0, act))
     }
@@ -96,7 +93,7 @@ impl Machine {
         self.world().table_entry(0).unwrap_or(0)
     }
 
-    /// Whether a connection may be opened in the slot: it is free, and has not had its last connection.
+    /// Whether a connection may be opened in the slot.
     pub fn is_free(&self) -> bool {
         !self.world().free_slots().is_empty()
     }

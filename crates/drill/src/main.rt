@@ -1,18 +1,12 @@
-//! Plays a server beside the machine of `world`.
-//!
-//! The program owns a server in memory, which is made from its settings as the product makes it, over modelled
-//! kernels. The program reads scripts from standard input and has the server's own threads make their steps. It
-//! records the events to which each step amounts: for each slot and for each poller's listener there is a machine
-//! that makes these events at once. What the server does, act by act, must be what the machines do.
+//! Plays a server beside the machine of `world`, as the repository's `tests/drill/README.md` says.
 //!
 //! `session.rt` runs the scripts. `reading.rt` reads their steps (`step.rt`, `sizes.rt` for the header), `making.rt`
 //! makes the server, and `driver.rt` makes its threads' steps.
 //!
-//! `outside.rt` has what the server's calls reach in place of a system: a `machine.rt` for each slot, whose modelled
-//! kernel gives the replies to the calls there; for each poller a machine of its listener, and its expected state
-//! (`poller_model.rt`); and what later calls get. `front.rt` is a poller's front, `wire.rt` one end of a connection with
-//! the calls of a turn, and `context.rt` has the gate of turns, the clock and the log. `round.rt` says to which events a
-//! poller's round amounts, `turn.rt` what must hold of turns, and `checks.rt` what must be logged.
+//! `outside.rt` has what the server's calls reach in place of a system: a `machine.rt` for each slot, a
+//! `poller_model.rt` for each poller, and what later calls get. `front.rt` is a poller's front, `wire.rt` one end of a
+//! connection with the calls of a turn, and `context.rt` has the gate of turns, the clock and the log. `round.rt` says to
+//! which events a poller's round amounts, `turn.rt` what must hold of turns, and `checks.rt` what must be logged.
 #![tactic(auto)]
 
 mod checks;

@@ -17,7 +17,7 @@ use std::cell::{Cell, RefCell};
 use std::rc::Rc;
 use std::sync::atomic::AtomicBool;
 use std::sync::{Arc, Wait};
-use threads::{Ending, PollerThread, Rest, Server, ServerThreads, Worker, divide};
+use threads::{Ending, Rest, Server, ServerThreads, divide};
 
 /// Makes the driver of a server of these sizes.
 pub fn driver_of<R: Wait>(rt: &R, alloc: Global, sizes: Sizes) -> Result<Driver, ServerFault>
@@ -28,7 +28,11 @@ pub fn driver_of<R: Wait>(rt: &R, alloc: Global, sizes: Sizes) -> Result<Driver,
     let settings = settings_of(alloc, sizes)?;
     let cast = cast_of(rt, alloc, &outside, &settings, sizes)?;
     let ending = Ending::new(cast.pollers.len());
-    let (pollers, workers) = cells_of(alloc, cast)?;
+    let ServerThreads {
+        pollers,
+        mut workers,
+    } = cast;
+    workers.reverse();
     Ok(Driver {
         alloc,
         sizes,
@@ -36,24 +40,9 @@ pub fn driver_of<R: Wait>(rt: &R, alloc: Global, sizes: Sizes) -> Result<Driver,
         clock,
         ending,
         is_stopped: AtomicBool::new(false),
-        pollers,
-        workers,
+        pollers: cells(alloc, pollers)?,
+        workers: cells(alloc, workers)?,
     })
-}
-
-/// The threads of a server that has not begun.
-type ThreadCells = (
-    Vec<ThreadCell<PollerThread<KernelFront>>>,
-    Vec<ThreadCell<Worker<KernelFront>>>,
-);
-
-fn cells_of(alloc: Global, cast: ServerThreads<KernelFront>) -> Result<ThreadCells, AllocError> {
-    let ServerThreads {
-        pollers,
-        mut workers,
-    } = cast;
-    workers.reverse();
-    Ok((cells(alloc, pollers)?, cells(alloc, workers)?))
 }
 
 /// Puts each thread in a cell, the last one first.
@@ -70,7 +59,6 @@ fn cells<T: Drop>(alloc: Global, mut threads: Vec<T>) -> Result<Vec<ThreadCell<T
     Ok(cells)
 }
 
-/// The settings of a server of these sizes.
 fn settings_of(alloc: Global, sizes: Sizes) -> Result<Settings, AllocError> {
     let (slots, workers) = (sizes.limits.slots, sizes.limits.workers);
     let (ring, budget) = (sizes.limits.ring, sizes.limits.budget);
@@ -81,7 +69,6 @@ fn settings_of(alloc: Global, sizes: Sizes) -> Result<Settings, AllocError> {
     parse(alloc, text.as_bytes()).or(Err(AllocError))
 }
 
-/// Makes the threads of such a server.
 fn cast_of<R: Wait>(
     rt: &R,
     alloc: Global,
@@ -110,7 +97,6 @@ fn cast_of<R: Wait>(
     divide(alloc, &shared, Rest { parts, free }, pollers, workers)
 }
 
-/// Makes a front for each poller.
 fn fronts_of(
     alloc: Global,
     outside: &OutsideCell,
@@ -123,7 +109,7 @@ fn fronts_of(
     Ok(fronts)
 }
 
-/// Has each slot begin at this generation.
+/// Has each slot of the pollers begin at this generation.
 fn start_each(pollers: &mut Vec<Poller<KernelFront>>, generation: u64)
     requires { generation ≤ last_generation }
 {
@@ -132,7 +118,6 @@ fn start_each(pollers: &mut Vec<Poller<KernelFront>>, generation: u64)
     }
 }
 
-/// Has each of a poller's slots begin at this generation.
 fn start_all(poller: &mut Poller<KernelFront>, generation: u64)
     requires { generation ≤ last_generation }
 {

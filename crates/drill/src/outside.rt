@@ -1,5 +1,3 @@
-// What is outside of the server: a machine and an expected state for each poller, a machine for each slot, the clients
-// that no poller has accepted yet, what later calls get, and the log.
 ghost use Rattle.drill.specs.Sizes.{IsServerSize};
 
 use crate::checks::Checks;
@@ -16,7 +14,7 @@ use std::cell::RefCell;
 use std::rc::Rc;
 use world::{Event, Listening, Reported};
 
-/// What is outside of the server.
+/// What is outside of the server, and what is expected of it.
 #[derive(Drop)]
 pub struct Outside {
     pub alloc: Global,
@@ -46,7 +44,7 @@ pub struct State {
     pub is_stopped: bool,
 }
 
-/// A shared handle of what is outside. One holder at a time can change it.
+/// A shared handle of what is outside, which one holder at a time can change.
 #[derive(Drop)]
 pub struct OutsideCell {
     cell: Rc<RefCell<Outside>>,
@@ -66,7 +64,7 @@ impl OutsideCell {
         })
     }
 
-    /// Applies a change. From within another change it does nothing, and returns `otherwise`.
+    /// Applies a change. From within another one it does nothing, and returns `otherwise`.
     pub fn with<T: Drop, F: FnOnce(&mut Outside) -> T + Drop>(&self, otherwise: T, change: F) -> T
         requires { F.IsAlwaysCallable change }
     {
@@ -100,29 +98,25 @@ impl Outside {
         })
     }
 
-    /// Notes whether a machine has made an event to which a step of the server amounts.
+    /// Notes whether a machine has made an event of the server.
     pub fn must(&mut self, is_made: bool) {
         if !is_made {
             self.checks.fail("an event that its machine refuses");
         }
     }
 
-    /// Makes an event to which a step of the server amounts, in this slot's machine.
+    /// Makes an event of the server in this slot's machine.
     pub fn record(&mut self, slot: usize, event: Event) {
-        let made = match self.machines.get_mut(slot) {
-            Some(machine) => machine.put(event),
-            None => false,
-        };
-        self.must(made);
+        let machine = self.machines.get_mut(slot);
+        let is_made = machine.is_some_and(|machine| machine.put(event));
+        self.must(is_made);
     }
 
-    /// Makes an event to which a step of the server amounts, in the machine of this poller's listener.
+    /// Makes an event of the server in the machine of this poller's listener.
     pub fn record_at_poller(&mut self, poller: usize, event: Event) {
-        let made = match self.pollers.get_mut(poller) {
-            Some(model) => model.machine.put(event),
-            None => false,
-        };
-        self.must(made);
+        let model = self.pollers.get_mut(poller);
+        let is_made = model.is_some_and(|model| model.machine.put(event));
+        self.must(is_made);
     }
 
     /// The model of the poller that has this slot.
@@ -152,7 +146,7 @@ impl Outside {
         self.checks.write(level, text);
     }
 
-    /// Fails after a step in which a poller was not woken as often as it must be, or a line was not logged.
+    /// Compares wakes and log lines after a step.
     pub fn check(&mut self) {
         for model in self.pollers.iter_mut() {
             if !model.check_wakes() {
@@ -163,8 +157,8 @@ impl Outside {
         self.checks.check();
     }
 
-    /// Makes an event outside of the server. If the machine does not allow it, nothing happens. While a client waits,
-    /// no report of the listener vanishes.
+    /// Makes an event outside of the server, if its machine allows that. While a client waits, no report of the listener
+    /// vanishes.
     pub fn happen(&mut self, outer: Outer) {
         let Outer { poller, event } = outer;
         match &event {
@@ -183,7 +177,6 @@ impl Outside {
         }
     }
 
-    /// Makes an event of a poller's listener or waker.
     fn report(&mut self, poller: usize, event: Event) {
         if let Some(model) = self.pollers.get_mut(poller) {
             if model.listens || !matches!(&event, Event::Spurious(Reported::Listener)) {
@@ -212,8 +205,7 @@ impl Outside {
         self.pollers.iter().any(|model| model.listens)
     }
 
-    /// A client connects. It waits outside of the machines, and is reported to the pollers. If none listens, the client
-    /// is refused.
+    /// A client connects: it waits outside of the machines, and is reported to the pollers. If none listens, it is refused.
     fn connect(&mut self) {
         if self.state.waiting >= MAX_BACKLOG || !self.is_listening() {
             return;
@@ -239,7 +231,6 @@ impl Outside {
     }
 }
 
-/// A model of each poller of a server of these sizes.
 fn models_of(alloc: Global, sizes: Sizes) -> Result<Vec<PollerModel>, AllocError>
     requires { IsServerSize sizes }
 {
@@ -251,7 +242,6 @@ fn models_of(alloc: Global, sizes: Sizes) -> Result<Vec<PollerModel>, AllocError
     Ok(models)
 }
 
-/// A machine for each slot of a server of these sizes.
 fn machines_of(alloc: Global, sizes: Sizes) -> Result<Vec<Machine>, AllocError>
     requires { IsServerSize sizes }
 {

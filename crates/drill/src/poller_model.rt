@@ -1,5 +1,3 @@
-// What stands beside one poller of the server: a machine of its listener and its waker, and the poller's expected
-// state, which is computed here and not read from the server.
 ghost use Rattle.std.specs.Prelude.{◌<◌};
 ghost use Rattle.dispatch.specs.Splits.{parts_of};
 ghost use Rattle.drill.specs.Sizes.{IsServerSize};
@@ -13,7 +11,7 @@ use std::alloc::{AllocError, Global};
 use token::Name;
 use world::{Event, Listening, Reported};
 
-/// The machine beside a poller, and the poller's expected state.
+/// The machine beside a poller, and the poller's expected state, which is not read from the server.
 #[derive(Drop)]
 pub struct PollerModel {
     /// A machine of its listener and its waker, in which no connection is ever opened.
@@ -22,9 +20,8 @@ pub struct PollerModel {
     pub part: Part,
     /// How many connections the poller may still open.
     left: u64,
-    /// The second of its last round. At first that at which the server began.
+    /// The seconds of its last round and its last sweep. At first that at which the server began.
     second: u64,
-    /// The second of its last sweep. At first that at which the server began.
     swept: u64,
     /// Whether its front listens.
     pub listens: bool,
@@ -32,14 +29,12 @@ pub struct PollerModel {
     pub has_accepted: bool,
     /// Whether a round has begun and not ended.
     pub in_round: bool,
-    /// Whether the poller is over: it has opened all that it may open, and all its slots were free when its last round
-    /// ended.
+    /// Whether it has opened all that it may, and all its slots were free when its last round ended.
     pub is_over: bool,
     /// Whether a poll has failed.
     pub has_failed: bool,
-    /// How often it was woken in this step.
+    /// How often it was woken in this step, and how often it must be.
     woken: u64,
-    /// How often it must be woken in this step.
     to_wake: u64,
 }
 
@@ -88,15 +83,14 @@ impl PollerModel {
         is_right
     }
 
-    /// A client that waits is reported to the poller if its last accept(2) would have blocked. If not, it will call
-    /// accept(2) again anyway.
+    /// A client that waits is reported if the last accept(2) would have blocked. If not, the next one follows anyway.
     pub fn report_client(&mut self) {
         if self.listens && self.machine.kernel().is_armed() {
             self.machine.happen(Event::Spurious(Reported::Listener));
         }
     }
 
-    /// Has accept(2) get this reply. Returns false if the machine refuses that.
+    /// Has accept(2) get this reply. Returns false if the machine refuses it.
     pub fn accept(&mut self, reply: Accepting) -> bool {
         self.has_accepted = reply == Accepting::Accepted;
         if self.has_accepted {
@@ -106,8 +100,8 @@ impl PollerModel {
         }
     }
 
-    /// Moves a client that waited outside into the machine, and accepts it at once. If that queues a report, the report
-    /// is withdrawn: the client was reported when it connected, if this poller's listener was armed then.
+    /// Moves a client that waited outside into the machine, and accepts it. A report that this queues is withdrawn: the
+    /// client was reported when it connected, if the listener was armed then.
     fn accept_client(&mut self) -> bool {
         let was_queued = self.is_queued();
         let is_made = self.machine.put(Event::Listen(Listening::Connect))
@@ -121,7 +115,7 @@ impl PollerModel {
         is_made
     }
 
-    /// Closes the listener. A report of it that is queued is withdrawn.
+    /// Closes the listener, and withdraws its report.
     pub fn stop_listening(&mut self) {
         if self.listens {
             self.machine.happen(Event::Vanish(Reported::Listener));
@@ -144,8 +138,8 @@ impl PollerModel {
         self.left = 0;
     }
 
-    /// Reads the clock in a round. Returns whether a sweep is due, which is so if the limit had passed at the second of
-    /// the round before: then that second becomes that of the last sweep. Limit 0 means that no sweep is ever due.
+    /// Reads the clock in a round. Returns whether a sweep is due: if there is a limit, and it had passed at the second of
+    /// the round before, which becomes that of the last sweep.
     pub fn falls_due(&mut self, second: u64, limit: u64) -> bool {
         let is_due = limit > 0 && self.second.saturating_sub(self.swept) >= limit;
         if is_due {

@@ -20,7 +20,6 @@ pub fn read_step(alloc: Global, line: &str) -> Option<Step> {
     }
 }
 
-/// Reads an event that happens at once, or what is planned.
 fn read_planned(alloc: Global, line: &str) -> Option<Step> {
     let (word, rest) = cut(line);
     match word {
@@ -50,7 +49,6 @@ fn named<T: Copy>(table: &[(&str, T)], word: &str) -> Option<T> {
     None
 }
 
-/// Reads an event of a slot's machine alone, which has to be noticed if the machine refuses it.
 fn machine(alloc: Global, text: &str) -> Option<Step> {
     let (slot, rest) = cut(text);
     Some(Step::Machine(number(slot)?, event(alloc, rest)?))
@@ -60,7 +58,7 @@ fn later(point: Point, outer: Outer) -> Option<Step> {
     Some(Step::Later(point, Planned::Event(outer)))
 }
 
-/// Reads what a call of a round gets. The poller's number may come first; without it the poller is 0.
+/// Reads what a call of a round gets. The poller's number may come first, and is else 0.
 fn in_round(alloc: Global, word: &str, rest: &str) -> Option<Step> {
     let (first, last) = cut(rest);
     let (poller, rest) = number(first).map_or((0, rest), |poller| (poller, last));
@@ -95,7 +93,6 @@ fn outside(alloc: Global, text: &str) -> Option<Outer> {
     }
 }
 
-/// Reads an event of a world.
 fn event(alloc: Global, text: &str) -> Option<Event> {
     read_event(alloc, text.as_bytes()).ok()
 }

@@ -11,7 +11,7 @@ use token::{Name, Side, Token};
 use world::{Event, Listening, Polling};
 
 impl Outside {
-    /// Makes a poll, which must be the only one of the poller's round. Returns the names that it gives.
+    /// Makes a poll, which must be the only one of its round. Returns the names that it gives.
     pub fn poll(&mut self, poller: usize) -> io::Result<Vec<Name>> {
         if let Some(model) = self.pollers.get_mut(poller) {
             if model.in_round {
@@ -50,7 +50,7 @@ impl Outside {
         }
     }
 
-    /// The names that a poll gives out of those that are queued in the machines of a poller and of its slots.
+    /// The names that a poll gives of those in the machines of a poller and of its slots.
     fn queued(&self, poller: usize, polled: Option<Polled>) -> Result<Vec<Name>, AllocError> {
         let mut names = Vec::new(self.alloc);
         let Some(model) = self.pollers.get(poller) else {
@@ -66,8 +66,7 @@ impl Outside {
         Ok(names)
     }
 
-    /// Has the machines take the names of a poll. After what is planned to happen then, the poller delivers the names,
-    /// and makes its sweep.
+    /// Has the machines take the names of a poll. Behind what is planned there, the poller delivers them, and sweeps.
     fn report_names(&mut self, poller: usize, names: &[Name]) -> Result<(), AllocError> {
         let own = own_names(self.alloc, names, None)?;
         self.record_at_poller(poller, Event::Poll(Polling::Poll(own)));
@@ -88,7 +87,6 @@ impl Outside {
         Ok(())
     }
 
-    /// Makes the events that are planned between a poll and the delivery of its names.
     fn happen_polled(&mut self, poller: usize) {
         for _event in 0..MAX_POLLED {
             match self.plan.next_event(Point::Polled(poller)) {
@@ -98,7 +96,6 @@ impl Outside {
         }
     }
 
-    /// Has a poller deliver a report.
     fn deliver(&mut self, poller: usize, name: Name) {
         let event = Event::Poll(Polling::Deliver);
         match name {
@@ -107,7 +104,6 @@ impl Outside {
         }
     }
 
-    /// Has a poller sweep, if a sweep is due.
     fn sweep_if_due(&mut self, poller: usize) {
         let (second, limit) = (self.clock.second(), self.sizes.limits.idle);
         if let Some(model) = self.pollers.get_mut(poller) {
@@ -128,7 +124,7 @@ impl Outside {
         }
     }
 
-    /// Makes a call of accept(2). It returns what is planned, or else a client if one waits.
+    /// Makes a call of accept(2), which must be allowed.
     pub fn accept(&mut self, poller: usize) -> Accepting {
         let Some(model) = self.pollers.get_mut(poller) else {
             return Accepting::Starved;
@@ -144,7 +140,7 @@ impl Outside {
         reply
     }
 
-    /// Closes the listener of a poller's front. When the last listener closes, the clients that wait are refused.
+    /// Closes the listener of a poller's front. With the last one, the clients that wait are refused.
     pub fn stop_listening(&mut self, poller: usize) {
         if let Some(model) = self.pollers.get_mut(poller) {
             model.stop_listening();
@@ -166,7 +162,7 @@ impl Outside {
         }
     }
 
-    /// Returns the planned outcome of an opening, before which a client must have been accepted.
+    /// The planned outcome of an opening, before which a client must have been accepted.
     fn next_opening(&mut self, poller: usize) -> Opening {
         if let Some(model) = self.pollers.get_mut(poller) {
             if !model.has_accepted {
@@ -180,7 +176,7 @@ impl Outside {
         }
     }
 
-    /// Notes that a poller has opened a connection, both of whose ends must be reported under their own names.
+    /// Notes an opened connection, both of whose ends must be reported under their own names.
     fn opened(&mut self, poller: usize, client: Token, target: Token) {
         let (slot, generation) = (client.slot(), client.generation());
         if let Some(model) = self.pollers.get_mut(poller) {
@@ -210,8 +206,8 @@ impl Outside {
         self.checks.expect(Level::Info, open);
     }
 
-    /// Begins a step of a poller's thread. Returns whether the thread must end with it. If no more connections may be
-    /// opened, the thread finds that out in this step, and must wake all pollers.
+    /// Begins a step of a poller's thread. Returns whether the thread must end with it. One that finds that no more
+    /// connections may be opened must wake all pollers.
     pub fn begin_step(&mut self, poller: usize) -> bool {
         self.poller = Some(poller);
         let Some(model) = self.pollers.get_mut(poller) else {
@@ -225,7 +221,7 @@ impl Outside {
         is_due
     }
 
-    /// Ends the step. The thread must have ended if it had to, or if its poll has failed, and only then.
+    /// Ends the step. The thread must have ended if it had to, or its poll has failed, and only then.
     pub fn end_step(&mut self, poller: usize, is_due: bool, has_ended: bool) {
         self.finish_turn();
         self.end_round();
@@ -256,17 +252,12 @@ impl Outside {
         }
     }
 
-    /// Whether a connection may be opened in each slot of a poller.
     fn are_free(&self, poller: usize) -> bool {
         let Some(model) = self.pollers.get(poller) else {
             return false;
         };
-        for (slot, machine) in self.machines.iter().enumerate() {
-            if model.part.has(slot) && !machine.is_free() {
-                return false;
-            }
-        }
-        true
+        let mut machines = self.machines.iter().enumerate();
+        machines.all(|(slot, machine)| !model.part.has(slot) || machine.is_free())
     }
 }
 
@@ -293,7 +284,7 @@ fn add_names(names: &mut Vec<Name>, queue: &[Name], slot: usize) -> Result<(), A
     Ok(())
 }
 
-/// The names of a poll that are of this slot, as its machine has them. None: those of the listener and the waker.
+/// The names of this slot, as its machine has them. None: those of the listener and the waker.
 fn own_names(alloc: Global, names: &[Name], slot: Option<usize>) -> Result<Vec<Name>, AllocError> {
     let mut own = Vec::new(alloc);
     for name in names {
@@ -319,7 +310,6 @@ fn named_at(name: Name, slot: usize) -> Option<Name> {
     }
 }
 
-/// Leaves of the names that are queued those that a poll gives.
 fn choose(names: &mut Vec<Name>, polled: Option<Polled>) {
     let most = match polled {
         Some(Polled::Interrupted) => 0,

@@ -44,7 +44,6 @@ impl Session {
         Ok(true)
     }
 
-    /// Begins the script of this header.
     fn begin<R: Wait + AllocGlobal>(&mut self, rt: &R, header: &str) -> io::Result<()> {
         self.totals.add(&self.driver);
         self.driver = begin(rt, header)?;
@@ -68,7 +67,7 @@ impl Session {
     }
 }
 
-/// Prints the line after which no more lines are run, and why. Returns false.
+/// Prints the line after which no more are run, and why.
 fn stop<R: Print>(rt: &R, index: usize, fault: &str, line: &str) -> io::Result<bool> {
     let number = (index as u64).saturating_add(1);
     println!(rt; "line {number}: {fault}: {line}")?;
@@ -86,7 +85,6 @@ fn begin<R: Wait + AllocGlobal>(rt: &R, header: &str) -> io::Result<Option<Drive
     }
 }
 
-/// Runs a line of a script on its server.
 fn run_on<R: Wait + AllocGlobal + Print>(
     rt: &R,
     driver: &Option<Driver>,
@@ -105,20 +103,18 @@ fn run_on<R: Wait + AllocGlobal + Print>(
     run_line(&Logged::new(rt, Level::Debug, logger), driver, line)
 }
 
-/// The outcome of a line.
 #[derive(Clone, Copy)]
 enum Outcome {
-    /// Nothing is compared after this line.
+    /// Nothing is compared after the line.
     Nothing,
     /// The server and the machines agree after it.
     Agreed,
     /// They differ after it.
     Differs,
-    /// The line is no step, or its script has no header.
+    /// It is no step, or its script has no header.
     Malformed,
 }
 
-/// Runs one line of a script.
 fn run_line<R: Wait + Log + Print>(rt: &R, driver: &Driver, line: &str) -> io::Result<Outcome> {
     if line.starts_with("world ") {
         driver.begin(rt);
@@ -164,7 +160,6 @@ fn compare_all<R: Wait + Print>(rt: &R, driver: &Driver) -> io::Result<Outcome> 
         .with(Ok(Outcome::Nothing), |outside| agree(rt, outside))
 }
 
-/// Prints the script and the report of each slot's machine, and then the log.
 fn show<R: Print>(rt: &R, outside: &Outside) -> io::Result<Outcome> {
     for (slot, machine) in outside.machines.iter().enumerate() {
         println!(rt; "slot {slot}")?;
@@ -213,14 +208,12 @@ struct Totals {
 }
 
 impl Totals {
-    /// Nothing was run.
     const NONE: Totals = Totals {
         scripts: 0,
         steps: 0,
         counts: Counts::NONE,
     };
 
-    /// Adds a script that was run.
     fn add(&mut self, driver: &Option<Driver>) {
         if let Some(driver) = driver {
             self.scripts = self.scripts.saturating_add(1);
@@ -230,7 +223,6 @@ impl Totals {
         }
     }
 
-    /// Prints a line for each kind of event, and one for the scripts and the steps.
     fn print<R: Print + AllocGlobal>(&self, rt: &R) -> io::Result<()> {
         let mut page = Page::new(rt.alloc());
         self.counts.put_lines(&mut page);
@@ -239,7 +231,6 @@ impl Totals {
     }
 }
 
-/// Counts the events of a script.
 fn count(counts: &mut Counts, outside: &Outside) {
     for model in &outside.pollers {
         model.machine.count(counts);

@@ -9,10 +9,10 @@ use world::{Lead, Limits};
 /// The most pollers.
 const MAX_POLLERS: usize = 16;
 
-/// The sizes of the server of a script.
+/// The sizes of a script's server.
 #[derive(Clone, Copy)]
 pub struct Sizes {
-    /// The limits of the whole server, without a lead.
+    /// Without a lead.
     pub limits: Limits,
     /// Which poller has which slots.
     pub split: Split,
@@ -32,8 +32,8 @@ impl Sizes {
     }
 }
 
-/// Reads a header: that of a world without a lead, and then perhaps ` with` and any of ` pollers=P` and ` stop=N`.
-/// There are P pollers, or as many as the split allows. The server ends after N connections.
+/// Reads a header: that of a world, whose lead is left out, and then perhaps ` with` and any of ` pollers=P`, at most,
+/// and ` stop=N`, connections after which the server ends.
 pub fn read_sizes(line: &str) -> Option<Sizes>
     ensures { IfSome result IsServerSize }
 {
@@ -55,7 +55,6 @@ pub fn read_sizes(line: &str) -> Option<Sizes>
     })
 }
 
-/// What may follow the header of a world: the number of pollers, and after how many connections the server ends.
 fn read_extras(text: &str) -> Option<(usize, u64)> {
     let (mut pollers, mut stop_after) = (1, 0);
     for word in text.split_whitespace() {

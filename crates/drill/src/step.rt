@@ -1,18 +1,17 @@
-// The steps of a script, and what may be planned for a later point.
 use kernel_model::Accepting;
 use std::alloc::{AllocError, Global};
 use std::collections::VecDeque;
 use token::Kind;
 use world::Event;
 
-/// One step of a script.
+/// A step of a script (`tests/drill/README.md`).
 #[derive(Drop)]
 pub enum Step {
     /// An event outside of the server.
     Outside(Outer),
-    /// One step of this poller's thread.
+    /// A step of this poller's thread.
     Round(usize),
-    /// One step of the worker with this number, if it would not wait.
+    /// A step of this worker, if it would not wait.
     Turn(usize),
     /// What the server gets at one of the next such points, or what happens there.
     Later(Point, Planned),
@@ -24,15 +23,14 @@ pub enum Step {
     Show,
 }
 
-/// An event outside of the server: of the network, of a report, or of the clock. One of a slot concerns the poller that
-/// has the slot, one of the listener or the waker this poller, and the others all pollers.
+/// An event outside of the server. One of the listener or the waker is this poller's.
 #[derive(Drop)]
 pub struct Outer {
     pub poller: usize,
     pub event: Event,
 }
 
-/// A point in the server's steps: a call, or a place between two of them.
+/// A call of the server, or a place between two of them.
 #[derive(Clone, Copy, PartialEq, Eq)]
 pub enum Point {
     /// A call of a turn.
@@ -63,7 +61,7 @@ pub enum Wanted {
     Plain,
     /// At most this many bytes are moved.
     Short(usize),
-    /// At most this many bytes are moved, and a write leaves no room.
+    /// The same, and a write leaves no room.
     Full(usize),
     /// A signal interrupts it.
     Interrupted,
@@ -95,8 +93,7 @@ pub enum Polled {
     Failed,
 }
 
-/// What the server gets at later points. Each kind of point gets what is planned for it, in order. If nothing is, it
-/// gets what the kernel has.
+/// What the server gets at later points: at each what is planned for it, in order, or else what the kernel has.
 #[derive(Drop)]
 pub struct Plan {
     planned: VecDeque<(Point, Planned)>,

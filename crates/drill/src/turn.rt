@@ -8,11 +8,11 @@ use world::{Act, Event};
 #[derive(Clone, Copy)]
 pub struct Turn {
     pub slot: usize,
-    /// How many calls the turn has made.
+    /// How many calls it has made.
     calls: usize,
-    /// Whether the turn may still make calls.
+    /// Whether it may still make calls.
     pub calling: bool,
-    /// Whether the turn left its connection due.
+    /// Whether it left its connection due.
     again: bool,
     /// Whether the end of its connection was logged, or need not be.
     logged: bool,
@@ -32,7 +32,7 @@ impl Turn {
         }
     }
 
-    /// Whether the turn has made at most its budget of calls, and exactly that many if it left its connection due.
+    /// Whether it made at most its budget of calls, and exactly that many if it left its connection due.
     fn is_of(&self, budget: usize) -> bool {
         self.calls == budget || self.calls < budget && !self.again
     }
@@ -55,7 +55,7 @@ impl Outside {
         self.turn = Some(Turn::at(slot));
     }
 
-    /// Makes an act of the thread of the turn in progress, in the slot's machine.
+    /// Makes an act of the turn in progress, in the slot's machine.
     pub fn act(&mut self, act: Act) {
         if let Some(turn) = self.turn {
             self.record(turn.slot, Event::Work(0, act));
@@ -69,8 +69,7 @@ impl Outside {
         }
     }
 
-    /// Ends the calls of the turn in progress. It must have made as many as its budget if its connection is due, and
-    /// never more.
+    /// Ends the calls of the turn in progress, which must be of its budget.
     pub fn end_calls(&mut self) {
         let Some(turn) = &mut self.turn else {
             return;
@@ -90,7 +89,7 @@ impl Outside {
         }
     }
 
-    /// Expects the line about the end of the turn's connection, if that has ended.
+    /// Expects the line about the turn's connection, if that has ended.
     pub fn expect_ended(&mut self) {
         let Some(turn) = &mut self.turn else {
             return;

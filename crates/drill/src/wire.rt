@@ -1,4 +1,3 @@
-// A wire over an end of the modelled kernel of its slot's machine, and the calls that it makes there in a turn.
 ghost use Rattle.std.specs.Prelude.{◌≡◌};
 ghost use Rattle.engine.specs.Classes.{class_by, counted};
 
@@ -14,11 +13,10 @@ use std::net::SocketAddr;
 use token::{Kind, Side, Token};
 use world::Act;
 
-/// A wire over an end of the modelled kernel. Dropping the wire closes the end.
+/// A wire over an end of the modelled kernel of its slot's machine. Its drop closes the end.
 pub struct EndWire {
     outside: OutsideCell,
-    /// The token by which the end is reported. None for a client that was accepted and is not open yet: closing this
-    /// changes nothing.
+    /// None for a client that was accepted and is not open yet: closing this changes nothing.
     token: Option<Token>,
     tally: Tally,
 }
@@ -33,7 +31,7 @@ impl EndWire {
         }
     }
 
-    /// Opens the client's wire: it is over the end with this token from now on.
+    /// Opens the client's wire: from now on it is over the end with this token.
     pub fn open(&mut self, token: Token)
         ensures { self.new.tally ≡ self.old.tally }
     {
@@ -46,8 +44,7 @@ impl EndWire {
         Some(peer_of(token.slot(), token.generation()))
     }
 
-    /// Makes a call, of which the side is that of the token. A write offers the bytes, and a read fills the front of
-    /// the buffer.
+    /// Makes a call. A write offers the bytes, and a read fills the front of the buffer.
     fn ask(&self, kind: CallKind, offer: &[u8], buffer: &mut [u8]) -> Result<usize, ErrorKind> {
         let token = self.token.ok_or(ErrorKind::Other)?;
         let asked = Asked {
@@ -59,7 +56,6 @@ impl EndWire {
         self.outside.with(Err(ErrorKind::Other), |outside| outside.call(asked, buffer))
     }
 
-    /// Counts an error of a call by its class, and returns it.
     fn refuse(&mut self, call: CallKind, kind: ErrorKind) -> io::Error
         ensures { self.new.tally ≡ counted (class_by call self.old.tally.joined kind) self.old.tally }
     {
@@ -166,9 +162,8 @@ pub struct Asked<'a> {
 }
 
 impl Outside {
-    /// Makes a call, after the events that are planned before it. It must be the one that the connection in the slot's
-    /// machine makes next, with the same bytes, in the slot's turn. Returns how many bytes it moved. A read puts its
-    /// bytes at the front of the buffer.
+    /// Makes a call, behind the events that are planned before it. It must be the one that the connection in the slot's
+    /// machine makes next, with the same bytes, in the slot's turn. Returns how many bytes it moved.
     pub fn call(&mut self, asked: Asked<'_>, buffer: &mut [u8]) -> Result<usize, ErrorKind> {
         let wanted = self.next_wanted();
         let Some(reply) = self.reply(asked, wanted, buffer) else {
@@ -184,7 +179,7 @@ impl Outside {
         given(reply, wanted)
     }
 
-    /// Makes the events that are planned before the next call of a turn, and returns what that call gets.
+    /// Makes the events that are planned before the next call, and returns what that gets.
     fn next_wanted(&mut self) -> Wanted {
         for _event in 0..MAX_POLLED {
             match self.plan.next(Point::Call) {
@@ -196,8 +191,7 @@ impl Outside {
         Wanted::Plain
     }
 
-    /// The reply to a call: the planned one, if the call may get that, and else the kernel's own. None if the call is
-    /// not the next one of a turn.
+    /// None if the call is not the next one of a turn.
     fn reply(&self, asked: Asked<'_>, wanted: Wanted, buffer: &mut [u8]) -> Option<Reply> {
         let turn = self.turn?;
         let machine = self.machines.get(asked.slot)?;
@@ -207,18 +201,14 @@ impl Outside {
         Some(answer(machine.end(asked.call.side())?, asked, wanted, buffer))
     }
 
-    /// Whether the machine's end took the bytes that a write with this reply took.
+    /// Whether the machine's end took the bytes that a write took.
     fn has_sent(&self, asked: Asked<'_>, reply: Reply) -> bool {
         let Reply::Wrote(count, _) = reply else {
             return true;
         };
-        let Some(machine) = self.machines.get(asked.slot) else {
-            return false;
-        };
-        match machine.end(asked.call.side()) {
-            Some(end) => end_with(end.taken(), asked.offer, count),
-            None => false,
-        }
+        let machine = self.machines.get(asked.slot);
+        let end = machine.and_then(|machine| machine.end(asked.call.side()));
+        end.is_some_and(|end| end_with(end.taken(), asked.offer, count))
     }
 }
 
@@ -239,7 +229,6 @@ fn answer(end: &End, asked: Asked<'_>, wanted: Wanted, buffer: &mut [u8]) -> Rep
     reply
 }
 
-/// The kernel's own reply to a call.
 fn own_reply(end: &End, asked: Asked<'_>, wanted: Wanted) -> Reply {
     match asked.call {
         Call::Read(_, most) => read_of(end, most, wanted),
@@ -289,7 +278,6 @@ fn reply_of(wanted: Wanted, own: Reply, asked: Asked<'_>) -> Reply {
     }
 }
 
-/// Whether a call is made before the connect has completed.
 fn waits_for_connect(asked: Asked<'_>) -> bool {
     !asked.joined && !matches!(asked.call, Call::Shut(_))
 }
@@ -308,7 +296,6 @@ fn given(reply: Reply, wanted: Wanted) -> Result<usize, ErrorKind> {
     }
 }
 
-/// Copies bytes to the front of a buffer.
 fn fill(buffer: &mut [u8], bytes: &[u8]) {
     let count = bytes.len().min(buffer.len());
     buffer[..count].copy_from_slice(&bytes[..count]);

@@ -52,7 +52,6 @@ fn reports<F: Front>(alloc: Global, front: &mut F, numbers: &[u64]) -> io::Resul
     Err(io::Error::from(ErrorKind::TimedOut))
 }
 
-/// What a call answered: its count, or the kind of its error.
 fn kind<T>(answer: io::Result<T>) -> Result<T, ErrorKind> {
     answer.map_err(|error| error.kind())
 }
@@ -171,7 +170,7 @@ fn wires_answer_as_their_sockets(rt: HostRuntime) -> Result<(), Fail> {
 /// Clients, and what fronts have of them.
 type Clients = Vec<(TcpStream, SocketWire)>;
 
-/// Has a front accept so many clients more. Answers whether it leaves the next one to another then.
+/// Has a front accept so many clients more. Answers whether it leaves the next one then.
 fn leaves_after(
     rt: &HostRuntime,
     address: SocketAddr,
@@ -186,7 +185,6 @@ fn leaves_after(
     Ok(front.leaves())
 }
 
-/// Opens the connection of the first client.
 fn open_first(
     front: &mut Sockets<'_, HostRuntime>,
     clients: &mut Clients,

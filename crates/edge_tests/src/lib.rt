@@ -1,7 +1,6 @@
 //! Tests of `dispatch`, `sockets`, `server` and `program`: what a full queue refuses, what fronts and wires over
-//! loopback answer, that two workers work at once, and what only a reader, a writer or a server in memory can show of
-//! the program, which are failures after any number of bytes. What it prints for which input stands in the repository's
-//! `tests/program`, where the built program is run, and how it serves is shown by `tests/relay`.
+//! loopback answer, that two workers work at once, and failures of readers and writers after any number of bytes. What
+//! the program prints, and how it serves, is shown by the repository's `tests/program` and `tests/relay`.
 //!
 //! They are a crate of their own since the tests of a crate are proved together with all of its functions again.
 #![tactic(auto)]

@@ -13,11 +13,9 @@ const ROOM: usize = 4096;
 /// The script of one direction from its first byte to its shutdown.
 const SCRIPT: &[u8] = b"flow ring=4\narrive 616263\nroom\nread 3\nfin\nwrote 3\nend\nshut";
 
-/// What it prints.
 const REPORT: &[u8] = b"up sent=616263 ring=- unread=- end=yes shut=yes\n";
 
-/// A reader over bytes: it hands over a byte a read. One read may fail, and it goes on with the rest if it is read
-/// again.
+/// A reader that hands over a byte a read, but for one that may fail.
 #[derive(Drop)]
 struct Source<'a> {
     rest: &'a [u8],
@@ -27,7 +25,6 @@ struct Source<'a> {
 }
 
 impl<'a> Source<'a> {
-    /// All bytes, and then the end.
     fn whole(bytes: &'a [u8]) -> Source<'a> {
         Source::failing_once(bytes, usize::MAX, ErrorKind::Other)
     }
@@ -42,7 +39,7 @@ impl<'a> Source<'a> {
         }
     }
 
-    /// How many reads were made, the one that failed too.
+    /// With the one that failed.
     fn reads(&self) -> usize {
         self.reads
     }
@@ -69,8 +66,8 @@ impl IsTerminal for Source<'_> {
     }
 }
 
-/// A writer into memory that fails once it took this many bytes: at its flush, or where it is to take more. It has
-/// the memory for them from the start.
+/// A writer into memory, which it has from the start, that fails once it took this many bytes: at its flush, or where it
+/// is to take more.
 #[derive(Drop)]
 struct Sink {
     taken: Vec<u8>,
@@ -86,7 +83,6 @@ impl Sink {
         })
     }
 
-    /// The bytes that were taken.
     fn into_taken(self) -> Vec<u8> {
         self.taken
     }
@@ -120,7 +116,6 @@ struct Run {
 }
 
 impl Run {
-    /// Whether it ended so.
     fn is(&self, status: u8, output: &[u8], errors: &[u8]) -> bool {
         self.status == status
             && self.output.as_slice() == output
@@ -151,7 +146,6 @@ impl Replay for NoPlayer {
     }
 }
 
-/// The arguments of a command line, which single spaces separate.
 fn arguments(alloc: Global, line: &str) -> Result<Vec<String>, AllocError> {
     let mut arguments = Vec::new(alloc);
     for argument in line.split(' ') {

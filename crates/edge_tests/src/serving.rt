@@ -1,5 +1,4 @@
-// A server over real sockets on loopback, with its clients and its target in the same process. How clients are served
-// is shown by `tests/relay`, with the built program.
+// A server over real sockets on loopback, with its clients and its target in the same process.
 ghost use Rattle.std.specs.Prelude.{◌≡◌};
 
 use crate::all_well;
@@ -16,7 +15,7 @@ use std::sync::atomic::{AtomicBool, AtomicUsize};
 use std::test::Fail;
 use std::{io, thread};
 
-/// How often a held turn looks whether it may go on. Each look yields to other threads.
+/// How often a held turn looks whether it may go on.
 const LOOKS: usize = 100_000;
 
 /// A gate that shows whether two turns can be under way at once: it holds the second turn at slot 0 until the second

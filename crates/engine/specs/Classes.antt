@@ -25,8 +25,7 @@ abbrev pub is_interrupted : ErrorKind → Bool
 is_interrupted Interrupted = true
 is_interrupted error = false
 
--- the error says that the call would have to wait: EAGAIN, or on a socket that is not known to be
--- connected, that it is not connected yet
+-- the call would have to wait: EAGAIN, or on a socket that is not known to be connected, that it is not
 abbrev pub would_wait : Bool → ErrorKind → Bool
 would_wait joined WouldBlock = true
 would_wait joined NotConnected = not joined
@@ -54,7 +53,6 @@ pending_kind WouldBlock = Other
 pending_kind NotConnected = Other
 pending_kind error = error
 
--- whether its socket is known to be connected, how many answers were faults, and how many "would block"
 pub record Tallied : Type 0 where
   pub joined : Bool
   pub faults : ℕ
@@ -73,7 +71,6 @@ fault_more t = record t { faults = (t.faults + 1) % 2 ^ 64 }
 abbrev pub block_more : Tallied → Tallied
 block_more t = record t { blocks = (t.blocks + 1) % 2 ^ 64 }
 
--- an error of this class was counted: an interruption in neither count
 abbrev pub counted : Class → Tallied → Tallied
 counted class.Interrupted t = t
 counted class.Blocked t = block_more t

@@ -27,13 +27,13 @@ pub record IsStep {S : Type 0} (told : S → WireView) (does : Asked → Given �
   pub run : new ≡ after now old call reply
   pub served : IsAnswered told does call old reply wire wire_now
 
--- an error's answer: what the wire counted tells a failure from "would block", and both from an interruption
+-- an error's answer, by what the wire counted
 pub record IsError (kind : Kind) (reply : AnswerValue) (faults faults_now blocks blocks_now : ℕ) : Type 0 where
   pub sort : IsErrorReply kind reply
   pub failed : Rises faults faults_now (if is_failed reply then 1 else 0)
   pub waited : Rises blocks blocks_now (if is_blocked reply then 1 else 0)
 
--- the next call of a pair was made at the second `now` on the wire of its side, and the pair has its answer
+-- the next call of a pair was made on the wire of its side, and the pair has its answer
 pub record IsMove (now : ℕ) (old new : PairState) (client target : Side → PairState → List AnswerValue → Type 0) : Type 0 where
   pub reply : AnswerValue
   pub run : answered now old reply ≡ Some new

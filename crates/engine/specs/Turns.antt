@@ -7,8 +7,7 @@ use Rattle.relay_core.specs.declared.verdict.Verdict.TheVariants as verdict
 use Rattle.engine.specs.Wires as ask
 use Rattle.engine.specs.declared.outcome.Turn.TheVariants as turn
 
--- Done and Failed by the verdict; of a live pair, Again while there is a next call, and Quiet where
--- there is none
+-- Done and Failed by the verdict; of a live pair, Again while there is a next call, and else Quiet
 abbrev pub outcome : Verdict → Option Call → Turn
 outcome verdict.Done next = turn.Done
 outcome (verdict.Failed fault) next = turn.Failed
@@ -39,12 +38,10 @@ same_side Client Target = false
 same_side Target Client = false
 same_side Target Target = true
 
--- one, for an answer of this sort to a call on this side
 abbrev pub one_if : (AnswerValue → Bool) → Side → Call → AnswerValue → ℕ
 one_if test side call reply = if same_side (side_of call) side && test reply then 1 else 0
 
--- how many answers of a list of one second are of a sort, of those to calls on one side, each to the call that comes
--- next at that point
+-- how many answers of a list of one second are of a sort, of those to calls on one side
 abbrev pub count_on : (AnswerValue → Bool) → Side → ℕ → PairState → List AnswerValue → ℕ
 count_on test side now p [] = 0
 count_on test side now p (reply ∷ replies) =
@@ -69,20 +66,19 @@ made asked reply = record { asked = asked; reply = reply }
 abbrev pub made_if : Side → PairState → Call → AnswerValue → List Made
 made_if side p call reply = if same_side (side_of call) side then made (asked p call) reply ∷ [] else []
 
--- the calls on one side along a list of answers of one second, each the one that comes next at that point
+-- the calls on one side along a list of answers of one second
 abbrev pub made_on : Side → ℕ → PairState → List AnswerValue → List Made
 made_on side now p [] = []
 made_on side now p (reply ∷ replies) =
     unwrap_or (option_map (λ (call : Call). made_if side p call reply) (next_call p)) []
     ++ unwrap_or (option_map (λ (q : PairState). made_on side now q replies) (answered now p reply)) []
 
--- a failure of this kind: a write that took no byte, or an error of that kind
 abbrev pub IsFailure : Given → Kind → Type 0
 IsFailure (Took n) kind = (n ≡ 0) × (kind ≡ Zero)
 IsFailure (Refused error) kind = kind ≡ kind_of_error error
 IsFailure given kind = ⊥
 
--- this answer gives the pair what a call gave. Which of the three an error is, its wire counts.
+-- this answer gives the pair what a call gave; which of the three an error is, its wire counts
 abbrev pub IsToldBy : Given → AnswerValue → Type 0
 IsToldBy given (Bytes bytes) = given ≡ Brought bytes
 IsToldBy given End = given ≡ Brought []
@@ -110,9 +106,9 @@ abbrev pub AreMade : {S : Type 0} → (S → WireView) → (Asked → Given → 
 AreMade told does [] old new = new ≡ old
 AreMade {S} told does (call ∷ calls) old new = (between : S) × IsMade told does call old between × AreMade told does calls between new
 
--- what the answers of a list did to the wire on one side: the bytes that they brought were read from it,
--- and those that they carried were written to it, in order and nothing else; it counted each answer that
--- was a fault, and each that was "would block"; and the calls on its side were made on it and no other
+-- what the answers of a list did to the wire on one side: the bytes that they brought were read from it, and those that
+-- they carried were written to it; it counted each fault and each "would block"; and the calls on its side were made on
+-- it
 pub record IsServed {S : Type 0} (told : S → WireView) (does : Asked → Given → S → S → Type 0) (now : ℕ) (old new : S) (side : Side)
     (p : PairState) (replies : List AnswerValue) : Type 0 where
   pub read : Consumes (told old).remaining (told new).remaining (all_brought now p (way_from side) replies)
@@ -127,9 +123,8 @@ FailsBy now limit ran replies (Broken side call kind) = (front : List AnswerValu
 FailsBy now limit ran replies Idle = IsOverdue now limit ran
 
 -- a turn of at most `budget` calls: there is a list of answers, all at the second `now`, over which the pair ran, and
--- each wire served its side of it, as `client` and `target` say: its bytes, its counts of faults and blocks, and its
--- calls. The pair that ran is then held against the idle limit, which fails it where it is overdue and else changes
--- nothing. The list is shorter than the budget only if there is no next call
+-- each wire served its side of it, as `client` and `target` say. The pair that ran is then held against the idle limit.
+-- The list is shorter than the budget only if there is no next call
 pub record IsTurn (budget now limit : ℕ) (old new : PairState) (client target : Side → PairState → List AnswerValue → Type 0) : Type 0 where
   pub replies : List AnswerValue
   pub few : length replies ≤ budget

@@ -1,26 +1,25 @@
--- What is asked of a wire, call by call, what it gives, and what that does to it. Part of the promises. A wire's calls
--- change the bytes that it specifies, and its counts of faults and of answers "would block".
+-- What is asked of a wire, call by call, what it gives, and what that does to it. Part of the promises.
 use Rattle.std.specs.{Prelude.{ℕ, List, ◌≡◌, ◌⊎◌, ◌+◌, ◌%◌, ◌^◌, ◌≤◌, [], length, take, MatchResult, Option, None, Result, Ok, Err, ◌∷◌, ◌++◌}, declared.io.{ErrorKind.ErrorKind, Error.Error}, IoError.error_kind, Io.KnownBytes.{Consumes, Keeps}}
 use Rattle.engine.specs.declared.scripted.Play.{Play, TheVariants.Bytes}
 
--- one call: a read of at most this many bytes, a write that offers these, the question whether connect(2)
--- has ended, or a shutdown
+-- a read of at most this many bytes, a write that offers these, the question whether connect(2) has ended, or a
+-- shutdown
 pub data Asked : Type 0 where
   Read : ℕ → Asked
   Write : List ℕ → Asked
   Join : Asked
   Shut : Asked
 
--- what a call gives: a read these bytes, and none at the end of input; a write took this many; a join or a
--- shutdown succeeded; or an error of this kind
+-- a read gave these bytes, none at the end of input; a write took this many; a join or a shutdown succeeded; or an
+-- error
 pub data Given : Type 0 where
   Brought : List ℕ → Given
   Took : ℕ → Given
   Done : Given
   Refused : ErrorKind → Given
 
--- what a wire shows: the bytes left to read and those written, where it shows them, and how many of its
--- answers were faults, and how many "would block"
+-- the bytes left to read and those written, where a wire shows them, and how many of its answers were faults, and how
+-- many "would block"
 pub record WireView : Type 0 where
   pub remaining : Option (List ℕ)
   pub written : Option (List ℕ)
@@ -31,7 +30,6 @@ pub record WireView : Type 0 where
 abbrev pub counts_alone : ℕ → ℕ → WireView
 counts_alone faults blocks = record { remaining = None; written = None; faults = faults; blocks = blocks }
 
--- a read took the bytes that it gave from those left, and none at an error
 abbrev pub ReadTakes : {E : Type 0} → Result ℕ E → List ℕ → WireView → WireView → Type 0
 ReadTakes result buffer old new =
     MatchResult result (λ n. Consumes old.remaining new.remaining (take n buffer)) (λ error. Keeps old.remaining new.remaining)
@@ -85,12 +83,11 @@ abbrev pub call_gave : {T : Type 0} → Result T Error → Given
 call_gave (Ok answer) = Done
 call_gave (Err error) = Refused (error_kind error)
 
--- the bytes that an in-memory wire has left to read by a play
+-- the bytes that an in-memory wire has left to read
 abbrev pub bytes_in : Play → List ℕ
 bytes_in (Bytes bytes) = bytes.items
 bytes_in play = []
 
--- the bytes of all plays
 abbrev pub bytes_of : List Play → List ℕ
 bytes_of [] = []
 bytes_of (play ∷ plays) = bytes_in play ++ bytes_of plays

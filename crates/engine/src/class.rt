@@ -16,8 +16,7 @@ pub enum Class {
     Failed(Kind),
 }
 
-/// The class of an error by its kind. `joined` says whether the socket is known to be connected, as the client's
-/// always is: a call on a target that is still connecting would have to wait.
+/// The class of an error by its kind. `joined` says whether the socket is known to be connected, as a client's is.
 pub fn class_of(call: &Call, kind: ErrorKind, joined: bool) -> Class
     requires client { side_of call.now ≡ Side.Client → joined ≡ true }
     ensures { result ≡ class_of call.now joined kind }
@@ -25,7 +24,7 @@ pub fn class_of(call: &Call, kind: ErrorKind, joined: bool) -> Class
     class_by(call.kind(), kind, joined)
 }
 
-/// The same by the kind of the call, for a wire, which does not know whose side it is.
+/// The same by the kind of the call.
 pub fn class_by(call: CallKind, kind: ErrorKind, joined: bool) -> Class
     ensures { result ≡ class_by call joined kind }
 {
@@ -38,8 +37,8 @@ pub fn class_by(call: CallKind, kind: ErrorKind, joined: bool) -> Class
     }
 }
 
-/// The kind with which a socket's pending error (SO_ERROR), found by a join, is reported. Such an error is always a
-/// failure, so a kind that could also mean that a call has to wait or was interrupted becomes `Other`.
+/// The kind with which a socket's pending error (SO_ERROR) is reported. Such an error is always a failure, so a kind
+/// that could also mean that a call has to wait or was interrupted becomes `Other`.
 pub fn pending(kind: ErrorKind) -> ErrorKind
     ensures told { result ≡ pending_kind kind }
     ensures fails { (call : Call) (joined : Bool) → class_of call joined result ≡ Class.Failed (kind_of_error result) }
@@ -67,8 +66,7 @@ pub fn kind_of(kind: ErrorKind) -> Kind
     }
 }
 
-/// An error by which a call on a connected socket fails by this kind. No error says that a write took no byte, so
-/// `zero` becomes `other`.
+/// An error by which a call on a connected socket fails by this kind; `zero` becomes `other`.
 pub fn error_of(kind: Kind) -> ErrorKind
     ensures { (call : Call) → class_of call true result ≡ Class.Failed (kind_told kind) }
 {

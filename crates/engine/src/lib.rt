@@ -2,11 +2,8 @@
 //! made on one of two [`Wire`]s, and the pair gets the answer, up to a budget of calls.
 //!
 //! A wire is a socket that never waits, or anything that answers like one. It counts its faults and its answers
-//! "would block", and [`turn`] reads those counts to tell the two kinds of error apart. [`class_by`] is the rule by
-//! which wires count, and [`Tally`] counts by it. [`ScriptWire`] is an in-memory wire that plays a list of answers.
-//!
-//! The definitions are in `specs/`: what is asked of a wire, what it gives and what its calls do in `Wires.antt`, the
-//! classes of errors and their counts in `Classes.antt`, and what a turn does in `Turns.antt`.
+//! "would block" by the rule [`class_by`], as [`Tally`] does. [`ScriptWire`] is an in-memory wire that plays a list of
+//! answers. The definitions are in `specs/`: `Wires.antt`, `Classes.antt` and, of a turn, `Turns.antt`.
 #![tactic(auto)]
 
 mod class;

@@ -15,7 +15,7 @@ use std::marker::Model;
 /// One answer that a [`ScriptWire`] gives.
 #[derive(Drop)]
 pub enum Play {
-    /// A read gives these bytes, or as many of the first ones as fit into its buffer; what is left is given next.
+    /// A read gives these bytes, or the first ones that fit into its buffer; what is left is given next.
     Bytes(Vec<u8>),
     /// A read meets the end of input.
     End,
@@ -27,15 +27,15 @@ pub enum Play {
     Joined,
     /// The end of input is passed on.
     Shut,
-    /// A signal interrupts the call (EINTR).
+    /// A signal interrupts the call.
     Interrupted,
-    /// The call would have had to wait (EAGAIN).
+    /// The call would have had to wait.
     Blocked,
-    /// The call fails, by the error that [`error_of`] gives.
+    /// The call fails by this kind.
     Fault(Kind),
 }
 
-/// One of the three lists of answers that a [`ScriptWire`] plays.
+/// One of the lists of answers that a [`ScriptWire`] plays.
 #[derive(Clone, Copy, PartialEq, Eq)]
 pub enum PlayList {
     /// The answers to reads.
@@ -46,14 +46,10 @@ pub enum PlayList {
     Closings,
 }
 
-/// An in-memory wire that plays lists of answers: one for reads, one for writes, and one for [`Wire::joined`] and
-/// [`Wire::shut_write`].
+/// An in-memory wire that plays lists of answers, for tests, which alone show what it plays.
 ///
 /// A play that does not fit its call is a fault of kind `other`, and is used up. With an empty list the answer is
-/// "would block", but a shutdown succeeds. The wire is joined from its first Bytes, End, Take or Joined on; until
-/// then the error "not connected" counts as "would block" for all calls but a shutdown.
-///
-/// It is for tests. What is promised of it is what is promised of every [`Wire`]; what it plays, only tests show.
+/// "would block", but a shutdown succeeds. The wire is joined from its first Bytes, End, Take or Joined on.
 #[derive(Drop)]
 pub struct ScriptWire {
     reads: VecDeque<Play>,
@@ -79,8 +75,7 @@ impl Model for ScriptWire {
 
 impl ScriptWire {
     /// A wire with these answers, on a socket that is or is not known to be connected. This allocates the memory for
-    /// the bytes of every Take, and no call of [`Wire`] allocates any. Fails with [`AllocError`] if there is not
-    /// enough memory, even if the number of bytes is too large for any memory; then the plays are dropped.
+    /// the bytes of every Take. Fails with [`AllocError`] if there is not enough; then the plays are dropped.
     pub fn new(
         alloc: Global,
         joined: bool,
@@ -106,11 +101,10 @@ impl ScriptWire {
         })
     }
 
-    /// Inserts a play before the one at `index` of a list; 0 is the next one, and a large one is after the last. If a
-    /// read has already given the first bytes of a Bytes, what is left of it counts as that play.
+    /// Inserts a play before the one at `index` of a list, or after the last. What is left of a Bytes counts as a play.
     ///
-    /// This allocates the memory for the play and, in the list for writes, for a Take's bytes. Fails with
-    /// [`AllocError`] if there is not enough: then the play is dropped, and the wire is as it was.
+    /// This allocates the memory for the play and for a Take's bytes. Fails with [`AllocError`] if there is not enough:
+    /// then the play is dropped, and the wire is as it was.
     pub fn disturb(&mut self, list: PlayList, index: usize, play: Play) -> Result<(), AllocError>
         ensures written { self.new.written ≡ self.old.written }
         ensures faults { self.new.faults ≡ self.old.faults }
@@ -144,7 +138,7 @@ impl ScriptWire {
     }
 }
 
-/// How many bytes every Take of a list and one more play take together, or an error if no memory is that large.
+/// How many bytes every Take of a list and one more play take together.
 fn room_for(plays: &VecDeque<Play>, more: usize) -> Result<usize, AllocError> {
     let mut room = more;
     for play in plays {
@@ -153,7 +147,6 @@ fn room_for(plays: &VecDeque<Play>, more: usize) -> Result<usize, AllocError> {
     Ok(room)
 }
 
-/// The most bytes that a write takes with this play.
 fn most_taken(play: &Play) -> usize {
     match play {
         Play::Take(most) => *most,
@@ -161,7 +154,6 @@ fn most_taken(play: &Play) -> usize {
     }
 }
 
-/// Inserts a play before the one at this index, or after the last.
 fn insert(plays: &mut VecDeque<Play>, index: usize, play: Play) -> Result<(), AllocError>
     ensures { IfErr result (λ x. plays.new.items ≡ plays.old.items) }
 {
@@ -172,7 +164,6 @@ fn insert(plays: &mut VecDeque<Play>, index: usize, play: Play) -> Result<(), Al
     }
 }
 
-/// The kind of error with which a call answers that gets this play, or an empty list.
 fn error_kind_of(play: Option<Play>) -> ErrorKind {
     match play {
         None | Some(Play::Blocked) => ErrorKind::WouldBlock,
@@ -182,7 +173,6 @@ fn error_kind_of(play: Option<Play>) -> ErrorKind {
     }
 }
 
-/// Counts the error of a call that got this play, and gives it.
 fn refuse(tally: &mut Tally, call: CallKind, play: Option<Play>) -> io::Error
     ensures { tally.new ≡ counted (class_by call tally.old.joined (error_kind result)) tally.old }
 {
@@ -191,8 +181,7 @@ fn refuse(tally: &mut Tally, call: CallKind, play: Option<Play>) -> io::Error
     io::Error::from(kind)
 }
 
-/// Uses the next play of reads: one of bytes gives the buffer as many as fit, and what is left of it stays as the
-/// next play. Any other, or none, is handed back.
+/// Gives the buffer what fits of the next play, if that is one of bytes. Any other, or none, is handed back.
 fn read_next(reads: &mut VecDeque<Play>, buffer: &mut [u8]) -> Result<usize, Option<Play>>
     ensures most { IfOk result (λ count. count ≤ length buffer.new) }
     ensures given { IfOk result (λ count. bytes_of reads.old.items ≡ take count buffer.new ++ bytes_of reads.new.items) }
@@ -211,7 +200,7 @@ fn read_next(reads: &mut VecDeque<Play>, buffer: &mut [u8]) -> Result<usize, Opt
     Ok(count)
 }
 
-/// Copies the first bytes of one slice to the start of another, as many as fit.
+/// Copies what fits.
 fn copy_front(from: &[u8], to: &mut [u8]) -> usize
     ensures count { (result ≤ length from.now) × (result ≤ length to.new) }
     ensures bytes { take result to.new ≡ take result from.now }
@@ -221,7 +210,6 @@ fn copy_front(from: &[u8], to: &mut [u8]) -> usize
     count
 }
 
-/// Drops the first `n` bytes.
 fn drop_front(bytes: &mut Vec<u8>, n: usize)
     requires { n ≤ vec_len bytes.old }
     ensures { bytes.new.items ≡ drop n bytes.old.items }

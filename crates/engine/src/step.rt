@@ -72,7 +72,6 @@ fn write<W: Wire>(pair: &mut Pair, side: Side, now: u64, wire: &mut W)
     }
 }
 
-/// Offers a side, in one write, what the pair offers it.
 fn offer_all<W: Wire>(pair: &mut Pair, side: Side, wire: &mut W) -> io::Result<usize>
     ensures same { pair.new ≡ pair.old }
     ensures most { WritesAtMost result (offer pair.old side) }

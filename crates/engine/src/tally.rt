@@ -24,7 +24,7 @@ impl Model for Tally {
 }
 
 impl Tally {
-    /// No answers yet, on a socket that is or is not known to be connected. The client's always is.
+    /// No answers yet, on a socket that is or is not known to be connected.
     pub fn new(joined: bool) -> Tally
         ensures { result ≡ tally joined 0 0 }
     {
@@ -42,14 +42,14 @@ impl Tally {
         self.joined
     }
 
-    /// How many answers were faults; wraps around at 2^64.
+    /// How many answers were faults.
     pub fn faults(&self) -> u64
         ensures { result ≡ self.now.faults }
     {
         self.faults
     }
 
-    /// How many answers were "would block"; wraps around at 2^64.
+    /// How many answers were "would block".
     pub fn blocks(&self) -> u64
         ensures { result ≡ self.now.blocks }
     {

@@ -1,11 +1,11 @@
 ghost use Rattle.std.specs.Prelude.{◌≡◌, ◌≤◌, Some};
-ghost use Rattle.relay_core.specs.{Order.next_call, Idle.expired, Laws.{IsPossible, AnswersAreToNextCalls, CallsComeWhileLive, FailuresAreTold, OnlyOverduePairsExpire}};
+ghost use Rattle.relay_core.specs.{Order.next_call, Idle.expired, Laws.IsPossible};
 ghost use Rattle.engine.specs.{Steps.IsMove, Turns.{outcome_of, IsServed, IsTurn}};
 
 use crate::outcome::Turn;
 use crate::step::step;
 use crate::wire::Wire;
-use relay_core::{Call, MAX_READ, Pair, Side, Verdict, laws};
+use relay_core::{Call, MAX_READ, Pair, Side, Verdict};
 
 /// When a turn is made, by a clock that counts whole seconds, and the idle limit that it is made under.
 #[derive(Clone, Copy)]
@@ -16,18 +16,16 @@ pub struct Moment {
     pub limit: u64,
 }
 
-/// Makes the calls that a pair asks for, at most `budget` of them (1 to 1,024), each on the wire of its side, and
-/// gives the pair the answers. A pair that is done or failed asks for none. It allocates no memory.
+/// Makes the calls that a pair asks for, at most `budget` of them, each on the wire of its side, and gives the pair the
+/// answers. It allocates no memory.
 ///
 /// The calls made on each wire are exactly those that come next along the answers, in order and once each: a read of
-/// as many bytes as the pair asks for, and a write of all that the pair offers that side ([`Pair::offer`]). It
-/// invents no answer, and a failure has the kind of the error that the call gave.
+/// as many bytes as the pair asks for, and a write of all that the pair offers that side ([`Pair::offer`]).
 ///
 /// All its calls are made at the second `now`. A pair that is left without a call, and that has moved nothing for
 /// `limit` seconds, fails ([`Pair::expire`]); a limit of 0 is none.
 ///
-/// An error is a failure if the wire counted a fault, "would block" if it counted that, and an interruption if it
-/// counted neither. A write that took no byte is a failure.
+/// An error is a failure if the wire counted a fault, "would block" if it counted that, and else an interruption.
 pub fn turn<A: Wire, B: Wire>(
     pair: &mut Pair,
     client: &mut A,
@@ -46,8 +44,8 @@ pub fn turn<A: Wire, B: Wire>(
     turn_with(pair, client, target, budget, moment, &mut [0; MAX_READ])
 }
 
-/// [`turn`] at a moment, with an array that is lent to it, into which the wires read. What the array has before and
-/// after says nothing, so a thread that makes many turns keeps one for all of them, and need not clear it.
+/// [`turn`] at a moment, with an array into which the wires read. A thread keeps one for all its turns, and need not
+/// clear it.
 pub fn turn_with<A: Wire, B: Wire>(
     pair: &mut Pair,
     client: &mut A,
@@ -63,7 +61,6 @@ pub fn turn_with<A: Wire, B: Wire>(
         (IsServed A.told A.does moment.second client.old client.new)
         (IsServed B.told B.does moment.second target.old target.new) }
 {
-    rests_on_laws();
     for _calls in 0..budget {
         let Some(call) = pair.next() else {
             return finish(pair, moment);
@@ -73,21 +70,7 @@ pub fn turn_with<A: Wire, B: Wire>(
     finish(pair, moment)
 }
 
-/// The core's laws for every pair, from which it follows that a pair that was live fails only by its last answer, or
-/// by the idle limit.
-fn rests_on_laws()
-    ensures answers { AnswersAreToNextCalls }
-    ensures calls { CallsComeWhileLive }
-    ensures failures { FailuresAreTold }
-    ensures expiries { OnlyOverduePairsExpire }
-{
-    laws::answers_are_to_next_calls();
-    laws::calls_come_while_live();
-    laws::failures_are_told();
-    laws::only_overdue_pairs_expire();
-}
-
-/// Makes the call that comes next, at the second `now`, on the wire of its side.
+/// Makes the call that comes next on the wire of its side.
 fn advance<A: Wire, B: Wire>(
     pair: &mut Pair,
     call: Call,
@@ -107,8 +90,7 @@ fn advance<A: Wire, B: Wire>(
     }
 }
 
-/// Ends a turn: the pair is held against the idle limit, unless it has a next call, and the outcome is what has
-/// become of it then.
+/// Holds the pair against the idle limit, unless it has a next call.
 fn finish(pair: &mut Pair, moment: Moment) -> Turn
     ensures outcome { result ≡ outcome_of pair.new }
     ensures held { pair.new ≡ expired moment.second moment.limit pair.old }

@@ -6,19 +6,14 @@ use std::io;
 
 /// A connection's socket, or something that stands for one. None of its calls waits.
 ///
-/// A wire specifies its two counts. It may specify two lists: the bytes that are left to read from it, and those that
-/// were written to it. It may also specify everything that a call does to it, by what was asked and what the call
-/// gave. A socket specifies its counts and its calls, but not its bytes.
-///
 /// It counts its answers that are faults and those that are "would block", by [`class_of`](crate::class_of), and
-/// [`turn`](crate::turn) tells an error's class by which of the two counts rose. An answer without an error leaves
-/// both unchanged, except that a write of 0 bytes of an offer that is not empty is a fault. An error raises one of
-/// the two by one, or neither if it is an interruption. A shutdown never raises the second. Both wrap around at 2^64.
+/// [`turn`](crate::turn) tells an error's class by which of the two counts rose: one of them by one, or neither if it
+/// is an interruption. A write of 0 bytes of an offer that is not empty is a fault, too. Both wrap around at 2^64.
 pub trait Wire {
-    // The bytes left to read and those written, if the wire specifies them, and its two counts.
+    // The bytes left to read and those written, if the wire specifies them, as no socket does; and its two counts.
     ghost told: { Self → WireView };
 
-    // What one call may do, if the wire specifies it: what was asked, what it gave, and the wire before and after.
+    // What one call may do, if the wire specifies it: what was asked, what was given, and the wire before and after.
     ghost does: { Asked → Given → Self → Self → Type 0 } = { λ _ _ _ _. Unit {0} };
 
     /// read(2): gives at most as many bytes as the buffer is long, and 0 at the end of input.
@@ -52,11 +47,11 @@ pub trait Wire {
         ensures counts { CountsAnswer result (told self.old) (told self.new) }
         ensures did { does ask.Join (call_gave result) self.old self.new };
 
-    /// How many answers of this wire were faults; wraps around at 2^64.
+    /// How many answers were faults.
     fn faults(&self) -> u64
         ensures { result ≡ (told self.now).faults };
 
-    /// How many answers of this wire were "would block"; wraps around at 2^64.
+    /// How many answers were "would block".
     fn blocks(&self) -> u64
         ensures { result ≡ (told self.now).blocks };
 }

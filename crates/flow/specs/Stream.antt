@@ -1,6 +1,6 @@
 -- One direction of a connection, as the relay keeps it. Part of the promises. These are the bytes that were read at its
 -- source and not yet written at its destination, oldest first, what is left of a lead that goes out before all of them,
--- whether the source's end of input was seen, and whether it was passed on by a shutdown.
+-- and whether the source's end of input was seen, and passed on by a shutdown.
 use Rattle.std.specs.Prelude.{ℕ, ◌-◌, Bool, true, false, List, [], ◌∷◌, ◌++◌, length, drop}
 
 pub record Stream : Type 0 where

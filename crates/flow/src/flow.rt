@@ -8,8 +8,8 @@ use std::marker::Model;
 
 /// One direction's ring of bytes, with a lead that goes out before them, its end of input and its shutdown.
 ///
-/// The buffer never wraps, so that the whole ring can be offered to one write(2). Bytes that have left stay in it
-/// until others take their place: overwriting bytes is a single copy, but the buffer appends bytes in a loop.
+/// The buffer never wraps, so that one write(2) is offered the whole ring. Bytes that have left stay in it until others
+/// take their place: to overwrite bytes is a single copy, but the buffer appends bytes in a loop.
 #[derive(Drop)]
 pub struct Flow {
     lead: Vec<u8>,
@@ -47,10 +47,8 @@ impl Flow {
     /// The most bytes that a lead has.
     pub const MAX_LEAD: usize = 107;
 
-    /// An empty ring for at most `capacity` bytes, 1 to 65,536, after a lead of 0 to 107 bytes. This allocates all
-    /// the memory that the ring and the lead will ever use.
-    ///
-    /// Fails only if there is not enough memory; then nothing is made.
+    /// An empty ring for at most `capacity` bytes, after a lead. This allocates all the memory that they will ever use,
+    /// and fails only if there is not enough; then nothing is made.
     pub fn new(alloc: Global, capacity: usize, lead: &[u8]) -> Result<Flow, AllocError>
         requires least { 1 ≤ capacity }
         requires most { capacity ≤ 65536 }
@@ -73,7 +71,8 @@ impl Flow {
         self.bytes.len() - self.gone
     }
 
-    /// Whether no byte waits, neither of the lead nor in the ring.
+    /// Whether no byte waits.
+    #[tactic(auto, using(crate::proofs::Front::waiting_ends))]
     pub fn is_drained(&self) -> bool
         ensures { IsTrue result ↔ (waiting self.now ≡ []) }
     {
@@ -87,7 +86,7 @@ impl Flow {
         self.lead.len()
     }
 
-    /// The byte at index `i` of what is left of the lead, 0 for the next one to go out.
+    /// The byte at index `i` of what is left of the lead.
     pub fn lead_byte(&self, i: usize) -> u8
         requires { i < length self.now.lead }
         ensures { result ≡ slice_index self.now.lead i }
@@ -114,9 +113,8 @@ impl Flow {
         self.bytes.capacity() - self.len()
     }
 
-    /// What is offered to the destination's next write(2): what is left of the lead, or if that is nothing, all bytes
-    /// of the ring, oldest first. They are lent to be read: if nothing is written into them, the flow stays as it
-    /// was.
+    /// What is offered to the next write(2): what is left of the lead, or if that is nothing, all bytes of the ring,
+    /// oldest first. They are lent to be read: if nothing is written into them, the flow stays as it was.
     pub fn front(&mut self) -> &mut [u8]
         ensures* lends { sem 𝓛 (LendsFront self.entry result) }
         ensures value { result.now ≡ front self.old }
@@ -140,7 +138,7 @@ impl Flow {
         Ok(bytes)
     }
 
-    /// The byte of the ring at index `i`, 0 for the oldest.
+    /// The byte of the ring at index `i`, oldest first.
     pub fn byte(&self, i: usize) -> u8
         requires { i < length self.now.ring }
         ensures { result ≡ slice_index self.now.ring i }
@@ -194,8 +192,7 @@ impl Flow {
         self.end_seen
     }
 
-    /// Marks the end as passed on to the destination, by shutdown(2) with `SHUT_WR`. This is allowed only once the
-    /// source has ended and every byte has left, those of the lead too.
+    /// Marks the end as passed on to the destination, by shutdown(2) with `SHUT_WR`.
     pub fn mark_shut(&mut self)
         requires after_end { self.old.end_seen ≡ true }
         requires after_bytes { waiting self.old ≡ [] }
@@ -211,7 +208,6 @@ impl Flow {
         self.shut
     }
 
-    /// Drops the `n` first bytes of the lead.
     fn drop_lead(&mut self, n: usize)
         requires { n ≤ length self.old.lead }
         ensures { self.new ≡ record self.old { lead = drop n self.old.lead } }
@@ -235,7 +231,6 @@ fn drop_first(bytes: &mut HeapCircularBuffer<u8>, n: usize)
     bytes.truncate_back(left);
 }
 
-/// Replaces all that a buffer holds by other bytes.
 fn replace(bytes: &mut HeapCircularBuffer<u8>, others: &[u8])
     requires { length others.now ≤ bytes.old.capacity }
     ensures { bytes.new ≡ buffer others.now bytes.old.capacity }

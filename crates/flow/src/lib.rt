@@ -7,9 +7,8 @@
 //! A flow may have a lead: up to 107 bytes that go out before all that its source sends. They take no room of the
 //! ring, and are never offered together with bytes of the ring.
 //!
-//! Contracts see a [`Flow`] as the record `Stream` of `specs/Stream.antt`: what is left of the lead, the bytes of the
-//! ring, its capacity, and the two marks. How the bytes are laid out in memory is hidden; [`Flow::front`] takes
-//! `&mut` since they may have to be made contiguous, and `specs/Lending.antt` says what it lends.
+//! Contracts see a [`Flow`] as the `Stream` of `specs/Stream.antt`. [`Flow::front`] takes `&mut` since the bytes may
+//! have to be made contiguous, and `specs/Lending.antt` says what it lends.
 #![tactic(auto)]
 
 mod flow;

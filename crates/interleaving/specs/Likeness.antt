@@ -1,13 +1,13 @@
 -- The exchanges of the slot's word with their answers, when a state of the threads and one of the machine are alike, and the
 -- law. Part of the promises. The machine has one slot. It makes an opening in one event where the threads make seven acts: it
 -- is ahead of them until the last of these.
-use Rattle.std.specs.Prelude.{◌≡◌, ◌≢◌, ℕ, ◌≤◌, ◌==◌, ◌&&◌, true, false, if◌then◌else◌, List, [], ◌∷◌, ◌++◌, map, replicate, slice_get, drop, Option, Some, None, option_map, option_and_then, unwrap_or, length}
+use Rattle.std.specs.{Prelude.{◌≡◌, ◌≢◌, ℕ, ◌≤◌, ◌==◌, ◌&&◌, true, false, if◌then◌else◌, List, [], ◌∷◌, ◌++◌, map, replicate, slice_get, drop, Option, Some, None, option_map, option_and_then, unwrap_or, length}, List.flat_map}
 use Rattle.token.specs.declared.name.Name.{Name}
 use Rattle.kernel_model.specs.{declared.{reply.Reply.Reply, both.Descriptors.Descriptors}, Ends.is_nonempty}
 use Rattle.relay_core.specs.Pairs.{verdict, is_live}
 use Rattle.claims.specs.{declared.view.Exchange.Exchange, Words.{WordState, StepKind, word_after, made as exchange_made}}
 use Rattle.world.specs.{declared.{connection.Connection.Connection, limits.Limits.Limits, actors.{Ticket.Ticket, Holder.TheVariants.{Nobody, By}}, event.{Event.Event, Reported.Reported}}, Slots.{SlotState, WorkerState, is_by_worker}, States.State, Steps.{may_release, step as machine_step}, Words.{word_at, steps}, Acts.busy, Headline.HeadlineHolds}
-use Rattle.interleaving.specs.Threads.{Act, Claim, TakeOut, TakeNotes, PutIn, Post, Release, Retire, Give, Adopt, Discard, turn, plan, open_slot, System, Thread, Step, Tick, Network, Connect, Spurious, Vanish, Accept, Drop, Poll, Deliver, Sweep, Acts, Calls, start, step, run}
+use Rattle.interleaving.specs.Threads.{Act, Claim, TakeOut, TakeNotes, PutIn, Post, Release, Retire, Adopt, Discard, turn, plan, again, ended, open_slot, System, Thread, Step, Tick, Network, Connect, Spurious, Vanish, Accept, Drop, Poll, Deliver, Sweep, Acts, Calls, start, step, run}
 use Rattle.token.specs.declared.name.Name.TheVariants as name
 use Rattle.claims.specs.Words as word
 use Rattle.world.specs.declared.actors.Doing.TheVariants as doing
@@ -88,46 +88,42 @@ left_of (act ∷ rest) w = exchange w (kind_of act) ++ left_of rest (word_then w
 abbrev pub ticket : ℕ → Ticket
 ticket g = record { slot = 0; generation = g }
 
--- The thread i, whose ticket is of the generation g, holds the slot, of which the machine has p there, with this connection
-pub record Held (p : SlotState) (i g : ℕ) (c : Connection) : Type 0 where
+-- The thread i, whose ticket is of the generation g, holds the slot, of which the machine has p there, with this connection,
+-- or with none once it has closed it
+pub record Held (p : SlotState) (i g : ℕ) (connection : Option Connection) : Type 0 where
   pub holder : p.holder ≡ By i
-  pub connection : p.connection ≡ Some c
+  pub there : p.connection ≡ connection
   pub generation : p.generation ≡ g
 
--- it has closed the connection
-pub record HeldClosed (p : SlotState) (i g : ℕ) : Type 0 where
-  pub holder : p.holder ≡ By i
-  pub connection : p.connection ≡ None
-  pub generation : p.generation ≡ g
+-- A thread t that holds the slot p, with this rest of its program, is where the machine's worker is, which has `more`
+-- calls left, if `place` is what the threads have in the slot's place. Its connection c is in its place; it has c out; has
+-- taken the notes too, and goes by its plan; has c back in its place, and is to post, or to release the slot
+pub data HolderLike (budget : ℕ) (place : Option Connection) (p : SlotState) (t : Thread) (c : Connection) (more : ℕ)
+    : List Act → Type 0 where
+  Holds : place ≡ Some c → t.left ≤ budget → more ≡ budget → HolderLike budget place p t c more (drop 1 turn)
+  HasOut : place ≡ None → t.out ≡ Some c → t.left ≤ budget → more ≡ budget → HolderLike budget place p t c more (drop 2 turn)
+  Goes : place ≡ None → t.out ≡ Some c → t.left ≤ more → HolderLike budget place p t c more (plan t.left c.pair)
+  Stays : place ≡ Some c → is_live (verdict c.pair) ≡ true → HolderLike budget place p t c more (drop 1 again)
+  Leaves : place ≡ Some c → may_release c (is_nonempty p.notes) ≡ true → HolderLike budget place p t c more (drop 2 again)
 
--- The thread i is where the machine's worker i is, if `place` is what the threads have in the slot's place. It has nothing
--- to do; is to open a connection; has a ticket; holds the slot; has its connection out; has taken the notes too, and goes
--- by its plan; has the connection back in its place, and is to post, or to release the slot; has closed the connection;
--- has retired the slot
-pub data ThreadLike (budget : ℕ) (place : Option Connection) (p : SlotState) (i : ℕ) (t : Thread) (k : WorkerState) : Type 0 where
-  Rests : t.todo ≡ [] → k ≡ machine.resting → ThreadLike budget place p i t k
-  Opens : i ≡ 0 → t.todo ≡ open_slot → k ≡ machine.resting → ThreadLike budget place p i t k
-  Tries : t.todo ≡ turn → t.left ≤ budget → k ≡ busy (doing.Tries (ticket t.generation)) → ThreadLike budget place p i t k
-  Holds : (c : Connection) → Held p i t.generation c → place ≡ Some c → t.todo ≡ TakeOut ∷ TakeNotes ∷ [] → t.left ≤ budget
-      → k ≡ busy (doing.Holds 0 budget) → ThreadLike budget place p i t k
-  HasOut : (c : Connection) → Held p i t.generation c → place ≡ None → t.out ≡ Some c → t.todo ≡ TakeNotes ∷ [] → t.left ≤ budget
-      → k ≡ busy (doing.Holds 0 budget) → ThreadLike budget place p i t k
-  Goes : (c : Connection) (more : ℕ) → Held p i t.generation c → place ≡ None → t.out ≡ Some c → t.todo ≡ plan t.left c.pair
-      → t.left ≤ more → k ≡ busy (doing.Holds 0 more) → ThreadLike budget place p i t k
-  Stays : (c : Connection) (more : ℕ) → Held p i t.generation c → place ≡ Some c → is_live (verdict c.pair) ≡ true
-      → t.todo ≡ Post ∷ Release ∷ [] → k ≡ busy (doing.Holds 0 more) → ThreadLike budget place p i t k
-  Leaves : (c : Connection) (more : ℕ) → Held p i t.generation c → place ≡ Some c → may_release c (is_nonempty p.notes) ≡ true
-      → t.todo ≡ Release ∷ [] → k ≡ busy (doing.Holds 0 more) → ThreadLike budget place p i t k
-  HasClosed : HeldClosed p i t.generation → place ≡ None → t.todo ≡ Retire ∷ Give ∷ [] → k ≡ busy (doing.Closed 0)
-      → ThreadLike budget place p i t k
-  HasRetired : p.generation ≡ t.generation → t.todo ≡ Give ∷ [] → k ≡ busy (doing.Retired 0) → ThreadLike budget place p i t k
+-- The thread i, with this rest of its program, is where the machine's worker i is. It has nothing to do; is to open a
+-- connection; has a ticket; holds the slot; has closed the connection; has retired the slot
+pub data ThreadLike (budget : ℕ) (place : Option Connection) (p : SlotState) (i : ℕ) (t : Thread) (k : WorkerState)
+    : List Act → Type 0 where
+  Rests : k ≡ machine.resting → ThreadLike budget place p i t k []
+  Opens : i ≡ 0 → k ≡ machine.resting → ThreadLike budget place p i t k open_slot
+  Tries : t.left ≤ budget → k ≡ busy (doing.Tries (ticket t.generation)) → ThreadLike budget place p i t k turn
+  IsHolder : {todo : List Act} (c : Connection) (more : ℕ) → Held p i t.generation (Some c) → k ≡ busy (doing.Holds 0 more)
+      → HolderLike budget place p t c more todo → ThreadLike budget place p i t k todo
+  HasClosed : Held p i t.generation None → place ≡ None → k ≡ busy (doing.Closed 0) → ThreadLike budget place p i t k (drop 1 ended)
+  HasRetired : p.generation ≡ t.generation → k ≡ busy (doing.Retired 0) → ThreadLike budget place p i t k (drop 2 ended)
 
 -- the machine has a worker that is where the thread is
 pub record WorkerFor (budget : ℕ) (place : Option Connection) (p : SlotState) (workers : List WorkerState) (i : ℕ) (t : Thread)
     : Type 0 where
   pub worker : WorkerState
   pub there : slice_get workers i ≡ Some worker
-  pub like : ThreadLike budget place p i t worker
+  pub like : ThreadLike budget place p i t worker t.todo
 
 -- for each thread
 abbrev pub WorkersFor : ℕ → Option Connection → SlotState → List WorkerState → List Thread → Type 0
@@ -168,32 +164,36 @@ pub record Settled (st : System) (p : SlotState) (workers : List WorkerState) : 
 abbrev pub taken_word : ℕ → WordState
 taken_word notes = record { pending = notes; free = false; held = true }
 
--- How far the poller's thread t is with the opening of c, by the word, the place and the table's entry: both sockets are
--- registered; the slot is adopted; the table has its generation; the old notes are gone; the connection is in its place;
--- the note of the opening is posted
-pub data Stage (word : WordState) (place : Option Connection) (entry : ℕ) (t : Thread) (c : Connection) : Type 0 where
-  Registered : (notes : ℕ) → t.todo ≡ drop 1 open_slot → word ≡ record { pending = notes; free = true; held = true } → place ≡ None
-      → t.out ≡ Some c → Stage word place entry t c
-  Adopted : (notes : ℕ) → t.todo ≡ drop 2 open_slot → word ≡ taken_word notes → place ≡ None → t.out ≡ Some c → Stage word place entry t c
-  Entered : (notes : ℕ) → t.todo ≡ drop 3 open_slot → word ≡ taken_word notes → place ≡ None → t.out ≡ Some c → entry ≡ t.generation
-      → Stage word place entry t c
-  Emptied : t.todo ≡ drop 4 open_slot → word ≡ taken_word 0 → place ≡ None → t.out ≡ Some c → entry ≡ t.generation
-      → Stage word place entry t c
-  Placed : t.todo ≡ drop 5 open_slot → word ≡ taken_word 0 → place ≡ Some c → entry ≡ t.generation → Stage word place entry t c
-  Posted : t.todo ≡ drop 6 open_slot → word ≡ taken_word 1 → place ≡ Some c → entry ≡ t.generation → Stage word place entry t c
+-- How far the poller's thread t is with the opening of c, by the word, the place, the table's entry and the rest of its
+-- program: both sockets are registered; the slot is adopted; the table has its generation; the old notes are gone; the
+-- connection is in its place; the note of the opening is posted
+pub data Stage (word : WordState) (place : Option Connection) (entry : ℕ) (t : Thread) (c : Connection) : List Act → Type 0 where
+  Registered : (notes : ℕ) → word ≡ record { pending = notes; free = true; held = true } → place ≡ None → t.out ≡ Some c
+      → Stage word place entry t c (drop 1 open_slot)
+  Adopted : (notes : ℕ) → word ≡ taken_word notes → place ≡ None → t.out ≡ Some c → Stage word place entry t c (drop 2 open_slot)
+  Entered : (notes : ℕ) → word ≡ taken_word notes → place ≡ None → t.out ≡ Some c → entry ≡ t.generation
+      → Stage word place entry t c (drop 3 open_slot)
+  Emptied : word ≡ taken_word 0 → place ≡ None → t.out ≡ Some c → entry ≡ t.generation → Stage word place entry t c (drop 4 open_slot)
+  Placed : word ≡ taken_word 0 → place ≡ Some c → entry ≡ t.generation → Stage word place entry t c (drop 5 open_slot)
+  Posted : word ≡ taken_word 1 → place ≡ Some c → entry ≡ t.generation → Stage word place entry t c (drop 6 open_slot)
 
 -- what the machine has of the slot once it has made the opening
 abbrev pub opened_slot : ℕ → Connection → SlotState
 opened_slot g c = record { generation = g; connection = Some c; holder = Nobody; notes = g ∷ [] }
 
+-- each thread but the poller's rests, and so does its worker
+abbrev pub OthersRest : List Thread → List WorkerState → Type 0
+OthersRest threads workers =
+    (i : ℕ) (t : Thread) → i ≢ 0 → slice_get threads i ≡ Some t → (t.todo ≡ []) × (slice_get workers i ≡ Some machine.resting)
+
 -- An opening is half way: the machine has made it, and nobody but the poller's thread t has anything to do with the slot
 pub record HalfOpen (st : System) (t : Thread) (c : Connection) (workers : List WorkerState) : Type 0 where
   pub first : slice_get st.threads 0 ≡ Some t
   pub worker : slice_get workers 0 ≡ Some machine.resting
-  pub others : (i : ℕ) (u : Thread) → i ≢ 0 → slice_get st.threads i ≡ Some u → (u.todo ≡ []) × (slice_get workers i ≡ Some machine.resting)
+  pub others : OthersRest st.threads workers
   pub tickets : st.tickets ≡ []
   pub ends : st.ends ≡ Some c.ends
-  pub stage : Stage st.word st.place st.entry t c
+  pub stage : Stage st.word st.place st.entry t c t.todo
 
 pub data Like (st : System) (w : State) : Type 0 where
   IsSettled : (p : SlotState) (workers : List WorkerState) → w ≡ machine_of st p st.entry st.tickets workers
@@ -212,26 +212,28 @@ call_of (Calls i r) = (i, r) ∷ []
 call_of s = []
 
 abbrev pub calls_of : List Step → List (ℕ × Reply)
-calls_of [] = []
-calls_of (s ∷ steps) = call_of s ++ calls_of steps
+calls_of = flat_map call_of
 
 abbrev pub call_in : Event → List (ℕ × Reply)
 call_in (event.Work i (act.Call r)) = (i, r) ∷ []
 call_in e = []
 
 abbrev pub calls_in : List Event → List (ℕ × Reply)
-calls_in [] = []
-calls_in (e ∷ es) = call_in e ++ calls_in es
+calls_in = flat_map call_in
 
--- What no thread ever finds: a slot that is held where it has a ticket, a place that lacks the ticket's connection, a place
--- that is not empty where it puts a connection in, and a slot that is not free where it opens a connection. There is at
--- most one ticket of the slot, and it is free at most once
+-- What a thread with a ticket of this generation finds, if this is the rest of its program: where it claims the slot, nobody
+-- holds it; where it takes the connection out, the ticket's own is in the place; where it puts one in, the place is empty;
+-- where it adopts the slot, the slot is free
+abbrev pub Finds : WordState → Option Connection → ℕ → List Act → Type 0
+Finds word place g (Claim ∷ rest) = word.held ≡ false
+Finds word place g (TakeOut ∷ rest) = (c : Connection) × (place ≡ Some c) × (c.pair.generation ≡ g)
+Finds word place g (PutIn ∷ rest) = place ≡ None
+Finds word place g (Adopt ∷ rest) = word.free ≡ true
+Finds word place g acts = Unit {0}
+
+-- Each thread finds this. There is at most one ticket of the slot, and it is free at most once
 pub record NoActInVain (st : System) : Type 0 where
-  pub held : (i : ℕ) (t : Thread) → slice_get st.threads i ≡ Some t → t.todo ≡ turn → st.word.held ≡ false
-  pub there : (i : ℕ) (t : Thread) → slice_get st.threads i ≡ Some t → t.todo ≡ drop 1 turn
-      → (c : Connection) × (st.place ≡ Some c) × (c.pair.generation ≡ t.generation)
-  pub empty : (i : ℕ) (t : Thread) (rest : List Act) → slice_get st.threads i ≡ Some t → t.todo ≡ PutIn ∷ rest → st.place ≡ None
-  pub free : (i : ℕ) (t : Thread) → slice_get st.threads i ≡ Some t → t.todo ≡ drop 1 open_slot → st.word.free ≡ true
+  pub finds : (i : ℕ) (t : Thread) → slice_get st.threads i ≡ Some t → Finds st.word st.place t.generation t.todo
   pub one_ticket : length st.tickets ≤ 1
   pub free_once : st.free ≤ 1
 
@@ -255,8 +257,7 @@ outside_of (Poll names) = event.Poll (polling.Poll names) ∷ []
 outside_of s = []
 
 abbrev pub all_outside : List Step → List Event
-all_outside [] = []
-all_outside (s ∷ steps) = outside_of s ++ all_outside steps
+all_outside = flat_map outside_of
 
 abbrev pub outside_in : Event → List Event
 outside_in (event.Tick n) = event.Tick n ∷ []
@@ -268,8 +269,7 @@ outside_in (event.Poll (polling.Poll names)) = event.Poll (polling.Poll names) �
 outside_in e = []
 
 abbrev pub outside_among : List Event → List Event
-outside_among [] = []
-outside_among (e ∷ es) = outside_in e ++ outside_among es
+outside_among = flat_map outside_in
 
 -- These steps of threads are a run of the machine: there are events, allowed one after the other from its opening, that
 -- lead to a like state. They have the same calls and replies in the same order; clock, network, kernel, listener and polls

@@ -199,23 +199,19 @@ taken_out st i t rest (Some c) =
     else with_thread st i (goes_on t gone)
 
 -- a turn goes on with a connection that is out, and with this many calls left; it fails where the idle limit has passed
-abbrev pub with_plan : Thread → ℕ → Connection → Thread
-with_plan t left c = record t { out = Some c; left = left; todo = plan left c.pair }
-
 abbrev pub planned : System → Thread → ℕ → Connection → Thread
-planned st t left c = with_plan t left (record c { pair = expired st.second st.limits.idle c.pair })
+planned st t left c =
+    let p : PairState = expired st.second st.limits.idle c.pair in
+    record t { out = Some (record c { pair = p }); left = left; todo = plan left p }
 
 -- if there were notes, every call is worth a try again
 abbrev pub heard : ℕ → Connection → Connection
 heard notes c = if some_wait notes then record c { pair = noted c.pair } else c
 
-abbrev pub notes_taken : System → ℕ → Thread → Connection → System
-notes_taken st i t c = with_thread (exchanged st word.take) i (planned st t t.left (heard st.word.pending c))
-
 -- without a connection out, which never happens, the notes are thrown away
 abbrev pub taking : System → ℕ → Thread → List Act → Option Connection → System
 taking st i t rest None = with_thread (exchanged st word.take) i (goes_on t rest)
-taking st i t rest (Some c) = notes_taken st i t c
+taking st i t rest (Some c) = with_thread (exchanged st word.take) i (planned st t t.left (heard st.word.pending c))
 
 abbrev pub put_in : System → ℕ → Thread → List Act → System
 put_in st i t rest = with_thread (record st { place = t.out }) i (record t { out = None; todo = rest })
@@ -294,14 +290,11 @@ abbrev pub calls : System → ℕ → Thread → Reply → List Act → Option S
 calls st i t r [] = None
 calls st i t r (act ∷ rest) = after_call st i t r act
 
--- a thread that begins a turn with this ticket and this many calls
-abbrev pub beginning : ℕ → ℕ → Thread
-beginning g most = record { generation = g; out = None; left = most; todo = turn }
-
--- it does so with the oldest of these tickets
+-- a thread begins a turn with the oldest of these tickets and this many calls
 abbrev pub begun : System → ℕ → ℕ → List ℕ → Option System
 begun st i most [] = None
-begun st i most (g ∷ rest) = Some (with_thread (record st { tickets = rest }) i (beginning g most))
+begun st i most (g ∷ rest) =
+    Some (with_thread (record st { tickets = rest }) i (record { generation = g; out = None; left = most; todo = turn }))
 
 -- a turn makes at most the budget of calls, and fewer in the poller's thread
 abbrev pub begins : System → ℕ → ℕ → Thread → Option System
@@ -325,10 +318,6 @@ abbrev pub delivers : System → List Name → Option System
 delivers st [] = None
 delivers st (n ∷ rest) = Some (record (delivered st n) { batch = rest })
 
--- these names become the batch
-abbrev pub batched : System → List Name → Option System
-batched st names = over_kernel (record st { batch = names }) (kernel.poll st.kernel names)
-
 -- what a report is about, as the kernel knows it
 abbrev pub watched_of : System → Reported → Option Watched
 watched_of st reported.Listener = Some watched.Listener
@@ -349,7 +338,8 @@ step st (Vanish who) = option_and_then (λ (w : Watched). over_kernel st (kernel
 step st (Accept reply) = when (poller_rests st && (st.flag && (not st.accepted && nat_lt 0 st.free)))
     (over_kernel (after_accept st reply) (kernel.accept st.kernel reply))
 step st Drop = guard (poller_rests st && st.accepted) (record st { accepted = false })
-step st (Poll names) = when (poller_rests st && (length st.batch == 0)) (batched st names.items)
+step st (Poll names) = when (poller_rests st && (length st.batch == 0))
+    (over_kernel (record st { batch = names.items }) (kernel.poll st.kernel names.items))
 step st Deliver = when (poller_rests st) (delivers st st.batch)
 step st Sweep = guard (poller_rests st && (is_limited st && nat_lt 0 st.entry)) (posted st st.entry)
 step st Open = option_and_then (λ (t : Thread). guard (rests t) (with_thread st 0 (goes_on t open_slot))) (slice_get st.threads 0)

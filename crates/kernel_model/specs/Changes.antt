@@ -20,6 +20,9 @@ pub record Watch : Type 0 where
   pub registered : Registered
   pub queue : List Name
 
+abbrev pub watch : Registered → List Name → Watch
+watch registered queue = record { registered = registered; queue = queue }
+
 -- what it does to both
 abbrev pub told : Change → Watch → Option Watch
 told change w = option_map

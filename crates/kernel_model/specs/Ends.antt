@@ -5,8 +5,7 @@ use Rattle.token.specs.declared.side.Side.{Side, TheVariants.{Client, Target}}
 use Rattle.kernel_model.specs.Outcome.{guard, Told}
 
 pub record EndState : Type 0 where
-  -- every byte that ever came, those that were not read yet (the last of them), and every byte that
-  -- writes took
+  -- every byte that ever came, those that were not read yet, and every byte that writes took
   pub arrived : List ℕ
   pub unread : List ℕ
   pub taken : List ℕ
@@ -44,16 +43,14 @@ opened side = record {
   write_armed = false;
 }
 
--- a read would not block
 abbrev pub is_readable : EndState → Bool
 is_readable e = is_nonempty e.unread || (e.fin || e.err)
 
--- a write would not block
 abbrev pub is_writable : EndState → Bool
 is_writable e = e.room || e.err
 
--- Each change of the network has the end after it, and says whether it must be reported: the arm of
--- its kind was set, and is cleared. What can't happen has no value.
+-- Each change of the network has the end after it, and says whether it must be reported: the arm of its kind was set,
+-- and is cleared. What can't happen has no value.
 
 -- bytes come, at least one
 abbrev pub arrival : EndState → List ℕ → Option (Told EndState Bool)

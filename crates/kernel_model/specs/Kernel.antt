@@ -10,9 +10,9 @@ pub record Registered : Type 0 where
   pub token : EndName
   pub socket : EndState
 
--- `ends` has a place for each descriptor from 0 on. `queue` are the names that the next poll may report.
--- `backlog` connections wait at the listener, and `armed` says that the next one must be reported,
--- since an accept answered blocked
+-- `ends` has a place for each descriptor from 0 on. `queue` are the names that the next poll may report. `backlog`
+-- connections wait at the listener, and `armed` says that the next one must be reported, since an accept answered
+-- blocked
 pub record KernelState : Type 0 where
   pub ends : List (Option Registered)
   pub queue : List Name
@@ -31,11 +31,10 @@ end_at ends descriptor = option_flatten (slice_get ends descriptor)
 abbrev pub lowest_free : List (Option Registered) → ℕ
 lowest_free ends = unwrap_or (position is_none ends) (length ends)
 
--- the ends with an end at a descriptor, which may be the one after all others
 abbrev pub with_end : List (Option Registered) → ℕ → Registered → List (Option Registered)
 with_end ends descriptor r = if nat_lt descriptor (length ends) then slice_set ends descriptor (Some r) else ends ++ Some r ∷ []
 
--- an end is opened and registered under its token, at the lowest descriptor, which is the answer
+-- an end is opened and registered under its token; its descriptor is the answer
 abbrev pub open_end : KernelState → EndName → Told KernelState ℕ
 open_end k token = record {
   value = record k { ends = with_end k.ends (lowest_free k.ends) (record { token = token; socket = opened token.side }) };
@@ -66,12 +65,11 @@ close_both k ends = option_and_then
     (close one.value ends.target))
     (close k ends.client)
 
--- a call that is allowed makes the queue longer: a name is queued that was not
+-- a call that is allowed makes the queue longer
 abbrev pub queues_more : KernelState → Option KernelState → Bool
 queues_more k None = false
 queues_more k (Some after) = nat_lt (length k.queue) (length after.queue)
 
--- a name is queued where something must be reported
 abbrev pub reported : List Name → Name → Bool → List Name
 reported queue name true = with_name name queue
 reported queue name false = queue
@@ -125,7 +123,6 @@ name_of k watched.Listener = Some Listener
 name_of k watched.Waker = Some Waker
 name_of k (watched.End descriptor) = option_map (λ (r : Registered). End r.token) (end_at k.ends descriptor)
 
--- neither a read nor a write could do anything; so too where no end is open
 abbrev pub is_quiet_end : Option Registered → Bool
 is_quiet_end None = true
 is_quiet_end (Some r) = not (is_readable r.socket || is_writable r.socket)
@@ -156,8 +153,8 @@ abbrev pub connect_in : KernelState → Option KernelState
 connect_in k = guard (nat_lt k.backlog 4096)
     (record k { backlog = k.backlog + 1; queue = reported k.queue Listener k.armed; armed = false })
 
--- accept(2): it takes the connection that waited longest; it would block, where nobody waits, and the next
--- connection must be reported; it is worth another try at once; or what it needs is used up
+-- accept(2): it takes a connection; it would block, and the next connection must be reported; it is worth another try
+-- at once; or what it needs is used up
 abbrev pub accept : KernelState → Accepting → Option KernelState
 accept k Accepted = guard (nat_lt 0 k.backlog) (record k { backlog = k.backlog - 1 })
 accept k Blocked = guard (k.backlog == 0) (record k { armed = true })

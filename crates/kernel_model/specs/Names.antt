@@ -2,7 +2,6 @@
 use Rattle.std.specs.{Prelude.{◌==◌, Bool, true, false, not, ◌&&◌, if◌then◌else◌, List, [], ◌∷◌, ◌++◌}, List.{list_any, list_all, filter}}
 use Rattle.token.specs.{declared.name.Name.{Name, TheVariants.{Listener, Waker, End}}, Names.EndName, Sides.side_number}
 
--- the names of one and the same end
 abbrev pub same_end : EndName → EndName → Bool
 same_end a b = a.slot == b.slot && (side_number a.side == side_number b.side && a.generation == b.generation)
 
@@ -12,7 +11,6 @@ same Waker Waker = true
 same (End a) (End b) = same_end a b
 same a b = false
 
--- whether a name is among these
 abbrev pub has : Name → List Name → Bool
 has name names = list_any (same name) names
 
@@ -20,11 +18,9 @@ has name names = list_any (same name) names
 abbrev pub with_name : Name → List Name → List Name
 with_name name names = if has name names then names else names ++ name ∷ []
 
--- the names but one
 abbrev pub without_name : Name → List Name → List Name
 without_name name names = filter (λ other. not (same name other)) names
 
--- the names but those that were taken
 abbrev pub without_names : List Name → List Name → List Name
 without_names taken names = filter (λ other. not (has other taken)) names
 
@@ -33,6 +29,5 @@ abbrev pub are_distinct : List Name → Bool
 are_distinct [] = true
 are_distinct (name ∷ names) = not (has name names) && are_distinct names
 
--- all of these are among those
 abbrev pub are_among : List Name → List Name → Bool
 are_among those these = list_all (λ name. has name those) these

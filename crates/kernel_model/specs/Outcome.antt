@@ -2,7 +2,6 @@
 use Rattle.std.specs.Prelude.{◌≡◌, Bool, Option, Some, None, IsSome, Result, Ok, Err, if◌then◌else◌}
 use Rattle.kernel_model.specs.declared.refusal.Refusal.{Refusal, TheVariants.{NotAllowed, NoMemory}}
 
--- the value where the test passes
 abbrev pub guard : {X : Type 0} → Bool → X → Option X
 guard allowed x = if allowed then Some x else None
 
@@ -11,8 +10,7 @@ pub record Told (X Y : Type 0) : Type 0 where
   pub value : X
   pub told : Y
 
--- The call made the value that is defined. It answers NotAllowed only where none is, and NoMemory only where one
--- is. Both leave the old value.
+-- The call made the value that is defined. It answers NotAllowed only where none is, and NoMemory only where one is.
 abbrev pub Meets : {X : Type 0} → Option X → X → X → Result (Unit {0}) Refusal → Type 0
 Meets defined old new (Ok x) = defined ≡ Some new
 Meets defined old new (Err NotAllowed) = (defined ≡ None) × (new ≡ old)

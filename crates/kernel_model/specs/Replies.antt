@@ -8,7 +8,6 @@ abbrev pub is_zero : Kind → Bool
 is_zero Zero = true
 is_zero _ = false
 
--- n is 1 to most
 abbrev pub is_count : ℕ → ℕ → Bool
 is_count n most = nat_lt 0 n && nat_le n most
 
@@ -24,11 +23,11 @@ failed e kind = guard (not (is_zero kind)) e
 abbrev pub blocked_write : EndState → Option EndState
 blocked_write e = guard (not (is_writable e)) (record e { write_armed = true })
 
--- the first n bytes of the offer are taken, and the room is gone where the write filled it
+-- the room is gone where the write filled it
 abbrev pub wrote : EndState → List ℕ → ℕ → Bool → Option EndState
 wrote e offer n full = guard (e.room && is_count n (length offer)) (record e { taken = e.taken ++ take n offer; room = not full })
 
--- read(2), of at most `most` bytes
+-- read(2)
 abbrev pub after_read : EndState → ℕ → Reply → Option EndState
 after_read e most (Bytes n) = guard (is_count n most && nat_le n (length e.unread)) (record e { unread = drop n e.unread })
 after_read e most End = guard (not (is_nonempty e.unread) && e.fin) e
@@ -37,7 +36,7 @@ after_read e most Interrupted = Some e
 after_read e most (Failed kind) = failed e kind
 after_read e most _ = None
 
--- write(2), of an offer
+-- write(2)
 abbrev pub after_write : EndState → List ℕ → Reply → Option EndState
 after_write e offer (Wrote n full) = wrote e offer n full
 after_write e offer Blocked = blocked_write e

@@ -11,10 +11,8 @@ use token::Token;
 
 #[tactic(auto, using(std::proofs::lemmas::Option::gets, std::proofs::lemmas::Grind::common_steps))]
 impl Kernel {
-    /// Opens both ends of a connection, the client's first, as [`Kernel::open_end`] does, and returns their
-    /// descriptors.
-    ///
-    /// Refuses with `NoMemory`, and opens neither, if the table of descriptors cannot grow.
+    /// Opens both ends of a connection, the client's first, as [`Kernel::open_end`] does. Refuses with `NoMemory`, and
+    /// opens neither, if the table of descriptors cannot grow.
     pub fn open_both(&mut self, client: Token, target: Token) -> Result<Descriptors, Refusal>
         ensures { Tells (Some (open_both self.old client target)) self.old self.new result }
     {
@@ -33,10 +31,8 @@ impl Kernel {
             && self.end(ends.target).is_some()
     }
 
-    /// Closes both ends of a connection, as [`Kernel::close`] does, and returns them.
-    ///
-    /// Refuses with `NotAllowed`, and closes neither, if a descriptor is not open, or both are the same. Never
-    /// answers `NoMemory`.
+    /// Closes both ends of a connection, as [`Kernel::close`] does, and returns them. Refuses with `NotAllowed`, and
+    /// closes neither, if a descriptor is not open, or both are the same.
     pub fn close_both(&mut self, ends: Descriptors) -> Result<Sockets, Refusal>
         ensures { TellsAlways (close_both self.old ends) self.old self.new result }
     {

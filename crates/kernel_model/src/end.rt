@@ -12,7 +12,7 @@ use token::{Kind, Side};
 #[derive(Drop)]
 pub struct End {
     arrived: Vec<u8>,
-    /// How many of the bytes that arrived were read.
+    // How many of these were read.
     read: usize,
     taken: Vec<u8>,
     fin: bool,
@@ -45,8 +45,7 @@ impl Model for End {
 }
 
 impl End {
-    /// An end as it is when its connection opens. The client's is connected and has room; the target's is still
-    /// connecting, and gets room when the connect has completed.
+    /// An end as its connection opens. The client's has room; the target's gets it once the connect has completed.
     pub fn new(alloc: Global, side: Side) -> End
         ensures { result ≡ opened side }
     {
@@ -70,7 +69,7 @@ impl End {
         self.arrived.as_slice()
     }
 
-    /// The bytes that were not read yet: the last of those that arrived.
+    /// The bytes that were not read yet.
     pub fn unread(&self) -> &[u8]
         ensures value { result.now ≡ self.now.unread }
         ensures last { IsTailOf self.now.arrived result.now }
@@ -85,7 +84,7 @@ impl End {
         self.taken.as_slice()
     }
 
-    /// Whether the peer's end of input has arrived. There may be unread bytes before it.
+    /// Whether the peer's end of input has arrived.
     pub fn has_fin(&self) -> bool
         ensures { result ≡ self.now.fin }
     {
@@ -113,14 +112,14 @@ impl End {
         self.shut
     }
 
-    /// Whether the next time that there is something to read must be reported, since a read answered blocked.
+    /// Whether something to read must be reported, as after a read that answered blocked.
     pub fn is_read_armed(&self) -> bool
         ensures { result ≡ self.now.read_armed }
     {
         self.read_armed
     }
 
-    /// Whether the next time that there is room must be reported, since a write or a join answered blocked.
+    /// Whether room must be reported, as after a write or a join that answered blocked.
     pub fn is_write_armed(&self) -> bool
         ensures { result ≡ self.now.write_armed }
     {
@@ -141,8 +140,7 @@ impl End {
         self.room || self.err
     }
 
-    /// Whether these bytes may arrive from the peer: there is at least one, and neither the end of input nor an error
-    /// has arrived before.
+    /// Whether these bytes may arrive from the peer.
     pub fn may_arrive(&self, bytes: &[u8]) -> bool
         ensures { IsTrue result ↔ IsSome (arrival self.now bytes.now) }
     {
@@ -163,10 +161,8 @@ impl End {
         Ok(self.report_read())
     }
 
-    /// The peer's end of input arrives. Returns whether that must be reported.
-    ///
-    /// Refuses with `NotAllowed`, and changes nothing, if it has arrived before, or after an error. Never answers
-    /// `NoMemory`.
+    /// The peer's end of input arrives. Returns whether that must be reported. Refuses with `NotAllowed`, and changes
+    /// nothing, if it has arrived before, or after an error.
     pub fn fin(&mut self) -> Result<bool, Refusal>
         ensures { TellsAlways (finish self.old) self.old self.new result }
     {
@@ -177,9 +173,8 @@ impl End {
         Ok(self.report_read())
     }
 
-    /// An error arrives, such as a reset by the peer. Returns whether that must be reported.
-    ///
-    /// Refuses with `NotAllowed`, and changes nothing, if one has arrived before. Never answers `NoMemory`.
+    /// An error arrives, such as a reset by the peer. Returns whether that must be reported. Refuses with
+    /// `NotAllowed`, and changes nothing, if one has arrived before.
     pub fn reset(&mut self) -> Result<bool, Refusal>
         ensures { TellsAlways (failure self.old) self.old self.new result }
     {
@@ -192,9 +187,8 @@ impl End {
         Ok(read || write)
     }
 
-    /// The end gets room for writes. Returns whether that must be reported.
-    ///
-    /// Refuses with `NotAllowed`, and changes nothing, if it has room, or after an error. Never answers `NoMemory`.
+    /// The end gets room for writes. Returns whether that must be reported. Refuses with `NotAllowed`, and changes
+    /// nothing, if it has room, or after an error.
     pub fn room(&mut self) -> Result<bool, Refusal>
         ensures { TellsAlways (new_room self.old) self.old self.new result }
     {
@@ -241,8 +235,8 @@ impl End {
         }
     }
 
-    /// The bytes that a read of at most `most` gives if it answers with `count` of them: the first that are unread.
-    /// None if it may not answer so, because `count` is 0, or more than `most` or than are unread.
+    /// The bytes that a read of at most `most` gives if it answers with `count` of them. None if it may not, because
+    /// `count` is 0, or more than `most` or than are unread.
     pub fn bytes_read(&self, most: usize, count: usize) -> Option<&[u8]>
         ensures { option_copied result ≡ bytes_read self.now most count }
     {
@@ -256,8 +250,7 @@ impl End {
     ///
     /// Refuses with `NotAllowed`, and changes nothing, if a read may not be answered so: with no bytes, or more than
     /// `most` or than are unread; with the end of input before it has arrived or while bytes are unread; with blocked
-    /// if the end is readable; with a failure of the kind `Zero`; or with a reply to another call. Never answers
-    /// `NoMemory`.
+    /// if the end is readable; with a failure of the kind `Zero`; or with a reply to another call.
     pub fn read(&mut self, most: usize, reply: Reply) -> Result<(), Refusal>
         ensures { MeetsAlways (after_read self.old most reply) self.old self.new result }
     {
@@ -267,7 +260,7 @@ impl End {
             Reply::Blocked => self.block_read(),
             Reply::Interrupted => Ok(()),
             Reply::Failed(kind) => allowed(kind != Kind::Zero),
-            Reply::Wrote(..) | Reply::Joined | Reply::Shut => Err(Refusal::NotAllowed),
+            _ => Err(Refusal::NotAllowed),
         }
     }
 
@@ -275,8 +268,7 @@ impl End {
     ///
     /// Refuses with `NotAllowed` if a write may not be answered so: with a count when there is no room, or one that
     /// is 0 or more than were offered; with blocked if the end is writable; or with a reply to another call. Refuses
-    /// with `NoMemory` if the write takes bytes and their list cannot grow; for any other reply it never answers so.
-    /// A refusal changes nothing.
+    /// with `NoMemory` if the write takes bytes and their list cannot grow. A refusal changes nothing.
     pub fn write(&mut self, offer: &[u8], reply: Reply) -> Result<(), Refusal>
         ensures outcome { Meets (after_write self.old offer.now reply) self.old self.new result }
         ensures memory { IsErrOf result Refusal.NoMemory → IsTrue (needs_memory reply) }
@@ -285,7 +277,7 @@ impl End {
             Reply::Wrote(count, full) => self.take(offer, count, full),
             Reply::Blocked => self.block_write(),
             Reply::Interrupted | Reply::Failed(_) => Ok(()),
-            Reply::Bytes(_) | Reply::End | Reply::Joined | Reply::Shut => Err(Refusal::NotAllowed),
+            _ => Err(Refusal::NotAllowed),
         }
     }
 
@@ -293,7 +285,6 @@ impl End {
     ///
     /// Refuses with `NotAllowed`, and changes nothing, if it may not be answered so: with joined when there is no
     /// room; with blocked if the end is writable; with a failure of the kind `Zero`; or with a reply to another call.
-    /// Never answers `NoMemory`.
     pub fn join(&mut self, reply: Reply) -> Result<(), Refusal>
         ensures { MeetsAlways (after_join self.old reply) self.old self.new result }
     {
@@ -302,16 +293,14 @@ impl End {
             Reply::Blocked => self.block_write(),
             Reply::Interrupted => Ok(()),
             Reply::Failed(kind) => allowed(kind != Kind::Zero),
-            Reply::Bytes(_) | Reply::End | Reply::Wrote(..) | Reply::Shut => {
-                Err(Refusal::NotAllowed)
-            }
+            _ => Err(Refusal::NotAllowed),
         }
     }
 
     /// A shutdown of sending gets this reply (shutdown(2) with `SHUT_WR`).
     ///
     /// Refuses with `NotAllowed`, and changes nothing, if it may not be answered so: with blocked, with a failure of
-    /// the kind `Zero`, or with a reply to another call. Never answers `NoMemory`.
+    /// the kind `Zero`, or with a reply to another call.
     pub fn shut(&mut self, reply: Reply) -> Result<(), Refusal>
         ensures { MeetsAlways (after_shut self.old reply) self.old self.new result }
     {
@@ -322,9 +311,7 @@ impl End {
             }
             Reply::Interrupted => Ok(()),
             Reply::Failed(kind) => allowed(kind != Kind::Zero),
-            Reply::Bytes(_) | Reply::End | Reply::Wrote(..) | Reply::Joined | Reply::Blocked => {
-                Err(Refusal::NotAllowed)
-            }
+            _ => Err(Refusal::NotAllowed),
         }
     }
 
@@ -344,7 +331,6 @@ impl End {
         mem::replace(&mut self.write_armed, false)
     }
 
-    /// A read of at most `most` bytes gives the first `count` that are unread.
     fn give(&mut self, most: usize, count: usize) -> Result<(), Refusal>
         ensures { MeetsAlways (after_read self.old most (Reply.Bytes count)) self.old self.new result }
     {
@@ -355,7 +341,6 @@ impl End {
         Ok(())
     }
 
-    /// A read would block.
     fn block_read(&mut self) -> Result<(), Refusal>
         ensures { MeetsAlways (after_read self.old 0 Reply.Blocked) self.old self.new result }
     {
@@ -366,7 +351,6 @@ impl End {
         Ok(())
     }
 
-    /// A write takes the first `count` bytes of the offer.
     fn take(&mut self, offer: &[u8], count: usize, full: bool) -> Result<(), Refusal>
         ensures { Meets (wrote self.old offer.now count full) self.old self.new result }
     {

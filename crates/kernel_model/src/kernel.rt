@@ -1,5 +1,4 @@
-// The kernel of one process: its open ends, its readiness queue and its listener. The calls on single ends are in
-// `sockets.rt`.
+// The kernel of one process. The calls on single ends are in `sockets.rt`.
 ghost use Rattle.std.specs.{Prelude.{◌≡◌, ◌<◌, vec_len, vec_capacity, Some, IsSome, IsErrOf, IsTrue, ◌↔◌, position}, Option.{option_copied, is_none}};
 ghost use Rattle.kernel_model.specs.{Outcome.{Meets, MeetsAlways, Tells, TellsAlways}, Names.has, Kernel.{Registered, queues_more, idle, end_at, lowest_free, open_end, close, name_of, is_quiet, spurious, vanish, poll, connect_in, accept}};
 
@@ -66,11 +65,7 @@ impl Kernel {
     pub fn end(&self, descriptor: usize) -> Option<&Open>
         ensures { option_copied result ≡ end_at self.now.ends descriptor }
     {
-        if descriptor < self.ends.len() {
-            self.ends[descriptor].as_ref()
-        } else {
-            None
-        }
+        self.ends.get(descriptor)?.as_ref()
     }
 
     /// The names that are queued, oldest first.
@@ -94,15 +89,14 @@ impl Kernel {
         self.backlog
     }
 
-    /// Whether the next connection must be reported, since an accept answered blocked.
+    /// Whether the next connection must be reported, as after an accept that answered blocked.
     pub fn is_armed(&self) -> bool
         ensures { result ≡ self.now.armed }
     {
         self.armed
     }
 
-    /// Opens an end and registers it, for reads and writes, under its token. It gets the lowest descriptor that is
-    /// not open (open(2)), which is returned.
+    /// Opens an end and registers it under its token. Returns the lowest descriptor that was not open (open(2)).
     ///
     /// Refuses with `NoMemory`, and changes nothing, if the table of descriptors cannot grow.
     pub fn open_end(&mut self, token: Token) -> Result<usize, Refusal>
@@ -112,9 +106,8 @@ impl Kernel {
         Ok(place(self.alloc, &mut self.ends, token))
     }
 
-    /// Closes an end, removes its name from the queue, and returns the end (close(2)).
-    ///
-    /// Refuses with `NotAllowed`, and changes nothing, if the descriptor is not open. Never answers `NoMemory`.
+    /// Closes an end, removes its name from the queue, and returns the end (close(2)). Refuses with `NotAllowed`, and
+    /// changes nothing, if the descriptor is not open.
     pub fn close(&mut self, descriptor: usize) -> Result<End, Refusal>
         ensures { TellsAlways (close self.old descriptor) self.old self.new result }
     {
@@ -145,10 +138,8 @@ impl Kernel {
         Ok(())
     }
 
-    /// A queued report is withdrawn before it is polled.
-    ///
-    /// Refuses with `NotAllowed`, and changes nothing, if it is not queued, or if something could be done there: at
-    /// an end that is readable or writable, or at the listener while somebody waits. Never answers `NoMemory`.
+    /// A queued report is withdrawn before it is polled. Refuses with `NotAllowed`, and changes nothing, if it is not
+    /// queued, or if something could be done there.
     pub fn vanish(&mut self, who: Watched) -> Result<(), Refusal>
         ensures { MeetsAlways (vanish self.old who) self.old self.new result }
     {
@@ -162,17 +153,15 @@ impl Kernel {
         Ok(())
     }
 
-    /// Whether a poll may give these names: there are not too many, each is queued, and no two are equal.
+    /// Whether a poll may give these names.
     pub fn may_poll(&self, names: &[Name]) -> bool
         ensures { IsTrue result ↔ IsSome (poll self.now names.now) }
     {
         names.len() <= MAX_POLLED && are_among(self.queue.as_slice(), names) && are_distinct(names)
     }
 
-    /// A poll gives these names, and they leave the queue (epoll_wait(2)).
-    ///
-    /// Refuses with `NotAllowed`, and changes nothing, if there are more than [`MAX_POLLED`] names, or one that is
-    /// not queued, or one twice. Never answers `NoMemory`.
+    /// A poll gives these names, and they leave the queue (epoll_wait(2)). Refuses with `NotAllowed`, and changes
+    /// nothing, if there are more than [`MAX_POLLED`], or one that is not queued, or one twice.
     pub fn poll(&mut self, names: &[Name]) -> Result<(), Refusal>
         ensures { MeetsAlways (poll self.old names.now) self.old self.new result }
     {
@@ -202,46 +191,30 @@ impl Kernel {
         Ok(())
     }
 
-    /// The listener replies to accept(2) in this way.
-    ///
-    /// Refuses `Accepted` if nobody waits, and `Blocked` if somebody does, with `NotAllowed`, and then changes
-    /// nothing. Never answers `NoMemory`.
+    /// The listener replies to accept(2) in this way. Refuses `Accepted` if nobody waits, and `Blocked` if somebody
+    /// does, with `NotAllowed`, and then changes nothing.
     pub fn accept(&mut self, reply: Accepting) -> Result<(), Refusal>
         ensures { MeetsAlways (accept self.old reply) self.old self.new result }
     {
         match reply {
-            Accepting::Accepted => {
-                if self.backlog == 0 {
-                    return Err(Refusal::NotAllowed);
-                }
-                self.backlog -= 1;
-            }
-            Accepting::Blocked => {
-                if self.backlog > 0 {
-                    return Err(Refusal::NotAllowed);
-                }
-                self.armed = true;
-            }
+            Accepting::Accepted if self.backlog > 0 => self.backlog -= 1,
+            Accepting::Blocked if self.backlog == 0 => self.armed = true,
+            Accepting::Accepted | Accepting::Blocked => return Err(Refusal::NotAllowed),
             Accepting::Again | Accepting::Starved => {}
         }
         Ok(())
     }
 
-    /// The name of what is watched. A descriptor that is not open has none.
     fn name_of(&self, who: Watched) -> Option<Name>
         ensures { result ≡ name_of self.now who }
     {
         match who {
             Watched::Listener => Some(Name::Listener),
             Watched::Waker => Some(Name::Waker),
-            Watched::End(descriptor) => match self.end(descriptor) {
-                Some(open) => Some(Name::End(open.token)),
-                None => None,
-            },
+            Watched::End(descriptor) => Some(Name::End(self.end(descriptor)?.token)),
         }
     }
 
-    /// Whether nothing could be done there now.
     fn is_quiet(&self, who: Watched) -> bool
         ensures { result ≡ is_quiet self.now who }
     {
@@ -266,7 +239,6 @@ pub fn lowest_free(ends: &[Option<Open>]) -> usize
     }
 }
 
-/// The first descriptor of these that is not open.
 fn first_closed(ends: &[Option<Open>]) -> Option<usize>
     ensures { result ≡ position is_none ends.now }
 {

@@ -1,17 +1,16 @@
 //! A model of the kernel's side of connections: what can arrive at a socket, which replies a socket may give to a
 //! call, and which reports a readiness queue gives.
 //!
-//! An [`End`] is one stream socket in non-blocking mode, as plain values: every byte that ever arrived, those not yet
-//! read, every byte that writes took, and a few flags. A [`Kernel`] has the open ends of a process by descriptor,
-//! each with the token under which it is registered, the queue of the names to report, and a listening socket.
+//! An [`End`] is one stream socket in non-blocking mode, as plain values. A [`Kernel`] has the open ends of a process
+//! by descriptor, each with the token under which it is registered, the queue of the names to report, and a listening
+//! socket.
 //!
 //! Nothing here happens by itself. Each call is given the change or the reply that is to happen and makes it happen, or
 //! refuses it with [`Refusal::NotAllowed`] because no kernel could do that (`specs/Ends.antt`, `specs/Replies.antt`,
-//! `specs/Kernel.antt`), or with [`Refusal::NoMemory`]; a refused call changes nothing. A call that is not allowed
-//! never answers `NoMemory`.
+//! `specs/Kernel.antt`), or with [`Refusal::NoMemory`], if its comment says so; a refused call changes nothing. A call
+//! that is not allowed never answers `NoMemory`.
 //!
-//! The rules follow epoll(7), read(2), write(2), shutdown(2), connect(2) and accept(2). Each call does exactly what
-//! its definition says. That no report is lost is not stated here as a law of its own.
+//! The rules follow epoll(7), read(2), write(2), shutdown(2), connect(2) and accept(2).
 #![tactic(auto)]
 
 mod accepting;

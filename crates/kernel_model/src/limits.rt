@@ -1,5 +1,3 @@
-//! The limits of the modelled kernel.
-
 /// The most connections that can wait at the listener.
 pub const MAX_BACKLOG: usize = 4_096;
 

@@ -5,7 +5,6 @@ ghost use Rattle.kernel_model.specs.Names.{same, has, with_name, without_name, w
 use std::alloc::AllocError;
 use token::Name;
 
-/// Whether two names are equal.
 fn same(a: &Name, b: &Name) -> bool
     ensures { result ≡ same a.now b.now }
 {

@@ -1,12 +1,11 @@
 use token::Kind;
 
-/// What a socket replies to a call, with sizes in place of bytes. `specs/Replies.antt` says which replies a call may
-/// get, and what each does to the end.
+/// What a socket replies to a call, with sizes in place of bytes (`specs/Replies.antt`).
 #[derive(Clone, Copy, PartialEq, Eq)]
 pub enum Reply {
     /// To a read: this many bytes, at least one (read(2)).
     Bytes(usize),
-    /// To a read: end of input, which is a count of 0 (read(2)).
+    /// To a read: end of input.
     End,
     /// To a write: it took this many bytes, at least one. With `true` there is no room left (write(2)).
     Wrote(usize, bool),

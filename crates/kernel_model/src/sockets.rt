@@ -1,6 +1,6 @@
 // What arrives at the open ends of a kernel, and the calls on them.
 ghost use Rattle.std.specs.Prelude.{◌≡◌, ◌<◌, ◌||◌, IsErrOf, IsTrue};
-ghost use Rattle.kernel_model.specs.{Outcome.{Meets, MeetsAlways}, Ends.EndState, Replies.needs_memory, Changes.{brings_bytes, change_of, told, lengthens}, Kernel.{Registered, queues_more, changed, arrive, fin, reset, room, read, write, join, shut}};
+ghost use Rattle.kernel_model.specs.{Outcome.{Meets, MeetsAlways}, Ends.EndState, Replies.needs_memory, Changes.{brings_bytes, change_of, told, lengthens, watch}, Kernel.{Registered, queues_more, changed, arrive, fin, reset, room, read, write, join, shut}};
 
 use crate::change::Change;
 use crate::kernel::{Kernel, Open};
@@ -35,7 +35,7 @@ impl Kernel {
     /// An error arrives at an end, such as a reset by the peer, and is reported if reads or writes are armed there.
     ///
     /// Refuses with `NotAllowed` if the descriptor is not open, and if an error has arrived before; and with
-    /// `NoMemory` if the queue has to grow and cannot. A refusal changes nothing.
+    /// `NoMemory` as [`Kernel::fin`]. A refusal changes nothing.
     pub fn reset(&mut self, descriptor: usize) -> Result<(), Refusal>
         ensures outcome { Meets (reset self.old descriptor) self.old self.new result }
         ensures memory { IsErrOf result Refusal.NoMemory → IsTrue (queues_more self.old (reset self.old descriptor)) }
@@ -46,7 +46,7 @@ impl Kernel {
     /// An end gets room for writes, which is reported if writes are armed there.
     ///
     /// Refuses with `NotAllowed` if the descriptor is not open, if there is room, and after an error; and with
-    /// `NoMemory` if the queue has to grow and cannot. A refusal changes nothing.
+    /// `NoMemory` as [`Kernel::fin`]. A refusal changes nothing.
     pub fn room(&mut self, descriptor: usize) -> Result<(), Refusal>
         ensures outcome { Meets (room self.old descriptor) self.old self.new result }
         ensures memory { IsErrOf result Refusal.NoMemory → IsTrue (queues_more self.old (room self.old descriptor)) }
@@ -54,7 +54,6 @@ impl Kernel {
         self.change(descriptor, Change::Room)
     }
 
-    /// The network changes something at an end, and that is reported if the end is armed for it.
     fn change(&mut self, descriptor: usize, change: Change<'_>) -> Result<(), Refusal>
         ensures outcome { Meets (changed self.old descriptor (λ (e : EndState). change_of change.entry e)) self.old self.new result }
         ensures memory { IsErrOf result Refusal.NoMemory
@@ -70,10 +69,8 @@ impl Kernel {
         }
     }
 
-    /// A read of at most `most` bytes gets this reply ([`End::read`]).
-    ///
-    /// Refuses with `NotAllowed`, and changes nothing, if the descriptor is not open, or if a read may not be
-    /// answered so. Never answers `NoMemory`.
+    /// A read of at most `most` bytes gets this reply ([`End::read`]). Refuses with `NotAllowed`, and changes nothing,
+    /// also if the descriptor is not open.
     pub fn read(&mut self, descriptor: usize, most: usize, reply: Reply) -> Result<(), Refusal>
         ensures { MeetsAlways (read self.old descriptor most reply) self.old self.new result }
     {
@@ -86,10 +83,8 @@ impl Kernel {
         }
     }
 
-    /// A write of `offer` gets this reply ([`End::write`]).
-    ///
-    /// Refuses with `NotAllowed` if the descriptor is not open, or if a write may not be answered so; and with
-    /// `NoMemory` if the write takes bytes and their list cannot grow. A refusal changes nothing.
+    /// A write of `offer` gets this reply ([`End::write`]). Refuses with `NotAllowed` also if the descriptor is not
+    /// open. A refusal changes nothing.
     pub fn write(&mut self, descriptor: usize, offer: &[u8], reply: Reply) -> Result<(), Refusal>
         ensures outcome { Meets (write self.old descriptor offer.now reply) self.old self.new result }
         ensures memory { IsErrOf result Refusal.NoMemory → IsTrue (needs_memory reply) }
@@ -103,10 +98,8 @@ impl Kernel {
         }
     }
 
-    /// The question whether the connect has completed gets this reply ([`End::join`]).
-    ///
-    /// Refuses with `NotAllowed`, and changes nothing, if the descriptor is not open, or if the question may not be
-    /// answered so. Never answers `NoMemory`.
+    /// The question whether the connect has completed gets this reply ([`End::join`]). Refuses with `NotAllowed`, and
+    /// changes nothing, also if the descriptor is not open.
     pub fn join(&mut self, descriptor: usize, reply: Reply) -> Result<(), Refusal>
         ensures { MeetsAlways (join self.old descriptor reply) self.old self.new result }
     {
@@ -119,10 +112,8 @@ impl Kernel {
         }
     }
 
-    /// A shutdown of sending gets this reply ([`End::shut`]).
-    ///
-    /// Refuses with `NotAllowed`, and changes nothing, if the descriptor is not open, or if a shutdown may not be
-    /// answered so. Never answers `NoMemory`.
+    /// A shutdown of sending gets this reply ([`End::shut`]). Refuses with `NotAllowed`, and changes nothing, also if
+    /// the descriptor is not open.
     pub fn shut(&mut self, descriptor: usize, reply: Reply) -> Result<(), Refusal>
         ensures { MeetsAlways (shut self.old descriptor reply) self.old self.new result }
     {
@@ -138,13 +129,10 @@ impl Kernel {
 
 /// A change at an open end, whose name is queued if the end is armed for it.
 fn tell(registered: &mut Open, queue: &mut Vec<Name>, change: Change<'_>) -> Result<(), Refusal>
-    ensures outcome { Meets (told change.entry (record { registered = registered.old; queue = queue.old.items }))
-        (record { registered = registered.old; queue = queue.old.items })
-        (record { registered = registered.new; queue = queue.new.items }) result }
-    ensures memory { IsErrOf result Refusal.NoMemory
-        → IsTrue (brings_bytes change.entry || lengthens
-        (record { registered = registered.old; queue = queue.old.items })
-        (told change.entry (record { registered = registered.old; queue = queue.old.items }))) }
+    ensures outcome { Meets (told change.entry (watch registered.old queue.old.items)) (watch registered.old queue.old.items)
+        (watch registered.new queue.new.items) result }
+    ensures memory { IsErrOf result Refusal.NoMemory → IsTrue (brings_bytes change.entry
+        || lengthens (watch registered.old queue.old.items) (told change.entry (watch registered.old queue.old.items))) }
 {
     if !registered.socket.may_change(change) {
         return Err(Refusal::NotAllowed);

@@ -4,11 +4,9 @@ ghost use Rattle.log_queue.specs.Lines.{CountStep, Added, Taken};
 
 use std::sync::atomic::{AtomicU64, Ordering};
 
-/// A count that threads share. Each method is one step, and there is no other: what is added between a load of the
-/// count and a store of 0 would be lost.
-///
-/// No clause can name what a count holds, so the trait leaves open what a step does. What is proved of any such count
-/// says which steps are made on it.
+/// A count that threads share. Each method is one step: what is added between a load of the count and a store of 0
+/// would be lost. What a count holds no clause can name, so the trait leaves open what a step does; what is proved of
+/// any such count says which steps are made on it.
 pub(crate) trait Count {
     // What a step may do: the step with its answer, and the count.
     ghost did: { CountStep → Self → Type 0 };
@@ -17,7 +15,7 @@ pub(crate) trait Count {
     fn add(&self)
         ensures { did Added self.now };
 
-    /// Sets it to 0. What was there before.
+    /// Sets it to 0. Returns what was there.
     fn take(&self) -> u64
         ensures { did (Taken result) self.now };
 }
@@ -34,7 +32,7 @@ impl Count for AtomicU64 {
     }
 }
 
-/// The lines that were left out since that was last logged.
+/// How many lines were left out since that was last logged.
 #[derive(Drop)]
 pub(crate) struct Missing<C = AtomicU64>(C);
 

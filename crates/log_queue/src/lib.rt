@@ -1,10 +1,10 @@
 //! A log that never stops the thread that logs: finished lines wait in a bounded queue, and one thread of their own
 //! writes them to standard error.
 //!
-//! A thread that logs prints its line into the queue ([`Queued`], a sink of the crate `log`). That takes no memory, and
-//! no system call but the one that wakes a writer that sleeps. If the queue is full, because whoever reads standard
-//! error is slow or gone, the line is left out and counted. [`write_lines`] writes the lines, in the order in which
-//! each thread logged them. A line of its own says how many were left out:
+//! A thread that logs prints its line into the queue ([`Queued`]). That takes no memory, and no system call but the one
+//! that wakes a writer that sleeps. If the queue is full, because whoever reads standard error is slow or gone, the
+//! line is left out and counted. [`write_lines`] writes the lines, in the order in which each thread logged them, and
+//! how many were left out:
 //!
 //! ```text
 //! [WARN  relayd] log: 312 lines left out
@@ -12,11 +12,11 @@
 //!
 //! # Inside
 //!
-//! [`ParkedQueue`] is what the log and a recording have in common: bounded queues for a thread that writes, which
-//! sleeps only after it has announced that and then found them open and empty, and ends only with a value that it gets
-//! once they were closed and then empty ([`Drained`]). It is woken only once there is something for it (`There`). A
-//! line that was taken cannot be dropped unwritten (`Unwritten`). Lines left out are counted and taken by a type that
-//! has no step but these (`Missing`).
+//! [`ParkedQueue`] is what the log and a recording have in common: bounded queues for a thread that writes. It sleeps
+//! only after it has announced that and then found them open and empty, is woken only once there is something for it
+//! (`There`), and ends only with a value that it gets once they were closed and then empty ([`Drained`]). A line that
+//! was taken cannot be dropped unwritten (`Unwritten`). Lines left out are counted by a type with no other step
+//! (`Missing`).
 #![tactic(auto)]
 
 mod left_out;

@@ -1,4 +1,3 @@
-// How much is kept, and how soon the writer looks again.
 use std::time::Duration;
 
 /// The most bytes of a line's text. What follows is cut off.

@@ -33,7 +33,7 @@ impl LogLine {
         }
     }
 
-    /// Adds a text, or as many of its first characters as fit. Nothing is added to a line that is cut.
+    /// Nothing is added to a line that is cut.
     pub fn add(&mut self, text: &str)
         ensures whole { self.old.cut ≡ false → length self.old.text + length text.now ≤ 240
             → self.new ≡ record { text = self.old.text ++ text.now; cut = false } }
@@ -57,7 +57,6 @@ impl LogLine {
     }
 }
 
-/// As many of a text's first characters as take at most this many bytes.
 fn first_of(text: &str, most: usize) -> &str
     ensures { IsFirst most text.now result.now }
 {
@@ -82,7 +81,7 @@ impl Unwritten {
 impl Write for LogLine {
     ghost write_str_gives = { IsAdded };
 
-    /// Adds the text as [`LogLine::add`] does. It never fails, so that what prints into a line goes on to its end.
+    /// It never fails, so that what prints into a line goes on to its end.
     fn write_str(&mut self, text: &str) -> fmt::Result
         ensures ok { IsOk result }
         ensures added { IsAdded self.old text.now self.new }
@@ -101,7 +100,6 @@ impl Display for LogLine {
     }
 }
 
-/// What ends a line.
 fn ending(is_cut: bool) -> &'static str
     ensures { result.now ≡ ending_of is_cut }
 {

@@ -1,4 +1,3 @@
-// Items that wait for the thread that writes them, and how it sleeps and ends.
 ghost use Rattle.std.specs.Prelude.{◌≡◌, ◌<◌, IfSome, map, true, false};
 ghost use Rattle.crossbeam_queue.specs.Passes.{queue_capacity};
 
@@ -19,16 +18,15 @@ struct Look {
     is_last: bool,
 }
 
-/// All queues were found empty after a look. It cannot be copied.
+/// All queues were found empty after a look.
 #[derive(Drop)]
 struct FoundEmpty(Look);
 
-/// There is something for the writer: an item in a queue, or a count of those that were left out. A writer that is
-/// woken before could look, find nothing, and go to sleep beside it. It cannot be dropped, so a writer that sleeps is
-/// woken.
+/// There is something for the writer: an item, or a count of those that were left out. A writer that is woken before
+/// could find nothing, and go to sleep beside it. It cannot be dropped, so a writer that sleeps is woken.
 struct There(());
 
-/// The queues were closed, and then found empty. Only [`ParkedQueue::drain`] makes one, and it cannot be copied.
+/// The queues were closed, and then found empty. Only [`ParkedQueue::drain`] makes one.
 #[derive(Drop)]
 pub struct Drained {
     empty: FoundEmpty,
@@ -36,16 +34,14 @@ pub struct Drained {
 }
 
 /// Bounded queues of items, each oldest first, between the threads that put them and one that writes them. That one
-/// sleeps while there are none, and ends only after it found them closed and then empty.
-///
-/// In a clause it is the capacities of the queues.
+/// sleeps while there are none, and ends only after it found them closed and then empty. In a clause it is the
+/// capacities of the queues.
 #[derive(Drop)]
 pub struct ParkedQueue<T: Drop, const QUEUES: usize> {
     queues: [ArrayQueue<T>; QUEUES],
     is_closed: AtomicBool,
     /// The writer sleeps, or looks for the last time before it does, and nobody has woken it yet.
     is_asleep: AtomicBool,
-    /// Where the writer waits.
     writer: Parker,
 }
 
@@ -79,8 +75,8 @@ impl<T: Drop, const QUEUES: usize> ParkedQueue<T, QUEUES> {
         }
     }
 
-    /// Puts an item into a queue after the others, and wakes a writer that sleeps. A writer that has found items a
-    /// moment ago looks by itself, so that most items cost no system call. Returns whether there was room.
+    /// Puts an item into a queue, and wakes a writer that sleeps. One that has found items a moment ago looks by
+    /// itself, so that most items cost no system call. Returns whether there was room.
     pub fn put(&self, rt: &impl Wait, at: usize, item: T) -> bool
         requires { at < QUEUES }
     {
@@ -93,13 +89,12 @@ impl<T: Drop, const QUEUES: usize> ParkedQueue<T, QUEUES> {
         }
     }
 
-    /// Counts an item that was left out, and wakes a writer that sleeps.
+    /// Counts an item that was left out.
     pub(crate) fn count(&self, missing: &Missing) {
         missing.add();
         self.wake(There(()));
     }
 
-    /// Puts an item into a queue after the others, if there is room.
     fn push(&self, rt: &impl Wait, at: usize, item: T) -> Option<There>
         requires { at < QUEUES }
     {
@@ -132,8 +127,7 @@ impl<T: Drop, const QUEUES: usize> ParkedQueue<T, QUEUES> {
         self.writer.unpark();
     }
 
-    /// Has a writer drain the queues until they are closed and then empty. After it found items it rests for so long,
-    /// so that those who put items meanwhile need not wake it.
+    /// Has a writer drain the queues until they are closed and then empty. After it found items it rests for so long.
     pub fn drain<R: Wait, W: Drain>(
         &self,
         rt: &R,
@@ -160,7 +154,7 @@ impl<T: Drop, const QUEUES: usize> ParkedQueue<T, QUEUES> {
         unreachable!()
     }
 
-    /// Looks whether the queues were closed, after the writer has announced that it goes to sleep, if it does.
+    /// Looks whether the queues were closed, after the writer has announced, if it does, that it goes to sleep.
     fn look(&self, is_last: bool) -> Look
         ensures { result.is_last ≡ is_last }
     {
@@ -173,7 +167,6 @@ impl<T: Drop, const QUEUES: usize> ParkedQueue<T, QUEUES> {
         }
     }
 
-    /// Whether all queues are empty, after a look.
     fn found_empty(&self, look: Look) -> Option<FoundEmpty>
         ensures { IfSome result (λ empty. empty.0 ≡ look) }
     {
@@ -185,8 +178,8 @@ impl<T: Drop, const QUEUES: usize> ParkedQueue<T, QUEUES> {
         Some(FoundEmpty(look))
     }
 
-    /// The writer sleeps until an item is put or the queues are closed. It may only once it has announced that and
-    /// then found them open and empty: else it could sleep beside an item.
+    /// Sleeps until an item is put or the queues are closed. Before that the writer has announced it and then found
+    /// them open and empty: else it could sleep beside an item.
     fn sleep(&self, rt: &impl Wait, empty: FoundEmpty)
         requires last { empty.0.is_last ≡ true }
         requires open { empty.0.is_closed ≡ false }

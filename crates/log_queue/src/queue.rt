@@ -15,7 +15,6 @@ use std::sync::atomic::{AtomicBool, Ordering};
 #[derive(Drop)]
 pub struct LogQueue {
     pub(crate) lines: ParkedQueue<LogLine, 1>,
-    /// How they begin.
     form: Form,
     /// Lines that found the queue full, and were not logged as left out yet.
     left_out: Missing,
@@ -27,7 +26,7 @@ pub struct LogQueue {
 pub struct Written(());
 
 impl LogQueue {
-    /// An empty queue, for lines of this form. It takes memory for all its lines; no later call takes any.
+    /// An empty queue. It takes memory for all its lines; no later call takes any.
     pub fn new(alloc: Global, form: Form) -> Result<LogQueue, AllocError>
         ensures room { IfOk result (λ made. made.lines ≡ 4096 ∷ []) }
     {
@@ -44,7 +43,7 @@ impl LogQueue {
         self.form
     }
 
-    /// Puts a line after the others, or counts it if the queue is full, and wakes a writer that sleeps.
+    /// Puts a line after the others, or counts it if the queue is full.
     pub fn put(&self, rt: &impl Wait, line: LogLine) {
         if !self.lines.put(rt, 0, line) {
             self.lines.count(&self.left_out);

@@ -21,7 +21,6 @@ pub enum Form {
 }
 
 impl Form {
-    /// What stands before a line of this level.
     fn mark(self, level: Level) -> &'static str
         ensures { result.now ≡ mark_of self level }
     {
@@ -35,8 +34,7 @@ impl Form {
     }
 }
 
-/// Puts each record into the queue as the line that a console would show. It takes no memory, and no system call
-/// unless the writer sleeps.
+/// Puts each record into the queue as the line that a console would show. It takes no memory.
 #[derive(Drop)]
 pub struct Queued<'q, R> {
     pub rt: R,

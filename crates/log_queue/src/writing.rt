@@ -10,7 +10,7 @@ use std::io::Eprint;
 use std::sync::Wait;
 
 /// Writes the queue's lines to standard error, each by one write, until the queue is closed and all are written. How
-/// many lines were left out is logged once a write has ended after the loss. A line that cannot be written is lost.
+/// many were left out is logged once a write has ended after the loss. A line that cannot be written is lost.
 pub fn write_lines<R: Eprint + Wait>(rt: &R, queue: &LogQueue) -> Written {
     match queue.lines.drain(rt, &mut Writer { rt, queue }, soon()) {
         Ok(drained) => queue.end(drained),
@@ -18,7 +18,6 @@ pub fn write_lines<R: Eprint + Wait>(rt: &R, queue: &LogQueue) -> Written {
     }
 }
 
-/// What writes the lines of a queue.
 #[derive(Drop)]
 struct Writer<'a, R> {
     rt: &'a R,
@@ -42,7 +41,6 @@ impl<R: Eprint + Wait> Drain for Writer<'_, R> {
     }
 }
 
-/// Logs how many lines were left out since the last time.
 fn log_left_out<R: Eprint>(rt: &R, queue: &LogQueue) {
     let count = queue.take_left_out();
     if count > 0 {

@@ -36,28 +36,19 @@ pub fn report_arguments_fault<E: Write>(errors: &mut E, fault: ArgumentsFault) -
     match fault {
         ArgumentsFault::NoMemory => report_fault(errors, ProgramFault::from(AllocError)),
         ArgumentsFault::NotText => {
-            // If this can't be written either, only the status is left to report it.
             let _ = writeln!(errors, "error: an argument is not UTF-8");
             USAGE
         }
     }
 }
 
-/// Runs the program. `arguments` are those of the command line; the first is the program's own name.
-///
-/// | command | what it does |
-/// |---|---|
-/// | `sim`, or none | runs the script that `reader` has, and writes its report or its fault's line to `writer` |
-/// | `sim --each` | the same, but writes each step to `writer`, and below it what it changes in the report |
-/// | `check --config FILE` | reads a settings file, writes each setting to `writer`, and warns as `run` would |
-/// | `forward LISTEN TARGET` | does the same as `run` with the settings of the command line |
-/// | `replay FILE` | plays a recording on the machine; writes to `writer` which connection is no run of it, if any |
-/// | `run --config FILE` | reads a settings file, and serves; what it prints and logs goes to the process's own streams |
+/// Runs the program by the arguments of the command line, of which the first is the program's own name (`relayd(1)`). A
+/// script comes from `reader`, and what a command has to print goes to `writer`; but what a relay prints and logs goes
+/// to the process's own streams.
 ///
 /// Returns the exit status: 0 if the command was carried out, or help or the version printed; 1 for a fault, which is
 /// written to `errors` after `relayd: ` unless it is a fault of the script itself; 2 for a usage error, which is
-/// written to `errors`. Where the command line is refused, nothing has been read from `reader` or written to
-/// `writer`.
+/// written to `errors`. Where the command line is refused, nothing has been read from `reader` or written to `writer`.
 ///
 /// `serve` serves on a bound socket with the process's own handle: a thread can only be started with that one. It is
 /// given the other options and the file to record into, if there is one, and returns whether it could print where it
@@ -106,10 +97,9 @@ where
     }
 }
 
-/// Tells somebody at a terminal that a script is waited for.
 fn tell_if_typed<I: IsTerminal, E: Write>(command: &Command<'_>, reader: &I, errors: &mut E) {
     if matches!(command, Command::Simulate { .. }) && reader.is_terminal() {
-        // If this can't be written, the script is read all the same.
+        // Without this the script is read all the same.
         let _ = writeln!(
             errors,
             "relayd: waiting for a script; Ctrl-D ends it (see relayd --help)"
@@ -117,7 +107,7 @@ fn tell_if_typed<I: IsTerminal, E: Write>(command: &Command<'_>, reader: &I, err
     }
 }
 
-/// The arguments as string slices, which the parser of the command line takes.
+/// The arguments as the parser of the command line takes them.
 pub(crate) fn texts(alloc: Global, arguments: &[String]) -> Result<Vec<&str>, AllocError> {
     arguments
         .iter()
@@ -165,7 +155,6 @@ where
     }
 }
 
-/// The settings of a file, with another level if one is named.
 fn settings_of_file<R: AllocGlobal + Files, L: Log>(
     rt: &R,
     log: &L,
@@ -176,7 +165,6 @@ fn settings_of_file<R: AllocGlobal + Files, L: Log>(
     config::at_level(log, rt.alloc(), settings, level).map_err(ProgramFault::of_arguments)
 }
 
-/// The settings of a command line.
 fn settings_of_arguments<L: Log>(
     alloc: Global,
     log: &L,
@@ -185,7 +173,6 @@ fn settings_of_arguments<L: Log>(
     config::parse_arguments(log, alloc, text.as_bytes()).map_err(ProgramFault::of_arguments)
 }
 
-/// Prints the settings of a file, and warns of what they need.
 fn check<R, L: Log, O: Write>(
     rt: &R,
     log: &L,
@@ -202,7 +189,6 @@ where
     print(rt.alloc(), &settings, &mut stream("output", writer, log))
 }
 
-/// Runs a script, and shows each step if it is asked to.
 fn simulate_by<L: Log, I: Read, O: Write>(
     alloc: Global,
     log: &L,
@@ -239,8 +225,7 @@ pub(crate) fn stream<'a, S, L>(
     Stream { name, inner, log }
 }
 
-/// Runs a script. Returns 0 if its report was written, and 1 if the line of its fault was. The cause of a fault is
-/// logged.
+/// Returns 0 if the report was written, and 1 if the line of a fault was, whose cause is logged.
 fn simulate<L: Log, I: Read, O: Write>(
     alloc: Global,
     log: &L,
@@ -261,7 +246,6 @@ fn simulate<L: Log, I: Read, O: Write>(
     }
 }
 
-/// Prints each setting.
 fn print(alloc: Global, settings: &Settings, writer: &mut impl Write) -> Result<u8, ProgramFault>
     ensures done { IfOk result (λ status. status ≡ 0) }
     ensures fault { IfErr result (λ fault. status_of fault ≡ 1) }
@@ -271,7 +255,7 @@ fn print(alloc: Global, settings: &Settings, writer: &mut impl Write) -> Result<
     Ok(DONE)
 }
 
-/// Listens as the settings say, looks at what they need, makes the file to record into at a path, and serves.
+/// Listens, looks at what the settings need, makes the file to record into, and serves.
 fn run<R, S>(
     rt: &R,
     settings: Settings,
@@ -312,7 +296,7 @@ pub(crate) fn write(writer: &mut impl Write, text: &str) -> Result<(), ProgramFa
 pub(crate) fn report_fault(errors: &mut impl Write, fault: ProgramFault) -> u8
     ensures { result ≡ status_of fault }
 {
-    // If this can't be written either, only the status is left to report it.
+    // Where this fails, too, only the status is left to report it.
     let _ = writeln!(errors, "relayd: {fault}");
     fault.status()
 }

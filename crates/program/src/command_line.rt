@@ -6,17 +6,16 @@ use crate::forwarding::{add_settings, settings_text};
 use clap::{Arg, ArgAction, ArgMatches, Error};
 use std::alloc::{AllocError, Global};
 
-/// A command of the program.
+/// A command of the program. A file to record into comes after what is served, if one is named.
 #[derive(Drop)]
 pub enum Command<'a> {
     /// Run the script on standard input, and show each step if this says so.
     Simulate { each: bool },
     /// Read this settings file and print what it sets.
     Check(&'a str),
-    /// Read this settings file and serve as it says, with the messages of another level if one is named, and record
-    /// into a file if one is named.
+    /// Read this settings file and serve as it says, with the messages of another level if one is named.
     Run(&'a str, Option<&'a str>, Option<&'a str>, TypedExtras<'a>),
-    /// Serve as this text of settings says, and record into a file if one is named.
+    /// Serve as this text of settings says.
     Forward(String, Option<&'a str>, TypedExtras<'a>),
     /// Replay the recording in a file.
     Replay(Replayed<'a>),
@@ -44,12 +43,10 @@ pub fn read_command<'a>(alloc: Global, arguments: &'a [&'a str]) -> Result<Comma
     command_of(alloc, &matches)
 }
 
-/// What the arguments say.
 fn matches_of<'a>(alloc: Global, arguments: &'a [&'a str]) -> Result<ArgMatches<'a>, Error> {
     relayd(alloc)?.try_get_matches_from(arguments)
 }
 
-/// The command that they say.
 fn command_of<'a>(alloc: Global, matches: &ArgMatches<'a>) -> Result<Command<'a>, Error> {
     match matches.subcommand_matches("forward") {
         Some(forward) => {
@@ -87,7 +84,6 @@ fn chosen<'a>(matches: &ArgMatches<'a>) -> Command<'a> {
     }
 }
 
-/// Whether the simulator is to show each step.
 fn shows_each(matches: &ArgMatches<'_>) -> bool {
     match matches.subcommand_matches("sim") {
         Some(sim) => sim.get_flag("each"),
@@ -102,7 +98,6 @@ fn relayd<'a>(alloc: Global) -> Result<clap::Command<'a>, AllocError> {
     without_subcommands(alloc).subcommands(subcommands)
 }
 
-/// The program's command line, but for its commands.
 fn without_subcommands<'a>(alloc: Global) -> clap::Command<'a> {
     clap::Command::new(alloc, "relayd")
         .version(VERSION)
@@ -112,7 +107,6 @@ fn without_subcommands<'a>(alloc: Global) -> clap::Command<'a> {
         )
 }
 
-/// Adds the commands of rows.
 fn add_subcommands<'a>(
     alloc: Global,
     rows: &[CommandRow],
@@ -159,7 +153,6 @@ enum Form {
 }
 
 impl Form {
-    /// What becomes of what is given.
     fn action(self) -> ArgAction {
         match self {
             Form::Flag => ArgAction::SetTrue,
@@ -167,7 +160,6 @@ impl Form {
         }
     }
 
-    /// What help calls the value, if there is one.
     fn value_names(self) -> &'static [&'static str] {
         match self {
             Form::Flag => &[],
@@ -177,61 +169,59 @@ impl Form {
         }
     }
 
-    /// Whether it is required.
     fn is_needed(self) -> bool {
         matches!(self, Form::NeededFile | Form::File)
     }
 }
 
-/// The file to record into.
 const RECORD: ArgumentRow = ArgumentRow {
     name: "record",
     form: Form::Value(&["FILE"]),
     help: "Record into this file what each thread does, but no bytes",
 };
-/// How often statistics are logged.
+
 const STATS: ArgumentRow = ArgumentRow {
     name: "stats",
     form: Form::Seconds,
     help: "Log a line of statistics every so many seconds, 1 to 86400, and one at the end",
 };
-/// That the relay ends after standard input.
+
 const UNTIL_EOF: ArgumentRow = ArgumentRow {
     name: "until-eof",
     form: Form::Flag,
     help: "Accept no more clients once standard input has ended, and end after the last",
 };
-/// How long the connection to the target may take.
+
 const CONNECT_TIMEOUT: ArgumentRow = ArgumentRow {
     name: "connect-timeout",
     form: Form::Seconds,
     help: "Give up a target that has not answered for so many seconds, 1 to 3600",
 };
-/// After how long a silent peer is probed.
+
 const KEEPALIVE: ArgumentRow = ArgumentRow {
     name: "keepalive",
     form: Form::Seconds,
     help: "Probe a peer that is silent for so many seconds, 1 to 32767, and give it up if it is gone",
 };
-/// That the log has all clients.
+
 const LOG_CLIENTS: ArgumentRow = ArgumentRow {
     name: "log-clients",
     form: Form::Flag,
     help: "Log each client's address at level info, as it comes and as it goes",
 };
-/// The settings file.
+
 const CONFIG: ArgumentRow = ArgumentRow {
     name: "config",
     form: Form::NeededFile,
     help: "The settings file, at most 65,536 bytes of TOML",
 };
-/// A level in place of the file's.
+
 const LEVEL: ArgumentRow = ArgumentRow {
     name: "log",
     form: Form::Value(&["LEVEL"]),
     help: "The least important messages that are logged, in place of the file's `log`",
 };
-/// Whether each step is shown.
+
 const EACH: ArgumentRow = ArgumentRow {
     name: "each",
     form: Form::Flag,
@@ -316,26 +306,22 @@ static COMMANDS: [CommandRow; 5] = [
     },
 ];
 
-/// All commands.
 fn commands() -> &'static [CommandRow] {
     &COMMANDS
 }
 
-/// A row's command.
 fn subcommand<'a>(alloc: Global, row: CommandRow) -> Result<clap::Command<'a>, AllocError> {
     let mut arguments = Vec::new(alloc);
     add_arguments(alloc, row, &mut arguments)?;
     without_arguments(alloc, row).args(arguments)
 }
 
-/// A row's command, but for its arguments.
 fn without_arguments<'a>(alloc: Global, row: CommandRow) -> clap::Command<'a> {
     clap::Command::new(alloc, row.name)
         .about(row.about)
         .after_help(row.details)
 }
 
-/// Adds the arguments of a row's command.
 fn add_arguments<'a>(
     alloc: Global,
     row: CommandRow,
@@ -350,7 +336,6 @@ fn add_arguments<'a>(
     Ok(())
 }
 
-/// A row's argument.
 fn argument_of<'a>(alloc: Global, row: ArgumentRow) -> Arg<'a> {
     let argument = described(alloc, row);
     match row.form {

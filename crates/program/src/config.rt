@@ -16,10 +16,8 @@ use std::fs::{self, File};
 use std::io::Read;
 use std::rt::Files;
 
-/// The settings of the file at a path.
-///
-/// Refuses with `Read` if the file cannot be opened or read, and else as [`read`] does. The cause is logged: what the
-/// system or the parser says about it. The file is closed in each case.
+/// The settings of the file at a path, which is closed in each case. Refuses with `Read` if it cannot be opened or
+/// read, and else as [`read`] does. The cause is logged: what the system or the parser says about it.
 pub fn load<R: AllocGlobal + Files, L: Log>(
     rt: &R,
     log: &L,
@@ -46,7 +44,6 @@ pub fn load<R: AllocGlobal + Files, L: Log>(
     }
 }
 
-/// What the log calls a settings file.
 #[derive(Clone, Copy)]
 struct ConfigName<'a>(&'a str);
 
@@ -57,12 +54,11 @@ impl fmt::Display for ConfigName<'_> {
     }
 }
 
-/// How long a file is that is too long: this many bytes, or none where the system does not say.
+/// The length of a file that is too long, or none where the system does not say.
 #[derive(Clone, Copy)]
 struct Length(Option<u64>);
 
 impl Length {
-    /// The length of the file at a path, which for a pipe or a device is not known.
     fn of<R: Files>(rt: &R, path: &str) -> Length {
         match fs::metadata(rt, path) {
             Ok(found) if found.len() > MAX_CONFIG_BYTES as u64 => Length(Some(found.len())),
@@ -80,11 +76,9 @@ impl fmt::Display for Length {
     }
 }
 
-/// The settings of a file, from all of its bytes, or its fault.
-///
-/// Refuses with `Read` if the reader gives an error, `Long` if there are more than 65,536 bytes, whatever their text,
-/// `Settings` if the text has a fault, whose cause is logged with the path, and `NoMemory`. The bytes that were read
-/// are then lost.
+/// The settings of a file, from all of its bytes. Refuses with `Read` if the reader gives an error, `Long` if there are
+/// more than 65,536 bytes, whatever their text, `Settings` if the text has a fault, whose cause is logged with the
+/// path, and `NoMemory`. The bytes that were read are then lost.
 pub fn read<F: Read, L: Log>(
     log: &L,
     alloc: Global,
@@ -104,9 +98,8 @@ pub fn read<F: Read, L: Log>(
     }
 }
 
-/// The settings of a text that the arguments of the command line gave, or its fault.
-///
-/// Refuses with `Settings` if the text has a fault, and `NoMemory`. The cause is logged, by the argument's own name.
+/// The settings of a text that the arguments of the command line gave. Refuses with `Settings` if the text has a fault,
+/// whose cause is logged by the argument's own name, and `NoMemory`.
 pub fn parse_arguments<L: Log>(log: &L, alloc: Global, text: &[u8]) -> Result<Settings, ConfigFault>
     ensures settings { IfOk result (λ s. IsSettingsOf text.now s) }
 {
@@ -119,16 +112,14 @@ pub fn parse_arguments<L: Log>(log: &L, alloc: Global, text: &[u8]) -> Result<Se
     }
 }
 
-/// Logs the cause of a fault in a text that the arguments gave.
 fn log_argument_cause(log: &impl Log, alloc: Global, text: &[u8], fault: &SettingsFault) {
     if let Some(cause) = settings::argument_cause(alloc, text, fault) {
         log_error(log, &"settings", &cause);
     }
 }
 
-/// The settings with the level of this name, if one is named.
-///
-/// Refuses with `Settings` a name that no level has, and logs the cause.
+/// The settings with the level of this name, if one is named. Refuses with `Settings` a name that no level has, and
+/// logs the cause.
 pub fn at_level<L: Log>(
     log: &L,
     alloc: Global,
@@ -158,7 +149,6 @@ pub fn at_level<L: Log>(
     }
 }
 
-/// Logs the file and the line of a settings fault, and what it should say.
 fn log_cause(log: &impl Log, alloc: Global, path: &str, text: &[u8], fault: &SettingsFault) {
     if let Some(cause) = settings::cause(alloc, text, fault) {
         let path = EndOfLine(path);
@@ -166,8 +156,7 @@ fn log_cause(log: &impl Log, alloc: Global, path: &str, text: &[u8], fault: &Set
     }
 }
 
-/// All bytes of a file. It is read to its end, or to one byte past the maximum length, which shows that it is too
-/// long.
+/// The file is read to its end, or to one byte past the most, which shows that it is too long.
 fn read_whole<F: Read>(alloc: Global, file: &mut F) -> Result<Vec<u8>, ConfigFault>
     ensures most { IfOk result (λ text. vec_len text ≤ 65536) }
     ensures whole { IfOk result (λ text. IfSome (F.remaining file.old) (λ bytes. text.items ≡ bytes)) }
@@ -180,7 +169,6 @@ fn read_whole<F: Read>(alloc: Global, file: &mut F) -> Result<Vec<u8>, ConfigFau
     }
 }
 
-/// The fault of a settings file that could not be read.
 fn not_read(fault: InputFault) -> ConfigFault
     ensures unreadable { fault ≡ InputFault.Unreadable → result ≡ ConfigFault.Read }
     ensures memory { fault ≡ InputFault.NoMemory → result ≡ ConfigFault.NoMemory }

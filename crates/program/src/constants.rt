@@ -1,4 +1,4 @@
-//! The fixed values of the program: its statuses, its version, and the limit of a settings file.
+//! The fixed values of the program.
 
 /// The status after a command was carried out.
 pub const DONE: u8 = 0;
@@ -12,5 +12,5 @@ pub const USAGE: u8 = 2;
 /// The version that `--version` prints.
 pub const VERSION: &str = "0.1.0";
 
-/// The maximum size of a settings file, in bytes.
+/// The most bytes of a settings file.
 pub const MAX_CONFIG_BYTES: usize = 65_536;

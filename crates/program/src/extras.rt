@@ -12,7 +12,7 @@ use std::fmt;
 /// What a relay does beside what its settings say.
 #[derive(Clone, Copy)]
 pub struct Extras {
-    /// After how many seconds a line of statistics is logged each time, 1 to 86,400; none if nothing is counted.
+    /// A line of statistics is logged each time so many seconds have passed, 1 to 86,400; none: nothing is counted.
     pub stats: Option<u32>,
     /// It opens no more connections once standard input has ended.
     pub until_eof: bool,
@@ -54,7 +54,6 @@ pub enum SecondsOption {
 }
 
 impl SecondsOption {
-    /// Its name on the command line.
     fn name(self) -> &'static str {
         match self {
             SecondsOption::Stats => "stats",
@@ -63,7 +62,6 @@ impl SecondsOption {
         }
     }
 
-    /// The most seconds that it may be.
     fn most(self) -> u32
         ensures { result ≡ most self }
     {
@@ -81,7 +79,7 @@ impl fmt::Display for SecondsOption {
     }
 }
 
-/// What was typed. Refuses with `Seconds` what is no number of seconds in its option's range, whose cause is logged.
+/// Refuses with `Seconds` what is no number of seconds in its option's range, whose cause is logged.
 pub(crate) fn extras_of(log: &impl Log, typed: TypedExtras<'_>) -> Result<Extras, ProgramFault>
     ensures stats { IfOk result (λ extras. IfSome extras.stats (λ n. (1 ≤ n) × (n ≤ 86400))) }
     ensures connect { IfOk result (λ extras. IfSome extras.patience.connect (λ n. (1 ≤ n) × (n ≤ 3600))) }
@@ -99,7 +97,6 @@ pub(crate) fn extras_of(log: &impl Log, typed: TypedExtras<'_>) -> Result<Extras
     })
 }
 
-/// The seconds that were typed for an option, if any were.
 fn seconds_of(
     log: &impl Log,
     option: SecondsOption,
@@ -120,7 +117,6 @@ fn seconds_of(
     }
 }
 
-/// Logs which seconds are wanted of an option in place of what was typed.
 fn log_range(log: &impl Log, option: SecondsOption, text: &str) {
     let (text, most) = (OneLine(text), option.most());
     error!(log; target: "relayd", "options: --{option} {text}: a whole number from 1 to {most} is wanted");

@@ -69,7 +69,7 @@ impl From<ConfigFault> for ProgramFault {
 }
 
 impl ProgramFault {
-    /// The fault of settings that the arguments of the command line gave.
+    /// That of settings which the arguments of the command line gave.
     pub(crate) fn of_arguments(fault: ConfigFault) -> ProgramFault
         ensures { result ≡ argument_fault fault }
     {
@@ -91,14 +91,13 @@ impl ProgramFault {
     }
 }
 
-/// A fault of the settings, in a file or in the arguments of the command line. Its text is what a person sees after
-/// `relayd: `.
+/// A fault of the settings, in a file or in the arguments. Its text is what a person sees after `relayd: `.
 #[derive(Debug, Drop, Error)]
 pub enum ConfigFault {
     /// The settings file could not be opened or read.
     #[error("config: cannot be read")]
     Read,
-    /// The settings file has more than 65,536 bytes.
+    /// There are more than 65,536 bytes.
     #[error("config: too long")]
     Long,
     /// The text of the settings has a fault.
@@ -160,9 +159,8 @@ impl From<io::Error> for ArgumentsFault {
     }
 }
 
-/// The arguments of the command line; the first is the program's own name.
-///
-/// Refuses with `NoMemory` if there is none for them, and `NotText` if one is not UTF-8.
+/// The arguments of the command line; the first is the program's own name. Refuses with `NoMemory`, and with `NotText`
+/// if one is not UTF-8.
 pub fn arguments<R: AllocGlobal + Env>(rt: &R) -> Result<Vec<String>, ArgumentsFault> {
     let arguments = env::args(rt)?;
     Ok(arguments.collect(rt.alloc())?)

@@ -14,7 +14,7 @@ pub fn add_settings<'a>(alloc: Global, arguments: &mut Vec<Arg<'a>>) -> Result<(
     Ok(())
 }
 
-/// The argument of a setting. Help shows its default.
+/// Help shows the default of a setting.
 fn argument<'a>(alloc: Global, row: Row) -> Arg<'a> {
     let argument = without_default(alloc, row);
     match row.key.default() {
@@ -23,7 +23,6 @@ fn argument<'a>(alloc: Global, row: Row) -> Arg<'a> {
     }
 }
 
-/// The argument of a setting, with no default.
 fn without_default<'a>(alloc: Global, row: Row) -> Arg<'a> {
     let argument = Arg::new(alloc, row.key.name())
         .value_name(row.value_name)
@@ -51,7 +50,6 @@ pub fn settings_text(alloc: Global, matches: &ArgMatches<'_>) -> Result<String, 
     Ok(text)
 }
 
-/// Adds a line to such a text.
 fn add_line(alloc: Global, text: &mut String, key: Key, value: &str) -> Result<(), AllocError> {
     let line = setting_text(alloc, key, value)?;
     text.push_str(line.as_str())?;
@@ -73,7 +71,6 @@ struct Assignment<'a> {
 }
 
 impl Assignment<'_> {
-    /// Whether the value stands for itself as a truth value.
     fn is_true_or_false(&self) -> bool {
         self.key.takes_truth() && matches!(self.value, "true" | "false")
     }

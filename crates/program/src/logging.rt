@@ -32,7 +32,6 @@ const LAST_WAIT: u64 = 1_000;
 /// Where systemd says which stream goes to the journal, as `DEVICE:INODE` (systemd.exec(5)).
 const STREAM: &str = "JOURNAL_STREAM";
 
-/// Standard error.
 const ERRORS: &str = "/proc/self/fd/2";
 
 /// How the lines of the log begin: with their priority if systemd says that standard error goes to the journal.
@@ -46,7 +45,6 @@ pub(crate) fn log_form<R: AllocGlobal + Env + Files>(rt: &R) -> Form {
     }
 }
 
-/// Whether the stream of this device and inode is named so.
 fn is_named(name: &str, device: u64, inode: u64) -> bool {
     match name.split_once(':') {
         Some((first, second)) => {
@@ -70,8 +68,8 @@ pub fn level_filter(level: LogLevel) -> LevelFilter
     }
 }
 
-/// The filter of the log before the relay serves: that of the level, but at `off` the cause of a fault is still
-/// logged, since nothing else says why there is no relay.
+/// The filter before the relay serves: at `off` the cause of a fault is still logged, since nothing else says why there
+/// is no relay.
 pub fn starting_filter(level: LogLevel) -> LevelFilter
     ensures off { level ≡ LogLevel.Off → result ≡ LevelFilter.Error }
     ensures others { level ≢ LogLevel.Off → map to_ascii_lowercase (filter_name result) ≡ level_name level }
@@ -82,10 +80,8 @@ pub fn starting_filter(level: LogLevel) -> LevelFilter
     }
 }
 
-/// Starts the thread that writes the queue. It runs until the queue is closed, or the program ends.
-///
-/// Refuses with `NoMemory` if there is none for the queue, and `Threads` if the thread cannot be started; its cause
-/// is logged.
+/// Starts the thread that writes the queue, until that is closed or the program ends. Refuses with `NoMemory`, and with
+/// `Threads` if the thread cannot be started, whose cause is logged.
 pub fn start<R>(rt: R) -> Result<Arc<LogQueue>, ServerFault>
 where
     R: AllocGlobal + Threads + Eprint + Wait + Env + Files + Send + Copy + Drop + 'static,
@@ -103,7 +99,7 @@ where
     Ok(queue)
 }
 
-/// Closes the queue, and waits until all of it is written, for a second at most. Answers whether it was.
+/// Closes the queue, and waits for a second at most until all of it is written. Answers whether it was.
 pub fn finish(rt: &impl Wait, queue: &LogQueue) -> bool {
     queue.close();
     let clock = Parker::new();
@@ -116,7 +112,7 @@ pub fn finish(rt: &impl Wait, queue: &LogQueue) -> bool {
     queue.is_written()
 }
 
-/// How the message begins of what ends a relay while it serves (epoll_wait(2)).
+/// How the message begins of what ends a relay that serves (epoll_wait(2)).
 const ENDS_IT: &str = "poll: ";
 
 /// A log, until this is set. From then on nothing is logged but the cause of a fault that ends the relay.
@@ -147,7 +143,7 @@ impl<L: Log> Log for Until<'_, L> {
     }
 }
 
-/// Whether a message is the cause of a fault that ends a relay which serves. Only of one at level error is that asked.
+/// Whether a message is the cause of a fault that ends a relay which serves. Only at level error is that asked.
 fn ends_the_relay<D: Display, K, S>(record: &Record<'_, D, K, S>) -> bool {
     let mut line = LogLine::new();
     // Only a value whose own printing fails can fail here. It is the system's error, after what is asked for.

@@ -15,7 +15,6 @@ use std::rt::Files;
 /// What every recording begins with.
 const FIRST_WORDS: [u8; 17] = *b"relayd recording ";
 
-/// The greatest number of a recording that is kept.
 const MOST_KEPT: u32 = 9_999;
 
 /// Why a file cannot be recorded into.
@@ -41,10 +40,8 @@ impl From<AllocError> for Unmade {
     }
 }
 
-/// The file to record into at a path, if one is given.
-///
-/// Refuses with `Record` if it cannot be made, or if a file is there that is neither empty nor a recording, whose
-/// cause is logged; and with `NoMemory`.
+/// The file to record into at a path, if one is given. Refuses with `Record` if it cannot be made, or if a file is
+/// there that is neither empty nor a recording, whose cause is logged; and with `NoMemory`.
 pub(crate) fn create<R: AllocGlobal + Files>(
     rt: &R,
     log: &impl Log,
@@ -67,7 +64,6 @@ pub(crate) fn create<R: AllocGlobal + Files>(
     Err(ProgramFault::Record)
 }
 
-/// The file to record into at a path, once a recording that is there has another name.
 fn open_new<R: AllocGlobal + Files>(rt: &R, log: &impl Log, path: &str) -> Result<R::File, Unmade> {
     let is_there = match fs::metadata(rt, path) {
         Ok(found) if found.is_file() && found.len() > 0 => {
@@ -82,8 +78,8 @@ fn open_new<R: AllocGlobal + Files>(rt: &R, log: &impl Log, path: &str) -> Resul
     Ok(how_to_open(is_there).open(rt, path)?)
 }
 
-/// How a file is opened to record into: one that is there, or one that is not, which is then made. Whatever is there
-/// by now, it is not emptied (open(2), `O_APPEND` and `O_EXCL`).
+/// How a file is opened that is there, or one that is not, which is then made. Whatever is there by now, it is not
+/// emptied (open(2), `O_APPEND` and `O_EXCL`).
 fn how_to_open(is_there: bool) -> OpenOptions
     ensures whole { (asks_truncate result ≡ false) × (asks_create result ≡ false) }
     ensures behind { (asks_append result ≡ true) × (asks_write result ≡ false) × (asks_read result ≡ false) }
@@ -95,7 +91,7 @@ fn how_to_open(is_there: bool) -> OpenOptions
     how
 }
 
-/// Gives the recording at a path the first free name of `PATH.1`, `PATH.2` and so on, and logs which.
+/// Gives the recording at a path the first free name of `PATH.1`, `PATH.2` and so on.
 fn keep<R: AllocGlobal + Files>(rt: &R, log: &impl Log, path: &str) -> Result<(), Unmade> {
     if !is_recording(rt, path)? {
         return Err(Unmade::Taken);

@@ -15,8 +15,7 @@ use std::fs::{self, File};
 use std::io::{self, Write};
 use std::rt::Files;
 
-/// Replays the recording in a file. Returns 0 if it is of runs of the machine, and 1 if not. What is wrong with the
-/// file is logged.
+/// Returns 0 if the recording in a file is of runs of the machine, and 1 if not. What is wrong with the file is logged.
 pub(crate) fn replay_file<R: AllocGlobal + Files, L: Log, O: Write, P: Replay>(
     rt: &R,
     log: &L,
@@ -76,7 +75,6 @@ fn warn_if_long(log: &impl Log, bytes: usize) {
     }
 }
 
-/// A writer, and how many bytes were written to it.
 #[derive(Drop)]
 struct Counted<W> {
     writer: W,
@@ -103,8 +101,7 @@ fn is_other_file(rt: &impl Files, path: &str) -> bool {
     }
 }
 
-/// What is wanted of a recording. Refuses with `Connection` the script of what is no name of a connection, whose
-/// cause is logged.
+/// What is wanted of a recording. Refuses with `Connection` the script of what is no name of a connection.
 pub(crate) fn find_wanted(log: &impl Log, replayed: Replayed<'_>) -> Result<Wanted, ProgramFault>
     ensures { IfErr result (λ fault. fault ≡ ProgramFault.Connection) }
 {
@@ -118,7 +115,6 @@ pub(crate) fn find_wanted(log: &impl Log, replayed: Replayed<'_>) -> Result<Want
     }
 }
 
-/// The same. None if it is the script of what is no name of a connection.
 fn wanted_of(replayed: Replayed<'_>) -> Option<Wanted> {
     match replayed.script {
         Some(name) => {

@@ -1,5 +1,5 @@
 //! Standard streams that are closed when the program starts. A file or a socket that it opens gets the lowest number
-//! that is not open (open(2), socket(2)): it would be read, written or logged to in the place of such a stream.
+//! that is not open (open(2), socket(2)), and would be read, written or logged to in the place of such a stream.
 ghost use Rattle.std.specs.Prelude.{◌≡◌, ℤ, IfOk, IfSome};
 ghost use Rattle.program.specs.Starting.{number, Refuses};
 
@@ -25,7 +25,6 @@ pub enum StandardStream {
 }
 
 impl StandardStream {
-    /// Its descriptor.
     fn number(self) -> i32
         ensures { result ≡ number self }
     {
@@ -36,7 +35,7 @@ impl StandardStream {
         }
     }
 
-    /// How the file is opened that stands in for it: so that each use of the stream fails as that of a closed one.
+    /// How the file is opened that stands in for it: each use of the stream fails as that of a closed one.
     fn refusing(self) -> OpenOptions
         ensures { Refuses self result }
     {
@@ -66,7 +65,7 @@ pub struct Unheld {
     cause: io::Error,
 }
 
-/// The files that stand in for the closed streams. As long as they are held, nothing else gets the streams' numbers.
+/// The files that stand in for closed streams. As long as they are held, nothing else gets the streams' numbers.
 #[derive(Drop)]
 pub struct Held<F> {
     input: Option<F>,
@@ -74,9 +73,8 @@ pub struct Held<F> {
     errors: Option<F>,
 }
 
-/// Has a file stand in for each standard stream that is closed. The program has opened nothing before.
-///
-/// Refuses where `/dev/null` cannot be opened, or does not get the number of the stream.
+/// Has a file stand in for each standard stream that is closed. The program has opened nothing before. Refuses where
+/// `/dev/null` cannot be opened, or does not get the number of the stream.
 pub fn hold_closed<R, I: AsFd, O: AsFd, E: AsFd>(
     rt: &R,
     input: &I,
@@ -113,7 +111,7 @@ where
     Err(Unheld { stream, cause })
 }
 
-/// Whether a stream is closed: there is nothing that a copy of it could be made of (fcntl(2), `F_DUPFD`).
+/// Of a closed stream no copy can be made (fcntl(2), `F_DUPFD`).
 fn is_closed(stream: &impl AsFd) -> bool {
     match stream.as_fd().try_clone_to_owned() {
         Ok(_) => false,
@@ -121,12 +119,11 @@ fn is_closed(stream: &impl AsFd) -> bool {
     }
 }
 
-/// Writes to a standard stream that is open that nothing can stand in for a closed one, and returns the exit status.
+/// Writes to an open standard stream that nothing can stand in for a closed one, and returns the exit status.
 pub fn report_unheld(output: &mut impl Write, errors: &mut impl Write, fault: &Unheld) -> u8
     ensures { result ≡ 1 }
 {
     if write_unheld(errors, fault).is_err() {
-        // If this cannot be written either, only the status is left to report it.
         let _ = write_unheld(output, fault);
     }
     FAULT

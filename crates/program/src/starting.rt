@@ -19,7 +19,6 @@ use std::rt::Files;
 /// The address that stands for every address of the machine.
 const EVERY: [u8; 4] = [0, 0, 0, 0];
 
-/// The address that a connection to [`EVERY`] goes to.
 const LOOPBACK: [u8; 4] = [127, 0, 0, 1];
 
 /// The descriptor of the listening socket.
@@ -45,8 +44,8 @@ pub fn prepare<R: AllocGlobal + Files + Net + Copy + Drop>(
     Ok(settings)
 }
 
-/// Warns of what [`prepare`] would warn of at the start of a relay with these settings, and refuses what it would
-/// refuse. There is no such relay yet, and no recording.
+/// Warns of what [`prepare`] would warn of with these settings, and refuses what it would refuse. There is no relay
+/// yet, and no recording.
 pub fn foresee<R: AllocGlobal + Files + Net + Copy + Drop>(
     rt: &R,
     log: &impl Log,
@@ -58,7 +57,6 @@ pub fn foresee<R: AllocGlobal + Files + Net + Copy + Drop>(
     Ok(())
 }
 
-/// How many of the slots that are set are used, if this many more descriptors are opened before.
 fn used_slots<R: AllocGlobal + Files + Net + Copy + Drop>(
     rt: &R,
     log: &impl Log,
@@ -89,7 +87,6 @@ fn used_slots<R: AllocGlobal + Files + Net + Copy + Drop>(
     Ok(slots)
 }
 
-/// Warns of a target that is the relay itself.
 fn warn_of_itself(rt: &impl Net, log: &impl Log, listen: Address, target: Address) {
     let is_here = listen.1 == target.1 && is_here(rt, target);
     if meets(listen, target, is_here) {
@@ -104,7 +101,6 @@ fn warn_of_short_idle(log: &impl Log, idle: u32) {
     }
 }
 
-/// Warns of a limit on descriptors that is too low for the slots that are set.
 fn warn_of_few(log: &impl Log, slots: usize, set: usize, most: u64, needs: u64) {
     warn!(log; target: "relayd", "slots: at most {slots} of {set} connections are served at a time, since the limit is {most} descriptors and {needs} are needed (ulimit -n)");
 }
@@ -120,8 +116,7 @@ pub fn log_start(log: &impl Log, listen: SocketAddr, settings: &Settings) {
     info!(log; target: "relayd", "relayd {VERSION}: {listen} to {target}, {slots} slots, {workers} workers, {pollers} pollers");
 }
 
-/// Whether connections to the target reach the relay itself. `is_here` says whether the target's address is one of
-/// this machine.
+/// Whether connections to the target reach the relay itself. `is_here`: its address is one of this machine.
 fn meets(listen: Address, target: Address, is_here: bool) -> bool
     ensures { IsTrue result ↔ Meets listen target is_here }
 {
@@ -131,7 +126,7 @@ fn meets(listen: Address, target: Address, is_here: bool) -> bool
             || (listen.0 == LOOPBACK && target.0 == EVERY))
 }
 
-/// Whether an address is one of this machine: to such a one the system sends from the address itself.
+/// To an address of this machine the system sends from the address itself.
 fn is_here(rt: &impl Net, address: Address) -> bool {
     match source_for(rt, SocketAddr::from(address)) {
         Ok(source) => source.ip() == SocketAddr::from(address).ip(),
@@ -139,7 +134,7 @@ fn is_here(rt: &impl Net, address: Address) -> bool {
     }
 }
 
-/// The address from which the system would send to this one. Nothing is sent, and the socket is closed at once.
+/// The address from which the system would send to this one. Nothing is sent.
 fn source_for(rt: &impl Net, address: SocketAddr) -> io::Result<SocketAddr> {
     let socket = UdpSocket::bind(rt, SocketAddr::from((EVERY, 0)))?;
     socket.connect(address)?;
@@ -157,7 +152,6 @@ where
     print_line(rt, address, &mut output).is_ok()
 }
 
-/// Writes the line.
 fn print_line<R: AllocGlobal>(
     rt: &R,
     address: SocketAddr,
@@ -167,20 +161,19 @@ fn print_line<R: AllocGlobal>(
     write(output, line.as_str())
 }
 
-/// The client's socket and the target's.
 const FOR_A_CONNECTION: u64 = 2;
 
 /// What each poller opens before its first connection: an epoll instance and its waker.
 const FOR_A_POLLER: u64 = 2;
 
-/// The descriptors of a process: how many it may have open, its soft limit, and how many are in use.
+/// How many descriptors a process may have open, its soft limit, and how many are in use.
 #[derive(Clone, Copy, PartialEq, Eq)]
 pub struct Descriptors {
     pub most: u64,
     pub in_use: u64,
 }
 
-/// The descriptors of this process. None if it has no limit, or if the system does not say.
+/// None if the process has no limit, or the system does not say.
 pub fn read_descriptors<R: AllocGlobal + Files + Copy + Drop>(rt: &R) -> Option<Descriptors> {
     let limits = fs::read_to_string(rt, "/proc/self/limits").ok()?;
     let most = soft_limit(limits.as_str())?;
@@ -197,8 +190,8 @@ pub fn read_descriptors<R: AllocGlobal + Files + Copy + Drop>(rt: &R) -> Option<
     })
 }
 
-/// The soft limit of open files in the text of `/proc/self/limits` (proc(5)). None if there is no such line, or it
-/// says `unlimited`.
+/// The soft limit of open files in `/proc/self/limits` (proc(5)). None if there is no such line, or it says
+/// `unlimited`.
 fn soft_limit(text: &str) -> Option<u64> {
     for line in text.lines() {
         if let Some(rest) = line.strip_prefix("Max open files ") {
@@ -208,8 +201,7 @@ fn soft_limit(text: &str) -> Option<u64> {
     None
 }
 
-/// How many slots the descriptors are enough for, with the pollers of this many slots: as many as are set, or else
-/// the most that have descriptors. It is 0 where there are none for one.
+/// The most of these slots that there are descriptors for, with their pollers.
 fn covered(slots: usize, workers: usize, descriptors: Descriptors) -> usize
     requires slots { (1 ≤ slots) × (slots ≤ 4096) }
     requires workers { (1 ≤ workers) × (workers ≤ 16) }
@@ -225,8 +217,7 @@ fn covered(slots: usize, workers: usize, descriptors: Descriptors) -> usize
     covered
 }
 
-/// How many descriptors a relay with this many slots and workers opens, beside its listening socket: two for each
-/// connection, and two for each poller.
+/// How many descriptors a relay opens beside its listening socket.
 pub(crate) fn needed(slots: usize, workers: usize) -> u64
     requires slots { (1 ≤ slots) × (slots ≤ 4096) }
     requires workers { (1 ≤ workers) × (workers ≤ 16) }

@@ -7,8 +7,8 @@ use std::alloc::Global;
 use std::fmt;
 use std::io::{self, Read, Write};
 
-/// A stream, such as standard input or a file. An error of the system is logged when it comes, since the fault that
-/// follows does not include it.
+/// A stream, such as standard input or a file. An error of the system is logged when it comes: the fault that follows
+/// does not include it.
 #[derive(Drop)]
 pub struct Stream<'a, S, N, L> {
     /// What the log calls the stream.

@@ -1,4 +1,4 @@
-//! The statistics of a relay that serves: what its threads count, and a thread that logs the sums from time to time.
+//! The statistics of a relay that serves, and a thread that logs the sums from time to time.
 ghost use Rattle.std.specs.Prelude.{◌≡◌, ◌⊎◌, IfErr};
 
 use crate::extras::Extras;
@@ -13,11 +13,9 @@ use std::sync::{Arc, Wait};
 use std::thread::{self, Builder, Threads};
 use std::time::{Clock, Duration};
 
-/// The statistics in which the threads of a relay with these settings count, if the options ask for any, and a thread
-/// that logs the sums at the interval that they give. That thread runs until the program ends.
-///
-/// Where nothing is logged, nothing is counted, and nothing is taken. Refuses with `NoMemory` if there is none, and
-/// `Threads` if the thread cannot be started; its cause is logged.
+/// The statistics in which the threads of a relay count, if the options ask for any, and a thread that logs the sums at
+/// the interval that they give, until the program ends. Where nothing is logged, nothing is counted. Refuses with
+/// `NoMemory`, and with `Threads` if the thread cannot be started, whose cause is logged.
 pub fn start<R>(
     rt: R,
     settings: &Settings,
@@ -44,12 +42,10 @@ where
     Ok(Some(statistics))
 }
 
-/// A place for the counts of each slot.
 fn made(alloc: Global, slots: usize) -> Result<Arc<Statistics>, AllocError> {
     Ok(Arc::new(alloc, Statistics::new(alloc, slots)?)?)
 }
 
-/// Starts the thread.
 fn tell_from_now<R>(
     rt: R,
     rhythm: Duration,
@@ -71,7 +67,6 @@ where
     Ok(())
 }
 
-/// Logs the sums each time that this has passed.
 fn tell_every<R: Wait + Clock + Copy + Drop>(
     rt: &R,
     rhythm: Duration,

@@ -1,6 +1,5 @@
-//! Standard input as a sign: a relay that is started with `--until-eof` opens no more connections once it has ended.
-//!
-//! The thread that reads is never waited for: standard input may never end.
+//! Standard input as a sign: a relay with `--until-eof` opens no more connections once it has ended. The thread that
+//! reads is never waited for: standard input may never end.
 ghost use Rattle.std.specs.Prelude.{◌≡◌, ◌⊎◌, IfErr};
 
 use crate::extras::Extras;
@@ -14,11 +13,9 @@ use std::sync::atomic::Ordering::SeqCst;
 use std::sync::{Arc, Wait};
 use std::thread::{Builder, Threads};
 
-/// Starts a thread, if the options ask for it, that reads standard input to its end, throws away what it reads, and
-/// then sets what is answered. A read that fails counts as the end; both are logged, at levels warn and info.
-///
-/// Refuses with `NoMemory` if there is none for what it answers, and `Threads` if the thread cannot be started; its
-/// cause is logged.
+/// Starts a thread, if the options ask for it, that reads standard input to its end, throws that away, and then sets
+/// what is answered. A read that fails counts as the end; both are logged, at levels warn and info. Refuses with
+/// `NoMemory`, and with `Threads` if the thread cannot be started, whose cause is logged.
 pub fn watch<R>(
     rt: R,
     input: Stdin,
@@ -47,7 +44,6 @@ where
     Ok(has_ended)
 }
 
-/// Reads standard input to its end, and logs that it has come.
 fn read_to_end<R>(rt: &R, mut input: Stdin, level: LevelFilter, queue: &LogQueue)
 where
     R: Eprint + Wait + Copy + Drop,

@@ -22,8 +22,8 @@ const COLUMNS: usize = 80;
 /// The most columns that the lines after the first are indented by.
 const MOST_INDENT: usize = 40;
 
-/// Prints what the parser answers to the arguments of a command line in place of a command: help and the version to
-/// `writer`, and to `errors` why they are refused, with what to type instead. Returns the exit status.
+/// Prints what the parser answers in place of a command: help and the version to `writer`, and to `errors` why the
+/// arguments are refused, with what to type instead. Returns the exit status.
 pub(crate) fn answer_usage<L: Log, O: Write, E: Write>(
     alloc: Global,
     log: &L,
@@ -71,12 +71,10 @@ fn print_refused(alloc: Global, arguments: &[&str], error: &Error, errors: &mut 
     print_error(alloc, error, find_tip(arguments), errors);
 }
 
-/// Whether a text has control characters.
 fn has_control(text: &str) -> bool {
     text.chars().any(|character| character.is_control())
 }
 
-/// The arguments with their control characters escaped.
 fn escape_all(alloc: Global, arguments: &[&str]) -> Result<Vec<String>, AllocError> {
     let mut all = Vec::new(alloc);
     for argument in arguments {
@@ -86,7 +84,6 @@ fn escape_all(alloc: Global, arguments: &[&str]) -> Result<Vec<String>, AllocErr
     Ok(all)
 }
 
-/// A text whose control characters are escaped.
 #[derive(Clone, Copy)]
 struct Escaped<'a>(&'a str);
 
@@ -123,7 +120,6 @@ fn print_error(alloc: Global, error: &Error, tip: Option<Tip<'_>>, errors: &mut 
     }
 }
 
-/// The paragraphs of an error below its first one, but for the parser's own tip.
 fn without_tip(rest: &str) -> &str {
     if !rest.starts_with("  tip:") {
         return rest;
@@ -134,8 +130,7 @@ fn without_tip(rest: &str) -> &str {
     }
 }
 
-/// A text whose long lines are broken between words. What is broken off stands below the beginning of the
-/// description, where the line is that of an option.
+/// A text whose long lines are broken between words. What is broken off stands below the description of an option.
 #[derive(Clone, Copy)]
 struct Wrapped<'a>(&'a str);
 
@@ -153,7 +148,6 @@ impl fmt::Display for Wrapped<'_> {
     }
 }
 
-/// Writes a line, broken between words where it is too long.
 fn write_line<W: fmt::Write>(f: &mut fmt::Formatter<W>, line: &str) -> fmt::Result {
     if line.chars().count() <= COLUMNS {
         return f.write_str(line);
@@ -178,7 +172,6 @@ fn write_line<W: fmt::Write>(f: &mut fmt::Formatter<W>, line: &str) -> fmt::Resu
     Ok(())
 }
 
-/// Writes this many spaces.
 fn write_spaces<W: fmt::Write>(f: &mut fmt::Formatter<W>, many: usize) -> fmt::Result {
     for _ in 0..many {
         f.write_char(' ')?;
@@ -186,7 +179,7 @@ fn write_spaces<W: fmt::Write>(f: &mut fmt::Formatter<W>, many: usize) -> fmt::R
     Ok(())
 }
 
-/// The column at which the description of an option begins, or else that of the line's first word.
+/// The column of an option's description, or else that of the line's first word.
 fn indent_of(line: &str) -> usize {
     let rest = line.trim_start();
     let lead = line.len().saturating_sub(rest.len());
@@ -206,7 +199,7 @@ pub(crate) enum Tip<'a> {
     Forward(&'a str, &'a str),
     /// `relayd sim` with this script as its standard input.
     Script(&'a str),
-    /// This option of `relayd forward` is a setting, which stands in the settings file.
+    /// An option of `relayd forward`, which stands in the settings file.
     Setting(&'a str),
 }
 
@@ -226,8 +219,7 @@ impl fmt::Display for Tip<'_> {
     }
 }
 
-/// What to type in place of the arguments of a command line that is refused, if that is likely enough. The first
-/// argument is the program's own name.
+/// What to type in place of refused arguments, of which the first is the program's own name, if that is likely enough.
 fn find_tip<'a>(arguments: &[&'a str]) -> Option<Tip<'a>> {
     let first = *arguments.get(1)?;
     let second = arguments.get(2).copied();
@@ -242,7 +234,6 @@ fn find_tip<'a>(arguments: &[&'a str]) -> Option<Tip<'a>> {
     }
 }
 
-/// The same where no command and no option comes first.
 fn tip_without_command<'a>(first: &'a str, second: Option<&'a str>) -> Option<Tip<'a>> {
     if first.ends_with(".toml") {
         return Some(Tip::Config("run", first));
@@ -254,13 +245,11 @@ fn tip_without_command<'a>(first: &'a str, second: Option<&'a str>) -> Option<Ti
     None
 }
 
-/// A word that is no option.
 fn no_option(word: Option<&str>) -> Option<&str> {
     word.filter(|word| !word.starts_with('-'))
 }
 
-/// The first of these arguments that gives a setting as `relayd forward` takes it. `--log` is an option of `relayd
-/// run`, too.
+/// The first argument that gives a setting as `relayd forward` takes it. `--log` is an option of `relayd run`, too.
 fn setting_in<'a>(arguments: &[&'a str]) -> Option<&'a str> {
     for argument in arguments {
         if let Some(option) = argument.strip_prefix("--") {
@@ -273,7 +262,6 @@ fn setting_in<'a>(arguments: &[&'a str]) -> Option<&'a str> {
     None
 }
 
-/// Whether a setting has this option.
 fn is_setting(name: &str) -> bool {
     for row in all_arguments() {
         if row.option == Some(name) {

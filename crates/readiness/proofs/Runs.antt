@@ -1,12 +1,154 @@
--- What each step of the network, the system, the poller or the wire does, and what holds after any list of them.
-use Rattle.std.{proofs.{Common.{◌≡◌, ◌≢◌, ◌⊎◌, ◌+◌, ◌<◌, Bool, true, false, not, ◌&&◌, ◌||◌, List, [], ◌∷◌, ◌++◌, ℕ, zero, suc, map, take, length, Contains, Option, Some, None, option_and_then, refl, sym, ap, ◌∙◌, inl, inr, append-nil, append_assoc, length-append, lt-ltb, ltb-true, arith}, lemmas.{Bool.{not-true, or_cases, or_left, or_parts, or_right}, List.Elements.Contains-push}}, specs.{Cmp.{first_so, second_so}, Prelude.if◌then◌else◌}}
-use Rattle.kernel_model.specs.{Ends.{EndState, is_nonempty, is_readable, is_writable, new_room}, Outcome.{Told, guard}, Replies.is_count, declared.reply.Reply.Reply}
-use Rattle.readiness.{specs.{Delays.{Called, Came, Event, Gone, GotRoom, IsOnItsWay, MissesNothing, Seen, Stray, Taken, WillBeTold, WiresAreDelayed, WiresMissNothing, at_call, at_telling, came_at, came_in, events, happened, is_late, late_after, late_call, late_telling, meanwhile, replies_in, reply_in, still_late, unseen}, Machine.{Bytes, Call, Calls, Change, Comes, Error, Fin, Handed, HasRoom, Join, Looks, Old, Polled, Read, Shut, Spurious, Step, Tells, Unasked, Vanished, Way, Write, after_call, answer_of, answers_of, change_in, change_of, changed, changes_of, is_quiet, may_call, opening, reads_after, run, step, tells}}, proofs.Late.{Aside, Asleep, Behind, Caught, Goes, Held, MayBe, Prompt, Rests, Settled, Settles, Waits, allowed, aside, caught, changes_behind, events-append, guarded, is_beside, prompt, replies_behind, same_socket, settle_aside, settle_more, still_waits}}
+-- What is late, the socket as it is once that has come, what every step keeps, and so what holds after any list of steps.
+use Rattle.std.{proofs.{Common.{◌≡◌, ◌⊎◌, Bool, true, false, ◌||◌, List, [], ◌∷◌, ◌++◌, ℕ, map, Option, Some, refl, ap, ◌∙◌, inl, inr, ◌≢◌, not, ◌&&◌, zero, suc, take, length, Contains, None, option_map, sym, append-nil, append_assoc, length-append, lt-ltb, ltb-true, arith}, lemmas.{Bool.{or_left, not-true, or_cases, or_parts, or_right}, List.Elements.Contains-push, Option.option_and_then_some}}, specs.{Prelude.if◌then◌else◌, Cmp.{first_so, second_so}}}
+use Rattle.kernel_model.specs.{Ends.{EndState, is_readable, is_nonempty, is_writable, new_room}, Outcome.{Told, guard}, declared.reply.Reply.Reply, Replies.{after_read, is_count}}
+use Rattle.readiness.specs.{Delays.{Came, Event, IsOnItsWay, Seen, WillBeTold, came_in, events, replies_in, Called, Gone, GotRoom, MissesNothing, Stray, Taken, WiresAreDelayed, WiresMissNothing, at_call, at_telling, happened, is_late, late_after, late_call, late_telling, meanwhile, still_late, unseen}, Machine.{Bytes, Call, Change, Error, Fin, Step, Way, answer_of, change_in, change_of, Calls, Comes, Handed, HasRoom, Join, Looks, Old, Polled, Read, Shut, Spurious, Tells, Unasked, Vanished, Write, after_call, answers_of, changes_of, is_quiet, may_call, opening, reads_after, run, step, tells}}
 use Rattle.token.specs.declared.{side.Side.Side, kind.Kind.Kind}
 use Rattle.kernel_model.specs.declared.reply.Reply.TheVariants as reply
 
+-- what a test let through
+guarded : {X : Type 0} (b : Bool) (x y : X) → guard b x ≡ Some y → (b ≡ true) × (y ≡ x)
+guarded true x y h = (refl, cc)
+guarded false x y h = cc
+
+allowed : {X : Type 0} (b : Bool) (x : X) → b ≡ true → guard b x ≡ Some x
+allowed b x h = rw h refl
+
+-- ---- the socket once these have come
+
+data Settles : EndState → List Change → EndState → Type 0 where
+  Settled : {e : EndState} → Settles e [] e
+  After : {e f : EndState} {c : Change} {late : List Change} (t : Told EndState Bool) → change_of e c ≡ Some t → Settles t.value late f → Settles e (c ∷ late) f
+
+-- one change more is late
+settle_more : {e f : EndState} {late : List Change} (c : Change) (t : Told EndState Bool) → Settles e late f → change_of f c ≡ Some t → Settles e (late ++ c ∷ []) t.value
+settle_more c t Settled is = After t is Settled
+settle_more c t (After u first rest) is = After u first (settle_more c t rest is)
+
+-- while nothing is late, the two sockets are one
+same_socket : {e f : EndState} {late : List Change} → Settles e late f → late ≡ [] → e ≡ f
+same_socket Settled none = refl
+same_socket (After t is rest) none = cc
+
+-- What is late concerns reading: the fields of the other direction are the same before and after, if no error is late
+record IsBeside (f e : EndState) : Type 0 where
+  room : e.room ≡ f.room
+  err : f.err ≡ false → e.err ≡ false
+  write_armed : f.err ≡ false → e.write_armed ≡ f.write_armed
+
+beside_one : (c : Change) (e : EndState) (t : Told EndState Bool) → change_of e c ≡ Some t → IsBeside t.value e
+beside_one (Bytes bytes) e t is = rw (guarded _ _ t is).1 (search)
+beside_one Fin e t is = rw (guarded _ _ t is).1 (search)
+beside_one Error e t is = rw (guarded _ _ t is).1 (record { room = refl; err = λ h. cc; write_armed = λ h. cc })
+
+is_beside : {e f : EndState} {late : List Change} → Settles e late f → IsBeside f e
+is_beside Settled = search
+is_beside (After {e = e} {c = c} t is rest) =
+    let a = beside_one c e t is in
+    let b = is_beside rest in
+    record { room = a.room ∙ b.room; err = λ h. a.err (b.err h); write_armed = λ h. a.write_armed (b.err h) ∙ b.write_armed h }
+
+-- What happens to the other direction: room comes, a write takes bytes or would block, or sending is shut down
+record Aside : Type 0 where
+  room : Bool → Bool
+  armed : Bool → Bool
+  taken : List ℕ → List ℕ
+  shut : Bool → Bool
+
+abbrev aside : Aside → EndState → EndState
+aside a e = record e { room = a.room e.room; write_armed = a.armed e.write_armed; taken = a.taken e.taken; shut = a.shut e.shut }
+
+-- an error leaves nobody waiting for room
+abbrev MayBe : Aside → EndState → Type 0
+MayBe a f = (a.armed false ≡ false) ⊎ (f.err ≡ false)
+
+one_aside : (a : Aside) (c : Change) (e : EndState) (t : Told EndState Bool) → MayBe a t.value → change_of e c ≡ Some t
+    → (told : Bool) × (change_of (aside a e) c ≡ Some (record { value = aside a t.value; told = told }))
+one_aside a (Bytes bytes) e t may is = let g = guarded _ _ t is in (e.read_armed, rw (g.0, g.1) refl)
+one_aside a Fin e t may is = let g = guarded _ _ t is in (e.read_armed, rw (g.0, g.1) refl)
+one_aside a Error e t (inl none) is = let g = guarded _ _ t is in (e.read_armed || a.armed e.write_armed, rw (g.0, g.1, none) refl)
+one_aside a Error e t (inr sound) is = let no = rw (guarded _ _ t is).1 at sound in cc
+
+may_before : {e f : EndState} {late : List Change} (a : Aside) → Settles e late f → MayBe a f → MayBe a e
+may_before a d (inl none) = inl none
+may_before a d (inr sound) = inr ((is_beside d).err sound)
+
+settle_aside : {e f : EndState} {late : List Change} (a : Aside) → MayBe a f → Settles e late f → Settles (aside a e) late (aside a f)
+settle_aside a may Settled = Settled
+settle_aside a may (After {e = e} {c = c} t is rest) =
+    let one = one_aside a c e t (may_before a rest may) is in
+    After (record { value = aside a t.value; told = one.0 }) one.1 (settle_aside a may rest)
+
+-- ---- what happens where no wire answers by itself
+
+-- what a list of events leaves, answers and brings
+abbrev shown : Seen → List Event → Option Seen × List (Call × Reply) × List Change
+shown s es = (events s es, replies_in es, came_in es)
+
+-- all that is late comes, in order, before whatever happens then
+record Caught (e f : EndState) (was : Bool) (late : List Change) : Type 0 where
+  queued : Bool
+  shows : (es : List Event) → shown (record { socket = e; queued = was }) (map Came late ++ es)
+      ≡ (events (record { socket = f; queued = queued }) es, replies_in es, late ++ came_in es)
+  keeps : was ≡ true → queued ≡ true
+  same : late ≡ [] → queued ≡ was
+
+caught : {e f : EndState} {late : List Change} (was : Bool) → Settles e late f → Caught e f was late
+caught was Settled = record { queued = was; shows = λ es. refl; keeps = λ h. h; same = λ h. refl }
+caught was (After {c = c} t is rest) =
+    let r = caught (was || t.told) rest in
+    record {
+      queued = r.queued;
+      shows = λ es. rw is (ap (λ x. (x.0, x.1, c ∷ x.2)) (r.shows es));
+      keeps = λ h. r.keeps (or_left was t.told h);
+      same = λ none. cc;
+    }
+
+-- ---- what every step keeps, of a wire's socket and of the same socket where no wire answers by itself
+
+-- there is nothing to read, and the system reports what comes next
+record Rests (e : EndState) : Type 0 where
+  empty : is_readable e ≡ false
+  armed : e.read_armed ≡ true
+
+-- the wire does not read, and there is something to read, whose report will be passed on to it
+record Asleep (w : Way) : Type 0 where
+  reads : w.reads ≡ false
+  told : w.told ≡ false
+  readable : is_readable w.socket ≡ true
+  coming : WillBeTold w
+
+-- nothing is late but while the wire is asleep
+data Waits (w : Way) (late : List Change) : Type 0 where
+  Prompt : late ≡ [] → Waits w late
+  Behind : Asleep w → Waits w late
+
+prompt : {w : Way} {late : List Change} → (Asleep w → ⊥) → Waits w late → late ≡ []
+prompt awake (Prompt none) = none
+prompt awake (Behind asleep) = absurd (awake asleep)
+
+record Held (w : Way) (late : List Change) (s : Seen) : Type 0 where
+  due : Settles s.socket late w.socket
+  waits : Waits w late
+  rests : w.reads ≡ false → w.told ≡ false → Rests s.socket
+  queued : s.queued ≡ true → IsOnItsWay w
+  owed : w.owed ≡ true → s.queued ≡ true
+
+-- A step, after which the wire's socket is as in v: what happens where no wire answers by itself may happen there, and
+-- the same is kept
+record Goes (v : Way) (s : Seen) (late later : List Change) (happens : List Event) (made : Step) : Type 0 where
+  next : Seen
+  came : List Change
+  shows : (more : List Event) → shown s (happens ++ more) ≡ (events next more, answer_of made ++ replies_in more, came ++ came_in more)
+  changes : came ++ later ≡ late ++ change_in made
+  kept : Held v later next
+
 some_is : {X : Type 0} {x y : X} → Some x ≡ Some y → y ≡ x
 some_is h = cc
+
+-- the value that became this one
+mapped : {X Y Z : Type 0} (f : X → Y) (o : Option X) (y : Y) → option_map f o ≡ Some y → ((x : X) → o ≡ Some x → y ≡ f x → Z) → Z
+mapped f None y h next = cc
+mapped f (Some x) y h next = next x refl (some_is h)
 
 both_down : (a b : Bool) → (not a && not b) ≡ true → (a ≡ false) × (b ≡ false)
 both_down a b h = (not-true a (first_so (not a) (not b) h), not-true b (second_so (not a) (not b) h))
@@ -16,7 +158,7 @@ both_down a b h = (not-true a (first_so (not a) (not b) h), not-true b (second_s
 some_taken : (xs : List Bool) → Contains xs true → xs ≢ []
 some_taken xs c none =
     let here : Contains {X = Bool} [] true = rw none at c in
-    let below : here.0 < length {A = Bool} [] = here.1 in
+    let below = here.1 in
     absurd (omega arith)
 
 on_its_way : (w : Way) → WillBeTold w → IsOnItsWay w
@@ -27,33 +169,19 @@ on_its_way w (inr taken) = inr (inl (some_taken w.taken taken))
 abbrev reported : Way → EndState → Bool → Way
 reported w e told = record w { socket = e; queued = w.queued || told }
 
-still_coming : (w : Way) (e : EndState) (told : Bool) → WillBeTold w → WillBeTold (reported w e told)
-still_coming w e told (inl queued) = inl (or_left w.queued told queued)
-still_coming w e told (inr taken) = inr taken
-
-still_on_its_way : (w : Way) (e : EndState) (told : Bool) → IsOnItsWay w → IsOnItsWay (reported w e told)
-still_on_its_way w e told (inl queued) = inl (or_left w.queued told queued)
-still_on_its_way w e told (inr rest) = inr rest
-
--- the change that was made
-record Changed (w v : Way) (o : Option (Told EndState Bool)) : Type 0 where
-  pub told : Told EndState Bool
-  pub is : o ≡ Some told
-  pub after : v ≡ reported w told.value told.told
-
-changed_of : (w v : Way) (o : Option (Told EndState Bool)) → changed w o ≡ Some v → Changed w v o
-changed_of w v None h = absurd (cc)
-changed_of w v (Some t) h = record { told = t; is = refl; after = cc }
+still_coming : {X : Type 0} (queued told : Bool) → (queued ≡ true) ⊎ X → ((queued || told) ≡ true) ⊎ X
+still_coming queued told (inl was) = inl (or_left queued told was)
+still_coming queued told (inr rest) = inr rest
 
 -- after each change there is something to read, and it is reported if the last read would have blocked
 record Heard (e : EndState) (t : Told EndState Bool) : Type 0 where
-  pub readable : is_readable t.value ≡ true
-  pub told : e.read_armed ≡ true → t.told ≡ true
+  readable : is_readable t.value ≡ true
+  told : e.read_armed ≡ true → t.told ≡ true
 
 nonempty_more : (xs ys : List ℕ) → is_nonempty ys ≡ true → is_nonempty (xs ++ ys) ≡ true
 nonempty_more xs ys h =
-    let some : 0 < length ys = ltb-true 0 (length ys) h in
-    let all : length (xs ++ ys) ≡ length xs + length ys = length-append xs ys in
+    let some = ltb-true 0 (length ys) h in
+    let all = length-append xs ys in
     lt-ltb 0 (length (xs ++ ys)) (omega arith)
 
 heard : (c : Change) (e : EndState) (t : Told EndState Bool) → change_of e c ≡ Some t → Heard e t
@@ -63,18 +191,6 @@ heard (Bytes bytes) e t h =
 heard Fin e t h = rw (guarded _ _ t h).1 (record { readable = or_right (is_nonempty e.unread) true refl; told = λ armed. armed })
 heard Error e t h = rw (guarded _ _ t h).1 (record { readable = or_right (is_nonempty e.unread) _ (or_right e.fin true refl); told = or_left e.read_armed e.write_armed })
 
--- the call was allowed
-record Asked (w v : Way) (call : Call) (r : Reply) : Type 0 where
-  pub socket : EndState
-  pub allowed : after_call w.socket call r ≡ Some socket
-  pub may : may_call w.reads call ≡ true
-  pub after : v ≡ record w { socket = socket; reads = reads_after w.reads call r }
-
-asked : (w v : Way) (call : Call) (r : Reply) (o : Option EndState) → after_call w.socket call r ≡ o →
-    option_and_then (λ (e : EndState). guard (may_call w.reads call) (record w { socket = e; reads = reads_after w.reads call r })) o ≡ Some v → Asked w v call r
-asked w v call r None is h = absurd (cc)
-asked w v call r (Some e) is h = let g = guarded (may_call w.reads call) _ v h in record { socket = e; allowed = is; may = g.0; after = g.1 }
-
 failed_reads : (reads : Bool) (call : Call) (kind : Kind) → reads_after reads call (reply.Failed kind) ≡ true
 failed_reads reads (Read most) kind = refl
 failed_reads reads _ kind = refl
@@ -82,24 +198,24 @@ failed_reads reads _ kind = refl
 -- what a poll takes names reading if there is something to read
 named : (readable names : Bool) → (not readable || names) ≡ true → readable ≡ true → names ≡ true
 named true names h is = h
-named false names h is = absurd (cc)
+named false names h is = cc
 
 some_behind : (xs : List Bool) (b : Bool) → (xs ++ b ∷ []) ≢ []
 some_behind [] b none = cc
 some_behind (x ∷ xs) b none = cc
 
 behind_first : (rest : List Bool) → Contains (false ∷ rest) true → Contains rest true
-behind_first rest (zero, below, is) = absurd (cc)
+behind_first rest (zero, below, is) = cc
 behind_first rest (suc k, below, is) = (k, omega arith, is)
 
-other_first : (w : Way) (rest : List Bool) → w.taken ≡ false ∷ rest → WillBeTold w → (w.queued ≡ true) ⊎ Contains rest true
-other_first w rest is (inl queued) = inl queued
-other_first w rest is (inr taken) = inr (behind_first rest (rw is at taken))
+not_first : {X : Type 0} (taken rest : List Bool) → taken ≡ false ∷ rest → X ⊎ Contains taken true → X ⊎ Contains rest true
+not_first taken rest is (inl queued) = inl queued
+not_first taken rest is (inr some) = inr (behind_first rest (rw is at some))
 
-not_owed : (w : Way) → w.owed ≡ false → IsOnItsWay w → IsOnItsWay (record w { owed = false })
-not_owed w none (inl queued) = inl queued
-not_owed w none (inr (inl taken)) = inr (inl taken)
-not_owed w none (inr (inr owed)) = absurd (cc)
+not_owed : {X Y : Type 0} (owed : Bool) → owed ≡ false → X ⊎ (Y ⊎ (owed ≡ true)) → X ⊎ (Y ⊎ (false ≡ true))
+not_owed owed none (inl queued) = inl queued
+not_owed owed none (inr (inl taken)) = inr (inl taken)
+not_owed owed none (inr (inr owes)) = cc
 
 abbrev nothing : Aside
 nothing = record { room = λ b. b; armed = λ b. b; taken = λ bytes. bytes; shut = λ b. b }
@@ -118,375 +234,292 @@ closed = record nothing { shut = λ _. true }
 
 module _ {w : Way} {late : List Change} {s : Seen} (held : Held w late s) where
   -- a step after which as much is late as before
-  stays : {v : Way} {happens : List Event} {made : Step} (next : Seen) → events s happens ≡ Some next → replies_in happens ≡ answer_of made → came_in happens ≡ []
+  stays : {v : Way} {happens : List Event} {made : Step} (next : Seen) → ((more : List Event) → shown s (happens ++ more) ≡ (events next more, answer_of made ++ replies_in more, came_in more))
       → change_in made ≡ [] → Held v late next → Goes v s late late happens made
-  stays next allowed answers none unchanged kept = record {
-    next = next;
-    allowed = allowed;
-    answers = answers;
-    changes = rw (none, unchanged) (sym (append-nil late));
-    kept = kept;
-  }
+  stays next shows unchanged kept = record { next = next; came = []; shows = shows; changes = rw unchanged (sym (append-nil late)); kept = kept }
 
-  catches : Caught s late w.socket
+  still : {v : Way} → (Asleep w → Asleep v) → Waits v late
+  still on = elim held.waits [ Prompt none ↦ Prompt none | Behind asleep ↦ Behind (on asleep) ]
+
+  catches : Caught s.socket w.socket s.queued late
   catches = caught s.queued held.due
 
+  -- the socket once all that is late has come
+  abbrev up_to_date : Seen
+  up_to_date = record { socket = w.socket; queued = catches.queued }
+
   -- a step before which all that is late comes
-  come_first : {v : Way} {made : Step} (es : List Event) (next : Seen) → events catches.seen es ≡ Some next → replies_in es ≡ answer_of made → came_in es ≡ []
+  come_first : {v : Way} {made : Step} (es : List Event) (next : Seen)
+      → ((more : List Event) → shown up_to_date (es ++ more) ≡ (events next more, answer_of made ++ replies_in more, came_in more))
       → change_in made ≡ [] → Held v [] next → Goes v s late [] (map Came late ++ es) made
-  come_first es next ran answers none unchanged kept = record {
+  come_first es next shows unchanged kept = record {
     next = next;
-    allowed = events-append s (map Came late) es ∙ rw catches.allowed ran;
-    answers = replies_behind late es ∙ answers;
-    changes = append-nil _ ∙ (changes_behind late es ∙ rw (none, unchanged) refl);
+    came = late;
+    shows = λ more. rw append_assoc (catches.shows (es ++ more) ∙ ap (λ x. (x.0, x.1, late ++ x.2)) (shows more));
+    changes = rw unchanged refl;
     kept = kept;
   }
 
-  -- once all that is late has come
-  still_queued : catches.seen.queued ≡ true → IsOnItsWay w
-  still_queued q = by held.waits
-    where
-      by : Waits w late → IsOnItsWay w
-      by (Prompt none) = held.queued (rw (catches.same none) at q)
-      by (Behind asleep) = on_its_way w asleep.coming
+  still_queued : catches.queued ≡ true → IsOnItsWay w
+  still_queued q = elim held.waits [ Prompt none ↦ held.queued (sym (catches.same none) ∙ q) | Behind asleep ↦ on_its_way w asleep.coming ]
 
   -- it is reported in both machines, or was on its way before
   queued_too : (e : EndState) (there told : Bool) → (there ≡ true → told ≡ true) → (s.queued || there) ≡ true → IsOnItsWay (reported w e told)
   queued_too e there told here h = elim (or_cases s.queued there h) [
-    | inl q ↦ still_on_its_way w e told (held.queued q)
+    | inl q ↦ still_coming w.queued told (held.queued q)
     | inr q ↦ inl (or_right w.queued told (here q))
   ]
 
   -- ---- the network
 
   -- a change while the wire does not read and has heard of nothing is late
-  first_told : (t : Told EndState Bool) → Heard w.socket t → w.reads ≡ false → w.told ≡ false → Waits w late → WillBeTold (reported w t.value t.told)
-  first_told t h reads told (Behind asleep) = still_coming w t.value t.told asleep.coming
-  first_told t h reads told (Prompt none) = inl (or_right w.queued t.told (h.told (rw (same_socket held.due none) at (held.rests reads told).armed)))
-
-  comes_late : (c : Change) (t : Told EndState Bool) → change_of w.socket c ≡ Some t → w.reads ≡ false → w.told ≡ false →
-      Goes (reported w t.value t.told) s late (late ++ c ∷ []) [] (Comes c)
-  comes_late c t is reads told =
+  comes : (c : Change) (t : Told EndState Bool) → change_of w.socket c ≡ Some t → (b : Bool) → is_late w ≡ b →
+      Goes (reported w t.value t.told) s late (if b then late ++ c ∷ [] else late) (if b then [] else Came c ∷ []) (Comes c)
+  comes c t is true sleeps =
+      let quiet = both_down w.reads w.told sleeps in
       let h = heard c w.socket t is in
+      let coming : WillBeTold (reported w t.value t.told) = elim held.waits [
+        | Prompt none ↦ inl (or_right w.queued t.told (h.told (rw (same_socket held.due none) at (held.rests quiet.0 quiet.1).armed)))
+        | Behind asleep ↦ still_coming w.queued t.told asleep.coming
+      ] in
       record {
         next = s;
-        allowed = refl;
-        answers = refl;
+        came = [];
+        shows = λ more. refl;
         changes = refl;
         kept = record {
           due = settle_more c t held.due is;
-          waits = Behind (record { reads = reads; told = told; readable = h.readable; coming = first_told t h reads told held.waits });
+          waits = Behind (search coming);
           rests = held.rests;
-          queued = λ q. still_on_its_way w t.value t.told (held.queued q);
+          queued = λ q. still_coming w.queued t.told (held.queued q);
           owed = held.owed;
         };
       }
-
   -- any other comes at once
-  comes_now : (c : Change) (t : Told EndState Bool) → change_of w.socket c ≡ Some t → is_late w ≡ false → Goes (reported w t.value t.told) s late late (Came c ∷ []) (Comes c)
-  comes_now c t is awake =
-      let none : late ≡ [] = prompt (λ a. let yes : is_late w ≡ true = rw (a.reads, a.told) refl in cc) held.waits in
+  comes c t is false awake =
+      let none : late ≡ [] = prompt (λ a. cc) held.waits in
       let there : change_of s.socket c ≡ Some t = rw (same_socket held.due none) is in
       record {
         next = record { socket = t.value; queued = s.queued || t.told };
-        allowed = rw there refl;
-        answers = refl;
+        came = c ∷ [];
+        shows = λ more. rw there refl;
         changes = rw none refl;
         kept = record {
           due = rw none Settled;
           waits = Prompt none;
-          rests = λ reads told. absurd (let yes : is_late w ≡ true = rw (reads, told) refl in cc);
+          rests = λ reads told. cc;
           queued = queued_too t.value t.told t.told (λ h. h);
           owed = λ o. or_left s.queued t.told (held.owed o);
         };
       }
 
-  comes_either : (c : Change) (t : Told EndState Bool) → change_of w.socket c ≡ Some t → (b : Bool) → is_late w ≡ b →
-      Goes (reported w t.value t.told) s late (if b then late ++ c ∷ [] else late) (if b then [] else Came c ∷ []) (Comes c)
-  comes_either c t is true sleeps = let none = both_down w.reads w.told sleeps in comes_late c t is none.0 none.1
-  comes_either c t is false awake = comes_now c t is awake
-
-  comes : (v : Way) (c : Change) → step w (Comes c) ≡ Some v → Goes v s late (late_after w late (Comes c)) (meanwhile w late (Comes c)) (Comes c)
-  comes v c h =
-      let ch = changed_of w v (change_of w.socket c) h in
-      rw ch.after (comes_either c ch.told ch.is (is_late w) refl)
-
-  has_room : (v : Way) → step w HasRoom ≡ Some v → Goes v s late late (GotRoom ∷ []) HasRoom
-  has_room v h =
-      let ch = changed_of w v (new_room w.socket) h in
-      let g = guarded (not w.socket.room && not w.socket.err) _ ch.told ch.is in
+  has_room : (v : Way) (t : Told EndState Bool) → new_room w.socket ≡ Some t → v ≡ reported w t.value t.told → Goes v s late late (GotRoom ∷ []) HasRoom
+  has_room v t is after =
+      let g = guarded (not w.socket.room && not w.socket.err) _ t is in
       let full = both_down w.socket.room w.socket.err g.0 in
       let b = is_beside held.due in
-      let armed : s.socket.write_armed ≡ w.socket.write_armed = b.write_armed full.1 in
-      let room : s.socket.room ≡ false = b.room ∙ full.0 in
-      let err : s.socket.err ≡ false = b.err full.1 in
-      rw (ch.after, g.1) (stays (record { socket = aside roomy s.socket; queued = s.queued || s.socket.write_armed }) (rw (room, err) refl) refl refl refl (record {
+      let armed = b.write_armed full.1 in
+      let room = b.room ∙ full.0 in
+      let err = b.err full.1 in
+      rw (after, g.1) (stays (record { socket = aside roomy s.socket; queued = s.queued || s.socket.write_armed }) (λ more. rw (room, err) refl) refl (record {
         due = settle_aside roomy (inl refl) held.due;
-        waits = still_waits (λ a. record { reads = a.reads; told = a.told; readable = a.readable; coming = still_coming w (aside roomy w.socket) w.socket.write_armed a.coming }) held.waits;
-        rests = λ reads told. record { empty = (held.rests reads told).empty; armed = (held.rests reads told).armed };
+        waits = still (λ a. search still_coming);
+        rests = λ reads told. search (held.rests reads told);
         queued = queued_too (aside roomy w.socket) s.socket.write_armed w.socket.write_armed (λ h. rw armed at h);
         owed = λ o. or_left s.queued s.socket.write_armed (held.owed o);
       }))
 
   -- ---- the system
 
-  -- a report without cause
-  spurious : (v : Way) → step w Spurious ≡ Some v → Goes v s late late (Stray ∷ []) Spurious
-  spurious v h = rw (some_is h) (stays (record s { queued = true }) refl refl refl refl (record {
-    due = held.due;
-    waits = still_waits (λ a. record { reads = a.reads; told = a.told; readable = a.readable; coming = inl refl }) held.waits;
-    rests = held.rests;
-    queued = λ q. inl refl;
-    owed = λ o. refl;
-  }))
-
   -- it takes the report back, and nothing is late then
-  vanishing : is_quiet w.socket ≡ true → (b : Bool) → w.owed ≡ b → Goes (record w { queued = false }) s late late (if b then [] else Stray ∷ Gone ∷ []) Vanished
-  vanishing quiet b owed = by b owed
-    where
-      none : late ≡ []
-      none = prompt (λ a. let no = (both_down (is_readable w.socket) (is_writable w.socket) quiet).0 in let yes = a.readable in cc) held.waits
+  none_late : is_quiet w.socket ≡ true → late ≡ []
+  none_late quiet = prompt (λ a. let no = (both_down (is_readable w.socket) (is_writable w.socket) quiet).0 in let yes = a.readable in cc) held.waits
 
-      there : is_quiet s.socket ≡ true
-      there = rw (same_socket held.due none) quiet
-
-      by : (b : Bool) → w.owed ≡ b → Goes (record w { queued = false }) s late late (if b then [] else Stray ∷ Gone ∷ []) Vanished
-      by true owed = stays s refl refl refl refl (record { due = held.due; waits = Prompt none; rests = held.rests; queued = λ q. inr (inr owed); owed = held.owed })
-      by false owed = stays (record s { queued = false }) (rw there refl) refl refl refl
-          (record { due = held.due; waits = Prompt none; rests = held.rests; queued = λ q. absurd (cc); owed = λ o. absurd (cc) })
-
-  vanishes : (v : Way) → step w Vanished ≡ Some v → Goes v s late late (if w.owed then [] else Stray ∷ Gone ∷ []) Vanished
-  vanishes v h =
-      let g = guarded (w.queued && is_quiet w.socket) _ v h in
-      rw g.1 (vanishing (second_so w.queued _ g.0) w.owed refl)
-
-  -- a poll takes the report
-  polls : (v : Way) (names : Bool) → step w (Polled names) ≡ Some v → Goes v s late late [] (Polled names)
-  polls v names h =
-      let g = guarded (w.queued && (not (is_readable w.socket) || names)) _ v h in
-      let naming : is_readable w.socket ≡ true → names ≡ true = named (is_readable w.socket) names (second_so w.queued _ g.0) in
-      let coming : (a : Asleep w) → WillBeTold (record w { queued = false; taken = w.taken ++ names ∷ [] }) = λ a. inr (rw (naming a.readable) (Contains-push w.taken true)) in
-      rw g.1 (stays s refl refl refl refl (record {
-        due = held.due;
-        waits = still_waits (λ a. record { reads = a.reads; told = a.told; readable = a.readable; coming = coming a }) held.waits;
-        rests = held.rests;
-        queued = λ q. inr (inl (some_behind w.taken names));
-        owed = held.owed;
-      }))
+  vanishes : is_quiet w.socket ≡ true → (b : Bool) → w.owed ≡ b → Goes (record w { queued = false }) s late late (if b then [] else Stray ∷ Gone ∷ []) Vanished
+  vanishes quiet true owed = stays s (λ more. refl) refl (search (Prompt, none_late quiet, inr))
+  vanishes quiet false owed = stays (record s { queued = false }) (λ more. rw (same_socket held.due (none_late quiet), quiet) refl) refl
+      (record { due = held.due; waits = Prompt (none_late quiet); rests = held.rests; queued = λ q. cc; owed = λ o. cc })
 
   -- ---- the poller
 
   -- it passes on a report: all that is late comes if it names reading
   telling : (v : Way) (taken : List Bool) → w.taken ≡ taken → tells w taken ≡ Some v → Goes v s late (late_telling taken late) (at_telling taken late) Tells
-  telling v [] is h = absurd (cc)
-  telling v (true ∷ rest) is h = rw (some_is h) (come_first (Stray ∷ []) (record (catches.seen) { queued = true }) refl refl refl refl (record {
-    due = rw catches.socket Settled;
+  telling v [] is h = cc
+  telling v (true ∷ rest) is h = rw (some_is h) (come_first (Stray ∷ []) (record up_to_date { queued = true }) (λ more. refl) refl (record {
+    due = Settled;
     waits = Prompt refl;
     rests = λ reads told. absurd (let yes : (w.told || true) ≡ true = or_right w.told true refl in cc);
     queued = λ q. inr (inr refl);
     owed = λ o. refl;
   }))
-  telling v (false ∷ rest) is h = rw (some_is h) (stays (record s { queued = true }) refl refl refl refl (record {
+  telling v (false ∷ rest) is h = rw (some_is h) (stays (record s { queued = true }) (λ more. refl) refl (record {
     due = held.due;
-    waits = still_waits (λ a. record { reads = a.reads; told = rw a.told refl; readable = a.readable; coming = other_first w rest is a.coming }) held.waits;
+    waits = still (λ a. record { reads = a.reads; told = rw a.told refl; readable = a.readable; coming = not_first w.taken rest is a.coming });
     rests = λ reads told. held.rests reads (or_parts w.told false told).0;
     queued = λ q. inr (inr refl);
     owed = λ o. refl;
   }))
 
-  -- it passes on a report of an earlier connection
-  old : (v : Way) → step w Old ≡ Some v → Goes v s late [] (map Came late) Old
-  old v h =
-      let all : Goes (record w { told = true }) s late [] (map Came late ++ []) Old = come_first [] catches.seen refl refl refl refl (record {
-        due = rw catches.socket Settled;
-        waits = Prompt refl;
-        rests = λ reads told. absurd (cc);
-        queued = still_queued;
-        owed = λ o. catches.keeps (held.owed o);
-      }) in
-      rw (some_is h) (rw append-nil at all)
-
   -- what was passed on is handed over
   handing : (b : Bool) → w.owed ≡ b → Goes (record w { owed = false }) s late late (if b then Taken ∷ [] else []) Handed
-  handing b owed = by b owed
-    where
-      waits : Waits (record w { owed = false }) late
-      waits = still_waits (λ a. record { reads = a.reads; told = a.told; readable = a.readable; coming = a.coming }) held.waits
-
-      by : (b : Bool) → w.owed ≡ b → Goes (record w { owed = false }) s late late (if b then Taken ∷ [] else []) Handed
-      by true owed = stays (record s { queued = false }) (rw (held.owed owed) refl) refl refl refl
-          (record { due = held.due; waits = waits; rests = held.rests; queued = λ q. absurd (cc); owed = λ o. absurd (cc) })
-      by false owed = stays s refl refl refl refl (record { due = held.due; waits = waits; rests = held.rests; queued = λ q. not_owed w owed (held.queued q); owed = λ o. absurd (cc) })
-
-  handed : (v : Way) → step w Handed ≡ Some v → Goes v s late late (if w.owed then Taken ∷ [] else []) Handed
-  handed v h = rw (some_is h) (handing w.owed refl)
+  handing true owed = stays (record s { queued = false }) (λ more. rw (held.owed owed) refl) refl
+      (record { due = held.due; waits = still (λ a. search); rests = held.rests; queued = λ q. cc; owed = λ o. cc })
+  handing false owed = stays s (λ more. refl) refl
+      (record { due = held.due; waits = still (λ a. search); rests = held.rests; queued = λ q. not_owed w.owed owed (held.queued q); owed = λ o. cc })
 
   -- ---- the wire
 
-  looks : (v : Way) → step w Looks ≡ Some v → Goes v s late late [] Looks
-  looks v h = rw (some_is h) (stays s refl refl refl refl (record {
+  -- a call that fails: all that is late comes first
+  fails : {f : EndState} (call : Call) (kind : Kind) → after_call w.socket call (reply.Failed kind) ≡ Some f →
+      Goes (record w { socket = f; reads = reads_after w.reads call (reply.Failed kind) }) s late [] (map Came late ++ Called call (reply.Failed kind) ∷ []) (Calls call (reply.Failed kind))
+  fails {f} call kind is = come_first (Called call (reply.Failed kind) ∷ []) (record up_to_date { socket = f }) (λ more. rw is refl) refl (record {
+    due = Settled;
+    waits = Prompt refl;
+    rests = λ reads told. absurd (let yes = failed_reads w.reads call kind in cc);
+    queued = still_queued;
+    owed = λ o. catches.keeps (held.owed o);
+  })
+
+  -- any other call finds nothing late, or does not concern it
+  one_call : {e f : EndState} {reads : Bool} (call : Call) (r : Reply) → after_call s.socket call r ≡ Some e → Settles e late f
+      → Waits (record w { socket = f; reads = reads }) late → (reads ≡ false → w.told ≡ false → Rests e) →
+      Goes (record w { socket = f; reads = reads }) s late late (Called call r ∷ []) (Calls call r)
+  one_call {e} call r there due waits rests =
+      stays (record s { socket = e }) (λ more. rw there refl) refl (record { due = due; waits = waits; rests = rests; queued = held.queued; owed = held.owed })
+
+  -- a read: the wire reads, so nothing is late
+  read_now : {f : EndState} (most : ℕ) (r : Reply) → w.reads ≡ true → after_read w.socket most r ≡ Some f → (reads_after w.reads (Read most) r ≡ false → Rests f) →
+      Goes (record w { socket = f; reads = reads_after w.reads (Read most) r }) s late late (Called (Read most) r ∷ []) (Calls (Read most) r)
+  read_now most r may is rests =
+      let none : late ≡ [] = prompt (λ asleep. cc) held.waits in
+      one_call (Read most) r (rw (same_socket held.due none) is) (rw none Settled) (Prompt none) (λ reads told. rests reads)
+
+  reads : {f : EndState} (most : ℕ) (r : Reply) → w.reads ≡ true → after_read w.socket most r ≡ Some f
+      → Goes (record w { socket = f; reads = reads_after w.reads (Read most) r }) s late (late_call r late) (at_call late (Read most) r) (Calls (Read most) r)
+  reads {f} most reply.Blocked may is =
+      let g = guarded (not (is_readable w.socket)) _ f is in
+      read_now most reply.Blocked may is (λ _. rw g.1 (record { empty = not-true (is_readable w.socket) g.0; armed = refl }))
+  reads most (reply.Failed kind) may is = fails (Read most) kind is
+  reads most other may is = read_now most other may is (λ asleep. cc)
+
+  -- a call that changes the other direction alone, where both sockets pass its test
+  tested : {f : EndState} (call : Call) (r : Reply) (a : Aside) (test : EndState → Bool) → guard (test w.socket) (aside a w.socket) ≡ Some f
+      → (test w.socket ≡ true → MayBe a w.socket × (test s.socket ≡ true))
+      → (test s.socket ≡ true → after_call s.socket call r ≡ Some (aside a s.socket)) → Goes (record w { socket = f }) s late late (Called call r ∷ []) (Calls call r)
+  tested {f} call r a test here may there =
+      let g = guarded (test w.socket) (aside a w.socket) f here in
+      let m = may g.0 in
+      rw g.1 (one_call call r (there m.1) (settle_aside a m.0 held.due) (still (λ asleep. search))
+      (λ reads told. search (held.rests reads told)))
+
+  -- the next room must be reported
+  blocks : {f : EndState} (call : Call) → guard (not (is_writable w.socket)) (aside waiting w.socket) ≡ Some f
+      → (not (is_writable s.socket) ≡ true → after_call s.socket call reply.Blocked ≡ Some (aside waiting s.socket)) →
+      Goes (record w { socket = f }) s late late (Called call reply.Blocked ∷ []) (Calls call reply.Blocked)
+  blocks call here there =
+      let b = is_beside held.due in
+      tested call reply.Blocked waiting (λ e. not (is_writable e)) here
+      (λ t.
+      let none = or_parts w.socket.room w.socket.err (not-true (is_writable w.socket) t) in
+      let room = b.room ∙ none.0 in
+      let err = b.err none.1 in (inr none.1, rw (room, err) refl))
+      there
+
+  calls : {f : EndState} (call : Call) (r : Reply) → may_call w.reads call ≡ true → after_call w.socket call r ≡ Some f
+      → Goes (record w { socket = f; reads = reads_after w.reads call r }) s late (late_call r late) (at_call late call r) (Calls call r)
+  calls (Read most) r may is = reads most r may is
+  calls call (reply.Failed kind) may is = fails call kind is
+  calls call reply.Interrupted may is = tested call reply.Interrupted nothing (λ _. true) is (λ t. (inl refl, refl)) (λ _. refl)
+  calls (Write offer) (reply.Wrote n full) may is = tested (Write offer) (reply.Wrote n full) (sent (take n offer) (not full)) (λ e. e.room && is_count n (length offer)) is
+      (λ t. (inl refl, rw (is_beside held.due).room t)) (allowed _ _)
+  calls (Write offer) reply.Blocked may is = blocks (Write offer) is (allowed _ _)
+  calls Join reply.Blocked may is = blocks Join is (allowed _ _)
+  calls Join reply.Joined may is = tested Join reply.Joined nothing (λ e. e.room) is (λ t. (inl refl, rw (is_beside held.due).room t)) (allowed _ _)
+  calls Shut reply.Shut may is = tested Shut reply.Shut closed (λ _. true) is (λ t. (inl refl, refl)) (λ _. refl)
+  calls call r may is = cc
+
+  goes : (v : Way) (made : Step) → step w made ≡ Some v → Goes v s late (late_after w late made) (meanwhile w late made) made
+  goes v (Comes change) h = mapped _ _ v h (λ t is after. rw after (comes change t is (is_late w) refl))
+  goes v HasRoom h = mapped _ _ v h (λ t is after. has_room v t is after)
+  -- a report without cause
+  goes v Spurious h = rw (some_is h) (stays (record s { queued = true }) (λ more. refl) refl
+      (record { due = held.due; waits = still (λ a. search inl); rests = held.rests; queued = λ q. inl refl; owed = λ o. refl }))
+  goes v Vanished h = let g = guarded (w.queued && is_quiet w.socket) _ v h in rw g.1 (vanishes (second_so w.queued _ g.0) w.owed refl)
+  -- a poll takes the report
+  goes v (Polled names) h =
+      let g = guarded (w.queued && (not (is_readable w.socket) || names)) _ v h in
+      let naming = named (is_readable w.socket) names (second_so w.queued _ g.0) in
+      let coming : Asleep w → WillBeTold (record w { queued = false; taken = w.taken ++ names ∷ [] }) = λ a. inr (rw (naming a.readable) (Contains-push w.taken true)) in
+      rw g.1 (stays s (λ more. refl) refl (record {
+        due = held.due;
+        waits = still (λ a. search coming);
+        rests = held.rests;
+        queued = λ q. inr (inl (some_behind w.taken names));
+        owed = held.owed;
+      }))
+  goes v Tells h = telling v w.taken refl h
+  -- a report of an earlier connection is passed on
+  goes v Old h = rw (some_is h) (record {
+    next = up_to_date;
+    came = late;
+    shows = catches.shows;
+    changes = refl;
+    kept = record { due = Settled; waits = Prompt refl; rests = λ reads told. cc; queued = still_queued; owed = λ o. catches.keeps (held.owed o) };
+  })
+  goes v Handed h = rw (some_is h) (handing w.owed refl)
+  goes v Looks h = rw (some_is h) (stays s (λ more. refl) refl (record {
     due = held.due;
-    waits = still_waits (λ a. record { reads = rw (a.reads, a.told) refl; told = refl; readable = a.readable; coming = a.coming }) held.waits;
+    waits = still (λ a. record { reads = rw (a.reads, a.told) refl; told = refl; readable = a.readable; coming = a.coming });
     rests = λ reads told. let none = or_parts w.reads w.told reads in held.rests none.0 none.1;
     queued = held.queued;
     owed = held.owed;
   }))
-
-  -- it answers a read by itself, which would block again
-  unasked : (v : Way) (most : ℕ) → step w (Unasked most) ≡ Some v → Goes v s late late (Called (Read most) reply.Blocked ∷ []) (Unasked most)
-  unasked v most h =
+  goes v (Calls call r) h = option_and_then_some _ _ v h (λ e is ran. let g = guarded (may_call w.reads call) _ v ran in rw g.1 (calls call r g.0 is))
+  -- the wire answers a read by itself, which would block again
+  goes v (Unasked most) h =
       let g = guarded (not w.reads && not w.told) w v h in
       let none = both_down w.reads w.told g.0 in
-      let rests : Rests s.socket = held.rests none.0 none.1 in
+      let rests = held.rests none.0 none.1 in
       let again : record (s.socket) { read_armed = true } ≡ s.socket = ap (λ b. record (s.socket) { read_armed = b }) (sym rests.armed) in
-      rw g.1 (stays s (rw rests.empty (ap (λ e. Some (record s { socket = e })) again)) refl refl refl held)
-
-  -- a call that fails: all that is late comes first
-  fails : (v : Way) (call : Call) (kind : Kind) → Asked w v call (reply.Failed kind) →
-      Goes v s late [] (map Came late ++ Called call (reply.Failed kind) ∷ []) (Calls call (reply.Failed kind))
-  fails v call kind a =
-      let there : after_call catches.seen.socket call (reply.Failed kind) ≡ Some a.socket = rw catches.socket a.allowed in
-      rw a.after (come_first (Called call (reply.Failed kind) ∷ []) (record (catches.seen) { socket = a.socket }) (rw there refl) refl refl refl (record {
-        due = Settled;
-        waits = Prompt refl;
-        rests = λ reads told. absurd (let yes = failed_reads w.reads call kind in cc);
-        queued = still_queued;
-        owed = λ o. catches.keeps (held.owed o);
-      }))
-
-  -- any other call finds nothing late, or does not concern it
-  one_call : (call : Call) (r : Reply) (e f : EndState) (reads : Bool) → after_call s.socket call r ≡ Some e → Settles e late f
-      → Waits (record w { socket = f; reads = reads }) late → (reads ≡ false → w.told ≡ false → Rests e) →
-      Goes (record w { socket = f; reads = reads }) s late late (Called call r ∷ []) (Calls call r)
-  one_call call r e f reads there due waits rests =
-      stays (record s { socket = e }) (rw there refl) refl refl refl (record { due = due; waits = waits; rests = rests; queued = held.queued; owed = held.owed })
-
-  -- a read: the wire reads, so nothing is late
-  read_now : (v : Way) (most : ℕ) (r : Reply) → (a : Asked w v (Read most) r) → (reads_after w.reads (Read most) r ≡ false → Rests a.socket) →
-      Goes v s late late (Called (Read most) r ∷ []) (Calls (Read most) r)
-  read_now v most r a rests =
-      let may : w.reads ≡ true = a.may in
-      let none : late ≡ [] = prompt (λ asleep. let no = asleep.reads in cc) held.waits in
-      rw a.after (one_call (Read most) r a.socket a.socket _ (rw (same_socket held.due none) a.allowed) (rw none Settled) (Prompt none) (λ reads told. rests reads))
-
-  reads : (v : Way) (most : ℕ) (r : Reply) → Asked w v (Read most) r → Goes v s late (late_call r late) (at_call late (Read most) r) (Calls (Read most) r)
-  reads v most reply.Blocked a =
-      let g = guarded (not (is_readable w.socket)) _ a.socket a.allowed in
-      read_now v most reply.Blocked a (λ _. rw g.1 (record { empty = not-true (is_readable w.socket) g.0; armed = refl }))
-  reads v most (reply.Failed kind) a = fails v (Read most) kind a
-  reads v most (reply.Wrote n full) a = absurd (let never : None ≡ Some a.socket = a.allowed in cc)
-  reads v most reply.Joined a = absurd (let never : None ≡ Some a.socket = a.allowed in cc)
-  reads v most reply.Shut a = absurd (let never : None ≡ Some a.socket = a.allowed in cc)
-  reads v most other a = read_now v most other a (λ asleep. absurd (let yes : w.reads ≡ true = a.may in cc))
-
-  -- a call that changes the other direction alone, where both sockets pass its test
-  tested : (v : Way) (call : Call) (r : Reply) (a : Aside) (test : EndState → Bool) (f : EndState) → guard (test w.socket) (aside a w.socket) ≡ Some f
-      → v ≡ record w { socket = f } → (test w.socket ≡ true → MayBe a w.socket × (test s.socket ≡ true))
-      → (test s.socket ≡ true → after_call s.socket call r ≡ Some (aside a s.socket)) → Goes v s late late (Called call r ∷ []) (Calls call r)
-  tested v call r a test f here after may there =
-      let g = guarded (test w.socket) (aside a w.socket) f here in
-      let m = may g.0 in
-      rw (after, g.1) (one_call call r (aside a s.socket) (aside a w.socket) w.reads (there m.1) (settle_aside a m.0 held.due)
-      (still_waits (λ asleep. record { reads = asleep.reads; told = asleep.told; readable = asleep.readable; coming = asleep.coming }) held.waits)
-      (λ reads told. record { empty = (held.rests reads told).empty; armed = (held.rests reads told).armed }))
-
-  -- the next room must be reported
-  blocks : (v : Way) (call : Call) (f : EndState) → guard (not (is_writable w.socket)) (aside waiting w.socket) ≡ Some f → v ≡ record w { socket = f }
-      → (not (is_writable s.socket) ≡ true → after_call s.socket call reply.Blocked ≡ Some (aside waiting s.socket)) →
-      Goes v s late late (Called call reply.Blocked ∷ []) (Calls call reply.Blocked)
-  blocks v call f here after there =
-      let b = is_beside held.due in
-      tested v call reply.Blocked waiting (λ e. not (is_writable e)) f here after
-      (λ t.
-      let none = or_parts w.socket.room w.socket.err (not-true (is_writable w.socket) t) in
-      let room : s.socket.room ≡ false = b.room ∙ none.0 in
-      let err : s.socket.err ≡ false = b.err none.1 in (inr none.1, rw (room, err) refl))
-      there
-
-  calls_of : (v : Way) (call : Call) (r : Reply) → Asked w v call r → Goes v s late (late_call r late) (at_call late call r) (Calls call r)
-  calls_of v (Read most) r a = reads v most r a
-  calls_of v call (reply.Failed kind) a = fails v call kind a
-  calls_of v call reply.Interrupted a = tested v call reply.Interrupted nothing (λ _. true) a.socket a.allowed a.after (λ t. (inl refl, refl)) (λ _. refl)
-  calls_of v (Write offer) (reply.Wrote n full) a = tested v (Write offer) (reply.Wrote n full) (sent (take n offer) (not full)) (λ e. e.room && is_count n (length offer))
-      a.socket a.allowed a.after (λ t. (inl refl, rw (is_beside held.due).room t)) (allowed _ _)
-  calls_of v (Write offer) reply.Blocked a = blocks v (Write offer) a.socket a.allowed a.after (allowed _ _)
-  calls_of v Join reply.Blocked a = blocks v Join a.socket a.allowed a.after (allowed _ _)
-  calls_of v Join reply.Joined a = tested v Join reply.Joined nothing (λ e. e.room) a.socket a.allowed a.after (λ t. (inl refl, rw (is_beside held.due).room t)) (allowed _ _)
-  calls_of v Shut reply.Shut a = tested v Shut reply.Shut closed (λ _. true) a.socket a.allowed a.after (λ t. (inl refl, refl)) (λ _. refl)
-  calls_of v call r a = absurd (let never : None ≡ Some a.socket = a.allowed in cc)
-
-  calls : (v : Way) (call : Call) (r : Reply) → step w (Calls call r) ≡ Some v → Goes v s late (late_call r late) (at_call late call r) (Calls call r)
-  calls v call r h = calls_of v call r (asked w v call r (after_call w.socket call r) refl h)
-
-  goes : (v : Way) (st : Step) → step w st ≡ Some v → Goes v s late (late_after w late st) (meanwhile w late st) st
-  goes v (Comes change) h = comes v change h
-  goes v HasRoom h = has_room v h
-  goes v Spurious h = spurious v h
-  goes v Vanished h = vanishes v h
-  goes v (Polled names) h = polls v names h
-  goes v Tells h = telling v w.taken refl h
-  goes v Old h = old v h
-  goes v Handed h = handed v h
-  goes v Looks h = looks v h
-  goes v (Calls call r) h = calls v call r h
-  goes v (Unasked most) h = unasked v most h
+      rw g.1 (stays s (λ more. rw (rests.empty, again) refl) refl held)
 
 -- ---- a list of steps
 
 record Went (w to : Way) (late : List Change) (s : Seen) (steps : List Step) : Type 0 where
-  pub seen : Seen
-  pub allowed : events s (happened w late steps) ≡ Some seen
-  pub answers : replies_in (happened w late steps) ≡ answers_of steps
-  pub changes : came_in (happened w late steps) ++ still_late w late steps ≡ late ++ changes_of steps
-  pub kept : Held to (still_late w late steps) seen
-
-replies-append : (es more : List Event) → replies_in (es ++ more) ≡ replies_in es ++ replies_in more
-replies-append [] more = refl
-replies-append (e ∷ es) more = ap (λ xs. reply_in e ++ xs) (replies-append es more) ∙ sym (append_assoc (reply_in e) (replies_in es) (replies_in more))
-
-came-append : (es more : List Event) → came_in (es ++ more) ≡ came_in es ++ came_in more
-came-append [] more = refl
-came-append (e ∷ es) more = ap (λ xs. came_at e ++ xs) (came-append es more) ∙ sym (append_assoc (came_at e) (came_in es) (came_in more))
+  seen : Seen
+  allowed : events s (happened w late steps) ≡ Some seen
+  answers : replies_in (happened w late steps) ≡ answers_of steps
+  changes : came_in (happened w late steps) ++ still_late w late steps ≡ late ++ changes_of steps
+  kept : Held to (still_late w late steps) seen
 
 -- what came and what is late, one list after another
 seam : (c1 c2 later last late d1 d2 : List Change) → c1 ++ later ≡ late ++ d1 → c2 ++ last ≡ later ++ d2 → (c1 ++ c2) ++ last ≡ late ++ (d1 ++ d2)
-seam c1 c2 later last late d1 d2 first rest =
-    append_assoc c1 c2 last
-    ∙ (ap (λ xs. c1 ++ xs) rest
-    ∙ (sym (append_assoc c1 later d2)
-    ∙ (ap (λ xs. xs ++ d2) first
-    ∙ append_assoc late d1 d2)))
-
-more_went : {w : Way} {late : List Change} {s : Seen} (to : Way) (st : Step) (steps : List Step) → Held w late s →
-    ((v : Way) (later : List Change) (t : Seen) → Held v later t → run v steps ≡ Some to → Went v to later t steps) →
-    (o : Option Way) → step w st ≡ o → option_and_then (λ (v : Way). run v steps) o ≡ Some to → Went w to late s (st ∷ steps)
-more_went to st steps held rest None is h = absurd (cc)
-more_went {w = w} {late = late} {s = s} to st steps held rest (Some v) is h =
-    let g = goes held v st is in
-    let later : List Change = late_after w late st in
-    let es : List Event = meanwhile w late st in
-    let more : List Event = happened v later steps in
-    let r = rest v later g.next g.kept h in
-    record {
-      seen = r.seen;
-      allowed = rw is (events-append s es more ∙ rw g.allowed r.allowed);
-      answers = rw is (replies-append es more ∙ rw (g.answers, r.answers) refl);
-      changes = rw (is, came-append es more) (seam (came_in es) (came_in more) later (still_late v later steps) late (change_in st) (changes_of steps) g.changes r.changes);
-      kept = rw is r.kept;
-    }
+seam c1 c2 later last late d1 d2 first rest = rw (append_assoc c1 c2 last, rest, ← (append_assoc c1 later d2), first, append_assoc late d1 d2)
 
 went : (steps : List Step) (w to : Way) (late : List Change) (s : Seen) → Held w late s → run w steps ≡ Some to → Went w to late s steps
 went [] w to late s held h = record { seen = s; allowed = refl; answers = refl; changes = sym (append-nil late); kept = rw (some_is h) held }
-went (st ∷ steps) w to late s held h = more_went to st steps held (λ v later t k ran. went steps v to later t k ran) (step w st) refl h
+went (st ∷ steps) w to late s held h = option_and_then_some (λ v. run v steps) (step w st) to h (λ v is ran.
+    let g = goes held v st is in
+    let later = late_after w late st in
+    let more = happened v later steps in
+    let r = went steps v to later g.next g.kept ran in
+    let shows = g.shows more in
+    record {
+      seen = r.seen;
+      allowed = rw is (ap (λ x. x.0) shows ∙ r.allowed);
+      answers = rw is (ap (λ x. x.1) shows ∙ rw r.answers refl);
+      changes = rw (is, ap (λ x. x.2) shows) (seam g.came (came_in more) later (still_late v later steps) late (change_in st) (changes_of steps) g.changes r.changes);
+      kept = rw is r.kept;
+    })
 
 -- from the opening of a connection
 from_opening : (side : Side) (told : Bool) (steps : List Step) (w : Way) → run (opening side told) steps ≡ Some w → Went (opening side told) w [] (unseen side) steps
 from_opening side told steps w h = went steps (opening side told) w [] (unseen side) (record {
   due = Settled;
   waits = Prompt refl;
-  rests = λ reads heard. absurd (cc);
-  queued = λ q. absurd (cc);
-  owed = λ o. absurd (cc);
+  rests = λ reads heard. cc;
+  queued = λ q. cc;
+  owed = λ o. cc;
 }) h
 
 will_be_told : {w : Way} {late : List Change} → Waits w late → late ≢ [] → WillBeTold w
@@ -511,10 +544,10 @@ misses_nothing held (Prompt none) reads told =
     let r = held.rests reads told in
     let same = same_socket held.due none in
     let empty = rw same at r.empty in
-    record { armed = λ _. rw same at r.armed; coming = λ some. absurd (cc) }
+    record { armed = λ _. rw same at r.armed; coming = λ some. cc }
 misses_nothing held (Behind asleep) reads told =
     let some = asleep.readable in
-    record { armed = λ empty. absurd (cc); coming = λ _. asleep.coming }
+    record { armed = λ empty. cc; coming = λ _. asleep.coming }
 
 pub wires_miss_nothing : WiresMissNothing
 wires_miss_nothing side told steps w h = let r = from_opening side told steps w h in misses_nothing r.kept r.kept.waits

@@ -1,6 +1,6 @@
 -- The same connection in the machine that knows no such wire (`kernel_model`). Part of the promises. While the wire
 -- does not read and no report was passed on to it, what comes to be read is late there: it comes with the report.
-use Rattle.std.specs.Prelude.{◌≡◌, ◌≢◌, ◌⊎◌, Bool, true, false, not, ◌&&◌, ◌||◌, if◌then◌else◌, List, [], ◌∷◌, ◌++◌, map, Contains, Option, Some, option_map, option_and_then, unwrap_or}
+use Rattle.std.specs.{Prelude.{◌≡◌, ◌≢◌, ◌⊎◌, Bool, true, false, not, ◌&&◌, ◌||◌, if◌then◌else◌, List, [], ◌∷◌, ◌++◌, map, Contains, Option, Some, option_map, option_and_then, unwrap_or}, List.flat_map}
 use Rattle.token.specs.declared.side.Side.{Side}
 use Rattle.kernel_model.specs.{Outcome.{guard, Told}, Ends.{EndState, opened, is_readable, new_room}, declared.reply.Reply.Reply}
 use Rattle.readiness.specs.Machine.{Change, change_of, Call, Read, after_call, is_quiet, Way, Step, Comes, HasRoom, Spurious, Vanished, Polled, Tells, Old, Handed, Looks, Calls, Unasked, opening, step, run, answers_of, changes_of}
@@ -104,16 +104,14 @@ reply_in (Called call r) = (call, r) ∷ []
 reply_in e = []
 
 abbrev pub replies_in : List Event → List (Call × Reply)
-replies_in [] = []
-replies_in (e ∷ more) = reply_in e ++ replies_in more
+replies_in = flat_map reply_in
 
 abbrev pub came_at : Event → List Change
 came_at (Came change) = change ∷ []
 came_at e = []
 
 abbrev pub came_in : List Event → List Change
-came_in [] = []
-came_in (e ∷ more) = came_at e ++ came_in more
+came_in = flat_map came_at
 
 -- a report is queued in the system, or was taken by a poll that has not handed it over
 abbrev pub IsOnItsWay : Way → Type 0

@@ -1,7 +1,7 @@
 -- What is on its way from one socket to its wire. Part of the promises. A poller takes the socket's reports from the
 -- system (epoll(7), edge-triggered), and passes on to the wire those that name reading, while any thread makes the
 -- wire's calls. The socket is an end of the modelled kernel.
-use Rattle.std.specs.Prelude.{ℕ, Bool, true, false, not, ◌&&◌, ◌||◌, List, [], ◌∷◌, ◌++◌, Option, Some, None, option_map, option_and_then}
+use Rattle.std.specs.{Prelude.{ℕ, Bool, true, false, not, ◌&&◌, ◌||◌, List, [], ◌∷◌, ◌++◌, Option, Some, None, option_map, option_and_then}, List.flat_map}
 use Rattle.token.specs.declared.side.Side.{Side}
 use Rattle.kernel_model.specs.{Outcome.{guard, Told}, Ends.{EndState, opened, is_readable, is_writable, arrival, finish, failure, new_room}, Replies.{after_read, after_write, after_join, after_shut}, declared.reply.Reply.Reply}
 use Rattle.kernel_model.specs.declared.reply.Reply.TheVariants as reply
@@ -123,8 +123,7 @@ answer_of (Unasked most) = (Read most, reply.Blocked) ∷ []
 answer_of s = []
 
 abbrev pub answers_of : List Step → List (Call × Reply)
-answers_of [] = []
-answers_of (s ∷ steps) = answer_of s ++ answers_of steps
+answers_of = flat_map answer_of
 
 -- what came to the socket that concerns reading, in order
 abbrev pub change_in : Step → List Change
@@ -132,5 +131,4 @@ change_in (Comes change) = change ∷ []
 change_in s = []
 
 abbrev pub changes_of : List Step → List Change
-changes_of [] = []
-changes_of (s ∷ steps) = change_in s ++ changes_of steps
+changes_of = flat_map change_in

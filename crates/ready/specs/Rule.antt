@@ -1,6 +1,6 @@
 -- The queue rule. Part of the promises. It is what is true of a queue's items and of what each end has put and taken,
 -- between any two steps, in every schedule.
-use Rattle.std.specs.{Prelude.{◌≡◌, ℕ, ◌<◌, ◌==◌, nat_lt, if◌then◌else◌, true, List, [], ◌∷◌, ◌++◌, length, All, sum_by}, List.AllPairs}
+use Rattle.std.specs.{Prelude.{◌≡◌, ℕ, ◌<◌, ◌==◌, nat_lt, if◌then◌else◌, true, false, List, [], ◌∷◌, ◌++◌, length, All, sum_by}, List.AllPairs}
 use Rattle.ready.specs.declared.history.History.{History}
 use mathlib.Core.Option.{some}
 use lib.ListN.{get_elem?}
@@ -21,15 +21,18 @@ module _ {T : Type 0} where
 
   -- an end beside which no other was made yet has put all that was put
   abbrev pub FirstPutAll : ℕ → List (History T) → Type 0
-  FirstPutAll count views = (number : ℕ) (v : History T) → get_elem? views number ≡ some v → v.alone ≡ true → (views ≡ v ∷ [])
-      × (length v.put ≡ count)
+  FirstPutAll count (v ∷ []) = v.alone ≡ true → length v.put ≡ count
+  FirstPutAll count views = All (λ v. v.alone ≡ false) views
+
+  -- such entries of all ends make up this line: over all ends each of its places stands once, and each has its item
+  pub record MakeUp (line : List T) (entries : History T → List (ℕ × T)) (views : List (History T)) : Type 0 where
+    pub once : (place : ℕ) → sum_by (λ v. times place (entries v)) views ≡ once_below (length line) place
+    pub fit : All (λ v. Fits line (entries v)) views
 
   -- A place counts the items that were put before. All that was ever put, in order, is what was taken and then what the
   -- queue holds. Over all ends each place was put once, and each place below the first that is left was taken once
   pub record QueueRule (items : List T) (views : List (History T)) : Type 0 where
     pub gone : List T
-    pub put_once : (place : ℕ) → sum_by (λ v. times place v.put) views ≡ once_below (length (gone ++ items)) place
-    pub taken_once : (place : ℕ) → sum_by (λ v. times place v.taken) views ≡ once_below (length gone) place
-    pub puts_fit : All (λ v. Fits (gone ++ items) v.put) views
-    pub takes_fit : All (λ v. Fits gone v.taken) views
+    pub put : MakeUp (gone ++ items) (λ v. v.put) views
+    pub taken : MakeUp gone (λ v. v.taken) views
     pub alone : FirstPutAll (length (gone ++ items)) views

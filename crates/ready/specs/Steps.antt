@@ -1,6 +1,6 @@
--- What a call shows the end that made it. Part of the promises. The state is some state that meets the rule, since no
--- clause can name what other threads do, but the end's own history stands in it.
-use Rattle.std.specs.Prelude.{◌≡◌, ℕ, zero, suc, ◌+◌, ◌^◌, ◌==◌, Bool, not, bit_and, true, false, List, [], ◌∷◌, ◌++◌, length, slice_set}
+-- What a call shows the end that made it: of some state that meets the rule, in which its own history stands, since no
+-- clause can name what other threads do. Part of the promises.
+use Rattle.std.specs.{Prelude.{◌≡◌, ℕ, ◌+◌, ◌^◌, ◌==◌, Bool, not, bit_and, true, false, List, [], ◌∷◌, ◌++◌, length, map, slice_set}, List.range_with_len}
 use Rattle.ready.specs.{declared.history.History.History, Rule.QueueRule}
 use mathlib.Core.Option.{some}
 use lib.ListN.{get_elem?}
@@ -69,17 +69,15 @@ module _ {T : Type 0} where
     pub taken : new ≡ after_take old (length before.gone) item
     pub after : QueueRule items (slice_set views end_number new)
 
--- this many slots from the first on, in order
-unfoldable pub in_order : ℕ → ℕ → List (ℕ × ℕ)
-in_order first zero = []
-in_order first (suc n) = in_order first n ++ (n, first + n) ∷ []
+-- this many slots from the first on, each with its place, in order
+abbrev pub in_order : ℕ → ℕ → List (ℕ × ℕ)
+in_order first slots = map (λ (place : ℕ). (place, first + place)) (range_with_len 0 slots)
 
 -- the first end of a queue of free slots, which has put all of them
 abbrev pub opened : ℕ → ℕ → EndState ℕ
 opened first slots = record { capacity = slots; history = record blank { put = in_order first slots } }
 
--- One step on the bits of the idle ends, with its answer: the bits; or bits that were set or cleared, and what was
--- there before
+-- One step on the bits of the idle ends: the bits; or bits that were set or cleared, and what was there before
 pub data BitStep : Type 0 where
   ReadBits : ℕ → BitStep
   SetBits : ℕ → ℕ → BitStep

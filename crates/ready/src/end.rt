@@ -42,7 +42,7 @@ impl End {
         }
     }
 
-    // Puts a ticket at the back. The wake that it needs: none if this end will come back for it itself.
+    // The wake that the ticket needs: none if this end will come back for it itself.
     pub(crate) fn push(
         &mut self,
         rt: &impl Wait,
@@ -116,7 +116,7 @@ impl End {
         self.shared.ends.withdraw(rt, awake, found)
     }
 
-    // Sleeps until this end is woken. An end that has just taken a ticket may not: it would sleep on it.
+    // An end that has just taken a ticket may not park: it would sleep on it.
     fn park(&self, rt: &impl Wait, looked: LookedInVain) -> Awake
         requires empty { HeldOnce 0 (view self.now.pass) }
         requires mine { looked.0.end ≡ self.now.sleeper.number }

@@ -1,6 +1,5 @@
-// The words that the ends of a queue of tickets share, and all the atomic steps on them. Each step is sequentially
-// consistent, as are those of the queue: all threads see them in one order. A comment at each step names the step
-// that it pairs with.
+// The words that the ends of a queue of tickets share, and all atomic steps on them. These are sequentially consistent,
+// as are those of the queue: all threads see them in one order. A comment at each names the step that it pairs with.
 ghost use Rattle.std.specs.Prelude.{◌≡◌, ◌≢◌, ◌<◌, ◌↔◌, ℕ, IsNone, IsSome, IsTrue, IfErr, IfOk, IfSome, OnErr, OnOk, None, length, true, not};
 ghost use Rattle.crossbeam_queue.specs.Passes.{view, IsPassOf, IsSamePass, ruled_capacity};
 ghost use Rattle.ready.specs.Steps.{BitStep, ReadBits, SetBits, ClearedBits, HeldOnce, PutOne, bit_of, has_bit};
@@ -13,10 +12,8 @@ use std::sync::atomic::Ordering::SeqCst;
 use std::sync::atomic::{AtomicBool, AtomicU64};
 
 /// A word of bits that threads share. Each method is one step, and there is no other: none reads the bits in one step
-/// and writes them in another, between which a second thread's step could be lost.
-///
-/// No clause can name what a word holds, so the trait leaves open what a step does. What is proved of any such word
-/// says which steps are made on it, and what their answers come to.
+/// and writes them in another, between which a second thread's step could be lost. The trait leaves open what a step
+/// does.
 pub(crate) trait Bits {
     // What a step may do: the step with its answer, and the word.
     ghost did: { BitStep → Self → Type 0 };
@@ -25,11 +22,11 @@ pub(crate) trait Bits {
     fn read(&self) -> u64
         ensures { did (ReadBits result) self.now };
 
-    /// Sets bits. What was there before.
+    /// What was there before.
     fn set(&self, bits: u64) -> u64
         ensures { did (SetBits bits result) self.now };
 
-    /// Clears bits. What was there before.
+    /// The same.
     fn clear(&self, bits: u64) -> u64
         ensures { did (ClearedBits bits result) self.now };
 }
@@ -54,32 +51,27 @@ impl Bits for AtomicU64 {
 #[derive(Drop)]
 pub(crate) struct IdleBits<W = AtomicU64>(W);
 
-/// One look at the bits of the idle ends found none set. Only [`IdleBits::all_busy`] makes one, and it cannot be
-/// copied: who asks for one asks for a look of its own.
+/// One look found no end idle. Only [`IdleBits::all_busy`] makes one, and it cannot be copied: who asks for one asks
+/// for a look of its own.
 #[derive(Drop)]
 pub struct AllBusy {
     bits: u64,
     ghost none: { bits ≡ 0 },
 }
 
-/// An end that has announced that it is idle. It has to look at the queue before it parks.
-///
-/// Only [`IdleBits::announce`] makes one. It can be neither copied nor dropped, so each announcement is withdrawn
-/// once.
+/// An end that has announced that it is idle. Only [`IdleBits::announce`] makes one. It can be neither copied nor
+/// dropped, so each announcement is withdrawn once.
 pub(crate) struct Announced {
     end: usize,
     ghost few: { end < 32 },
 }
 
 /// An idle end has to be woken for a ticket that is in the queue. Only [`push_ticket`] makes one, and
-/// [`IdleBits::withdraw`], where another thread has woken an end that finds a ticket by itself.
-///
-/// It can be neither copied nor dropped. So each is used up once: it wakes one end, or a look after the ticket was put
-/// found no end idle, or the end that has it looks again.
+/// [`IdleBits::withdraw`], where another thread has woken an end that finds a ticket by itself. It can be neither
+/// copied nor dropped: it wakes one end, or a look after the put found no end idle, or the end that has it looks again.
 pub(crate) struct Wake(());
 
-/// An end whose bit was cleared to wake it. Only [`IdleBits::wake`] makes one, and it can be neither copied nor
-/// dropped.
+/// An end whose bit was cleared to wake it. Only [`IdleBits::wake`] makes one. It can be neither copied nor dropped.
 pub(crate) struct Woken {
     end: usize,
 }
@@ -113,7 +105,7 @@ impl Wake {
 }
 
 impl Woken {
-    /// Wakes the end. There is one in this order for each.
+    /// There is one in this order for each end.
     pub(crate) fn unpark(self, wake: Wake, unparkers: &[Unparker])
         requires { self.end < length unparkers.now }
     {
@@ -136,9 +128,8 @@ impl<W: Bits> IdleBits<W> {
         ensures same { result.end ≡ end }
         ensures set { (before : ℕ) × W.did (SetBits (bit_of end) before) self.now.0 }
     {
-        // Pairs with `read`. A put pushes and then reads the bits; an end sets its bit and then looks. So one of the
-        // two sees the other's step. If an end looked first and set the bit afterwards, a put could come in between:
-        // it would find no bit, and the end would park beside its ticket.
+        // Pairs with `look_for`. A put pushes and then reads the bits; an end sets its bit and then looks. So one of
+        // the two sees the other's step. The other way round, the end could park beside the ticket of a put in between.
         self.0.set(1u64 << end);
         Announced { end }
     }
@@ -149,9 +140,8 @@ impl<W: Bits> IdleBits<W> {
         ensures cleared { (before : ℕ) × W.did (ClearedBits (bit_of announced.end) before) self.now.0
             × (IsSome result ↔ IsTrue (not (has_bit announced.end before))) }
     {
-        // Pairs with `wake`: only one of the two finds the bit. With a load and then a store, both could find it, and
-        // nobody would pass that wake on: the other put's ticket would wait until this end comes back, while a third
-        // end sleeps.
+        // Pairs with `wake`: only one of the two finds the bit. If both could, nobody would pass that wake on: the
+        // other put's ticket would wait until this end comes back, while a third end sleeps.
         let Announced { end } = announced;
         let bit = 1u64 << end;
         let was_woken = self.0.clear(bit) & bit == 0;
@@ -165,8 +155,7 @@ impl<W: Bits> IdleBits<W> {
             × (IsSome result ↔ IsTrue (has_bit end before)) }
         ensures end { IfSome result (λ woken. woken.end ≡ end) }
     {
-        // Pairs with itself in other threads, and with `withdraw`. If two puts woke the same end, one ticket would be
-        // left.
+        // Pairs with `withdraw`, and with itself: if two puts woke the same end, one ticket would be left.
         let bit = 1u64 << end;
         if self.0.clear(bit) & bit != 0 {
             Some(Woken { end })
@@ -180,8 +169,8 @@ impl<W: Bits> IdleBits<W> {
         ensures looked { (bits : ℕ) × W.did (ReadBits bits) self.now.0 × (IsNone result ↔ bits ≡ 0)
             × IfSome result (λ found. found.0 ≡ bits) }
     {
-        // Pairs with `announce`. An end whose bit is set after this load looks at the queue after it, and so finds
-        // what was pushed before.
+        // Pairs with `announce`. An end whose bit is set after this looks at the queue later, and finds what was
+        // pushed.
         let bits = self.0.read();
         if bits != 0 {
             return Some((bits, wake));
@@ -194,8 +183,7 @@ impl<W: Bits> IdleBits<W> {
     pub(crate) fn all_busy(&self) -> Option<AllBusy>
         ensures looked { (bits : ℕ) × W.did (ReadBits bits) self.now.0 × (IsSome result ↔ bits ≡ 0) }
     {
-        // Pairs with nothing: an end may announce itself right after it. Who keeps a ticket for that has to come back
-        // to it.
+        // Pairs with nothing: an end may announce itself right after it. Who keeps a ticket has to come back to it.
         let bits = self.0.read();
         if bits == 0 {
             Some(AllBusy { bits })
@@ -209,8 +197,7 @@ impl<W: Bits> IdleBits<W> {
 #[derive(Drop)]
 pub(crate) struct ClosedMark(AtomicBool);
 
-/// What a step on the mark saw or made of it. Only such a step makes one, and it cannot be copied: who asks for one
-/// asks for a step of its own.
+/// What a step on the mark saw or made of it. Only such a step makes one, and it cannot be copied.
 #[derive(Drop)]
 pub(crate) struct MarkSeen {
     closed: bool,
@@ -223,8 +210,8 @@ impl ClosedMark {
 
     /// Reads the mark.
     pub(crate) fn read(&self) -> MarkSeen {
-        // Pairs with `set`. The mark is read before the queue. The other way round, a ticket that was put before the
-        // close and after an end's look would be left behind.
+        // Pairs with `set`. Read after the queue, a ticket that was put before the close and after the look would be
+        // left.
         let closed = self.0.load(SeqCst);
         MarkSeen { closed }
     }
@@ -233,8 +220,7 @@ impl ClosedMark {
     pub(crate) fn set(&self) -> MarkSeen
         ensures { result.closed ≡ true }
     {
-        // Pairs with `read`. The mark is set before the ends are woken: an end that a wake reaches finds it. The
-        // other way round, an end could spend its wake, find no mark and sleep forever.
+        // Pairs with `read`. Set after the ends are woken, an end could spend its wake, find no mark and sleep forever.
         self.0.store(true, SeqCst);
         MarkSeen { closed: true }
     }

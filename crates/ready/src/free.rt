@@ -12,7 +12,7 @@ use std::sync::{Arc, Wait};
 /// One thread's end of the queue of free slots. No thread sleeps on it.
 ///
 /// In a clause it is the queue's capacity and the end's history: what it has put and taken, each with its place among
-/// all that was ever put. Only its own calls change that.
+/// all that was ever put.
 #[derive(Drop)]
 pub struct FreeQueue {
     line: Arc<Line<usize>>,
@@ -31,12 +31,8 @@ impl Model for FreeQueue {
 }
 
 impl FreeQueue {
-    /// Makes a queue that holds this many slots, from the first on, in order, and its ends. This allocates all the
-    /// memory that it ever uses.
-    ///
-    /// The first end has put the slots, the first one at place 0.
-    ///
-    /// Fails only if there is not enough memory; then no queue is made.
+    /// Makes a queue that holds this many slots, from the first on, in order, as its first end has put them, and its
+    /// ends. This allocates all the memory that it ever uses, and fails only if there is not enough.
     #[tactic(auto, using(crate::proofs::Moves::begins, crate::proofs::Moves::one_end_more))]
     pub fn new(
         rt: &impl Wait,
@@ -67,9 +63,7 @@ impl FreeQueue {
         Ok(all)
     }
 
-    /// Puts a slot at the back.
-    ///
-    /// Full gives the slot back, and nothing has changed.
+    /// Puts a slot at the back. Full gives it back, and nothing has changed.
     pub fn give(&mut self, rt: &impl Wait, slot: usize) -> Result<(), Full<usize>>
         ensures put { OnOk result (PutOne self.old.history slot self.new.history) }
         ensures given_back { IfErr result (λ full. full.0 ≡ slot) }

@@ -40,9 +40,8 @@ impl IdleEnds {
         sleeper.announce(&self.idle, empty)
     }
 
-    /// Marks the end as awake, after its last look at the queue or its sleep, and gives back what the look found.
-    ///
-    /// If it found something, and another put had spent its wake on this end, the wake is passed on.
+    /// Marks the end as awake, after its last look at the queue or its sleep, and gives back what the look found. If
+    /// that is a ticket, and another put had spent its wake on this end, the wake is passed on.
     pub(crate) fn withdraw(
         &self,
         rt: &impl Wait,
@@ -81,7 +80,7 @@ impl IdleEnds {
         unreachable!()
     }
 
-    // The end with the lowest number that is still idle, of those that were idle when the bits were read.
+    // The first end that is still idle, of those that were when the bits were read.
     fn woken_of(&self, idle: u64) -> Option<Woken>
         ensures { IfSome result (λ woken. woken.end < vec_len self.now.unparkers) }
     {
@@ -101,7 +100,7 @@ impl IdleEnds {
         self.wake_all(&seen);
     }
 
-    // Wakes every end of a queue whose mark is known to be set.
+    // The mark is known to be set.
     fn wake_all(&self, _seen: &MarkSeen)
         requires { _seen.now.closed ≡ true }
     {

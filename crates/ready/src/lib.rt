@@ -10,36 +10,28 @@
 //! 1. Each place below the number of puts was put once. The places that were taken are the first ones, each once.
 //! 2. An item that was taken at a place is the item that was put there.
 //! 3. The queue holds the items of the other places, in order.
-//! 4. The places that one end puts are in ascending order, and so are those that it takes.
+//! 4. The places that one end puts rise, and so do those that it takes.
 //!
-//! So each ticket has been taken once or is still there, first in, first out. Full is answered only if some
-//! lawful state with this end's history was full, and none only if one was empty. `specs/Rule.antt` has the rule, and
-//! `specs/Steps.antt` what each call shows the end that made it.
-//!
-//! That a call returns, and that a sleeping end wakes, is not proved. Tests show it.
+//! So each ticket has been taken once or is still there, first in, first out. Full is answered only if some lawful
+//! state with this end's history was full, and none only if one was empty. That a call returns, and that a sleeping end
+//! wakes, is not proved. Tests show it.
 //!
 //! # How an end sleeps, and who wakes it
 //!
-//! A thread with nothing to do parks in [`ReadyQueue::take`]. One word has a bit for each end that is idle. An end
-//! that is about to park sets its bit, looks at the queue again, and only then parks. A put first pushes its ticket,
-//! and then clears the lowest bit that is set and unparks that end. So at most one end is woken for a ticket, and no
-//! ticket is left in the queue while all ends sleep: either the put finds the bit, or the end's second look, which
-//! comes after the bit, finds the ticket. A ticket may wait for an end that is awake.
+//! One word has a bit for each end that is idle. An end that is about to park in [`ReadyQueue::take`] sets its bit,
+//! looks at the queue again, and only then parks. A put first pushes its ticket, and then clears the lowest bit that is
+//! set and unparks that end. So at most one end is woken for a ticket, and no ticket is left while all ends sleep:
+//! either the put finds the bit, or the end's second look finds the ticket. A ticket may wait for an end that is awake.
 //!
-//! A put by an end that will take next wakes nobody. After each [`ReadyQueue::take`] that gave a ticket, the end's
-//! first put counts on the end itself coming back: it is awake, and takes one ticket when it is done. Its second put,
-//! and each later one, wakes an end. An end that never calls `take` wakes one with each put.
+//! After each `take` that gave a ticket, the end's first put wakes nobody: the end itself comes back, and takes one
+//! ticket. Each later put wakes an end, and so does each put of an end that never calls `take`. An end that has tickets
+//! to put may first look whether any end sleeps ([`ReadyQueue::all_busy`]).
 //!
-//! An end that has tickets to put may first look whether any end sleeps ([`ReadyQueue::all_busy`]): it may have
-//! better use for a ticket that would only wait in the queue.
-//!
-//! No thread spins. The order of these steps is kept by values: each step gives one that the next step asks for, and
-//! nothing else makes it. `src/flags.rt` has the atomic steps, with the step that each pairs with, `src/sleeper.rt`
-//! how an end goes to sleep, and `src/idle.rt` how it is woken.
+//! No thread spins.
 //!
 //! # Inside
 //!
-//! The order of the steps is kept by values that nothing but the step before gives. A put that has pushed its ticket
+//! The order of these steps is kept by values that nothing but the step before gives. A put that has pushed its ticket
 //! has a wake, unless its own end comes back (`End::push`: `wake`). A wake can be neither copied nor dropped (`Wake`):
 //! it unparks the one end whose bit was cleared for it (`Woken`), or one look found no bit (`look_for`). So an end is
 //! woken only once its ticket is in the queue, or `close` has set its mark (`wake_all`). `take` returns none only if it
@@ -47,11 +39,10 @@
 //! only if it read that the queue was open and then found it empty (`announce`: `open`), and parks once for each
 //! announcement, only after it found the queue empty again (`look_again`; `park`: `empty`, `mine`). Its next put counts
 //! on it to come back exactly if its last `take` gave a ticket and it has put nothing since (`End`: `same`,
-//! `comes_back`, `stays`). The bits of idle ends are a word that has no step but a read, and to set or clear bits at
-//! once (`Bits`): `withdraw` and `wake` say what one such step found (`cleared`), and `all_busy` returns Some exactly
-//! if its one look found no bit (`looked`), by a value that nothing else makes and that cannot be copied (`AllBusy`). A
-//! wake that was spent on an end is its own again where it withdraws: an end that found nothing takes it, and one that
-//! found a ticket passes it on.
+//! `comes_back`, `stays`). The word has no step but a read, and to set or clear bits at once (`Bits`): `withdraw` and
+//! `wake` say what one such step found (`cleared`), and `all_busy` returns Some exactly if its one look found no bit
+//! (`looked`). A wake that was spent on an end is its own again where it withdraws: an end that found nothing takes it,
+//! and one that found a ticket passes it on.
 #![tactic(auto)]
 
 mod end;

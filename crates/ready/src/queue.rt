@@ -14,13 +14,10 @@ use std::alloc::{AllocError, Global};
 use std::marker::Model;
 use std::sync::{Arc, Wait};
 
-/// One thread's end of a queue of tickets.
+/// One thread's end of a queue of tickets. After each ticket that [`ReadyQueue::take`] gave, it must be called again,
+/// until the answer is none: the end's next put relies on that. No clause asks for it.
 ///
-/// An end that calls [`ReadyQueue::take`] must call it again after each ticket that it got, until the answer is none: its
-/// next put relies on that. No clause asks for it.
-///
-/// In a clause it is the queue's capacity and the end's history: what it has put and taken, each with its place among
-/// all that was ever put. Only its own calls change that.
+/// In a clause it is what a [`FreeQueue`](crate::FreeQueue) is.
 #[derive(Drop)]
 pub struct ReadyQueue {
     end: End,
@@ -37,9 +34,8 @@ impl Model for ReadyQueue {
 }
 
 impl ReadyQueue {
-    /// Makes a queue for at most `capacity` tickets, and its ends. This allocates all the memory that it ever uses.
-    ///
-    /// Fails only if there is not enough memory; then no queue is made.
+    /// Makes a queue for at most `capacity` tickets, and its ends. This allocates all the memory that it ever uses, and
+    /// fails only if there is not enough.
     #[tactic(auto, using(crate::proofs::Moves::begins))]
     pub fn new(alloc: Global, capacity: usize, ends: usize) -> Result<Vec<ReadyQueue>, AllocError>
         requires capacity { (1 ≤ capacity) × (capacity ≤ 32768) }
@@ -67,9 +63,8 @@ impl ReadyQueue {
         Ok(all)
     }
 
-    /// Puts a ticket at the back, and wakes an idle end for it unless this end will come back for it itself.
-    ///
-    /// Full gives the ticket back, and nothing else has changed.
+    /// Puts a ticket at the back, and wakes an idle end for it unless this end will come back for it itself. Full gives
+    /// the ticket back, and nothing has changed.
     pub fn put(&mut self, rt: &impl Wait, ticket: Ticket) -> Result<(), Full<Ticket>>
         ensures put { OnOk result (PutOne self.old.history ticket self.new.history) }
         ensures given_back { IfErr result (λ full. full.0 ≡ ticket) }

@@ -1,5 +1,5 @@
-// How an end goes to sleep. It reads the mark, looks at the queue, announces that it is idle, looks again, parks, and
-// withdraws. Each of these steps gives the value that the next one asks for, and nothing else makes that value.
+// How an end goes to sleep: it reads the mark, looks at the queue, announces that it is idle, looks again, parks, and
+// withdraws. Each step gives the value that the next one asks for, and nothing else makes it.
 ghost use Rattle.std.specs.Prelude.{◌≡◌, ◌≢◌, ◌<◌, true, IfOk, IfErr, OnErr};
 ghost use Rattle.crossbeam_queue.specs.Passes.{view, IsPassOf, IsSamePass};
 ghost use Rattle.ready.specs.Steps.{HeldOnce, TookOne};

@@ -5,7 +5,7 @@
 pub struct Ticket {
     /// The slot to try.
     pub slot: usize,
-    /// The generation of the connection that the slot had when the ticket was made.
+    /// That of the connection that the slot had when the ticket was made.
     pub generation: u64,
 }
 

@@ -17,7 +17,6 @@ use token::Token;
 /// A poller's front that does and promises what the one in it does and promises, and records it.
 pub struct RecordedFront<F: Drop, S: Sink> {
     inner: Inner<F>,
-    /// The poller's number.
     poller: usize,
     recorder: Recorder<S>,
 }
@@ -42,7 +41,6 @@ pub fn record_all<F: Drop, S: Sink>(
     Ok(all)
 }
 
-/// A front that records for this one, as that of a poller's number.
 fn recorded<F: Drop, S: Sink>(
     inner: F,
     poller: usize,
@@ -70,7 +68,6 @@ impl<F: Drop, S: Sink> Drop for RecordedFront<F, S> {
     }
 }
 
-/// What is recorded of an opening.
 fn told<T>(opened: &Result<T, Unopened>) -> Opening
     ensures { result ≡ opened_of opened.now }
 {
@@ -81,7 +78,6 @@ fn told<T>(opened: &Result<T, Unopened>) -> Opening
     }
 }
 
-/// What an error of accept(2) means.
 fn not_accepted(kind: ErrorKind) -> Accepted
     ensures { result ≡ accept_answer kind }
 {
@@ -96,7 +92,6 @@ fn not_accepted(kind: ErrorKind) -> Accepted
     }
 }
 
-/// What an error of a wait for reports means.
 fn not_waited(kind: ErrorKind) -> Polling
     ensures { result ≡ not_waited kind }
 {

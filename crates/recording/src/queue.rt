@@ -30,9 +30,8 @@ pub(crate) fn soon() -> Duration {
     Duration::from_millis(2)
 }
 
-/// The records between the threads that record and the one that writes, and the count by which all of them tell when
-/// an act was. There are [`QUEUES`] queues, of at most [`MAX_RECORDS`] records each: what a poller did, and what was
-/// done at its slots, waits in one of them, in the order in which it was done.
+/// The records between the threads that record and the one that writes, and the count by which they tell when an act
+/// was. What a poller did, and what was done at its slots, waits in one of [`QUEUES`] queues, in its order.
 #[derive(Drop)]
 pub struct RecordQueue {
     pub(crate) waiting: ParkedQueue<Record, QUEUES>,
@@ -44,8 +43,7 @@ pub struct RecordQueue {
 }
 
 impl RecordQueue {
-    /// Empty queues for a relay whose pollers have these slots. It takes memory for all records; no later call takes
-    /// any.
+    /// Empty queues for a relay whose pollers have these slots. No later call takes memory.
     pub fn new(alloc: Global, split: Split) -> Result<RecordQueue, AllocError>
         ensures room { IfOk result (λ made. made.waiting ≡ replicate 4 131072) }
     {
@@ -62,8 +60,7 @@ impl RecordQueue {
         })
     }
 
-    /// The next values of the count, so many, of which the first is returned. No two calls give the same before it has
-    /// gone round.
+    /// The first of so many next values of the count. No two calls give the same before it has gone round.
     pub(crate) fn next(&self, count: u64) -> u64 {
         self.count.fetch_add(count, Ordering::SeqCst)
     }
@@ -80,7 +77,7 @@ impl RecordQueue {
         is_first
     }
 
-    /// Puts a record after the others, and wakes a writer that sleeps. Returns whether there was room.
+    /// Puts a record after the others. Returns whether there was room.
     pub(crate) fn put(&self, rt: &impl Wait, record: Record) -> bool {
         let at = self.poller_of(&record.act) % QUEUES;
         self.waiting.put(rt, at, record)
@@ -96,8 +93,7 @@ impl RecordQueue {
         }
     }
 
-    /// Lets the writer end once every record is written, and wakes it. It is for when the relay has ended: what is
-    /// put later may not be written.
+    /// Lets the writer end once every record is written, and wakes it. What is put later may not be written.
     pub fn close(&self) {
         self.waiting.close();
     }
@@ -112,7 +108,7 @@ impl RecordQueue {
     }
 }
 
-/// A handle of a queue of records. `rt` is for the queue and for the log.
+/// `rt` is for the queue and for the log.
 #[derive(Drop)]
 pub struct QueueSink<'r, R> {
     pub rt: &'r R,

@@ -7,10 +7,9 @@ use records::{Act, Made, Polling, Record};
 use std::marker::Model;
 use token::{Token, unpack};
 
-/// A count that all threads of a relay share, and a queue of records. Each thread has handles of its own.
-///
-/// No clause can name what threads share, so the trait leaves open what a step does. What is proved of a wrapper over
-/// any such sink says which steps it makes on it, in which order, and no other ones.
+/// A count that all threads of a relay share, and a queue of records. Each thread has handles of its own. What threads
+/// share no clause can name, so the trait leaves open what a step does: what is proved of a wrapper over any such sink
+/// says which steps it makes on it, in which order, and no other ones.
 pub trait Sink: Drop {
     // What a step may do: the step with its answer, and the sink before and after.
     ghost did: { Step → Self → Self → Type 0 };
@@ -19,7 +18,7 @@ pub trait Sink: Drop {
     fn begin(&mut self) -> Option<u64>
         ensures { did (Began result) self.old self.new };
 
-    /// The count after an act that has ended.
+    /// The count after an act.
     fn end(&mut self) -> u64
         ensures { did (Ended result) self.old self.new };
 
@@ -42,15 +41,14 @@ pub struct Recorder<S> {
     sink: S,
 }
 
-/// An act has begun, and this was the count before it, if it is recorded. It can be neither copied nor dropped: so
-/// each count before an act is taken for one record.
+/// An act has begun, and this was the count before it, if it is recorded. It can be neither copied nor dropped: so each
+/// such count is taken for one record.
 pub(crate) struct Begun(Option<u64>);
 
 /// A part was dropped, and this was the count before that, if it is recorded. Nothing else makes one.
 pub(crate) struct Gone(Option<u64>);
 
-/// A part that is wrapped. What is done with it is done after the count before it was taken. It cannot be dropped
-/// before that either.
+/// A part that is wrapped. It is used, or dropped, only after the count before that was taken.
 pub(crate) struct Inner<T>(T);
 
 impl<S: Sink> Recorder<S> {
@@ -103,7 +101,7 @@ impl<S: Sink> Recorder<S> {
         }
     }
 
-    /// An act has ended just now that could have no other order than it has: it is recorded as taking no time.
+    /// An act that could have no other order than it has is recorded as taking no time.
     pub(crate) fn record_at_once(&mut self, act: Act)
         requires { drops act ≡ false }
         ensures { RecordsAtOnce S.did act self.old.sink self.new.sink }
@@ -167,7 +165,7 @@ impl<T> Model for Inner<T> {
 }
 
 impl<W: Wire> Inner<W> {
-    /// The wire, for what is not recorded of it.
+    /// For what is not recorded of it.
     pub(crate) fn wire(&self) -> &W
         ensures { result.now ≡ self.now }
     {

@@ -12,8 +12,8 @@ use relay_core::{Kind, Side};
 use std::io;
 use token::Token;
 
-/// A wire that does and promises what the one in it does and promises, and records each call, and its end. Recording
-/// starts once it has a name.
+/// A wire that does and promises what the one in it does and promises, and records each call, and its end, once it has
+/// a name.
 pub struct RecordedWire<W: Drop, S: Sink> {
     pub(crate) inner: Inner<W>,
     /// The name of its end, once its connection is open.
@@ -36,7 +36,6 @@ impl<W: Drop, S: Sink> RecordedWire<W, S> {
     }
 }
 
-/// A wire's counts before a call.
 #[derive(Clone, Copy)]
 struct Counts {
     faults: u64,
@@ -44,7 +43,6 @@ struct Counts {
 }
 
 impl Counts {
-    /// The counts of a wire now.
     fn of<W: Wire>(wire: &W) -> Counts
         ensures faults { result.faults ≡ (W.told wire.now).faults }
         ensures blocks { result.blocks ≡ (W.told wire.now).blocks }
@@ -55,7 +53,7 @@ impl Counts {
         }
     }
 
-    /// What the error of a call means, by which count has risen since then: the rule by which a turn tells the pair.
+    /// What the error of a call means, by which count has risen: the rule by which a turn tells the pair.
     fn refused<W: Wire>(self, wire: &W, error: &io::Error) -> Answer
         ensures { result ≡ refused (counts_alone self.faults self.blocks) (W.told wire.now) (error_kind error.now) }
     {
@@ -79,7 +77,6 @@ fn begin<S: Sink>(name: &Option<Token>, recorder: &mut Recorder<S>) -> Begun
     }
 }
 
-/// It has ended.
 fn end<S: Sink>(name: Option<Token>, recorder: &mut Recorder<S>, begun: Begun, made: Made)
     requires unnamed { name ≡ None → begun.0 ≡ None }
     requires call { made ≢ Drop }
@@ -102,7 +99,6 @@ impl<W: Drop, S: Sink> Drop for RecordedWire<W, S> {
     }
 }
 
-/// Drops a wire, and records that.
 fn close<W: Drop, S: Sink>(inner: Inner<W>, name: Option<Token>, recorder: &mut Recorder<S>)
     ensures { WireRecords S.did name Drop recorder.old.sink recorder.new.sink }
 {

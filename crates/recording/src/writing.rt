@@ -11,10 +11,10 @@ use std::fmt::Write as _;
 use std::io::{self, BufWriter, ErrorKind, Write};
 use std::sync::Wait;
 
-/// Writes the header and the queue's records, in the order in which each queue has them, until the queue is closed or
-/// nothing is recorded any more, and then the last record. It writes what it has before it rests. It takes memory at
-/// its beginning alone. If there is none, or the file cannot be written, the recording ends, which is logged, and
-/// what was written stays.
+/// Writes the header and the records, in the order in which each queue has them, until the queue is closed or nothing
+/// is recorded any more, and then the last record. It writes what it has before it rests, and takes memory at its
+/// beginning alone. If there is none, or the file cannot be written, the recording ends, which is logged, and what was
+/// written stays.
 pub fn write_records<R: Wait + Log, W: Write + Drop>(
     rt: &R,
     alloc: Global,
@@ -29,7 +29,6 @@ pub fn write_records<R: Wait + Log, W: Write + Drop>(
     }
 }
 
-/// The same, up to the first error.
 fn write_recording<R: Wait, W: Write + Drop>(
     rt: &R,
     alloc: Global,
@@ -42,7 +41,6 @@ fn write_recording<R: Wait, W: Write + Drop>(
     Writer { rt, queue, file }.write()
 }
 
-/// What writes the records of a queue.
 #[derive(Drop)]
 struct Writer<'a, R, W> {
     rt: &'a R,
@@ -51,7 +49,6 @@ struct Writer<'a, R, W> {
 }
 
 impl<R: Wait, W: Write> Writer<'_, R, W> {
-    /// Writes all records, and then the last one.
     fn write(&mut self) -> io::Result<()> {
         let (rt, queue) = (self.rt, self.queue);
         let drained = queue.waiting.drain(rt, self, soon())?;
@@ -64,7 +61,6 @@ impl<R: Wait, W: Write> Writer<'_, R, W> {
 impl<R: Wait, W: Write> Drain for Writer<'_, R, W> {
     type Error = io::Error;
 
-    /// Writes records until a look at each queue finds none.
     fn drain(&mut self) -> io::Result<bool> {
         let mut found = false;
         for _look in self.rt.forever() {
@@ -82,8 +78,8 @@ impl<R: Wait, W: Write> Drain for Writer<'_, R, W> {
     }
 }
 
-/// Writes records of one queue, and answers whether there was one. This many at most, since threads may put them
-/// there as fast as they are written, and the others fill meanwhile.
+/// Writes records of one queue, and answers whether there was one: so many at most, since threads may put them there as
+/// fast as they are written, and the others fill meanwhile.
 fn write_run<R: Wait, W: Write>(
     rt: &R,
     queue: &RecordQueue,
@@ -101,7 +97,6 @@ fn write_run<R: Wait, W: Write>(
     Ok(true)
 }
 
-/// Writes the line of a record.
 fn write_line<W: Write>(record: &Record, file: &mut W) -> io::Result<()> {
     let mut line = ArrayString::<MAX_LINE>::new();
     if writeln!(line, "{record}").is_err() {
@@ -110,5 +105,4 @@ fn write_line<W: Write>(record: &Record, file: &mut W) -> io::Result<()> {
     file.write_all(line.as_str().as_bytes())
 }
 
-/// The most bytes of a line, with its line feed.
 const MAX_LINE: usize = MAX_RECORD + 1;

@@ -19,15 +19,15 @@ pub enum Act {
     Poller(usize, Polling),
     /// The clock showed this second, to a turn or to a round.
     Second(u64),
-    /// The gate's first call of a turn at this slot.
+    /// The beginning of a turn at this slot.
     Begin(usize),
-    /// The gate's second call of a turn at this slot.
+    /// Its end.
     End(usize),
     /// This was done with the wire of an end.
     Wire(Token, Made),
     /// The relay ended, and everything is recorded. It is the last record.
     Ended,
-    /// There was no room for a record, so that the recording stops here. It is the last record.
+    /// There was no room for a record. It is the last one.
     Full,
 }
 
@@ -97,7 +97,7 @@ pub enum Answer {
     Shut,
     /// The call would have had to wait.
     Blocked,
-    /// A signal interrupted the call, and nothing moved.
+    /// A signal interrupted the call.
     Interrupted,
     /// The call failed.
     Failed(Kind),

@@ -45,93 +45,49 @@ impl Display for Header {
 /// It refuses a line of another form, and sizes that no relay has: 0 or over 4,096 slots, 0 or over 16 pollers or workers,
 /// a ring of 0 or over 65,536 bytes, a budget of 0 or over 1,024 calls, and an idle limit of over 86,400 seconds.
 pub fn read_header(line: &[u8]) -> Result<Header, Wrong<'_>> {
-    let mut words = Pieces::new(line, b' ');
-    for word in &["relayd", "recording", "1"] {
-        first(&mut words, word)?;
+    let words = &mut Pieces::new(line, b' ');
+    for text in &["relayd", "recording", "1"] {
+        let wanted = "a recording begins with relayd recording 1";
+        let word = word(words, wanted)?;
+        said(is(word, text).then_some(()), word, wanted)?;
     }
     let header = Header {
-        slots: size(
-            &mut words,
-            "slots=",
-            4_096,
-            "slots=1 to slots=4096 is wanted",
-        )?,
-        pollers: size(
-            &mut words,
-            "pollers=",
-            16,
-            "pollers=1 to pollers=16 is wanted",
-        )?,
-        workers: size(
-            &mut words,
-            "workers=",
-            16,
-            "workers=1 to workers=16 is wanted",
-        )?,
-        ring: size(
-            &mut words,
-            "ring=",
-            65_536,
-            "ring=1 to ring=65536 is wanted",
-        )?,
-        budget: size(
-            &mut words,
-            "budget=",
-            1_024,
-            "budget=1 to budget=1024 is wanted",
-        )?,
-        idle: idle(&mut words)?,
-        proxy: proxy(&mut words)?,
+        slots: size(words, 1, 4_096, "slots=1 to slots=4096 is wanted")?,
+        pollers: size(words, 1, 16, "pollers=1 to pollers=16 is wanted")?,
+        workers: size(words, 1, 16, "workers=1 to workers=16 is wanted")?,
+        ring: size(words, 1, 65_536, "ring=1 to ring=65536 is wanted")?,
+        budget: size(words, 1, 1_024, "budget=1 to budget=1024 is wanted")?,
+        idle: size(words, 0, 86_400, "idle=0 to idle=86400 is wanted")? as u64,
+        proxy: proxy(words)?,
     };
-    end(&mut words)?;
+    end(words)?;
     Ok(header)
 }
 
-/// One of the words with which every recording begins.
-fn first<'a>(words: &mut Pieces<'a>, text: &str) -> Result<(), Wrong<'a>> {
-    let wanted = "a recording begins with relayd recording 1";
-    let word = word(words, wanted)?;
-    said(if is(word, text) { Some(()) } else { None }, word, wanted)
-}
-
-/// The number after a key, which ends with its `=`.
-fn value_after(key: &str, word: &[u8]) -> Option<usize> {
-    number(word.strip_prefix(key.as_bytes())?)
-}
-
-/// A size, which is 1 at least.
+/// A number between these two, after the key with which `wanted` begins.
 fn size<'a>(
     words: &mut Pieces<'a>,
-    key: &str,
+    least: usize,
     most: usize,
     wanted: &'static str,
 ) -> Result<usize, Wrong<'a>> {
     let word = word(words, wanted)?;
-    match value_after(key, word) {
-        Some(value) if 1 <= value && value <= most => Ok(value),
+    match value_after(wanted, word) {
+        Some(value) if least <= value && value <= most => Ok(value),
         _ => said(None, word, wanted),
     }
 }
 
-/// The idle limit.
-fn idle<'a>(words: &mut Pieces<'a>) -> Result<u64, Wrong<'a>> {
-    let wanted = "idle=0 to idle=86400 is wanted";
-    let word = word(words, wanted)?;
-    match value_after("idle=", word) {
-        Some(value) if value <= 86_400 => Ok(value as u64),
-        _ => said(None, word, wanted),
-    }
+fn value_after(wanted: &str, word: &[u8]) -> Option<usize> {
+    let (key, _) = wanted.split_once('=')?;
+    number(word.strip_prefix(key.as_bytes())?.strip_prefix(b"=")?)
 }
 
-/// Whether targets are told addresses.
 fn proxy<'a>(words: &mut Pieces<'a>) -> Result<bool, Wrong<'a>> {
     let wanted = "proxy=yes or proxy=no is wanted";
-    let word = word(words, wanted)?;
-    if is(word, "proxy=yes") {
-        Ok(true)
-    } else if is(word, "proxy=no") {
-        Ok(false)
-    } else {
-        said(None, word, wanted)
+    match word(words, wanted)? {
+        b"proxy=yes" => Ok(true),
+        b"proxy=no" => Ok(false),
+        word => said(None, word, wanted),
     }
 }

@@ -1,6 +1,6 @@
 // How a record prints itself.
 ghost use Rattle.std.specs.Prelude.{Some};
-ghost use Rattle.records.specs.Texts.{record_text, act_text, polling_text, made_text, answer_text, name_text, end_text};
+ghost use Rattle.records.specs.Texts.{record_text, act_text, polling_text, made_text, answer_text, end_text};
 
 use crate::act::{Act, Answer, Made, Polling, Record};
 use std::fmt::{self, Display};
@@ -46,9 +46,11 @@ impl Display for Polling {
             Polling::Gave(count) => write!(f, "poll {count}"),
             Polling::Interrupted => f.write_str("poll interrupted"),
             Polling::Failed => f.write_str("poll failed"),
-            Polling::Reported(name) => {
-                let name = NameText(name);
-                write!(f, "report {name}")
+            Polling::Reported(Name::Listener) => f.write_str("report listener"),
+            Polling::Reported(Name::Waker) => f.write_str("report waker"),
+            Polling::Reported(Name::End(token)) => {
+                let end = EndText(token);
+                write!(f, "report {end}")
             }
             Polling::Accept(accepted) => {
                 let name = accepted.name();
@@ -91,25 +93,6 @@ impl Display for Answer {
             Answer::Failed(kind) => {
                 let name = kind.name();
                 write!(f, "failed {name}")
-            }
-        }
-    }
-}
-
-/// What a report names.
-#[derive(Clone, Copy)]
-struct NameText(Name);
-
-impl Display for NameText {
-    ghost output = { λ text. Some (name_text text.0) };
-
-    fn fmt<W: fmt::Write>(&self, f: &mut fmt::Formatter<W>) -> fmt::Result {
-        match self.0 {
-            Name::Listener => f.write_str("listener"),
-            Name::Waker => f.write_str("waker"),
-            Name::End(token) => {
-                let end = EndText(token);
-                write!(f, "{end}")
             }
         }
     }

@@ -27,8 +27,8 @@ pub enum Outcome {
 
 /// Replays recordings.
 pub trait Replay {
-    /// Reads a recording, plays it, and writes what is wanted of it. With `rests` the relay had come to rest when it
-    /// was stopped.
+    /// Reads a recording, plays it, and writes what is wanted of it. `rests`: the relay had come to rest when it was
+    /// stopped.
     fn replay<R: Read, W: Write>(
         &self,
         alloc: Global,

@@ -10,14 +10,12 @@ side_of (Join side) = side
 side_of (Shut side) = side
 side_of (Read side most) = side
 
--- which of the four calls it is
 abbrev pub kind_of : Call → CallKind
 kind_of (Write side) = WriteKind
 kind_of (Join side) = JoinKind
 kind_of (Shut side) = ShutKind
 kind_of (Read side most) = ReadKind
 
--- the word for it
 abbrev pub call_name : CallKind → List ℕ
 call_name WriteKind = codes "write"
 call_name JoinKind = codes "join"

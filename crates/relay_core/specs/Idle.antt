@@ -11,10 +11,8 @@ is_past now limit moved = nat_lt 0 limit && nat_le moved now && nat_le limit (no
 abbrev pub is_overdue : ℕ → ℕ → PairState → Bool
 is_overdue now limit p = is_past now limit p.moved && is_live (verdict p) && is_none (next_call p)
 
--- the pair failed since it moved nothing
 abbrev pub timed_out : PairState → PairState
 timed_out p = record p { failure = Some Idle }
 
--- the pair once it was held against the limit
 abbrev pub expired : ℕ → ℕ → PairState → PairState
 expired now limit p = if is_overdue now limit p then timed_out p else p

@@ -18,8 +18,7 @@ pub record HasRoomFor (stream : Stream) (most : ℕ) : Type 0 where
   pub room : most ≤ free_room stream
   pub open_end : stream.end_seen ≡ false
 
--- nothing in the pair speaks against a call: a write has something to offer, a shutdown comes after every
--- byte, on a socket that is connected, and a read has room for what it asks for
+-- nothing in the pair speaks against a call
 abbrev pub IsPossible : PairState → Call → Type 0
 IsPossible p (Write side) = 1 ≤ length (offer p side)
 IsPossible p (Join side) = IsDrained (stream_of p (inward side)) × (is_joined p side ≡ false)
@@ -37,7 +36,6 @@ pub record PassesEndLast (old new : Stream) : Type 0 where
   pub for_good : old.shut ≡ true → new.shut ≡ true
   pub closed_last : IsClosedLast old → IsClosedLast new
 
--- in each direction: what was there and what came in is what went out and what is there now, in order
 abbrev pub KeepsOrder : PairState → Call → AnswerValue → PairState → Type 0
 KeepsOrder old call reply new =
     (d : Direction) → waiting (stream_of old d) ++ brought d call reply ≡ carried old d call reply ++ waiting (stream_of new d)
@@ -67,23 +65,19 @@ pub record Place : Type 0 where
 abbrev pub place_of : PairState → Place
 place_of p = record { slot = p.slot; generation = p.generation; up_capacity = p.up.capacity; down_capacity = p.down.capacity }
 
--- no call serves this direction: bytes that wait have no writable destination, an end that must be passed
--- on has one that neither is connected nor can be asked, and a ring with room has no readable source
+-- no call serves this direction
 pub record IsAtRest (p : PairState) (d : Direction) : Type 0 where
   pub waits : 1 ≤ length (waiting (stream_of p d)) → (flags_of p (destination d)).write ≡ false
   pub unjoined : IsDrained (stream_of p d) → is_joined p (destination d) ≡ false
   pub unasked : IsDrained (stream_of p d) → (flags_of p (destination d)).write ≡ false
   pub unread : (stream_of p d).end_seen ≡ false → 1 ≤ free_room (stream_of p d) → (flags_of p (source d)).read ≡ false
 
--- the pair is live and has no next call, and at this second its last movement lies at least a limit back that is not 0
 pub record IsOverdue (now limit : ℕ) (p : PairState) : Type 0 where
   pub live : verdict p ≡ Verdict.Live
   pub quiet : next_call p ≡ None
   pub limited : 1 ≤ limit
   pub before : p.moved ≤ now
   pub long : limit ≤ now - p.moved
-
--- laws of one answer
 
 abbrev pub AnswersKeepOrder : Type 0
 AnswersKeepOrder = (now : ℕ) (p : PairState) (call : Call) (reply : AnswerValue) → KeepsOrder p call reply (after now p call reply)
@@ -118,15 +112,11 @@ pub record IsAnswerOf (now : ℕ) (p : PairState) (reply : AnswerValue) (q : Pai
 abbrev pub AnswersAreToNextCalls : Type 0
 AnswersAreToNextCalls = (now : ℕ) (p q : PairState) (reply : AnswerValue) → answered now p reply ≡ Some q → IsAnswerOf now p reply q
 
--- laws of the next call
-
 abbrev pub CallsComeWhileLive : Type 0
 CallsComeWhileLive = (p : PairState) (call : Call) → next_call p ≡ Some call → verdict p ≡ Verdict.Live
 
 abbrev pub LivePairsRest : Type 0
 LivePairsRest = (p : PairState) → verdict p ≡ Verdict.Live → next_call p ≡ None → (d : Direction) → IsAtRest p d
-
--- laws of a report
 
 -- a report sets all four flags and changes nothing else
 abbrev pub ReportsSetFlags : Type 0
@@ -134,8 +124,6 @@ ReportsSetFlags = (p : PairState) → noted p ≡ record p { client = ready; tar
 
 abbrev pub ReportsKeepStreams : Type 0
 ReportsKeepStreams = (p : PairState) (d : Direction) → stream_of (noted p) d ≡ stream_of p d
-
--- laws of the idle limit
 
 -- an overdue pair has failed by the limit, and any other is as it was
 pub record IsHeldAgainst (now limit : ℕ) (p : PairState) : Type 0 where
@@ -151,15 +139,12 @@ abbrev pub ExpiriesChangeVerdictAlone : Type 0
 ExpiriesChangeVerdictAlone = (now limit : ℕ) (p : PairState) → expired now limit p ≡ record p { failure = (expired now limit p).failure }
 
 -- laws of runs: over any list of answers, reports and expiries
-
--- the bytes of each direction keep their order, and none is lost or doubled
 abbrev pub RunsKeepOrder : Type 0
 RunsKeepOrder =
     (p q : PairState) (events : List Event) → through p events ≡ Some q →
     (d : Direction) → waiting (stream_of p d) ++ ever_brought p d events ≡ ever_carried p d events ++ waiting (stream_of q d)
 
--- a pair that passed on no end before its bytes goes on so, and one on which an end was passed on has
--- passed on every byte that it ever had or read
+-- a pair that passed on no end before its bytes goes on so, and passed on first every byte that it ever had or read
 pub record RunPassesEndLast (p q : PairState) (events : List Event) : Type 0 where
   pub kept : KeepsEndLast q
   pub last : (d : Direction) → (stream_of q d).shut ≡ true → ever_carried p d events ≡ waiting (stream_of p d) ++ ever_brought p d events

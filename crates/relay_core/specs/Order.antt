@@ -30,11 +30,10 @@ call_for p d =
     else if is_open (stream_of p d) && (flags_of p (source d)).read then Some (Read (source d) (read_most (stream_of p d)))
     else None
 
--- the call that a pair makes next: one for the direction whose turn it is, or else one for the other
--- direction, and none once the pair is done or failed
+-- the call that a pair makes next: one for the direction whose turn it is, or else for the other, while it is live
 abbrev pub next_call : PairState → Option Call
 next_call p = if is_live (verdict p) then option_or (call_for p p.turn) (call_for p (opposite p.turn)) else None
 
--- what a write to a side offers: the lead of what is bound for it while that is not empty, and then the ring
+-- what a write to a side offers
 abbrev pub offer : PairState → Side → List ℕ
 offer p side = front (stream_of p (inward side))

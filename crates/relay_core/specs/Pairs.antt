@@ -6,11 +6,10 @@ use Rattle.flow.specs.Stream.{Stream, empty_stream}
 pub use Rattle.relay_core.specs.declared.flags.Flags.{Flags}
 use Rattle.relay_core.specs.declared.verdict.{Fault.Fault, Verdict.{Verdict, TheVariants.{Live, Done, Failed}}}
 
--- `client` and `target` are what the relay believes of the two sockets: a flag that is set says that the
--- call is worth a try, and one that is not, that the last try would have had to wait and no report came
--- since. `joined` says that the target's connect is known to have ended, `turn` is the direction that is
--- looked at first, `sent_up` and `sent_down` count the bytes that writes took, and `moved` is the second
--- at which the connection was made or last moved
+-- `client` and `target` are flags of the two sockets: one that is set says that the call is worth a try, and one that
+-- is not, that the last try would have had to wait and no report came since. `joined` says that the target's connect is
+-- known to have ended, `turn` is the direction that is looked at first, `sent_up` and `sent_down` count the bytes that
+-- writes took, and `moved` is the second at which the connection was made or last moved
 pub record PairState : Type 0 where
   pub slot : ℕ
   pub generation : ℕ
@@ -46,7 +45,6 @@ fresh slot generation capacity now lead = record {
   moved = now;
 }
 
--- the stream of one direction
 abbrev pub stream_of : PairState → Direction → Stream
 stream_of p Up = p.up
 stream_of p Down = p.down
@@ -55,7 +53,6 @@ abbrev pub with_stream : PairState → Direction → Stream → PairState
 with_stream p Up stream = record p { up = stream }
 with_stream p Down stream = record p { down = stream }
 
--- the flags of one side's socket
 abbrev pub flags_of : PairState → Side → Flags
 flags_of p Client = p.client
 flags_of p Target = p.target
@@ -86,8 +83,8 @@ with_sent p Down n = record p { sent_down = n }
 abbrev pub noted : PairState → PairState
 noted p = record p { client = ready; target = ready }
 
--- what has become of the connection: it failed once a call failed or the idle limit passed, it is done once
--- both ends of input were passed on, and else it is live
+-- what has become of the connection: it failed once there is a fault, is done once both ends were passed on, and else
+-- live
 abbrev pub verdict_of : Option Fault → Bool → Verdict
 verdict_of (Some fault) both_shut = Failed fault
 verdict_of None true = Done

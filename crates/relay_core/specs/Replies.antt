@@ -6,9 +6,8 @@ use Rattle.relay_core.specs.{declared.{call.Call.Call, verdict.Fault.TheVariants
 use Rattle.relay_core.specs.declared.call.Call.TheVariants as call
 use Rattle.relay_core.specs.declared.answer.Answer.TheVariants as answer
 
--- read(2) gave bytes, or the end of input; write(2) took the first n bytes of the offer; the socket is
--- connected; shutdown(2) passed the end on; the call would have to wait; a signal interrupted it; or it
--- failed
+-- read(2) gave bytes, or the end of input; write(2) took the first n bytes of the offer; the socket is connected;
+-- shutdown(2) passed the end on; the call would have to wait; a signal interrupted it; or it failed
 pub data AnswerValue : Type 0 where
   Bytes : List ℕ → AnswerValue
   End : AnswerValue
@@ -19,8 +18,7 @@ pub data AnswerValue : Type 0 where
   Interrupted : AnswerValue
   Failed : Kind → AnswerValue
 
--- the answers that a call may get: a read gives 1 byte to as many as it asks for, a write takes 1 byte
--- to all that it offers, and a shutdown never has to wait
+-- the answers that a call may get
 abbrev pub fits : PairState → Call → AnswerValue → Bool
 fits p (call.Read side most) (Bytes bytes) = nat_le 1 (length bytes) && nat_le (length bytes) most
 fits p (call.Read side most) End = true
@@ -58,16 +56,14 @@ effect p call Blocked = with_flags p (side_of call) (without_flag call (flags_of
 effect p call Interrupted = p
 effect p call (Failed kind) = record p { failure = Some (Broken (side_of call) (kind_of call) kind) }
 
--- an answer by which the connection moved: bytes or an end came in, bytes went out, the socket is connected, or the
--- end was passed on
+-- an answer by which the connection moved
 abbrev pub moves : AnswerValue → Bool
 moves Blocked = false
 moves Interrupted = false
 moves (Failed kind) = false
 moves reply = true
 
--- the pair after a call that was answered at the second `now`: the turn goes to the direction that the call did not
--- serve
+-- the pair after a call that was answered at the second `now`
 abbrev pub after : ℕ → PairState → Call → AnswerValue → PairState
 after now p call reply = record (effect p call reply) {
   turn = opposite (direction_of call);

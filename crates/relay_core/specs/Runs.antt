@@ -1,6 +1,5 @@
--- What happens to a pair, one after another, and the bytes that it moves. Part of the promises. Answers of one second are
--- each to the call that comes next at that point; among them reports may come, and the idle limit may pass. Reads bring
--- bytes into a direction, and writes take them out.
+-- What happens to a pair, one after another, and the bytes that it moves: reads bring them in, and writes take them
+-- out. Part of the promises. Each answer is to the call that comes next at that point.
 use Rattle.std.specs.Prelude.{ℕ, List, [], ◌∷◌, Option, Some, None, option_and_then, if◌then◌else◌, Bool, true, false, ◌++◌, take, option_map, unwrap_or}
 use Rattle.relay_core.specs.{declared.call.Call.Call, Pairs.{PairState, stream_of, noted}, Order.next_call, Replies.{AnswerValue, fits, after, Bytes, Wrote}, Calls.direction_of, Idle.{is_overdue, timed_out}}
 use Rattle.token.specs.declared.direction.Direction.{Direction, TheVariants.{Up, Down}}
@@ -10,7 +9,7 @@ use Rattle.flow.specs.Stream.{waiting}
 abbrev pub answered : ℕ → PairState → AnswerValue → Option PairState
 answered now p reply = option_and_then (λ (call : Call). if fits p call reply then Some (after now p call reply) else None) (next_call p)
 
--- a list of them, all at that second; undefined from the first on that has no call to answer or does not fit it
+-- a list of them, all at that second; undefined if one has no call to answer or does not fit it
 abbrev pub over : ℕ → PairState → List AnswerValue → Option PairState
 over now p [] = Some p
 over now p (reply ∷ replies) = option_and_then (λ (q : PairState). over now q replies) (answered now p reply)
@@ -35,7 +34,7 @@ carried p d call reply = []
 abbrev pub or_nothing : Option (List ℕ) → List ℕ
 or_nothing bytes = unwrap_or bytes []
 
--- all bytes that a list of answers of one second brings in, each to the call that comes next at that point
+-- all bytes that a list of answers of one second brings in
 abbrev pub all_brought : ℕ → PairState → Direction → List AnswerValue → List ℕ
 all_brought now p d [] = []
 all_brought now p d (reply ∷ replies) =
@@ -49,22 +48,19 @@ all_carried now p d (reply ∷ replies) =
     or_nothing (option_map (λ (call : Call). carried p d call reply) (next_call p))
     ++ or_nothing (option_map (λ (q : PairState). all_carried now q d replies) (answered now p reply))
 
--- what happens to a pair: its next call is answered, a report comes, or the idle limit passes
-
--- an answer comes at a second; the limit passes at a second, too
+-- an answer comes at a second, a report, or the idle limit, which passes at a second too
 pub data Event : Type 0 where
   Answered : ℕ → AnswerValue → Event
   Reported : Event
   Expired : ℕ → ℕ → Event
 
--- the pair afterwards: an answer needs a next call that it fits, a report may come at any time, and only a pair that
--- is overdue expires
+-- the pair afterwards; only one that is overdue expires
 abbrev pub happened : PairState → Event → Option PairState
 happened p (Answered now reply) = answered now p reply
 happened p Reported = Some (noted p)
 happened p (Expired now limit) = if is_overdue now limit p then Some (timed_out p) else None
 
--- one after another; undefined from the first on that cannot happen
+-- one after another; undefined if one cannot happen
 abbrev pub through : PairState → List Event → Option PairState
 through p [] = Some p
 through p (event ∷ events) = option_and_then (λ (q : PairState). through q events) (happened p event)

@@ -25,15 +25,13 @@ pub enum Answer<'a> {
 }
 
 impl Answer<'_> {
-    /// Whether the connection moved by this answer: bytes or an end came in, bytes went out, the socket is connected,
-    /// or the end was passed on.
+    /// Whether the connection moved by this answer.
     pub fn moves(self) -> bool
         ensures { result ≡ moves (reply_of self.entry) }
     {
         match self {
-            Answer::Bytes(_) | Answer::End | Answer::Wrote(_) | Answer::Joined | Answer::Shut =>
-                true,
             Answer::Blocked | Answer::Interrupted | Answer::Failed(_) => false,
+            _ => true,
         }
     }
 }

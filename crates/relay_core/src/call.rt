@@ -6,10 +6,9 @@ use token::{Direction, Side};
 /// A call on one of a connection's two sockets. It never waits.
 #[derive(Clone, Copy, PartialEq, Eq)]
 pub enum Call {
-    /// write(2) to this side, offering the rest of its lead, or else all bytes in the ring that are bound for it.
+    /// write(2) to this side of what [`Pair::offer`](crate::Pair::offer) lends.
     Write(Side),
-    /// Asks whether this side's connect(2) has completed, so that shutdown(2) is not called on a socket that is still
-    /// connecting.
+    /// Asks whether this side's connect(2) has completed, as before a shutdown(2).
     Join(Side),
     /// shutdown(2) of this side with `SHUT_WR`, which passes the end of input on.
     Shut(Side),
@@ -20,13 +19,13 @@ pub enum Call {
 /// Which of the four calls it is.
 #[derive(Clone, Copy, PartialEq, Eq)]
 pub enum CallKind {
-    /// write(2): bytes that wait go out.
+    /// write(2).
     Write,
     /// The question whether connect(2) has completed.
     Join,
-    /// shutdown(2) with `SHUT_WR`: the end of input is passed on.
+    /// shutdown(2).
     Shut,
-    /// read(2): bytes, or the end of input, come in.
+    /// read(2).
     Read,
 }
 
@@ -66,18 +65,15 @@ impl Call {
         }
     }
 
-    /// The direction that the call serves: for a read the one that starts at its side, for the others the one that
-    /// ends there.
+    /// The direction that the call serves: a read that from its side, the others that to it.
     pub fn direction(self) -> Direction
         ensures { result ≡ direction_of self }
     {
         match self {
             Call::Read(Side::Client, _) => Direction::Up,
             Call::Read(Side::Target, _) => Direction::Down,
-            Call::Write(side) | Call::Join(side) | Call::Shut(side) => match side {
-                Side::Client => Direction::Down,
-                Side::Target => Direction::Up,
-            },
+            _ if self.side() == Side::Client => Direction::Down,
+            _ => Direction::Up,
         }
     }
 }

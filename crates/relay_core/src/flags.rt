@@ -1,7 +1,5 @@
-/// What the relay knows about one socket's readiness.
-///
-/// Edge-triggered epoll(7) reports a change once. So a flag stays set, and its call is tried again and again, until a
-/// try is answered "would block"; then the call waits for the next report.
+/// What the relay knows about one socket's readiness. Edge-triggered epoll(7) reports a change once, so a flag stays
+/// set, and its call is tried, until a try is answered "would block".
 #[derive(Clone, Copy)]
 pub struct Flags {
     /// A read is worth trying.

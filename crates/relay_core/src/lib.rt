@@ -10,20 +10,14 @@
 //!   connected, it is asked first;
 //! - a read asks for at most what the ring has room for.
 //!
-//! With edge triggering a socket is reported once for each change. So a call is tried until it is answered "would
-//! block", and only that answer, never a short count, keeps it from being tried again before the next report
-//! ([`Pair::note`], epoll(7)). When nothing is left to try, `next` is none.
+//! A call is tried until it is answered "would block", and only that answer, never a short count, keeps it from being
+//! tried again before the next report ([`Pair::note`], epoll(7)). When nothing is left to try, `next` is none.
 //!
-//! A pair may be made with a lead: bytes that the target is sent before the client's own. [`proxy_line`] makes such a
-//! lead, by which the target knows its client.
+//! A pair may be made with a lead: bytes that the target is sent before the client's own, as [`proxy_line`] makes them.
+//! A pair that moved nothing for a limit, and has nothing left to try, can be failed ([`Pair::expire`]).
 //!
-//! The pair knows the second at which it last moved ([`Answer::moves`]), since its owner says at which second an
-//! answer came. A pair that moved nothing for a limit, and has nothing left to try, can be failed ([`Pair::expire`]).
-//!
-//! The definitions are in `specs/`: the pair and its verdict in `Pairs.antt`, the order of work in `Order.antt`, what
-//! each answer does in `Replies.antt`, the idle limit in `Idle.antt`, lists of answers, reports and expiries and the
-//! bytes that they move in `Runs.antt`, what an offer lends in `Lending.antt`, the line in `Proxy.antt`, and what
-//! follows from all this in `Laws.antt`. [`laws`] states each law about all pairs as the contract of a function.
+//! The definitions are in `specs/`: the pair in `Pairs.antt`, the order of work in `Order.antt`, what each answer does
+//! in `Replies.antt`, runs in `Runs.antt`, and what follows in `Laws.antt`. [`laws`] states each law as a contract.
 #![tactic(auto)]
 
 mod answer;

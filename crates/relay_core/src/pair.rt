@@ -56,11 +56,9 @@ impl Pair {
     ghost use Rattle.std.specs.Borrow.{sem};
     ghost use Rattle.relay_core.specs.Lending.{with_offer, LendsOffer, LendsStream};
 
-    /// A new connection, in a slot that has been opened `generation` times, with a ring of `capacity` bytes, 1 to
-    /// 65,536, for each direction, made at the second `now`. The target is sent `lead`, 0 to 107 bytes, before the
-    /// client's own bytes. This allocates all the memory that the pair will ever use.
-    ///
-    /// Fails only if there is no memory for a ring or the lead; then no pair is made.
+    /// A new connection, in a slot that has been opened `generation` times, made at the second `now`, with a ring of
+    /// `capacity` bytes for each direction. The target is sent `lead` before the client's own bytes. This allocates all
+    /// the memory that the pair will ever use, and fails only if there is not enough; then no pair is made.
     pub fn new(
         alloc: Global,
         slot: usize,
@@ -92,6 +90,7 @@ impl Pair {
 
     /// The call to make next. If there is none, nothing can be done before the next report ([`Pair::note`]), or the
     /// pair is done or failed ([`Pair::verdict`]).
+    #[tactic(auto, using(crate::proofs::Pairs::asked_is_possible))]
     pub fn next(&self) -> Option<Call>
         ensures value { result ≡ next_call self.now }
         ensures possible { IfSome result (IsPossible self.now) }
@@ -106,9 +105,8 @@ impl Pair {
         }
     }
 
-    /// What a write to a side offers of the bytes that are bound for it: the rest of the lead, or if that is nothing,
-    /// all that wait in the ring. They are lent to be read: if nothing is written into them, the pair stays as it
-    /// was.
+    /// What a write to a side offers: the rest of the lead that is bound for it, or if that is nothing, all that wait
+    /// in the ring. They are lent to be read: if nothing is written into them, the pair stays as it was.
     pub fn offer(&mut self, side: Side) -> &mut [u8]
         ensures* lends { sem 𝓛 (LendsOffer self.entry side result) }
         ensures value { result.now ≡ offer self.old side }
@@ -120,7 +118,7 @@ impl Pair {
         }
     }
 
-    /// Whether a call may get this answer: it is an answer to such a call, and its number of bytes is in range.
+    /// Whether a call may get this answer.
     pub fn fits(&self, call: Call, answer: Answer<'_>) -> bool
         ensures { result ≡ fits self.now call (reply_of answer.entry) }
     {
@@ -137,6 +135,7 @@ impl Pair {
     }
 
     /// Takes the answer to the call that comes next, which came at the second `now`.
+    #[tactic(auto, using(crate::proofs::Pairs::asked_is_possible, crate::proofs::Pairs::answers_keep_order, crate::proofs::Pairs::answers_pass_end_last, crate::proofs::Pairs::failures_are_told))]
     pub fn answer(&mut self, call: Call, answer: Answer<'_>, now: u64)
         requires next { next_call self.old ≡ Some call }
         requires fits { fits self.old call (reply_of answer) ≡ true }
@@ -151,7 +150,7 @@ impl Pair {
         self.take_answer(call, answer, now);
     }
 
-    /// A report of any kind arrived for one of the sockets: every call is worth trying again.
+    /// A report arrived for one of the sockets: every call is worth trying again.
     pub fn note(&mut self)
         ensures value { self.new ≡ noted self.old }
         ensures verdict_stays { verdict self.new ≡ verdict self.old }
@@ -160,9 +159,8 @@ impl Pair {
         self.target = Flags::READY;
     }
 
-    /// Holds a live pair that has no next call against the idle limit: if it has moved nothing for `limit` seconds at
-    /// the second `now`, it fails, and the answer is true. Otherwise nothing changes. A limit of 0 is none.
-    #[tactic(auto, using(crate::proofs::Pairs::overdue_as))]
+    /// Fails a live pair that has no next call and has moved nothing for `limit` seconds at the second `now`, and
+    /// answers true. Otherwise nothing changes. A limit of 0 is none.
     pub fn expire(&mut self, now: u64, limit: u64) -> bool
         ensures value { self.new ≡ expired now limit self.old }
         ensures told { result ≡ is_overdue now limit self.old }
@@ -191,7 +189,7 @@ impl Pair {
         }
     }
 
-    /// How many bytes writes took, up and down, those of the lead among them; each count stops at the largest `u64`.
+    /// How many bytes writes took, up and down, with the lead; each count stops at the largest `u64`.
     pub fn counts(&self) -> (u64, u64)
         ensures up { result.0 ≡ self.now.sent_up }
         ensures down { result.1 ≡ self.now.sent_down }
@@ -240,22 +238,21 @@ impl Pair {
         }
     }
 
-    /// The direction whose calls are considered first: the one that the last answered call did not serve.
+    /// The direction whose calls come first: the one that the last answered call did not serve.
     pub fn turn(&self) -> Direction
         ensures { result ≡ self.now.turn }
     {
         self.turn
     }
 
-    /// How many bytes are left of the lead of one direction. A lead is bound for the target, so that of the way down
-    /// is empty.
+    /// How many bytes are left of the lead of one direction; the way down has none.
     pub fn lead_len(&self, direction: Direction) -> usize
         ensures { result ≡ length (stream_of self.now direction).lead }
     {
         self.flow(direction).lead_len()
     }
 
-    /// The byte at index `i` of what is left of the lead of one direction, 0 for the next one to go out.
+    /// The byte at index `i` of what is left of the lead of one direction.
     pub fn lead_byte(&self, direction: Direction, i: usize) -> u8
         requires { i < length (stream_of self.now direction).lead }
         ensures { result ≡ slice_index (stream_of self.now direction).lead i }
@@ -270,7 +267,7 @@ impl Pair {
         self.flow(direction).len()
     }
 
-    /// The byte at index `i` of those that wait in the ring of one direction, 0 for the oldest.
+    /// The byte at index `i` of those that wait in the ring of one direction, the oldest first.
     pub fn ring_byte(&self, direction: Direction, i: usize) -> u8
         requires { i < length (stream_of self.now direction).ring }
         ensures { result ≡ slice_index (stream_of self.now direction).ring i }
@@ -292,11 +289,9 @@ impl Pair {
         self.flow(direction).is_shut()
     }
 
-    /// What `answer` does. That the calls below have room, and an end to pass on, follows from the
-    /// order of work.
-    #[tactic(auto, using(crate::proofs::Pairs::bytes_fit, crate::proofs::Pairs::shut_fits))]
+    // That the calls below have room, and an end to pass on, follows from the order of work.
     fn take_answer(&mut self, call: Call, answer: Answer<'_>, now: u64)
-        requires next { next_call self.old ≡ Some call }
+        requires possible { IsPossible self.old call }
         requires fits { fits self.old call (reply_of answer) ≡ true }
         ensures { self.new ≡ after now self.old call (reply_of answer.entry) }
     {
@@ -332,14 +327,12 @@ impl Pair {
         self.moved = moved;
     }
 
-    /// Whether the verdict is Live.
     fn is_live(&self) -> bool
         ensures { result ≡ is_live (verdict self.now) }
     {
         self.failure.is_none() && !(self.up.is_shut() && self.down.is_shut())
     }
 
-    /// Whether the idle limit has passed for a live pair that has no next call.
     fn is_overdue(&self, now: u64, limit: u64) -> bool
         ensures { result ≡ is_overdue now limit self.now }
     {
@@ -369,7 +362,6 @@ impl Pair {
         }
     }
 
-    /// The direction whose destination is a side.
     fn bound_for(&self, side: Side) -> &Flow
         ensures { result.now ≡ stream_of self.now (inward side) }
     {
@@ -397,8 +389,7 @@ impl Pair {
         }
     }
 
-    /// The same once the source has ended: the end is passed on after every byte, and not before the destination is
-    /// known to be connected.
+    /// The same once the source has ended.
     fn call_at_end(&self, direction: Direction) -> Option<Call>
         requires ended { (stream_of self.now direction).end_seen ≡ true }
         requires stuck { (is_waiting (stream_of self.now direction) && (flags_of self.now (destination direction)).write) ≡ false }
@@ -435,19 +426,14 @@ impl Pair {
         }
     }
 
-    /// Clears the flag of a call that would have had to wait.
     fn clear_flag(&mut self, call: Call)
         ensures { self.new ≡ with_flags self.old (side_of call) (without_flag call (flags_of self.old (side_of call))) }
     {
-        match call {
-            Call::Read(Side::Client, _) => self.client.read = false,
-            Call::Read(Side::Target, _) => self.target.read = false,
-            Call::Write(Side::Client) | Call::Join(Side::Client) | Call::Shut(Side::Client) => {
-                self.client.write = false
-            }
-            Call::Write(Side::Target) | Call::Join(Side::Target) | Call::Shut(Side::Target) => {
-                self.target.write = false
-            }
+        match (call, call.side()) {
+            (Call::Read(..), Side::Client) => self.client.read = false,
+            (Call::Read(..), Side::Target) => self.target.read = false,
+            (_, Side::Client) => self.client.write = false,
+            (_, Side::Target) => self.target.write = false,
         }
     }
 }

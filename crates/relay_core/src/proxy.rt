@@ -7,10 +7,8 @@ use std::alloc::{AllocError, Global};
 /// The longest line, in bytes.
 const LONGEST: usize = 56;
 
-/// The line that tells a target where its client's connection came from and where it was accepted, 32 to 56 bytes. It
-/// follows the PROXY protocol, version 1, for TCP over IPv4, and ends with CR LF.
-///
-/// Fails only if there is not enough memory; then no line is made. This allocates once.
+/// The line that tells a target where its client's connection came from and where it was accepted, by the PROXY
+/// protocol, version 1, for TCP over IPv4. It allocates once, and fails only if there is not enough memory.
 pub fn proxy_line(
     alloc: Global,
     source: [u8; 4],
@@ -36,7 +34,6 @@ pub fn proxy_line(
     Ok(line)
 }
 
-/// Appends an address: four decimal numbers, joined by dots.
 fn append_address(line: &mut Vec<u8>, address: [u8; 4]) -> Result<(), AllocError>
     ensures text { OnOk result (line.new.items ≡ line.old.items ++ dotted address) }
     ensures least { OnOk result (length line.old.items + 7 ≤ length line.new.items) }
@@ -51,7 +48,6 @@ fn append_address(line: &mut Vec<u8>, address: [u8; 4]) -> Result<(), AllocError
     append_number(line, address[3])
 }
 
-/// Appends one number of an address, in decimal.
 #[tactic(auto, using(std::proofs::lemmas::Fmt::decimal_nonempty))]
 fn append_number(line: &mut Vec<u8>, n: u8) -> Result<(), AllocError>
     ensures text { OnOk result (line.new.items ≡ line.old.items ++ decimal n) }
@@ -61,7 +57,6 @@ fn append_number(line: &mut Vec<u8>, n: u8) -> Result<(), AllocError>
     line.extend_from_slice(Buffer::new().format(n).as_bytes())
 }
 
-/// Appends a port, in decimal.
 #[tactic(auto, using(std::proofs::lemmas::Fmt::decimal_nonempty))]
 fn append_port(line: &mut Vec<u8>, port: u16) -> Result<(), AllocError>
     ensures text { OnOk result (line.new.items ≡ line.old.items ++ decimal port) }

@@ -1,3 +1,6 @@
+ghost use Rattle.std.specs.Prelude.{◌≡◌};
+ghost use Rattle.relay_log.specs.declared.faults.ServerFault.TheVariants.{NoMemory};
+
 use std::alloc::{AllocError, AllocFailed};
 use thiserror::Error;
 
@@ -22,9 +25,6 @@ pub enum ServerFault {
 }
 
 impl From<AllocError> for ServerFault {
-    ghost use Rattle.std.specs.Prelude.{◌≡◌};
-    ghost use Rattle.relay_log.specs.declared.faults.ServerFault.TheVariants.{NoMemory};
-
     ghost from_gives = { λ _ fault. fault ≡ NoMemory };
 
     fn from(_error: AllocError) -> ServerFault {
@@ -33,9 +33,6 @@ impl From<AllocError> for ServerFault {
 }
 
 impl<T: Drop> From<AllocFailed<T>> for ServerFault {
-    ghost use Rattle.std.specs.Prelude.{◌≡◌};
-    ghost use Rattle.relay_log.specs.declared.faults.ServerFault.TheVariants.{NoMemory};
-
     ghost from_gives = { λ _ fault. fault ≡ NoMemory };
 
     fn from(_error: AllocFailed<T>) -> ServerFault {

@@ -1,6 +1,6 @@
 // What the log has of clients: a connection that has ended, and at which level.
 ghost use Rattle.std.specs.Prelude.{◌≡◌, ◌-◌, Some};
-ghost use Rattle.relay_log.specs.Messages.{client_level, gone_begins, gone_counts, gone_text, yes_or_no};
+ghost use Rattle.relay_log.specs.Messages.{client_level, gone_counts, gone_text, yes_or_no};
 
 use log::Level;
 use relay_core::Pair;
@@ -34,6 +34,9 @@ impl ClientsAt {
 }
 
 /// A connection that has ended: whose it was, how far it got, and what the system says of the cause.
+///
+/// It is logged just before its `done` or `fail` as `gone s=3 g=1 from=192.0.2.7:50000 connected=yes up=120 down=0
+/// seconds=9 cause=Broken pipe (os error 32)`, and without `s=` and `g=` before its `drop`.
 #[derive(Clone, Copy)]
 pub struct Gone<'a, D, E> {
     /// Its slot and generation, if it was opened.
@@ -86,28 +89,21 @@ impl<'a, D: Display, E: Display> Display for Gone<'a, D, E> {
         gone.seconds };
 
     fn fmt<W: fmt::Write>(&self, f: &mut fmt::Formatter<W>) -> fmt::Result {
-        let (begins, from, cause) = (Begins(self.opened), self.from, self.cause);
+        let (from, cause) = (self.from, self.cause);
         let between = Between {
             connected: yes_or_no(self.connected),
             up: self.up,
             down: self.down,
             seconds: self.seconds,
         };
-        write!(f, "{begins}{from}{between}{cause}")
-    }
-}
-
-/// What stands before the client's address.
-#[derive(Clone, Copy)]
-struct Begins(Option<(usize, u64)>);
-
-impl Display for Begins {
-    ghost output = { λ begins. Some (gone_begins begins.0) };
-
-    fn fmt<W: fmt::Write>(&self, f: &mut fmt::Formatter<W>) -> fmt::Result {
-        match self.0 {
-            Some((slot, generation)) => write!(f, "gone s={slot} g={generation} from="),
-            None => f.write_str("gone from="),
+        match self.opened {
+            Some((slot, generation)) => {
+                write!(
+                    f,
+                    "gone s={slot} g={generation} from={from}{between}{cause}"
+                )
+            }
+            None => write!(f, "gone from={from}{between}{cause}"),
         }
     }
 }
@@ -125,12 +121,7 @@ impl Display for Between {
     ghost output = { λ b. Some (gone_counts b.connected.now b.up b.down b.seconds) };
 
     fn fmt<W: fmt::Write>(&self, f: &mut fmt::Formatter<W>) -> fmt::Result {
-        let Between {
-            connected,
-            up,
-            down,
-            seconds,
-        } = *self;
+        let (connected, up, down, seconds) = (self.connected, self.up, self.down, self.seconds);
         write!(
             f,
             " connected={connected} up={up} down={down} seconds={seconds} cause="

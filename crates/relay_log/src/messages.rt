@@ -1,46 +1,63 @@
-// A message is a value that prints itself: whoever writes a line prints it there, and nothing is made before that.
-ghost use Rattle.std.specs.{Prelude.{Some, [], ◌≡◌, string_bytes, IfOk}, Fmt.◌++?◌};
-ghost use Rattle.relay_log.specs.Messages.{open_message, peer_message, done_message, fail_message, drop_message, drops_message, full_message};
+// The messages, and the calls that pass each to a log. A log prints a message itself, so none takes memory.
+ghost use Rattle.std.specs.{Prelude.{Some, [], ◌≡◌}, Fmt.◌++?◌};
+ghost use Rattle.relay_core.specs.Pairs.{verdict};
+ghost use Rattle.relay_log.specs.Messages.{client_level, done_message, drop_message, drops_message, fail_message, full_message, gone_text, open_message, peer_message, EndLogged};
+ghost use Rattle.log.specs.declared.level.Level.TheVariants as level;
 
-use crate::Cause;
-use relay_core::Fault;
-use std::alloc::{AllocError, Global};
+use crate::{Cause, ClientsAt, Gone, ServerFault};
+use log::{Level, Log, error, log_enabled};
+use relay_core::{Fault, Pair, Verdict};
 use std::fmt::{self, Display};
+use std::io;
 
-/// A connection was opened in a slot, which has now been opened `generation` times.
-#[derive(Clone, Copy)]
-pub struct Opened {
-    pub slot: usize,
-    pub generation: u64,
+/// Why a thread is not started: "resource temporarily unavailable" (EAGAIN of pthread_create(3)). Its other errors
+/// are of attributes that no thread here has, and the number itself is not handed on.
+const NO_THREAD: i32 = 11;
+
+/// A log that the relay's messages are passed to.
+///
+/// No clause can name what a log has, so the trait leaves open what it was passed. Over any such log a proof has a
+/// fact `logged ..` only from a call that was made. Every log is one, and read there alone the fact says nothing.
+pub trait Logs: Log {
+    ghost use Rattle.std.specs.Prelude.{ℕ, List, Option};
+    ghost use Rattle.log.specs.declared.level.Level.{Level};
+
+    // Which messages it was passed, and at which level, if it says so.
+    ghost logged: { Self → Level → Option (List ℕ) → Type 0 } = { λ _ _ _. Unit {0} };
+
+    /// Passes it a message, as it prints, at this level. It is asked first: a message that is off is never printed.
+    fn message<D: Display>(&self, level: Level, message: &D)
+        ensures { logged self.now level (D.output message.now) };
 }
 
-impl Display for Opened {
-    ghost output = { λ opened. Some (open_message opened.slot opened.generation) };
-
-    fn fmt<W: fmt::Write>(&self, f: &mut fmt::Formatter<W>) -> fmt::Result {
-        let Opened { slot, generation } = *self;
-        write!(f, "open s={slot} g={generation}")
+impl<L: Log> Logs for L {
+    fn message<D: Display>(&self, level: Level, message: &D) {
+        log::log!(*self; target: "relayd", level, "{message}");
     }
 }
 
-/// Whose connection it is: the client's address, as it prints.
-#[derive(Clone, Copy)]
-pub struct Peer<'a, D> {
-    pub slot: usize,
-    pub generation: u64,
-    pub from: &'a D,
+/// Info, `open s=3 g=1`: a connection was opened in slot 3, the first there.
+pub fn log_open<L: Logs>(rt: &L, slot: usize, generation: u64)
+    ensures { L.logged rt.now level.Info (Some (open_message slot generation)) }
+{
+    rt.message(Level::Info, &format_args!("open s={slot} g={generation}"));
 }
 
-impl<'a, D: Display> Display for Peer<'a, D> {
-    ghost output = { λ peer. Some (peer_message peer.slot peer.generation []) ++? D.output peer.from.now };
-
-    fn fmt<W: fmt::Write>(&self, f: &mut fmt::Formatter<W>) -> fmt::Result {
-        let (slot, generation, from) = (self.slot, self.generation, self.from);
-        write!(f, "peer s={slot} g={generation} from={from}")
-    }
+/// `peer s=3 g=1 from=192.0.2.7:50000`, at the level of what the log has of clients: whose connection that is.
+pub fn log_peer<L: Logs, D: Display>(
+    rt: &L,
+    clients: ClientsAt,
+    slot: usize,
+    generation: u64,
+    from: &D,
+)
+    ensures { L.logged rt.now (client_level clients) (Some (peer_message slot generation []) ++? D.output from.now) }
+{
+    let peer = format_args!("peer s={slot} g={generation} from={from}");
+    rt.message(clients.level(), &peer);
 }
 
-/// A connection is done: `up` bytes were sent to the target, and `down` bytes to the client.
+/// A connection is done: both its ends were passed on, with so many bytes to the target (`up`) and to the client.
 #[derive(Clone, Copy)]
 pub struct Done {
     pub slot: usize,
@@ -53,17 +70,12 @@ impl Display for Done {
     ghost output = { λ done. Some (done_message done.slot done.generation done.up done.down) };
 
     fn fmt<W: fmt::Write>(&self, f: &mut fmt::Formatter<W>) -> fmt::Result {
-        let Done {
-            slot,
-            generation,
-            up,
-            down,
-        } = *self;
+        let (slot, generation, up, down) = (self.slot, self.generation, self.up, self.down);
         write!(f, "done s={slot} g={generation} up={up} down={down}")
     }
 }
 
-/// A connection failed: by a call, or since it moved nothing for the idle limit.
+/// A connection failed: by a call on one of its sockets, or since it moved nothing for the idle limit.
 #[derive(Clone, Copy)]
 pub struct Failed {
     pub slot: usize,
@@ -78,9 +90,7 @@ impl Display for Failed {
         let (slot, generation) = (self.slot, self.generation);
         match self.fault {
             Fault::Broken { side, call, kind } => {
-                let side = side.name();
-                let call = call.name();
-                let kind = kind.name();
+                let (side, call, kind) = (side.name(), call.name(), kind.name());
                 write!(
                     f,
                     "fail s={slot} g={generation} side={side} call={call} kind={kind}"
@@ -91,100 +101,78 @@ impl Display for Failed {
     }
 }
 
-/// An accepted connection was closed before it was opened.
-#[derive(Clone, Copy)]
-pub struct Dropped {
-    pub cause: Cause,
-}
-
-impl Display for Dropped {
-    ghost output = { λ dropped. Some (drop_message dropped.cause) };
-
-    fn fmt<W: fmt::Write>(&self, f: &mut fmt::Formatter<W>) -> fmt::Result {
-        let name = self.cause.name();
-        write!(f, "drop kind={name}")
+/// How a connection ended: [`Done`] at info, [`Failed`] at warn. Of one that is live nothing is logged.
+pub fn log_end<L: Logs>(rt: &L, pair: &Pair)
+    ensures { EndLogged (L.logged rt.now) (verdict pair.now) pair.now }
+{
+    let (slot, generation) = (pair.slot(), pair.generation());
+    match pair.verdict() {
+        Verdict::Failed(fault) => {
+            let failed = Failed {
+                slot,
+                generation,
+                fault,
+            };
+            rt.message(Level::Warn, &failed);
+        }
+        Verdict::Done => {
+            let (up, down) = pair.counts();
+            let done = Done {
+                slot,
+                generation,
+                up,
+                down,
+            };
+            rt.message(Level::Info, &done);
+        }
+        Verdict::Live => {}
     }
 }
 
-/// This many more accepted connections were closed before they were opened than those of which the log has lines.
-#[derive(Clone, Copy)]
-pub struct MoreDropped {
-    pub cause: Cause,
-    pub more: u64,
-}
-
-impl Display for MoreDropped {
-    ghost output = { λ dropped. Some (drops_message dropped.cause dropped.more) };
-
-    fn fmt<W: fmt::Write>(&self, f: &mut fmt::Formatter<W>) -> fmt::Result {
-        let (name, more) = (self.cause.name(), self.more);
-        write!(f, "drops kind={name} more={more}")
-    }
-}
-
-/// All slots of a server, this many, are taken, and a client waits.
-#[derive(Clone, Copy)]
-pub struct AllTaken {
-    pub slots: usize,
-}
-
-impl Display for AllTaken {
-    ghost output = { λ all. Some (full_message all.slots) };
-
-    fn fmt<W: fmt::Write>(&self, f: &mut fmt::Formatter<W>) -> fmt::Result {
-        let slots = self.slots;
-        write!(f, "slots: all {slots} are taken; further clients wait")
-    }
-}
-
-/// The text of [`Opened`].
-pub fn open_text(alloc: Global, slot: usize, generation: u64) -> Result<String, AllocError>
-    ensures { IfOk result (λ text. string_bytes text ≡ open_message slot generation) }
+/// Warn, `drop kind=memory`: an accepted connection was closed before it was opened.
+pub fn log_drop<L: Logs>(rt: &L, cause: Cause)
+    ensures { L.logged rt.now level.Warn (Some (drop_message cause)) }
 {
-    let opened = Opened { slot, generation };
-    format!(in alloc; "{opened}")
+    let name = cause.name();
+    let dropped = format_args!("drop kind={name}");
+    rt.message(Level::Warn, &dropped);
 }
 
-/// The text of [`Done`].
-pub fn done_text(
-    alloc: Global,
-    slot: usize,
-    generation: u64,
-    up: u64,
-    down: u64,
-) -> Result<String, AllocError>
-    ensures { IfOk result (λ text. string_bytes text ≡ done_message slot generation up down) }
+/// Warn, `drops kind=memory more=12`: this many more were closed so, of which the log has no lines.
+pub fn log_drops<L: Logs>(rt: &L, cause: Cause, more: u64)
+    ensures { L.logged rt.now level.Warn (Some (drops_message cause more)) }
 {
-    let done = Done {
-        slot,
-        generation,
-        up,
-        down,
-    };
-    format!(in alloc; "{done}")
+    let name = cause.name();
+    let drops = format_args!("drops kind={name} more={more}");
+    rt.message(Level::Warn, &drops);
 }
 
-/// The text of [`Failed`].
-pub fn fail_text(
-    alloc: Global,
-    slot: usize,
-    generation: u64,
-    fault: Fault,
-) -> Result<String, AllocError>
-    ensures { IfOk result (λ text. string_bytes text ≡ fail_message slot generation fault) }
+/// Warn, `slots: all 1024 are taken; further clients wait`: a client waits for a slot of a server with this many.
+pub fn log_all_taken<L: Logs>(rt: &L, slots: usize)
+    ensures { L.logged rt.now level.Warn (Some (full_message slots)) }
 {
-    let failed = Failed {
-        slot,
-        generation,
-        fault,
-    };
-    format!(in alloc; "{failed}")
+    let full = format_args!("slots: all {slots} are taken; further clients wait");
+    rt.message(Level::Warn, &full);
 }
 
-/// The text of [`Dropped`].
-pub fn drop_text(alloc: Global, cause: Cause) -> Result<String, AllocError>
-    ensures { IfOk result (λ text. string_bytes text ≡ drop_message cause) }
+/// [`Gone`], at the level of what the log has of clients.
+pub fn log_gone<L: Logs, D: Display, E: Display>(rt: &L, clients: ClientsAt, gone: Gone<'_, D, E>)
+    ensures { let g = gone.entry in L.logged rt.now (client_level clients)
+        (gone_text (D.output g.from.now) (E.output g.cause.now) g.opened g.connected g.up g.down g.seconds) }
 {
-    let dropped = Dropped { cause };
-    format!(in alloc; "{dropped}")
+    rt.message(clients.level(), &gone);
+}
+
+/// Whether the log takes messages at that level.
+pub fn logs_gone(rt: &impl Log, clients: ClientsAt) -> bool {
+    log_enabled!(rt; target: "relayd", clients.level())
+}
+
+/// Passes to the log, at level error, that the system did not start a thread, and answers the fault that this is.
+pub fn log_no_thread(rt: &impl Log) -> ServerFault
+    ensures { result ≡ ServerFault.Threads }
+{
+    let error = io::Error::from_raw_os_error(NO_THREAD);
+    error!(rt; target: "relayd", "threads: {error}");
+    ServerFault::Threads
 }

@@ -1,27 +1,8 @@
 -- A run with one event more, and the connections of records with one more.
 use Rattle.std.{proofs.{Common.{◌≡◌, ℕ, List, [], ◌∷◌, ◌++◌, drop, take, Option, Some, None, refl, sym, ◌∙◌, ap, arith, option_and_then, ◌-◌, ◌<◌, length, get_or, subst}, lemmas.{List.{append-nil, append_assoc, take-append-drop, Elements.{All-append, All-cons}}, Option.{get_or_from_slice_get, slice_get_read}}}, specs.Prelude.All}
+use Rattle.world.proofs.Runs.{run_and}
 use Rattle.world.specs.{declared.{event.Event.Event, limits.Limits.Limits}, States.{State, opening}, Steps.step, Runs.run}
 use Rattle.replaying.specs.{declared.{action.Action.Action, recording.Numbered.Numbered}, Traces.{IsHistory, action_in, and_then, joined, trace_next, trace_of_run}, Sequences.{Follows, FollowsAt}}
-
-one_step : (o : Option State) → option_and_then (λ (p : State). Some p) o ≡ o
-one_step None = refl
-one_step (Some p) = refl
-
-further_by : (q r : State) (events : List Event) (e : Event)
-    → ((p : State) → run p events ≡ Some q → run p (events ++ e ∷ []) ≡ Some r)
-    → (o : Option State) → option_and_then (λ (p : State). run p events) o ≡ Some q
-    → option_and_then (λ (p : State). run p (events ++ e ∷ [])) o ≡ Some r
-further_by q r events e more None ran = absurd (cc)
-further_by q r events e more (Some p) ran = more p ran
-
--- where the events lead to a world in which one more can happen
-run_and : (st q r : State) (events : List Event) (e : Event)
-    → run st events ≡ Some q → step q e ≡ Some r → run st (events ++ e ∷ []) ≡ Some r
-run_and st q r [] e ran one =
-    let same : st ≡ q = cc in
-    rw same (one_step (step q e) ∙ one)
-run_and st q r (f ∷ events) e ran one =
-    further_by q r events e (λ p ran'. run_and p q r events e ran' one) (step st f) ran
 
 nothing_more : (o : Option State) → trace_next o (λ (q : State). []) ≡ []
 nothing_more None = refl

@@ -9,16 +9,17 @@ use relay_core::{Call, Pair};
 use token::{Kind, MAX_GENERATION, Side, Token};
 use world::{Act as Work, Event, Polling as Poll, World};
 
-/// What a relay did and has a record of, and what the machine does in an event.
+/// What a relay did and has a record of, and what the machine does in an event. The first number is the generation of
+/// the connection.
 #[derive(Clone, Copy)]
 pub(crate) enum Action {
     /// A connection of this generation was opened.
     Opened(u64),
     /// A turn began.
     Began,
-    /// The connection of this generation made this call, which offered this many bytes, and got this answer.
+    /// This call offered so many bytes, and got this answer.
     Called(u64, Call, usize, Answer),
-    /// A turn of the connection of this generation ended, and left no call to make.
+    /// A turn ended, and left no call to make.
     Quiet(u64),
     /// The connection of this generation was closed.
     Closed(u64),
@@ -38,7 +39,6 @@ pub(crate) fn action_of(last: &Act, act: &Act) -> Option<Action>
     }
 }
 
-/// Whether the other end of this connection was dropped.
 fn drops_other(last: &Act, token: Token) -> bool
     ensures { result ≡ drops_other last.now token }
 {
@@ -59,7 +59,7 @@ fn are_both(a: Side, b: Side) -> bool
     }
 }
 
-/// What was done with an end. The second drop of a connection closes it.
+/// The second drop of a connection closes it.
 fn action_of_wire(second: bool, token: Token, made: Made) -> Option<Action>
     ensures { result ≡ action_of_wire second token made }
 {
@@ -79,7 +79,7 @@ fn action_of_wire(second: bool, token: Token, made: Made) -> Option<Action>
     }
 }
 
-/// The answer of a write. One that took nothing has failed.
+/// A write that took nothing has failed.
 fn written(answer: Answer) -> Answer
     ensures { result ≡ written answer }
 {
@@ -105,7 +105,6 @@ pub(crate) fn action_in(world: &World, event: &Event) -> Option<Action>
     }
 }
 
-/// The same of what the worker does.
 fn action_of_work(world: &World, act: Work) -> Option<Action>
     ensures { result ≡ action_in world.now (Event.Work 0 act) }
 {
@@ -122,7 +121,6 @@ fn action_of_work(world: &World, act: Work) -> Option<Action>
     }
 }
 
-/// The connection's next call gets this reply.
 fn action_of_call(pair: &Pair, reply: Reply) -> Option<Action>
     ensures { result ≡ action_of_call pair.now (next_call pair.now) reply }
 {
@@ -139,7 +137,7 @@ fn action_of_call(pair: &Pair, reply: Reply) -> Option<Action>
     }
 }
 
-/// A slot is released: its turn has ended quiet if no call is left.
+/// A turn has ended quiet if no call is left.
 fn action_of_release(pair: &Pair) -> Option<Action>
     ensures { result ≡ action_of_release pair.now }
 {
@@ -163,7 +161,6 @@ pub(crate) fn offered(pair: &Pair, call: Call) -> usize
     }
 }
 
-/// How the record of a call has this reply.
 fn answer_of(reply: Reply) -> Answer
     ensures { result ≡ answer_of reply }
 {
@@ -211,51 +208,11 @@ fn is_same(a: &Action, b: &Action) -> bool
 fn is_same_call(a: Call, b: Call) -> bool
     ensures { IsTrue result → a ≡ b }
 {
-    match (a, b) {
-        (Call::Write(a), Call::Write(b))
-        | (Call::Join(a), Call::Join(b))
-        | (Call::Shut(a), Call::Shut(b)) => is_same_side(a, b),
-        (Call::Read(a, most), Call::Read(b, other)) => most == other && is_same_side(a, b),
-        _ => false,
-    }
-}
-
-fn is_same_side(a: Side, b: Side) -> bool
-    ensures { IsTrue result → a ≡ b }
-{
-    match (a, b) {
-        (Side::Client, Side::Client) | (Side::Target, Side::Target) => true,
-        _ => false,
-    }
+    a == b
 }
 
 fn is_same_answer(a: Answer, b: Answer) -> bool
     ensures { IsTrue result → a ≡ b }
 {
-    match (a, b) {
-        (Answer::Moved(a), Answer::Moved(b)) => a == b,
-        (Answer::Failed(a), Answer::Failed(b)) => is_same_kind(a, b),
-        (Answer::End, Answer::End)
-        | (Answer::Joined, Answer::Joined)
-        | (Answer::Shut, Answer::Shut)
-        | (Answer::Blocked, Answer::Blocked)
-        | (Answer::Interrupted, Answer::Interrupted) => true,
-        _ => false,
-    }
-}
-
-fn is_same_kind(a: Kind, b: Kind) -> bool
-    ensures { IsTrue result → a ≡ b }
-{
-    match (a, b) {
-        (Kind::Reset, Kind::Reset)
-        | (Kind::Pipe, Kind::Pipe)
-        | (Kind::Aborted, Kind::Aborted)
-        | (Kind::Refused, Kind::Refused)
-        | (Kind::NotConnected, Kind::NotConnected)
-        | (Kind::TimedOut, Kind::TimedOut)
-        | (Kind::Zero, Kind::Zero)
-        | (Kind::Other, Kind::Other) => true,
-        _ => false,
-    }
+    a == b
 }

@@ -33,10 +33,7 @@ impl SlotReplay<'_> {
         if !self.machine.is_next(asked) {
             return Err(Flaw::NextCall);
         }
-        let reply = match answer {
-            Answer::Moved(count) => moved(asked.call, count, self.next),
-            _ => unmoved(answer),
-        };
+        let reply = reply_to(asked.call, answer, self.next);
         self.machine.bring(asked, reply)?;
         self.machine.work(&[Act::Call(reply)])?;
         if moves(reply) {
@@ -46,7 +43,6 @@ impl SlotReplay<'_> {
     }
 }
 
-/// Which call was made, and its answer.
 fn asked_by(side: Side, made: Made) -> Option<(Asked, Answer)> {
     let (call, bytes, answer) = match made {
         Made::Read(most, answer) => (Call::Read(side, most), most, answer),
@@ -58,19 +54,14 @@ fn asked_by(side: Side, made: Made) -> Option<(Asked, Answer)> {
     Some((Asked { call, bytes }, answer))
 }
 
-/// What a read or a write gave that moved this many bytes.
-fn moved(call: Call, count: usize, next: &[Numbered]) -> Reply {
-    match call {
-        Call::Read(_, _) => Reply::Bytes(count),
-        _ if count == 0 => Reply::Failed(Kind::Zero),
-        _ => Reply::Wrote(count, blocks_next(next, call.side())),
-    }
-}
-
-/// What any other call gave. The world refuses what is no answer of its call.
-fn unmoved(answer: Answer) -> Reply {
+/// What a call gave that got this answer. The world refuses what is no answer of its call.
+fn reply_to(call: Call, answer: Answer, next: &[Numbered]) -> Reply {
     match answer {
-        Answer::Moved(count) => Reply::Bytes(count),
+        Answer::Moved(count) => match call {
+            Call::Read(_, _) => Reply::Bytes(count),
+            _ if count == 0 => Reply::Failed(Kind::Zero),
+            _ => Reply::Wrote(count, blocks_next(next, call.side())),
+        },
         Answer::End => Reply::End,
         Answer::Joined => Reply::Joined,
         Answer::Shut => Reply::Shut,
@@ -96,7 +87,6 @@ fn blocks_next(next: &[Numbered], side: Side) -> bool {
     false
 }
 
-/// Whether a reply moves a connection.
 fn moves(reply: Reply) -> bool {
     !matches!(
         reply,
@@ -124,7 +114,7 @@ impl Machine {
         }
     }
 
-    /// The network does what a reply to a call shows: bytes arrive, or an end of input, an error or room is there.
+    /// The network does what a reply shows: bytes arrive, or an end of input, an error or room is there.
     fn bring(&mut self, asked: Asked, reply: Reply) -> Result<(), Flaw> {
         let side = asked.call.side();
         let (bytes, change) = match self.end(side) {
@@ -137,7 +127,6 @@ impl Machine {
         self.arrive(side, bytes)
     }
 
-    /// This many bytes arrive at an end.
     fn arrive(&mut self, side: Side, count: usize) -> Result<(), Flaw> {
         let mut left = count;
         for _piece in 0..count / MAX_ARRIVAL + 1 {
@@ -165,7 +154,6 @@ fn bytes_missing(end: &End, asked: Asked, reply: Reply) -> usize {
     }
 }
 
-/// What else an end lacks that a reply shows.
 fn missing(end: &End, reply: Reply) -> Option<Change> {
     match reply {
         Reply::End if !end.has_fin() => Some(Change::Fin),

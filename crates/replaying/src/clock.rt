@@ -1,5 +1,4 @@
 //! Which seconds the clock showed, as far as it was read.
-use crate::reading::{broken, wanted};
 use crate::recording::{Numbered, Recording};
 use records::{Act, Polling, ReplayFault};
 use std::alloc::{AllocError, Global};
@@ -13,12 +12,12 @@ pub(crate) struct Clock {
     after: Vec<(u64, u64)>,
 }
 
-/// A turn, a round or the beginning of a poller made a reading of its own between these two counts.
+/// Between these two counts a turn, a round or the beginning of a poller made a reading of its own, before the act on
+/// this line.
 #[derive(Clone, Copy)]
 struct Window {
     from: u64,
     to: u64,
-    /// The line of the act before which it did.
     line: u64,
 }
 
@@ -46,8 +45,8 @@ impl Clock {
         Ok(())
     }
 
-    /// The earliest and the latest second of a reading between these two counts, which was made by a thread of which
-    /// nothing else is recorded there. Without one these are the seconds that the clock can have shown.
+    /// The earliest and the latest second of a reading between these two counts, by a thread of which nothing else is
+    /// recorded there. Without one these are the seconds that the clock can have shown.
     pub(crate) fn between(&self, from: u64, to: u64) -> (u64, u64) {
         let readings = self.before.as_slice();
         let last = count_below(readings, to).saturating_sub(1);
@@ -56,37 +55,30 @@ impl Clock {
         if first <= last && first < readings.len() {
             return (second_at(readings, first), latest);
         }
-        (self.earliest(from), latest)
+        let earliest = self.last_read(from.saturating_add(1));
+        (earliest.unwrap_or(second_at(readings, 0)), latest)
     }
 
     /// Refuses with `Broken` for the first act before which its thread made no reading of its own. Each window takes
     /// the last reading in it that is left, and those that begin last come first: no other choice leaves more.
-    pub(crate) fn check_readings(
-        &self,
-        alloc: Global,
-        recording: &Recording,
-    ) -> Result<(), ReplayFault> {
-        let mut left = Vec::new(alloc);
+    pub(crate) fn check_readings(&self, recording: &Recording) -> Result<(), ReplayFault> {
+        let mut left = Vec::new(recording.alloc);
         for reading in self.after.as_slice() {
             left.push((reading.0, true))?;
         }
-        for window in windows_of(alloc, recording)?.as_slice().iter().rev() {
+        for window in windows_of(recording)?.as_slice().iter().rev() {
             if !take_reading(left.as_mut_slice(), window) {
-                return Err(broken(
-                    alloc,
-                    window.line,
-                    wanted("the clock was not read for this"),
-                ));
+                return Err(recording.broken(window.line, "the clock was not read for this"));
             }
         }
         Ok(())
     }
 
-    /// The first of the records that its readings are from whose second is before one that was read before.
+    /// The first record whose second is before one that was read before.
     pub(crate) fn first_back(&self, records: &[Numbered]) -> Option<Numbered> {
         for numbered in records {
             if let Act::Second(second) = numbered.record.act {
-                if second < self.latest_read(numbered.record.before) {
+                if second < self.last_read(numbered.record.before).unwrap_or(0) {
                     return Some(*numbered);
                 }
             }
@@ -94,24 +86,14 @@ impl Clock {
         None
     }
 
-    /// The earliest second that it can have shown once the count had this value.
-    pub(crate) fn earliest(&self, count: u64) -> u64 {
-        match count_below(self.after.as_slice(), count.saturating_add(1)).checked_sub(1) {
-            Some(last) => second_at(self.after.as_slice(), last),
-            None => second_at(self.before.as_slice(), 0),
-        }
-    }
-
-    /// The latest second that had been read when the count had this value, 0 if none had.
-    fn latest_read(&self, count: u64) -> u64 {
-        match count_below(self.after.as_slice(), count).checked_sub(1) {
-            Some(last) => second_at(self.after.as_slice(), last),
-            None => 0,
-        }
+    /// The latest second that had been read when the count had this value, if one had.
+    fn last_read(&self, count: u64) -> Option<u64> {
+        let readings = self.after.as_slice();
+        let last = count_below(readings, count).checked_sub(1)?;
+        Some(second_at(readings, last))
     }
 }
 
-/// Gives each place the greatest second up to there.
 fn rise(readings: &mut [(u64, u64)]) {
     let mut most = 0;
     for reading in readings.iter_mut() {
@@ -121,8 +103,8 @@ fn rise(readings: &mut [(u64, u64)]) {
 }
 
 /// All windows of which each reading is recorded, in the order of their beginnings.
-fn windows_of(alloc: Global, recording: &Recording) -> Result<Vec<Window>, AllocError> {
-    let mut windows = Vec::new(alloc);
+fn windows_of(recording: &Recording) -> Result<Vec<Window>, AllocError> {
+    let mut windows = Vec::new(recording.alloc);
     for list in recording.lists.iter() {
         add_windows(&mut windows, recording, list.as_slice())?;
     }
@@ -130,7 +112,6 @@ fn windows_of(alloc: Global, recording: &Recording) -> Result<Vec<Window>, Alloc
     Ok(windows)
 }
 
-/// Adds those of a slot or of a poller.
 fn add_windows(
     windows: &mut Vec<Window>,
     recording: &Recording,
@@ -172,7 +153,7 @@ fn is_wait(act: &Act) -> bool {
     )
 }
 
-/// Takes the last of these readings, by their counts, that is left in a window. Answers whether there is one.
+/// Takes the last reading in a window that is left. Answers whether there is one.
 fn take_reading(left: &mut [(u64, bool)], window: &Window) -> bool {
     let below = left.partition_point(|reading| reading.0 < window.to);
     let Some(inside) = left.get_mut(..below) else {

@@ -12,11 +12,11 @@ use world::{Act, Change, Event, Lead, Limits, Listening, Polling, Reported, Worl
 /// Why a replay stops.
 #[derive(Clone, Copy)]
 pub(crate) enum Flaw {
-    /// The world refuses the event that its machine keeps.
+    /// The world refuses the event that is kept.
     Refused,
     /// The connection has another call to make, or none.
     NextCall,
-    /// This is why the record at hand can stand at no place.
+    /// The record at hand can stand at no place.
     Because(&'static str),
     /// Memory ran out, so that nothing is wrong with the record.
     NoMemory,
@@ -34,7 +34,7 @@ impl<T: Drop> From<AllocFailed<T>> for Flaw {
     }
 }
 
-/// A world, with each event that has happened there, and the one that it refused.
+/// A world, and the event that it refused.
 #[derive(Drop)]
 pub(crate) struct Machine {
     pub alloc: Global,
@@ -43,7 +43,7 @@ pub(crate) struct Machine {
 }
 
 impl Machine {
-    /// The sizes of a world of one slot in which nothing is opened, so that no ring and no budget matters.
+    /// The sizes of a world in which nothing is opened, so that no ring and no budget matters.
     pub(crate) const LIMITS: Limits = Limits {
         slots: 1,
         workers: 1,
@@ -171,8 +171,8 @@ impl Machine {
         self.put(Event::Listen(Listening::Accept(reply)))
     }
 
-    /// A client comes in and is accepted. Where that is reported, the report vanishes: the poller was given it when
-    /// the client came, or did not have to be.
+    /// A client comes in and is accepted. Where that is reported, the report vanishes: the poller was given it when the
+    /// client came, or did not have to be.
     fn accept(&mut self) -> Result<(), Flaw> {
         let was_queued = self.is_queued(&Name::Listener);
         self.come_in()?;

@@ -26,8 +26,11 @@ impl SlotReplay<'_> {
         generation: u64,
         opening: Opening,
     ) -> Result<(), Flaw> {
-        if let Some(why) = self.state.unopened(generation) {
-            return Err(Flaw::Because(why));
+        if !matches!(self.state.phase, Phase::Free) {
+            return Err(Flaw::Because("the slot is not free"));
+        }
+        if generation != self.state.generation.saturating_add(1) {
+            return Err(Flaw::Because("the generation is not the slot's next one"));
         }
         if opening != Opening::Opened {
             return Ok(());
@@ -38,11 +41,8 @@ impl SlotReplay<'_> {
             self.state.phase = Phase::Void(None);
             return Ok(());
         }
-        let Some(limits) = limits_of(
-            &self.findings.recording.header,
-            generation,
-            self.lead(generation),
-        ) else {
+        let (header, lead) = (&self.findings.recording.header, self.lead(generation));
+        let Some(limits) = limits_of(header, generation, lead) else {
             return Err(Flaw::Because("no connection has such a generation"));
         };
         let history = History::new(self.machine.alloc, limits)?;
@@ -70,7 +70,7 @@ impl SlotReplay<'_> {
         };
     }
 
-    /// The count when the last wait of the slot's poller before this count had ended. The round has read its second
+    /// The count when the last wait of the slot's poller before this count had ended: the round has read its second
     /// since then. A report has the counts of its wait.
     fn last_wait(&self, count: u64) -> u64 {
         let acts = self.findings.recording.poller(self.poller);
@@ -96,31 +96,18 @@ impl SlotReplay<'_> {
     }
 }
 
-impl State {
-    /// Why no connection of this generation can be opened now, if that is so.
-    fn unopened(&self, generation: u64) -> Option<&'static str> {
-        if !matches!(self.phase, Phase::Free) {
-            return Some("the slot is not free");
-        }
-        if generation != self.generation.saturating_add(1) {
-            return Some("the generation is not the slot's next one");
-        }
-        None
-    }
-}
-
 /// Whether an end of the connection is dropped before its first turn: then it was never open.
 fn is_void(next: &[Numbered], generation: u64) -> bool {
-    match next.first() {
-        Some(first) => match first.record.act {
+    match next {
+        [first, ..] => match first.record.act {
             Act::Wire(token, Made::Drop) => token.generation() == generation,
             _ => false,
         },
-        None => false,
+        [] => false,
     }
 }
 
-/// How many bytes the first write to the target of this generation offers, if that can be such a line.
+/// How many bytes the first write to the target offers, if that can be such a line.
 fn first_offer(next: &[Numbered], generation: u64) -> usize
     ensures { result ≤ MOST_LEAD }
 {
@@ -138,16 +125,11 @@ fn first_offer(next: &[Numbered], generation: u64) -> usize
     LEAST_LEAD
 }
 
-/// The limits of the world of one slot, which begins before this generation.
+/// Those of the world of one slot, which begins before this generation.
 pub(crate) fn limits_of(header: &Header, generation: u64, lead: Lead) -> Option<Limits>
     ensures { IfSome result (λ limits. IsWithinLimits limits) }
 {
-    let Header {
-        ring,
-        budget,
-        idle,
-        ..
-    } = *header;
+    let (ring, budget, idle) = (header.ring, header.budget, header.idle);
     if ring == 0 || ring > 65_536 || budget == 0 || budget > 1_024 {
         return None;
     }

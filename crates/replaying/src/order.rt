@@ -2,29 +2,29 @@
 ghost use Rattle.std.specs.Prelude.{◌≡◌, ◌≢◌, ◌-◌, ◌<◌, ◌≤◌, ◌↔◌, ℕ, IfNone, IfSome, IsTrue, length, slice_index};
 ghost use Rattle.replaying.specs.Sequences.{IsBegun, IsMissing, Follows, FollowsAt, is_report};
 
-use crate::reading::{broken, wanted};
 use crate::recording::{Last, Numbered, Recording, is_twice};
 use records::{Act, Made, Polling, ReplayFault};
-use std::alloc::{AllocError, Global};
+use std::alloc::AllocError;
 
 /// Puts the last list of a recording in the order of the counts before its records. Refuses with `Broken` if the lines
 /// of a slot or of a poller are in another order, if what one thread at a time does overlaps, if two acts have the same
-/// count, if the last record has not the greatest counts, or if a recording that says it is complete is not.
-///
-/// Where a recording was stopped, threads lost what they had not handed over: then only the records before the first
-/// lost one are left. Answers how many were left out.
-pub(crate) fn put_in_order(alloc: Global, recording: &mut Recording) -> Result<usize, ReplayFault> {
+/// count, if the last record has not the greatest counts, or if a recording that says it is complete is not. Where one
+/// was stopped, threads lost what they had not handed over: then only the records before the first lost one are left.
+pub(crate) fn put_in_order(recording: &mut Recording) -> Result<(), ReplayFault> {
     sort(recording)?;
-    check_sequences(alloc, recording)?;
-    let counts = counts_of(alloc, recording)?;
-    check_counts(alloc, recording, counts.as_slice())?;
+    check_sequences(recording)?;
+    let counts = counts_of(recording)?;
+    check_counts(recording, counts.as_slice())?;
     recording.whole = first_missing(counts.as_slice()) as u64;
-    let begun = begun(alloc, recording)?;
+    let begun = begun(recording)?;
     match first_lost(counts.as_slice(), begun.as_slice()) {
-        None => Ok(0),
-        Some(lost) if recording.last != Last::Ended => Ok(leave_out(recording, lost)),
+        None => Ok(()),
+        Some(lost) if recording.last != Last::Ended => {
+            leave_out(recording, lost);
+            Ok(())
+        }
         Some(lost) => {
-            let wrong = format!(in alloc; "the record with the count {lost} is missing")?;
+            let wrong = format!(in recording.alloc; "the record with the count {lost} is missing")?;
             Err(ReplayFault::Broken(wrong))
         }
     }
@@ -39,20 +39,19 @@ fn sort(recording: &mut Recording) -> Result<(), AllocError> {
     }
 }
 
-/// Refuses two acts at once at a slot, or of a poller, and lines in another order. Of the last list nothing is known.
-fn check_sequences(alloc: Global, recording: &Recording) -> Result<(), ReplayFault> {
+/// Refuses two acts at once at a slot, or of a poller, and lines in another order.
+fn check_sequences(recording: &Recording) -> Result<(), ReplayFault> {
     let sequences = recording.lists.len().saturating_sub(1);
     for list in recording.lists.iter().take(sequences) {
         let place = first_overlap(list.as_slice());
         if let Some(numbered) = list.get(place) {
             let why = disorder(list.get(place.saturating_sub(1)), numbered);
-            return Err(broken(alloc, numbered.line, wanted(why)));
+            return Err(recording.broken(numbered.line, why));
         }
     }
     Ok(())
 }
 
-/// Why an act does not follow the one on the line before it.
 fn disorder(last: Option<&Numbered>, next: &Numbered) -> &'static str {
     match last {
         Some(last) if next.record.after < last.record.before => {
@@ -62,54 +61,36 @@ fn disorder(last: Option<&Numbered>, next: &Numbered) -> &'static str {
     }
 }
 
-/// Refuses a count that two acts have, and a last record that has not the greatest.
-fn check_counts(alloc: Global, recording: &Recording, counts: &[u64]) -> Result<(), ReplayFault> {
+/// Refuses a count that two acts have, and a record `end` or `full` whose counts are not the greatest.
+fn check_counts(recording: &Recording, counts: &[u64]) -> Result<(), ReplayFault> {
     if let Some(count) = counts.get(first_twice(counts)) {
-        let wrong = format!(in alloc; "two acts have the count {count}")?;
+        let wrong = format!(in recording.alloc; "two acts have the count {count}")?;
         return Err(ReplayFault::Broken(wrong));
     }
-    match early_end(recording, counts) {
-        Some(line) => Err(broken(
-            alloc,
-            line,
-            wanted("the last record has the greatest counts"),
-        )),
-        None => Ok(()),
-    }
-}
-
-/// The line of the record `end` or `full`, if its counts are not the greatest.
-fn early_end(recording: &Recording, counts: &[u64]) -> Option<u64> {
-    let greatest = counts.last()?;
+    let greatest = counts.last().copied().unwrap_or(0);
     for numbered in recording.others() {
-        if matches!(numbered.record.act, Act::Ended | Act::Full)
-            && numbered.record.after != *greatest
-        {
-            return Some(numbered.line);
-        }
-    }
-    None
-}
-
-/// All counts, in order. Reports have those of their poll.
-fn counts_of(alloc: Global, recording: &Recording) -> Result<Vec<u64>, AllocError> {
-    let mut counts = Vec::new(alloc);
-    for (at, list) in recording.lists.iter().enumerate() {
-        add_counts(&mut counts, list.as_slice(), at < recording.header.slots)?;
-    }
-    counts.sort_unstable();
-    Ok(counts)
-}
-
-fn add_counts(counts: &mut Vec<u64>, list: &[Numbered], of_slot: bool) -> Result<(), AllocError> {
-    for numbered in list {
         let record = &numbered.record;
-        if !is_twice(of_slot, &record.act) && !is_report(&record.act) {
-            counts.push(record.before)?;
-            counts.push(record.after)?;
+        if matches!(record.act, Act::Ended | Act::Full) && record.after != greatest {
+            return Err(recording.broken(numbered.line, "the last record has the greatest counts"));
         }
     }
     Ok(())
+}
+
+/// All counts, in order. Reports have those of their poll.
+fn counts_of(recording: &Recording) -> Result<Vec<u64>, AllocError> {
+    let mut counts = Vec::new(recording.alloc);
+    for (at, list) in recording.lists.iter().enumerate() {
+        for numbered in list.as_slice() {
+            let record = &numbered.record;
+            if !is_twice(at < recording.header.slots, &record.act) && !is_report(&record.act) {
+                counts.push(record.before)?;
+                counts.push(record.after)?;
+            }
+        }
+    }
+    counts.sort_unstable();
+    Ok(counts)
 }
 
 /// The place of the first of these counts, which rise, that is the one before it, too, or how many there are.
@@ -140,10 +121,10 @@ fn first_missing(counts: &[u64]) -> usize
     counts.len()
 }
 
-/// For each act that may have been begun and not ended when the relay was stopped, the least count that it can have,
-/// in order.
-fn begun(alloc: Global, recording: &Recording) -> Result<Vec<u64>, AllocError> {
-    let mut begun = vec![in alloc; u64::MAX; recording.lists.len()]?;
+/// For each act that may have begun and not ended when the relay was stopped, the least count that it can have, in
+/// order.
+fn begun(recording: &Recording) -> Result<Vec<u64>, AllocError> {
+    let mut begun = vec![in recording.alloc; u64::MAX; recording.lists.len()]?;
     if recording.last != Last::Ended {
         for (at, count) in begun.iter_mut().enumerate() {
             *count = next_begun(recording, at);
@@ -166,7 +147,6 @@ fn next_begun(recording: &Recording, at: usize) -> u64 {
     }
 }
 
-/// Whether this is the beginning of a turn or one of its calls.
 fn is_of_turn(act: &Act) -> bool {
     match act {
         Act::Begin(_) => true,
@@ -215,32 +195,21 @@ fn is_begun(begun: &[u64], place: u64, count: u64) -> bool
     (place as usize) < begun.len() && begun[place as usize] <= count
 }
 
-/// Leaves out the records from this count on, and answers how many those are.
-fn leave_out(recording: &mut Recording, lost: u64) -> usize {
+fn leave_out(recording: &mut Recording, lost: u64) {
     let slots = recording.header.slots;
-    let mut left_out: usize = 0;
     for (at, list) in recording.lists.iter_mut().enumerate() {
-        left_out = left_out.saturating_add(leave_out_of(list, at < slots, lost));
-    }
-    left_out
-}
-
-fn leave_out_of(list: &mut Vec<Numbered>, of_slot: bool, lost: u64) -> usize {
-    let mut kept: usize = 0;
-    let mut left_out: usize = 0;
-    for numbered in list.as_slice() {
-        if numbered.record.before < lost {
-            kept = kept.saturating_add(1);
-        } else if !is_twice(of_slot, &numbered.record.act) {
-            left_out = left_out.saturating_add(1);
+        let kept = list.partition_point(|numbered| numbered.record.before < lost);
+        for numbered in list.get(kept..).unwrap_or(&[]) {
+            if !is_twice(at < slots, &numbered.record.act) {
+                recording.left_out = recording.left_out.saturating_add(1);
+            }
         }
+        list.truncate(kept);
     }
-    list.truncate(kept);
-    left_out
 }
 
-/// The place of the first of these acts that does not follow the one before it, or how many there are. They are those
-/// at a slot, or those of a poller.
+/// The place of the first of these acts, of a slot or of a poller, that does not follow the one before it, or how many
+/// there are.
 pub(crate) fn first_overlap(list: &[Numbered]) -> usize
     ensures within { result ≤ length list.now }
     ensures before { (place : ℕ) → place < result → 1 ≤ place → FollowsAt list.now place }
@@ -254,7 +223,6 @@ pub(crate) fn first_overlap(list: &[Numbered]) -> usize
     list.len()
 }
 
-/// Whether one act begins once the other has ended, or is a report, which has the counts of its poll.
 fn follows(last: &Numbered, next: &Numbered) -> bool
     ensures { IsTrue result ↔ Follows last.now.record next.now.record }
 {
@@ -263,7 +231,6 @@ fn follows(last: &Numbered, next: &Numbered) -> bool
         || is_report(&next.act) && last.before == next.before && last.after == next.after
 }
 
-/// Whether an act is a report.
 fn is_report(act: &Act) -> bool
     ensures { result ≡ is_report act.now }
 {

@@ -33,7 +33,6 @@ pub(crate) struct Posts<'a> {
 }
 
 impl Post {
-    /// Whether a post was made for certain after the last turn took its notes.
     fn is_after(&self, state: &State) -> bool {
         match self.since {
             Some(since) => since >= state.taken_by && self.is_of(state),
@@ -59,36 +58,34 @@ pub(crate) fn posts_at(lists: &[Vec<Post>], at: usize) -> Queue<'_> {
 }
 
 impl Queue<'_> {
-    /// Until when the first post was made that can be for the connection, if it can have come before this count. What
-    /// is before it never can.
-    fn first(&mut self, state: &State, before: u64) -> Option<u64> {
+    /// The first post that can be for the connection, if it can have come before this count: what is before it never
+    /// can.
+    fn first(&mut self, state: &State, before: u64) -> Option<Post> {
         for _post in 0..self.0.len() {
             let (first, next) = self.0.split_first()?;
             if first.from >= before {
                 return None;
             }
             if first.is_of(state) {
-                return Some(first.to);
+                return Some(*first);
             }
             self.0 = next;
         }
         None
     }
 
-    /// Passes over the sweeps that came before the last turn took its notes, however many. They stand in their order.
+    /// Passes over the sweeps that came before the last turn took its notes. They stand in their order.
     fn pass_over(&mut self, state: &State) {
         let before = self.0.partition_point(|sweep| sweep.to <= state.taken_from);
         self.0 = self.0.get(before..).unwrap_or(&[]);
     }
 
-    /// Takes the first post.
     fn take(&mut self) -> Option<Post> {
         let (first, next) = self.0.split_first()?;
         self.0 = next;
         Some(*first)
     }
 
-    /// The first post that was made for certain after the last turn took its notes.
     fn first_after(&self, state: &State) -> Option<Post> {
         for post in self.0 {
             if post.is_after(state) {
@@ -105,14 +102,14 @@ impl Posts<'_> {
     fn next(&mut self, state: &State, before: u64, has_notes: bool) -> Option<Post> {
         let report = self.reports.first(state, before);
         match report {
-            Some(to) if to <= state.free_from => return self.reports.take(),
+            Some(report) if report.to <= state.free_from => return self.reports.take(),
             _ if has_notes => return None,
             _ => {}
         }
         self.sweeps.pass_over(state);
         match (report, self.sweeps.first(state, before)) {
             (None, None) => None,
-            (Some(report), Some(sweep)) if sweep < report => self.sweeps.take(),
+            (Some(report), Some(sweep)) if sweep.to < report.to => self.sweeps.take(),
             (None, Some(_)) => self.sweeps.take(),
             (Some(_), _) => self.reports.take(),
         }
@@ -144,17 +141,12 @@ impl SlotReplay<'_> {
     /// While the slot is held for the last time, whatever can have been reported of its connection is.
     pub(crate) fn note_while_held(&mut self) -> Result<(), Flaw> {
         for _post in 0..self.posts.reports.0.len() {
-            if self
-                .posts
-                .reports
-                .first(&self.state, self.state.taken_by)
-                .is_none()
-            {
+            let before = self.state.taken_by;
+            let Some(post) = self.posts.reports.first(&self.state, before) else {
                 break;
-            }
-            if let Some(post) = self.posts.reports.take() {
-                self.note(post)?;
-            }
+            };
+            let _post = self.posts.reports.take();
+            self.note(post)?;
         }
         Ok(())
     }
@@ -169,7 +161,6 @@ impl SlotReplay<'_> {
         }
     }
 
-    /// The post is made: a report is delivered, or the slot is swept.
     fn note(&mut self, post: Post) -> Result<(), Flaw> {
         let Some(numbered) = self.findings.recording.poller(self.poller).get(post.place) else {
             return Ok(());
@@ -182,7 +173,7 @@ impl SlotReplay<'_> {
     }
 }
 
-/// The end that was reported, as it is called in the world of its slot.
+/// As the end is called in the world of its slot.
 fn end_reported(act: &Act) -> Option<(Token, Side)> {
     let Act::Poller(_, Polling::Reported(Name::End(token))) = act else {
         return None;

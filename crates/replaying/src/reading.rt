@@ -8,7 +8,6 @@ use std::alloc::{AllocError, Global};
 use std::io::Read;
 use token::Name;
 
-/// The most bytes that are read at once.
 const CHUNK: usize = 65_536;
 
 /// The most bytes of a line: the first one has no more either.
@@ -17,12 +16,10 @@ const MAX_LINE: usize = MAX_RECORD + 64;
 /// The most bytes of a wrong word that a person is shown.
 const MAX_SHOWN: usize = 64;
 
-/// What has been read so far.
 #[derive(Drop)]
 struct Lines {
     alloc: Global,
     recording: Option<Recording>,
-    /// The number of the next line.
     number: u64,
 }
 
@@ -41,16 +38,15 @@ pub(crate) fn read<R: Read>(alloc: Global, reader: &mut R) -> Result<Recording, 
             cut: if is_cut { Some(number) } else { None },
             ..recording
         }),
-        None => Err(broken(
-            alloc,
-            number,
-            wanted("a recording begins with relayd recording 1"),
-        )),
+        None => {
+            let wrong = wanted("a recording begins with relayd recording 1");
+            Err(fault_of(alloc, number, wrong))
+        }
     }
 }
 
 impl Lines {
-    /// Takes all that a reader gives. Answers whether the last line has no end.
+    /// Answers whether the last line has no end.
     fn take_all<R: Read>(
         &mut self,
         reader: &mut R,
@@ -67,7 +63,6 @@ impl Lines {
         Ok(!line.is_empty())
     }
 
-    /// Takes the next bytes. `line` is the line in progress.
     fn take(&mut self, bytes: &[u8], line: &mut Vec<u8>) -> Result<(), ReplayFault> {
         for byte in bytes {
             if *byte == b'\n' {
@@ -77,13 +72,12 @@ impl Lines {
                 line.push(*byte)?;
             } else {
                 let wrong = wanted("a line of a recording is shorter");
-                return Err(broken(self.alloc, self.number, wrong));
+                return Err(fault_of(self.alloc, self.number, wrong));
             }
         }
         Ok(())
     }
 
-    /// A line is complete.
     fn end_line(&mut self, line: &[u8]) -> Result<(), ReplayFault> {
         let (alloc, number) = (self.alloc, self.number);
         match &mut self.recording {
@@ -91,11 +85,11 @@ impl Lines {
                 Ok((header, split)) => {
                     self.recording = Some(Recording::new(alloc, header, split)?);
                 }
-                Err(wrong) => return Err(broken(alloc, number, wrong)),
+                Err(wrong) => return Err(fault_of(alloc, number, wrong)),
             },
             Some(recording) => match record_of(recording, line) {
                 Ok(record) => recording.add(number, record)?,
-                Err(wrong) => return Err(broken(alloc, number, wrong)),
+                Err(wrong) => return Err(fault_of(alloc, number, wrong)),
             },
         }
         self.number = number.saturating_add(1);
@@ -103,19 +97,15 @@ impl Lines {
     }
 }
 
-/// The sizes in a first line, and how the slots are dealt then.
+/// How the slots are dealt by a first line.
 fn sizes(line: &[u8]) -> Result<(Header, Split), Wrong<'_>> {
-    let header = match read_header(line) {
-        Ok(header) => header,
-        Err(wrong) => return Err(wrong),
-    };
+    let header = read_header(line)?;
     match split_of(&header) {
         Some(split) => Ok((header, split)),
         None => Err(wanted("a relay with these slots and workers has another number of pollers")),
     }
 }
 
-/// The record of the next line.
 fn record_of<'a>(recording: &Recording, line: &'a [u8]) -> Result<Record, Wrong<'a>> {
     if recording.last != Last::Stopped {
         return Err(wanted("nothing comes after the record end or full"));
@@ -136,7 +126,6 @@ fn record_of<'a>(recording: &Recording, line: &'a [u8]) -> Result<Record, Wrong<
     }
 }
 
-/// Whether an act takes both its counts at once.
 fn takes_both(act: &Act) -> bool {
     matches!(
         act,
@@ -173,7 +162,6 @@ fn outside(recording: &Recording, act: &Act) -> Option<&'static str> {
     }
 }
 
-/// The slot that a record names.
 fn slot_of(act: &Act) -> Option<usize> {
     match *act {
         Act::Poller(_, Polling::Open(slot, _, _)) | Act::Begin(slot) | Act::End(slot) => Some(slot),
@@ -184,8 +172,7 @@ fn slot_of(act: &Act) -> Option<usize> {
     }
 }
 
-/// The fault of the line with this number.
-pub(crate) fn broken(alloc: Global, number: u64, wrong: Wrong<'_>) -> ReplayFault {
+pub fn fault_of(alloc: Global, number: u64, wrong: Wrong<'_>) -> ReplayFault {
     match cause(alloc, number, wrong) {
         Ok(text) => ReplayFault::Broken(text),
         Err(error) => ReplayFault::from(error),

@@ -2,8 +2,9 @@
 ghost use Rattle.std.specs.Prelude.{◌≡◌};
 ghost use Rattle.replaying.specs.Traces.{records_at, records_of};
 
+use crate::reading::{fault_of, wanted};
 use dispatch::Split;
-use records::{Act, Header, Polling, Record};
+use records::{Act, Header, Polling, Record, ReplayFault};
 use settings::pollers_for;
 use std::alloc::{AllocError, Global};
 
@@ -28,6 +29,7 @@ pub(crate) enum Last {
 /// What a file says.
 #[derive(Drop)]
 pub(crate) struct Recording {
+    pub alloc: Global,
     pub header: Header,
     /// Which slots are which poller's.
     pub split: Split,
@@ -39,6 +41,8 @@ pub(crate) struct Recording {
     pub failed: Option<u64>,
     /// The first count that is of no record: what ended before is all there.
     pub whole: u64,
+    /// How many records after the first lost one are left out.
+    pub left_out: usize,
     /// The last line, if it is cut off.
     pub cut: Option<u64>,
 }
@@ -64,22 +68,22 @@ impl Recording {
         header: Header,
         split: Split,
     ) -> Result<Recording, AllocError> {
-        let count = header
-            .slots
-            .saturating_add(header.pollers)
-            .saturating_add(1);
+        let Header { slots, pollers, .. } = header;
+        let count = slots.saturating_add(pollers).saturating_add(1);
         Ok(Recording {
+            alloc,
             header,
             split,
             lists: lists(alloc, count)?,
             last: Last::Stopped,
             failed: None,
             whole: 0,
+            left_out: 0,
             cut: None,
         })
     }
 
-    /// Adds a record to its list, and an opening to both of its lists.
+    /// An opening belongs to two lists.
     pub(crate) fn add(&mut self, line: u64, record: Record) -> Result<(), AllocError> {
         match record.act {
             Act::Ended => self.last = Last::Ended,
@@ -95,14 +99,6 @@ impl Recording {
         }
     }
 
-    /// A wait for reports had failed by this count.
-    fn fail(&mut self, count: u64) {
-        self.failed = match self.failed {
-            Some(first) => Some(first.min(count)),
-            None => Some(count),
-        };
-    }
-
     fn lists_of(&self, act: &Act) -> (usize, Option<usize>) {
         match act {
             Act::Poller(poller, Polling::Open(slot, _, _)) => {
@@ -115,11 +111,20 @@ impl Recording {
         }
     }
 
+    fn fail(&mut self, count: u64) {
+        let first = self.failed.unwrap_or(u64::MAX);
+        self.failed = Some(first.min(count));
+    }
+
     fn add_to(&mut self, at: usize, line: u64, record: Record) -> Result<(), AllocError> {
         match self.lists.get_mut(at) {
             Some(list) => Ok(list.push(Numbered { line, record })?),
             None => Ok(()),
         }
+    }
+
+    pub fn broken(&self, line: u64, text: &'static str) -> ReplayFault {
+        fault_of(self.alloc, line, wanted(text))
     }
 
     /// Whether each turn and each round is known to have read the clock, if it was over by this count.
@@ -148,7 +153,7 @@ impl Recording {
         self.list(self.at_poller(poller))
     }
 
-    /// What belongs to neither.
+    /// What is of no slot and of no poller.
     pub(crate) fn others(&self) -> &[Numbered] {
         self.poller(self.header.pollers)
     }
@@ -172,7 +177,7 @@ pub(crate) fn lists<T: Drop>(alloc: Global, count: usize) -> Result<Vec<Vec<T>>,
     Ok(lists)
 }
 
-/// Whether another list has this record, too: an opening in the list of its slot.
+/// Whether another list has this record, too: an opening in that of its slot.
 pub(crate) fn is_twice(of_slot: bool, act: &Act) -> bool {
     of_slot && matches!(act, Act::Poller(_, _))
 }

@@ -7,7 +7,7 @@ use crate::clock::Clock;
 use crate::machine::{Flaw, Machine};
 use crate::opening::limits_of;
 use crate::order::put_in_order;
-use crate::reading::{broken, read, wanted};
+use crate::reading::read;
 use crate::recording::{Last, Recording};
 use crate::results::{Flawed, Results, Whose};
 use crate::round::check_rounds;
@@ -25,16 +25,12 @@ use world::{Lead, Limits};
 pub struct OnMachine;
 
 impl Replay for OnMachine {
-    /// Reads a recording, and replays it.
-    ///
-    /// With `rests`, or where the recording ends with the record `end`, the relay had come to rest: nothing may be
-    /// left to do at any slot. With `rests` alone nothing is asked of that where records after a lost one were left
-    /// out, since what was left to do may have been done there, and in neither case where a wait for reports had
-    /// failed, since that ends a relay before all is done.
-    ///
-    /// Refuses with `Read` if the reader gives an error, `Broken` if a line is malformed or no relay acts in that order,
-    /// `Unknown` if it lacks the connection that is wanted, `Write` if the outcome could not be written, and
-    /// `NoMemory`. No clause covers this call. After a refusal a part of the outcome may be written.
+    /// Reads a recording, and replays it. With `rests`, or where it ends with the record `end`, nothing may be left to
+    /// do at any slot. With `rests` alone nothing is asked of that where records after a lost one were left out, since
+    /// it may have been done there, and in neither case where a wait for reports had failed, which ends a relay before
+    /// all is done. Refuses with `Read` if the reader gives an error, `Broken` if a line is malformed or no relay acts
+    /// in that order, `Unknown` if it lacks the connection that is wanted, `Write`, and `NoMemory`. No clause covers
+    /// this call. After a refusal a part of the outcome may be written.
     fn replay<R: Read, W: Write>(
         &self,
         alloc: Global,
@@ -44,10 +40,10 @@ impl Replay for OnMachine {
         output: &mut W,
     ) -> Result<Outcome, ReplayFault> {
         let mut recording = read(alloc, input)?;
-        let left_out = put_in_order(alloc, &mut recording)?;
+        put_in_order(&mut recording)?;
         let rests = recording.failed.is_none()
-            && (recording.last == Last::Ended || rests && left_out == 0);
-        let outcome = replay_recording(alloc, &recording, wanted, rests, left_out, output)?;
+            && (recording.last == Last::Ended || rests && recording.left_out == 0);
+        let outcome = replay_recording(&recording, wanted, rests, output)?;
         match output.flush() {
             Ok(()) => Ok(outcome),
             Err(_) => Err(ReplayFault::Write),
@@ -55,105 +51,73 @@ impl Replay for OnMachine {
     }
 }
 
-/// Finds out what was posted when, and replays the recording.
 fn replay_recording<W: Write>(
-    alloc: Global,
     recording: &Recording,
     wanted: Wanted,
     rests: bool,
-    left_out: usize,
     output: &mut W,
 ) -> Result<Outcome, ReplayFault> {
-    let clock = read_clock(alloc, recording)?;
-    clock.check_readings(alloc, recording)?;
-    check_rounds(alloc, recording)?;
-    check_threads(alloc, recording)?;
-    let posts = find_posts(alloc, recording, &clock)?;
+    let clock = read_clock(recording)?;
+    clock.check_readings(recording)?;
+    check_rounds(recording)?;
+    check_threads(recording)?;
+    let posts = find_posts(recording, &clock)?;
     let findings = Findings {
         recording,
         clock: &clock,
         posts: posts.as_slice(),
         rests,
     };
-    replay_and_write(alloc, findings, wanted, left_out, output)
+    let mut results = Results::new(recording.alloc, wanted);
+    write_outcome(findings, output, &mut results)
 }
 
-/// What the clock showed. It does not go back.
-fn read_clock(alloc: Global, recording: &Recording) -> Result<Clock, ReplayFault> {
-    let clock = Clock::new(alloc, recording.others())?;
+/// The clock does not go back.
+fn read_clock(recording: &Recording) -> Result<Clock, ReplayFault> {
+    let clock = Clock::new(recording.alloc, recording.others())?;
     match clock.first_back(recording.others()) {
-        Some(back) => Err(broken(alloc, back.line, wanted("the clock does not go back"))),
+        Some(back) => Err(recording.broken(back.line, "the clock does not go back")),
         None => Ok(clock),
     }
 }
 
-/// Replays what is wanted, and writes what that comes to.
-fn replay_and_write<W: Write>(
-    alloc: Global,
-    findings: Findings<'_>,
-    wanted: Wanted,
-    left_out: usize,
-    output: &mut W,
-) -> Result<Outcome, ReplayFault> {
-    let mut results = Results::new(alloc, wanted);
-    write_outcome(alloc, findings, left_out, output, &mut results)
-}
-
 fn write_outcome<W: Write>(
-    alloc: Global,
     findings: Findings<'_>,
-    left_out: usize,
     output: &mut W,
     results: &mut Results,
 ) -> Result<Outcome, ReplayFault> {
-    match replay_all(alloc, findings, results) {
+    let recording = findings.recording;
+    match replay_all(findings, results) {
         Ok(()) => {
-            write_results(alloc, output, results, findings.recording, left_out)?;
+            write_results(output, results, recording)?;
             Ok(Outcome::Run)
         }
-        Err(flaw) => write_end(alloc, output, results, flaw),
+        Err(flaw) => match (flaw, &results.flawed) {
+            (Flaw::NoMemory, _) | (_, None) => Err(ReplayFault::NoMemory),
+            (flaw, Some(flawed)) => {
+                write_flaw(recording.alloc, output, flawed, flaw)?;
+                Ok(Outcome::NoRun)
+            }
+        },
     }
 }
 
-/// Writes where the replay stopped.
-fn write_end<W: Write>(
-    alloc: Global,
-    output: &mut W,
-    results: &Results,
-    flaw: Flaw,
-) -> Result<Outcome, ReplayFault> {
-    match (flaw, &results.flawed) {
-        (Flaw::NoMemory, _) | (_, None) => Err(ReplayFault::NoMemory),
-        (flaw, Some(flawed)) => {
-            write_flaw(alloc, output, flawed, flaw)?;
-            Ok(Outcome::NoRun)
-        }
-    }
-}
-
-/// Replays what is wanted, up to the first that is no run.
-fn replay_all(alloc: Global, findings: Findings<'_>, results: &mut Results) -> Result<(), Flaw> {
+fn replay_all(findings: Findings<'_>, results: &mut Results) -> Result<(), Flaw> {
     if let Wanted::Script(slot, _) = results.wanted {
-        return replay_slot(alloc, findings, results, slot);
+        return replay_slot(findings, results, slot);
     }
     for poller in 0..findings.recording.header.pollers {
-        replay_poller(alloc, findings, results, poller)?;
+        replay_poller(findings.recording, results, poller)?;
     }
     for slot in 0..findings.recording.header.slots {
-        replay_slot(alloc, findings, results, slot)?;
+        replay_slot(findings, results, slot)?;
     }
     Ok(())
 }
 
-/// Replays what a poller did at the listener.
-fn replay_poller(
-    alloc: Global,
-    findings: Findings<'_>,
-    results: &mut Results,
-    poller: usize,
-) -> Result<(), Flaw> {
-    let mut machine = Machine::new(alloc, Machine::LIMITS)?;
-    for numbered in findings.recording.poller(poller) {
+fn replay_poller(recording: &Recording, results: &mut Results, poller: usize) -> Result<(), Flaw> {
+    let mut machine = Machine::new(recording.alloc, Machine::LIMITS)?;
+    for numbered in recording.poller(poller) {
         if let Err(flaw) = machine.listen(&numbered.record.act) {
             results.end(Whose::Poller(poller), *numbered, machine);
             return Err(flaw);
@@ -162,13 +126,7 @@ fn replay_poller(
     results.take(0, machine.history)
 }
 
-/// Replays what happened at a slot.
-fn replay_slot(
-    alloc: Global,
-    findings: Findings<'_>,
-    results: &mut Results,
-    slot: usize,
-) -> Result<(), Flaw>
+fn replay_slot(findings: Findings<'_>, results: &mut Results, slot: usize) -> Result<(), Flaw>
     ensures runs { OnOk result (AreRuns findings.entry.recording.now.header findings.entry.recording.now.failed
         (records_of findings.entry.recording.now slot)) }
 {
@@ -176,7 +134,8 @@ fn replay_slot(
     let Some(first) = records.first() else {
         return Ok(());
     };
-    let machine = Machine::new(alloc, limits_at_first(&findings.recording.header))?;
+    let limits = limits_at_first(&findings.recording.header);
+    let machine = Machine::new(findings.recording.alloc, limits)?;
     let mut replay = SlotReplay::new(findings, slot, *first, machine);
     let result = replay.run(findings.recording, records, results);
     let SlotReplay {

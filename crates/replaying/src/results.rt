@@ -13,7 +13,6 @@ use world::World;
 /// Bytes that were read at clients and at targets, and bytes that were written there.
 pub(crate) type Moved = [u64; 4];
 
-/// What became of a connection.
 #[derive(Clone, Copy)]
 struct Became {
     generation: u64,
@@ -63,7 +62,6 @@ fn moved(client: &End, target: &End) -> Moved {
 }
 
 impl Became {
-    /// What became of the connection of a slot's world, if one was opened there.
     fn of(world: &World) -> Option<Became> {
         if let Some(connection) = world.connection(0) {
             let client = world.kernel().end(connection.ends.client)?;
@@ -105,23 +103,21 @@ impl Results {
         });
     }
 
-    /// The world of a slot or of a listener was replayed to its end, or as far as the recording goes.
+    /// A world was replayed to its end, or as far as the recording goes.
     pub(crate) fn take(&mut self, slot: usize, history: History) -> Result<(), Flaw> {
         for event in history.events() {
             self.counts.count(event);
         }
-        let became = Became::of(history.world());
-        if self.add(slot, &became)? {
-            self.script = Some(history);
+        if let Some(became) = Became::of(history.world()) {
+            if self.add(slot, &became)? {
+                self.script = Some(history);
+            }
         }
         Ok(())
     }
 
-    /// Adds what became of a connection, if one was opened. Answers whether its script is wanted.
-    fn add(&mut self, slot: usize, became: &Option<Became>) -> Result<bool, AllocError> {
-        let Some(became) = became else {
-            return Ok(false);
-        };
+    /// Answers whether the script of a connection is wanted.
+    fn add(&mut self, slot: usize, became: &Became) -> Result<bool, AllocError> {
         self.connections = self.connections.saturating_add(1);
         for (sum, more) in self.moved.iter_mut().zip(became.moved.iter()) {
             *sum = sum.saturating_add(*more);
@@ -136,12 +132,10 @@ impl Results {
         let generation = became.generation;
         let [_, _, down, up] = became.moved;
         match became.verdict {
-            Verdict::Live => {
-                writeln!(
-                    self.ends,
-                    "live s={slot} g={generation} up={up} down={down}"
-                )
-            }
+            Verdict::Live => writeln!(
+                self.ends,
+                "live s={slot} g={generation} up={up} down={down}"
+            ),
             Verdict::Done => {
                 let done = Done {
                     slot,

@@ -1,16 +1,14 @@
 //! What a poller does in a round, one act after the other: it waits for reports once, and then accepts connections,
 //! each of which it opens at once.
-use crate::reading::{broken, wanted};
 use crate::recording::{Last, Recording};
 use records::{Accepted, Act, Made, Opening, Polling, Record, ReplayFault};
-use std::alloc::{AllocError, Global};
+use std::alloc::AllocError;
 use std::mem;
 use token::{Name, Token};
 
 /// The most calls of accept(2) in a round.
 const MAX_ACCEPTS: usize = 4;
 
-/// A poller in its round.
 #[derive(Drop)]
 struct Round<'a> {
     recording: &'a Recording,
@@ -19,43 +17,40 @@ struct Round<'a> {
     /// The wait with which the round began, if it has begun, and what that reported so far.
     poll: Option<Record>,
     reported: Vec<Name>,
-    /// How many calls of accept(2) the round may still make.
+    /// How many calls of accept(2) are left.
     accepts: usize,
     /// Whether an accepted connection is in hand.
     accepted: bool,
 }
 
-/// Refuses with `Broken` for the first act of a poller that it does not do in its round.
-pub(crate) fn check_rounds(alloc: Global, recording: &Recording) -> Result<(), ReplayFault> {
+/// Refuses with `Broken` what a poller does not do in its round.
+pub(crate) fn check_rounds(recording: &Recording) -> Result<(), ReplayFault> {
     for poller in 0..recording.header.pollers {
         let mut round = Round {
             recording,
-            opened: vec![in alloc; 0; recording.header.slots]?,
+            opened: vec![in recording.alloc; 0; recording.header.slots]?,
             poll: None,
-            reported: Vec::new(alloc),
+            reported: Vec::new(recording.alloc),
             accepts: 0,
             accepted: false,
         };
-        round.check(alloc, poller)?;
+        round.check(poller)?;
     }
     Ok(())
 }
 
 impl Round<'_> {
-    fn check(&mut self, alloc: Global, poller: usize) -> Result<(), ReplayFault> {
+    fn check(&mut self, poller: usize) -> Result<(), ReplayFault> {
         let acts = self.recording.poller(poller);
         for numbered in acts {
             if let Some(why) = self.act(&numbered.record)? {
-                return Err(broken(alloc, numbered.line, wanted(why)));
+                return Err(self.recording.broken(numbered.line, why));
             }
         }
         match acts.last() {
             Some(last) if self.accepted && self.recording.last == Last::Ended => {
-                Err(broken(
-                    alloc,
-                    last.line,
-                    wanted("the accepted connection is never opened"),
-                ))
+                let why = "the accepted connection is never opened";
+                Err(self.recording.broken(last.line, why))
             }
             _ => Ok(()),
         }
@@ -86,7 +81,6 @@ impl Round<'_> {
         }
     }
 
-    /// A round begins.
     fn begin(&mut self, poll: &Record) -> Option<&'static str> {
         if self.accepted {
             return Some("the accepted connection is opened before the next wait");
@@ -97,7 +91,6 @@ impl Round<'_> {
         None
     }
 
-    /// The wait reported this.
     fn report(&mut self, name: Name) -> Result<Option<&'static str>, AllocError> {
         if let Name::End(token) = name {
             match self.opened.get(token.slot()) {
@@ -132,7 +125,7 @@ impl Round<'_> {
         false
     }
 
-    /// What accept(2) answered. Where it was starved the round calls it no more.
+    /// Where accept(2) was starved the round calls it no more.
     fn accept(&mut self, answer: Accepted) -> Option<&'static str> {
         if self.accepts == 0 {
             return Some("no more calls of accept(2) are made in this round");
@@ -146,7 +139,6 @@ impl Round<'_> {
         None
     }
 
-    /// The connection in hand is opened, or was tried to be.
     fn open(&mut self, slot: usize, generation: u64, opening: Opening) -> Option<&'static str> {
         if !mem::take(&mut self.accepted) {
             return Some("no accepted connection is in hand");

@@ -2,13 +2,11 @@
 
 use crate::clock::Clock;
 use crate::posts::Post;
-use crate::reading::{broken, wanted};
 use crate::recording::{Last, Numbered, Recording, lists};
-use records::{Act, Polling, ReplayFault};
-use std::alloc::{AllocError, Global};
+use records::{Act, Polling, Record, ReplayFault};
+use std::alloc::AllocError;
 use token::Name;
 
-/// The most reports of a poll.
 const MAX_REPORTS: usize = 256;
 
 /// The rounds of a poller, one after the other.
@@ -20,8 +18,8 @@ struct Rounds<'a> {
     /// The last poll, and how many of its reports are missing.
     poll: Option<Post>,
     missing: usize,
-    /// When it last made a sweep. None before its first round.
-    swept: Option<Swept>,
+    /// When it last made a sweep.
+    swept: Swept,
 }
 
 /// What was posted in the rounds of a recording: a list for each slot, of the reports that its poller was given, and
@@ -30,11 +28,10 @@ struct Rounds<'a> {
 ///
 /// Refuses with `Broken` for a poll with other reports than it gave.
 pub(crate) fn find_posts(
-    alloc: Global,
     recording: &Recording,
     clock: &Clock,
 ) -> Result<Vec<Vec<Post>>, ReplayFault> {
-    let mut posts = lists(alloc, recording.lists.len())?;
+    let mut posts = lists(recording.alloc, recording.lists.len())?;
     for poller in 0..recording.header.pollers {
         let mut rounds = Rounds {
             recording,
@@ -42,43 +39,52 @@ pub(crate) fn find_posts(
             poller,
             poll: None,
             missing: 0,
-            swept: None,
+            swept: Swept::at(clock.between(0, first_count(recording.poller(poller)))),
         };
-        rounds.find(alloc, &mut posts)?;
+        rounds.find(&mut posts)?;
         if rounds.missing > 0 && recording.last == Last::Ended {
-            let text = String::from_str(alloc, "reports of the last poll are missing")?;
+            let text = String::from_str(recording.alloc, "reports of the last poll are missing")?;
             return Err(ReplayFault::Broken(text));
         }
     }
     Ok(posts)
 }
 
+fn first_count(acts: &[Numbered]) -> u64 {
+    match acts.first() {
+        Some(first) => first.record.before,
+        None => 0,
+    }
+}
+
 impl Rounds<'_> {
-    fn find(&mut self, alloc: Global, posts: &mut Vec<Vec<Post>>) -> Result<(), ReplayFault> {
+    fn find(&mut self, posts: &mut Vec<Vec<Post>>) -> Result<(), ReplayFault> {
         for (place, numbered) in self.recording.poller(self.poller).iter().enumerate() {
-            match self.act(place, numbered) {
+            match self.act(place, &numbered.record) {
                 Ok(Some((at, post))) => add(posts, at, post)?,
                 Ok(None) => {}
-                Err(why) => return Err(broken(alloc, numbered.line, wanted(why))),
+                Err(why) => return Err(self.recording.broken(numbered.line, why)),
             }
         }
         Ok(())
     }
 
-    /// The act at a place among those of the poller. Answers to which list it adds what.
+    /// Answers to which list an act of the poller adds what.
     fn act(
         &mut self,
         place: usize,
-        numbered: &Numbered,
+        record: &Record,
     ) -> Result<Option<(usize, Post)>, &'static str> {
-        if let Some(name) = reported(&numbered.record.act) {
-            return self.report(place, numbered.record.after, name);
-        }
-        if self.missing > 0 {
-            return Err("reports of the poll before it are wanted");
-        }
-        let Some(count) = polled(&numbered.record.act) else {
-            return Ok(None);
+        let count = match record.act {
+            Act::Poller(_, Polling::Reported(name)) => return self.report(
+                place,
+                record.after,
+                name,
+            ),
+            _ if self.missing > 0 => return Err("reports of the poll before it are wanted"),
+            Act::Poller(_, Polling::Gave(count)) => count,
+            Act::Poller(_, Polling::Interrupted) => 0,
+            _ => return Ok(None),
         };
         if count > MAX_REPORTS {
             return Err("a poll gives 256 reports at most");
@@ -87,11 +93,11 @@ impl Rounds<'_> {
         let poll = Post {
             place,
             generation: None,
-            from: numbered.record.after,
-            to: self.next_count(place, numbered.record.before),
-            since: Some(numbered.record.after),
+            from: record.after,
+            to: self.next_count(record.before),
+            since: Some(record.after),
         };
-        let sweep = self.sweep(numbered.record.before, &poll);
+        let sweep = self.sweep(&poll);
         self.poll = Some(poll);
         match sweep {
             Some(sweep) => Ok(Some((self.recording.at_poller(self.poller), sweep))),
@@ -100,51 +106,40 @@ impl Rounds<'_> {
     }
 
     /// The count before the next act of the poller that is no report of this poll.
-    fn next_count(&self, place: usize, poll: u64) -> u64 {
-        for next in self
-            .recording
-            .poller(self.poller)
-            .get(place..)
-            .unwrap_or(&[])
-        {
-            if next.record.before > poll {
-                return next.record.before;
-            }
+    fn next_count(&self, poll: u64) -> u64 {
+        let acts = self.recording.poller(self.poller);
+        let next = acts.partition_point(|act| act.record.before <= poll);
+        match acts.get(next) {
+            Some(next) => next.record.before,
+            None => u64::MAX,
         }
-        u64::MAX
     }
 
     /// The round after a poll may have made a sweep, by the second that the round before it read. Where that is in
     /// doubt, it may or may not.
-    fn sweep(&mut self, before: u64, poll: &Post) -> Option<Post> {
+    fn sweep(&mut self, poll: &Post) -> Option<Post> {
         let limit = self.recording.header.idle;
+        let round = self.poll?;
         if limit == 0 {
             return None;
         }
-        let mut swept = match self.swept {
-            Some(swept) => swept,
-            None => Swept::at(self.clock.between(0, before)),
-        };
-        self.swept = Some(swept);
-        let round = self.poll?;
-        let since = swept.pass(limit, self.clock.between(round.from, round.to), poll.from);
-        self.swept = Some(swept);
-        since.map(|since| Post { since, ..*poll })
+        let seconds = self.clock.between(round.from, round.to);
+        let since = self.swept.pass(limit, seconds, poll.from)?;
+        Some(Post { since, ..*poll })
     }
 
-    /// The last poll reported this. Answers to which slot the poller may have posted that.
+    /// Answers to which slot the poller may have posted a report.
     fn report(
         &mut self,
         place: usize,
         after: u64,
         name: Name,
     ) -> Result<Option<(usize, Post)>, &'static str> {
-        let (poll, missing) = (self.poll, self.missing);
-        let poll = match poll {
-            Some(poll) if missing > 0 && poll.from == after => poll,
+        let poll = match self.poll {
+            Some(poll) if self.missing > 0 && poll.from == after => poll,
             _ => return Err("its poll is wanted before it"),
         };
-        self.missing = missing.saturating_sub(1);
+        self.missing = self.missing.saturating_sub(1);
         match name {
             Name::End(token) => {
                 let report = Post {
@@ -159,22 +154,6 @@ impl Rounds<'_> {
     }
 }
 
-fn reported(act: &Act) -> Option<Name> {
-    match act {
-        Act::Poller(_, Polling::Reported(name)) => Some(*name),
-        _ => None,
-    }
-}
-
-/// How many reports a poll gave.
-fn polled(act: &Act) -> Option<usize> {
-    match act {
-        Act::Poller(_, Polling::Gave(count)) => Some(*count),
-        Act::Poller(_, Polling::Interrupted) => Some(0),
-        _ => None,
-    }
-}
-
 fn add(lists: &mut Vec<Vec<Post>>, at: usize, post: Post) -> Result<(), AllocError> {
     match lists.get_mut(at) {
         Some(list) => Ok(list.push(post)?),
@@ -184,7 +163,7 @@ fn add(lists: &mut Vec<Vec<Post>>, at: usize, post: Post) -> Result<(), AllocErr
 
 /// When a poller last made a sweep. At first it is the second at which its thread began.
 #[derive(Clone, Copy)]
-pub(crate) struct Swept {
+struct Swept {
     /// The earliest and the latest second of the last sweep.
     first: u64,
     last: u64,
@@ -196,7 +175,7 @@ pub(crate) struct Swept {
 
 impl Swept {
     /// A thread began between these two seconds.
-    pub(crate) fn at((first, last): (u64, u64)) -> Swept {
+    fn at((first, last): (u64, u64)) -> Swept {
         Swept {
             first,
             last,
@@ -208,18 +187,13 @@ impl Swept {
     /// A round read a second between these two, and makes its posts from this count on: a sweep, if the limit has
     /// passed since the last one. None: it makes none. With a count it, or a round since that count, makes one for
     /// certain.
-    pub(crate) fn pass(
-        &mut self,
-        limit: u64,
-        (least, most): (u64, u64),
-        from: u64,
-    ) -> Option<Option<u64>> {
+    fn pass(&mut self, limit: u64, (least, most): (u64, u64), from: u64) -> Option<Option<u64>> {
         if most.saturating_sub(self.first) < limit {
             return None;
         }
         let since = self.since.unwrap_or(from);
         if least.saturating_sub(self.last) >= limit {
-            self.settle(least, most);
+            *self = Swept::at((least, most));
             return Some(Some(from));
         }
         self.since = Some(since);
@@ -232,12 +206,7 @@ impl Swept {
         if self.first <= last {
             return Some(None);
         }
-        self.settle(self.first.max(first.saturating_add(limit)), self.last);
+        *self = Swept::at((self.first.max(first.saturating_add(limit)), self.last));
         Some(Some(since))
-    }
-
-    /// The last sweep was made for certain, between these two seconds.
-    fn settle(&mut self, first: u64, last: u64) {
-        *self = Swept::at((first, last));
     }
 }

@@ -1,4 +1,3 @@
-//! One slot is replayed, act by act.
 ghost use Rattle.std.specs.Prelude.{OnOk};
 ghost use Rattle.replaying.specs.Traces.{AreRuns, IsConnection};
 
@@ -74,7 +73,6 @@ pub(crate) struct SlotReplay<'a> {
 }
 
 impl State {
-    /// That of a slot in which nothing was opened yet.
     const NEW: State = State {
         phase: Phase::Free,
         generation: 0,
@@ -87,7 +85,6 @@ impl State {
         moved: 0,
     };
 
-    /// Whether this is an end of the connection in the slot.
     fn has(&self, token: Token) -> bool {
         match self.phase {
             Phase::Free => false,
@@ -167,7 +164,6 @@ impl<'a> SlotReplay<'a> {
         Ok(())
     }
 
-    /// Replays the records of one connection, and compares them with what happened in its world.
     fn replay_connection(
         &mut self,
         recording: &Recording,
@@ -185,19 +181,13 @@ impl<'a> SlotReplay<'a> {
             self.next = next;
             self.act(first.record, results)?;
         }
-        if is_connection(
-            self.machine.alloc,
-            recording,
-            &self.machine.history,
-            records,
-        )? {
+        if is_connection(recording, &self.machine.history, records)? {
             Ok(())
         } else {
             Err(Flaw::Because("the records are not those of the run"))
         }
     }
 
-    /// Nothing more happens in the slot.
     fn end_all(&mut self) -> Result<(), Flaw> {
         if self.findings.rests {
             self.rest()?;
@@ -222,7 +212,6 @@ impl<'a> SlotReplay<'a> {
         }
     }
 
-    /// Something was done with a wire.
     fn wire(&mut self, record: Record, token: Token, made: Made) -> Result<(), Flaw> {
         if !self.state.has(token) {
             return Err(Flaw::Because("it is no end of the connection in the slot"));

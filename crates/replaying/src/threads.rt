@@ -1,10 +1,9 @@
 //! How many threads were at work at once: a turn is made by the poller of its slot, while that does nothing else, or
 //! by a worker.
 use crate::order::first_overlap;
-use crate::reading::{broken, wanted};
 use crate::recording::{Numbered, Recording, lists};
 use records::{Act, Made, Record, ReplayFault};
-use std::alloc::{AllocError, Global};
+use std::alloc::AllocError;
 
 /// The most calls of a turn that a poller's own thread runs.
 pub(crate) const OWN_BUDGET: usize = 8;
@@ -20,7 +19,6 @@ struct Span {
     from: u64,
     to: u64,
     calls: usize,
-    /// Whether it has ended.
     is_over: bool,
 }
 
@@ -34,43 +32,29 @@ struct Change {
     poller: Option<usize>,
 }
 
-/// What is going on at some count.
-#[derive(Drop)]
-struct AtWork {
-    /// For each poller, what may be its own.
-    own: Vec<usize>,
-    /// How many workers that takes at least.
-    workers: usize,
-}
-
-/// Refuses with `Broken` for a turn for which no thread is left.
-pub(crate) fn check_threads(alloc: Global, recording: &Recording) -> Result<(), ReplayFault> {
-    let mut spans = Vec::new(alloc);
+/// Refuses with `Broken` a turn for which no thread is left.
+pub(crate) fn check_threads(recording: &Recording) -> Result<(), ReplayFault> {
+    let mut spans = Vec::new(recording.alloc);
     for slot in 0..recording.header.slots {
-        for span in spans_of(alloc, recording, slot)? {
+        for span in spans_of(recording, slot)? {
             spans.push(span.lasting(recording.whole))?;
         }
     }
-    let acts = acts_of_pollers(alloc, recording, spans.as_slice())?;
-    let changes = changes_of(alloc, acts.as_slice(), spans.as_slice())?;
-    let mut at_work = AtWork {
-        own: vec![in alloc; 0usize; recording.header.pollers]?,
-        workers: 0,
-    };
-    let over = at_work.first_over(changes.as_slice(), recording.header.workers);
+    let acts = acts_of_pollers(recording, spans.as_slice())?;
+    let changes = changes_of(recording, acts.as_slice(), spans.as_slice())?;
+    let over = first_over(recording, changes.as_slice())?;
     match first_at_once(acts.as_slice()).or(over) {
-        Some(line) => Err(broken(alloc, line, wanted("more turns at once than threads"))),
+        Some(line) => Err(recording.broken(line, "more turns at once than threads")),
         None => Ok(()),
     }
 }
 
 /// What each poller did for certain, in order.
 fn acts_of_pollers(
-    alloc: Global,
     recording: &Recording,
     spans: &[Span],
 ) -> Result<Vec<Vec<Numbered>>, AllocError> {
-    let mut acts = lists(alloc, recording.header.pollers)?;
+    let mut acts = lists(recording.alloc, recording.header.pollers)?;
     for (poller, list) in acts.iter_mut().enumerate() {
         for numbered in recording.poller(poller) {
             list.push(*numbered)?;
@@ -85,7 +69,6 @@ fn acts_of_pollers(
     Ok(acts)
 }
 
-/// The line of the first of these acts that a poller began while it did another one.
 fn first_at_once(acts: &[Vec<Numbered>]) -> Option<u64> {
     for list in acts {
         if let Some(numbered) = list.get(first_overlap(list.as_slice())) {
@@ -97,11 +80,11 @@ fn first_at_once(acts: &[Vec<Numbered>]) -> Option<u64> {
 
 /// When threads begin and end what else they do at slots, in order.
 fn changes_of(
-    alloc: Global,
+    recording: &Recording,
     acts: &[Vec<Numbered>],
     spans: &[Span],
 ) -> Result<Vec<Change>, AllocError> {
-    let mut changes = Vec::new(alloc);
+    let mut changes = Vec::new(recording.alloc);
     for span in spans {
         match acts.get(span.poller) {
             Some(acts) if !span.is_pollers => add(&mut changes, acts.as_slice(), *span)?,
@@ -140,8 +123,8 @@ pub(crate) fn is_busy(acts: &[Numbered], from: u64, to: u64) -> bool {
 
 /// What was done at a slot, as spans. A turn that spent a poller's budget and not the workers' is the poller's, and so
 /// is the closing of a connection that came to nothing.
-fn spans_of(alloc: Global, recording: &Recording, slot: usize) -> Result<Vec<Span>, AllocError> {
-    let mut spans: Vec<Span> = Vec::new(alloc);
+fn spans_of(recording: &Recording, slot: usize) -> Result<Vec<Span>, AllocError> {
+    let mut spans: Vec<Span> = Vec::new(recording.alloc);
     let (failed, budget) = (recording.failed.is_some(), recording.header.budget);
     let mut last = Act::Ended;
     for numbered in recording.slot(slot) {
@@ -154,10 +137,14 @@ fn spans_of(alloc: Global, recording: &Recording, slot: usize) -> Result<Vec<Spa
             spans.push(Span {
                 poller: recording.split.poller_of(slot),
                 is_pollers: !is_turn && !failed,
-                ..span_from(numbered)
+                line: numbered.line,
+                from: numbered.record.before,
+                to: numbered.record.after,
+                calls: 0,
+                is_over: !is_turn,
             })?;
         } else if let Some(span) = spans.last_mut() {
-            span.go_on(numbered);
+            span.go_on(&numbered.record);
         }
         last = act;
     }
@@ -175,20 +162,7 @@ fn begins_span(last: &Act, act: &Act, failed: bool) -> bool {
     }
 }
 
-fn span_from(numbered: &Numbered) -> Span {
-    Span {
-        poller: 0,
-        is_pollers: false,
-        line: numbered.line,
-        from: numbered.record.before,
-        to: numbered.record.after,
-        calls: 0,
-        is_over: matches!(numbered.record.act, Act::Wire(_, Made::Drop)),
-    }
-}
-
 impl Span {
-    /// A span as one act.
     fn numbered(&self) -> Numbered {
         Numbered {
             line: self.line,
@@ -200,67 +174,59 @@ impl Span {
         }
     }
 
-    /// The turn goes on with this act.
-    fn go_on(&mut self, numbered: &Numbered) {
-        match numbered.record.act {
+    fn go_on(&mut self, record: &Record) {
+        match record.act {
             Act::Poller(_, _) => return,
             Act::Wire(_, Made::Settle | Made::Drop) | Act::End(_) => self.is_over = true,
             _ => self.calls = self.calls.saturating_add(1),
         }
-        self.to = numbered.record.after;
+        self.to = record.after;
     }
 
-    /// One that has not ended lasts up to the first count that is of no record, which may be that of its next act.
-    fn lasting(self, whole: u64) -> Span {
-        if self.is_over {
-            return self;
+    /// What has not ended lasts up to the first count of no record, which may be that of its next act.
+    fn lasting(mut self, whole: u64) -> Span {
+        if !self.is_over {
+            self.to = self.to.max(whole);
         }
-        Span {
-            to: self.to.max(whole),
-            ..self
-        }
+        self
     }
 }
 
-impl AtWork {
-    /// The line of the first change by which there are more at work than these workers and the pollers.
-    fn first_over(&mut self, changes: &[Change], workers: usize) -> Option<u64> {
-        for change in changes {
-            self.take(change);
-            if self.workers > workers {
-                return Some(change.line);
-            }
-        }
-        None
-    }
-
-    fn take(&mut self, change: &Change) {
-        let is_free = match change.poller {
-            Some(poller) => self.is_first(poller, change.begins),
+/// The line of the first of these changes by which more are at work than the workers and the pollers. Of what may be a
+/// poller's own, it does one at a time.
+fn first_over(recording: &Recording, changes: &[Change]) -> Result<Option<u64>, AllocError> {
+    let mut own = vec![in recording.alloc; 0usize; recording.header.pollers]?;
+    let mut workers: usize = 0;
+    for change in changes {
+        let is_own = match change.poller {
+            Some(poller) => is_only(own.get_mut(poller), change.begins),
             None => false,
         };
-        if is_free {
-            return;
+        if !is_own {
+            step(&mut workers, change.begins);
         }
-        self.workers = if change.begins {
-            self.workers.saturating_add(1)
-        } else {
-            self.workers.saturating_sub(1)
-        };
+        if workers > recording.header.workers {
+            return Ok(Some(change.line));
+        }
     }
+    Ok(None)
+}
 
-    /// One more of what may be a poller's own, or one less. Answers whether it is the only one, which the poller does
-    /// itself.
-    fn is_first(&mut self, poller: usize, begins: bool) -> bool {
-        let Some(own) = self.own.get_mut(poller) else {
-            return false;
-        };
-        if begins {
-            *own = own.saturating_add(1);
-            *own == 1
-        } else {
-            *own = own.saturating_sub(1);
-            *own == 0
-        }
+/// Answers whether that is the only one.
+fn is_only(own: Option<&mut usize>, begins: bool) -> bool {
+    match own {
+        Some(own) => step(own, begins) <= 1,
+        None => false,
     }
+}
+
+/// Counts up or down. Answers the greater of the two numbers.
+fn step(number: &mut usize, up: bool) -> usize {
+    let before = *number;
+    *number = if up {
+        before.saturating_add(1)
+    } else {
+        before.saturating_sub(1)
+    };
+    before.max(*number)
 }

@@ -9,7 +9,6 @@ use records::{Act, Header, Polling};
 use std::alloc::{AllocError, Global};
 use world::Limits;
 
-/// What records are.
 fn trace_of_records(alloc: Global, records: &[Numbered]) -> Result<Vec<Action>, AllocError>
     ensures { IfOk result (λ trace. trace.items ≡ trace_of_records records.now) }
 {
@@ -28,14 +27,13 @@ fn trace_of_records(alloc: Global, records: &[Numbered]) -> Result<Vec<Action>, 
 /// Whether these records, which are those of one connection, are those of this run, or had no turn, so that no run is
 /// asked of them.
 pub(crate) fn is_connection(
-    alloc: Global,
     recording: &Recording,
     run: &History,
     records: &[Numbered],
 ) -> Result<bool, AllocError>
     ensures { IfOk result (λ so. IsTrue so → IsConnection recording.now.header recording.now.failed records.now) }
 {
-    let trace = trace_of_records(alloc, records)?;
+    let trace = trace_of_records(recording.alloc, records)?;
     if has_no_turn(trace.as_slice()) {
         return Ok(true);
     }
@@ -45,7 +43,6 @@ pub(crate) fn is_connection(
     )
 }
 
-/// Whether a connection was opened at most, and closed.
 fn has_no_turn(trace: &[Action]) -> bool
     ensures { IsTrue result → HasNoTurn trace.now }
 {
@@ -56,7 +53,6 @@ fn has_no_turn(trace: &[Action]) -> bool
     }
 }
 
-/// Whether these are the sizes of a machine of one slot in such a relay.
 fn has_sizes(header: &Header, limits: &Limits) -> bool
     ensures { IsTrue result → HasSizes header.now limits.now }
 {
@@ -67,7 +63,6 @@ fn has_sizes(header: &Header, limits: &Limits) -> bool
         && limits.idle == header.idle
 }
 
-/// Whether a run is the same as records, or lacks the closing of a relay that has failed.
 fn may_close(failed: Option<u64>, run: &[Action], records: &[Action]) -> bool
     ensures { IsTrue result → MayClose failed run.now records.now }
 {

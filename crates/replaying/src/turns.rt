@@ -1,10 +1,8 @@
 //! The turns of a slot's connection.
 use crate::machine::Flaw;
-use crate::recording::Numbered;
 use crate::slot_replay::{Phase, SlotReplay};
 use crate::threads::{OWN_BUDGET, is_busy};
 use records::{Act as Recorded, Made, Record};
-use relay_core::Verdict;
 use token::Side;
 use world::{Act, Event};
 
@@ -28,7 +26,6 @@ impl SlotReplay<'_> {
         Ok(())
     }
 
-    /// Time passes up to this second, if it counts and is later.
     fn pass_to(&mut self, second: u64) -> Result<(), Flaw> {
         let now = self.now();
         if self.findings.recording.header.idle == 0 || second <= now {
@@ -37,7 +34,6 @@ impl SlotReplay<'_> {
         self.machine.put(Event::Tick(second - now))
     }
 
-    /// The second that it is in the world.
     fn now(&self) -> u64 {
         self.state
             .base
@@ -57,7 +53,7 @@ impl SlotReplay<'_> {
         if self.machine.next_call().is_some() {
             return self.end_due(calls);
         }
-        if is_dropped(self.next) {
+        if self.is_dropped_next() {
             self.pass_to(self.state.latest)?;
             self.state.phase = Phase::Closing(None);
             return self.machine.work(&[Act::Expire]);
@@ -66,7 +62,15 @@ impl SlotReplay<'_> {
         self.check_idle()
     }
 
-    /// A turn ends with a call left. Then it has made as many as it may, and posts a note for the next turn.
+    /// Whether the next act drops an end.
+    fn is_dropped_next(&self) -> bool {
+        match self.next.first() {
+            Some(first) => matches!(first.record.act, Recorded::Wire(_, Made::Drop)),
+            None => false,
+        }
+    }
+
+    /// A turn that ends with a call left has made as many as it may, and posts a note for the next turn.
     fn end_due(&mut self, calls: usize) -> Result<(), Flaw> {
         let budget = self.findings.recording.header.budget;
         if calls != budget && calls != OWN_BUDGET.min(budget) {
@@ -129,7 +133,6 @@ impl SlotReplay<'_> {
         }
     }
 
-    /// Whether the relay had failed by this count, so that it closed what was open.
     fn has_failed(&self, count: u64) -> bool {
         match self.findings.recording.failed {
             Some(failed) => failed < count,
@@ -143,7 +146,6 @@ impl SlotReplay<'_> {
         !self.has_failed(count) && is_busy(acts, self.state.free_from.saturating_add(1), count)
     }
 
-    /// An end is dropped outside a turn. After the second one the slot is free.
     fn drop_void(&mut self, side: Side, dropped: Option<Side>) -> Result<(), Flaw> {
         self.state.phase = match dropped {
             None => Phase::Void(Some(side)),
@@ -178,13 +180,5 @@ impl SlotReplay<'_> {
             return Err(Flaw::Because("the connection could move"));
         }
         Ok(())
-    }
-}
-
-/// Whether the next act drops an end.
-fn is_dropped(next: &[Numbered]) -> bool {
-    match next.first() {
-        Some(first) => matches!(first.record.act, Recorded::Wire(_, Made::Drop)),
-        None => false,
     }
 }

@@ -9,21 +9,18 @@ use std::alloc::Global;
 use std::io::Write;
 use world::Event;
 
-/// How many events are written at once.
 const AT_ONCE: usize = 256;
 
 /// Writes what is wanted of a recording of runs.
 pub(crate) fn write_results<W: Write>(
-    alloc: Global,
     output: &mut W,
     results: &Results,
     recording: &Recording,
-    left_out: usize,
 ) -> Result<(), ReplayFault> {
     match (results.wanted, &results.script) {
-        (Wanted::Totals, _) => write(output, totals(alloc, results, recording.cut, left_out)),
+        (Wanted::Totals, _) => write(output, totals(results, recording)),
         (Wanted::Ends, _) => write_text(output, results.ends.as_str()),
-        (_, Some(history)) => write_script(alloc, output, history),
+        (_, Some(history)) => write_script(recording.alloc, output, history),
         (_, None) => Err(ReplayFault::Unknown),
     }
 }
@@ -42,7 +39,6 @@ pub(crate) fn write_flaw<W: Write>(
     write(output, refused(alloc, &flawed.machine))
 }
 
-/// Writes the script of a world: its header, and a line for each event.
 fn write_script<W: Write>(
     alloc: Global,
     output: &mut W,
@@ -56,10 +52,8 @@ fn write_script<W: Write>(
 }
 
 fn write<W: Write>(output: &mut W, page: Page) -> Result<(), ReplayFault> {
-    match page.finish() {
-        Ok(text) => write_text(output, text.as_str()),
-        Err(error) => Err(ReplayFault::from(error)),
-    }
+    let text = page.finish()?;
+    write_text(output, text.as_str())
 }
 
 fn write_text<W: Write>(output: &mut W, text: &str) -> Result<(), ReplayFault> {
@@ -69,11 +63,10 @@ fn write_text<W: Write>(output: &mut W, text: &str) -> Result<(), ReplayFault> {
     }
 }
 
-/// That all is a run, what that came to, and what is not replayed.
-fn totals(alloc: Global, results: &Results, cut: Option<u64>, left_out: usize) -> Page {
-    let mut page = Page::new(alloc);
+fn totals(results: &Results, recording: &Recording) -> Page {
+    let mut page = Page::new(recording.alloc);
     put_totals(&mut page, results);
-    put_left_out(&mut page, cut, left_out);
+    put_left_out(&mut page, recording);
     page
 }
 
@@ -95,27 +88,24 @@ fn put_totals(page: &mut Page, results: &Results) {
     ]);
 }
 
-/// Adds what is not replayed, if anything.
-fn put_left_out(page: &mut Page, cut: Option<u64>, left_out: usize) {
-    if let Some(line) = cut {
+fn put_left_out(page: &mut Page, recording: &Recording) {
+    if let Some(line) = recording.cut {
         page.put(&[Piece::Named("line ", line), Piece::Text(" is cut off\n")]);
     }
-    if left_out > 0 {
+    if recording.left_out > 0 {
         page.put(&[
-            Piece::Number(left_out as u64),
+            Piece::Number(recording.left_out as u64),
             Piece::Text(" records after the first lost one are left out\n"),
         ]);
     }
 }
 
-/// The header of a world's script.
 fn header(alloc: Global, history: &History) -> Page {
     let mut page = Page::new(alloc);
     put_header(&mut page, &history.limits());
     page
 }
 
-/// A line for each of these events.
 fn script_of(alloc: Global, events: &[Event]) -> Page {
     let mut page = Page::new(alloc);
     for event in events {
@@ -124,7 +114,7 @@ fn script_of(alloc: Global, events: &[Event]) -> Page {
     page
 }
 
-/// The same for the event that was refused, if one was.
+/// The line of the event that was refused, if one was.
 fn refused(alloc: Global, machine: &Machine) -> Page {
     let mut page = Page::new(alloc);
     if let Some(event) = &machine.refused {
@@ -138,7 +128,6 @@ fn put_line(page: &mut Page, event: &Event) {
     page.put(&[Piece::Text("\n")]);
 }
 
-/// Which record can stand at no place, and why.
 fn first_line(alloc: Global, flawed: &Flawed, flaw: Flaw, record: &str) -> Page {
     let mut page = Page::new(alloc);
     put_whose(&mut page, flawed.whose);
@@ -162,7 +151,7 @@ fn put_whose(page: &mut Page, whose: Whose) {
     }
 }
 
-/// Adds why a record can stand at no place, and ends its line.
+/// Why the record can stand at no place, and the end of the line.
 fn put_reason(page: &mut Page, flaw: Flaw, machine: &Machine) {
     match (flaw, &machine.refused) {
         (Flaw::Because(why), _) => page.put(&[Piece::Text(why), Piece::Text("\n")]),

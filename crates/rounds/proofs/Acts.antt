@@ -1,8 +1,8 @@
 -- Acts, one after the other, and the posts of a round, in a poller's own slots alone.
-use Rattle.std.{proofs.{Common.{add-one, ◌≡◌, ℕ, zero, suc, ◌+◌, ◌≤◌, Bool, true, false, cond, List, [], ◌∷◌, ◌++◌, length, length-append, refl, sym, ap, ◌∙◌, arith, inl, inr, append_assoc, ◌≢◌, ◌⊎◌, ◌↔◌, IsTrue, slice_index, replicate, slice_set, ◌==◌, if◌then◌else◌, Option, Some, None, nat_lt, Contains}, lemmas.{Bool.{eq-eqb, ne_eqb, Decides.nat_tests}, List.{append-nil, map-append, length-map, length-replicate, get_or-replicate, get_or_past, get_or-set_other, Elements.{All-append, filter_map-append}, Sums.sum_by-append}}}, specs.List.{All, cons_option}}
+use Rattle.std.{proofs.{Common.{add-one, ◌≡◌, ℕ, zero, suc, ◌+◌, ◌≤◌, Bool, true, false, cond, List, [], ◌∷◌, ◌++◌, length, length-append, refl, sym, ◌∙◌, arith, inl, inr, append_assoc, ◌≢◌, ◌⊎◌, ◌↔◌, IsTrue, slice_index, replicate, slice_set, ◌==◌, ◌||◌, if◌then◌else◌, Option, Some, None, nat_lt, Contains}, lemmas.{Bool.{eq-eqb, ne_eqb, Decides.nat_tests}, List.{append-nil, map-append, length-map, length-replicate, get_or-replicate, get_or_past, get_or-set_other, Elements.{All-append}, Sums.sum_by-append}}}, specs.List.{All, cons_option}}
 use Rattle.claims.{specs.{declared.view.Account.Account, Views.{after_all, minted_by}, Seats.{SeatState, trace_at, account_at, HoldsNothing, Adds}}, proofs.Seats.after_both}
 use Rattle.ready.specs.declared.ticket.Ticket.{Ticket}
-use Rattle.rounds.specs.{Acts.{Act, exchanges_at, made_by, due_of, ActsMade, IsPost, ArePosts, opening, IsTry, held_of, AreTries, at_slot, reported, all_reported, ArePosted, Delivered, is_due, last_in, opened_in, opened_below, all_opened, sweep_of}, Pollers.{IsOwnTable, PollerState, AreGenerations}, Openings.AreIn}
+use Rattle.rounds.specs.{Acts.{Act, exchanges_at, made_by, due_of, ActsMade, IsPost, ArePosts, opening, IsTry, held_of, AreTries, at_slot, reported, all_reported, ArePosted, is_due, last_in, opened_in, opened_below, all_opened, sweep_of}, Pollers.{IsOwnTable, PollerState, AreGenerations}, Openings.AreIn}
 use Rattle.relay_core.specs.Idle.{is_past}
 use Rattle.dispatch.specs.{Hands.HandState, declared.split.Part.Part, Splits.IsIn}
 use mathlib.Core.Logic.{dite}
@@ -46,8 +46,7 @@ all_one P x here zero d lt = here
 all_one P x here (suc i) d lt = absurd (omega arith)
 
 made_le : (minted : ℕ) (t : Ticket) → length (made_by minted t) ≤ 1
-made_le zero t = omega arith
-made_le (suc n) t = omega arith
+made_le minted t = grind arith
 
 -- as many tickets as acts, or fewer
 due_le : (acts : List Act) → length (due_of acts) ≤ length acts
@@ -123,17 +122,8 @@ posted_both one two = record {
   hand = rw (two.hand, one.hand, due-append one.posts two.posts, append_assoc);
 }
 
--- reports, and then others
-pub delivered_both : (generations xs ys : List ℕ) {a b c : SeatState} {h k l : HandState} → Delivered generations xs a b h k → Delivered generations ys b c k l
-    → Delivered generations (xs ++ ys) a c h l
-delivered_both generations xs ys one two = rw (filter_map-append (reported generations) xs ys) (posted_both one two)
-
 pub none_at : (t : Ticket) (slot : ℕ) → slot ≢ t.slot → at_slot slot (t ∷ []) ≡ 0
 none_at t slot other = rw (ne_eqb t.slot slot (λ e. other (sym e)))
-
--- a report for a connection
-pub one_reported : (generations : List ℕ) (number : ℕ) (t : Ticket) → reported generations number ≡ Some t → all_reported generations (number ∷ []) ≡ t ∷ []
-one_reported generations number t is = ap (λ (o : Option Ticket). cons_option o []) is
 
 module _ {t : Ticket} {old new : SeatState} where
   one_posted : (woke : Bool) {h k : HandState} → Adds t.slot (exchange.Post woke ∷ []) old new
@@ -172,21 +162,18 @@ module _ {xs : List Ticket} {old new : SeatState} {had has : HandState} (posted 
 reported_has : (table : List ℕ) (number : ℕ) (t : Ticket) → reported table number ≡ Some t → 1 ≤ slice_index table t.slot
 reported_has table number t is = grind arith
 
-own_report : (part : Part) (table : List ℕ) (number slot : ℕ) (ts : List Ticket) → IsOwnTable part table → (IsIn part slot → ⊥)
-    → at_slot slot ts ≡ 0 → (o : Option Ticket) → reported table number ≡ o → at_slot slot (cons_option o ts) ≡ 0
-own_report part table number slot ts own out rest None is = rest
-own_report part table number slot ts own out rest (Some t) is =
-    let none = own slot out in
-    let apart : slot ≢ t.slot = λ same. (let has = rw (← same) at (reported_has table number t is) in absurd (omega arith)) in
-    omega (arith, none_at t slot apart, at_slot-append slot (t ∷ []) ts)
-
 pub own_reports : (part : Part) (table batch : List ℕ) → IsOwnTable part table → AreIn part (all_reported table batch)
 own_reports part table [] own slot out = refl
-own_reports part table (number ∷ batch) own slot out =
-    own_report part table number slot (all_reported table batch) own out (own_reports part table batch own slot out) (reported table number) refl
+own_reports part table (number ∷ batch) own slot out = by_end (own_reports part table batch own slot out) (reported table number) refl where
+  by_end : at_slot slot (all_reported table batch) ≡ 0 → (o : Option Ticket) → reported table number ≡ o → at_slot slot (cons_option o (all_reported table batch)) ≡ 0
+  by_end rest None is = rest
+  by_end rest (Some t) is =
+      let none = own slot out in
+      let apart : slot ≢ t.slot = λ same. (let has = rw (← same) at (reported_has table number t is) in absurd (omega arith)) in
+      omega (arith, none_at t slot apart, at_slot-append slot (t ∷ []) (all_reported table batch))
 
 few_in : (table : List ℕ) (slot : ℕ) → length (opened_in table slot) ≤ 1
-few_in table slot = elim (nat_lt 0 (slice_index table slot)) as (λ (b : Bool). length (if b then last_in table slot ∷ [] else []) ≤ 1) [ true ↦ omega arith | false ↦ omega arith ]
+few_in table slot = grind arith
 
 -- as many as there are slots, or fewer
 pub few_below : (table : List ℕ) (slots : ℕ) → length (opened_below table slots) ≤ slots
@@ -203,24 +190,18 @@ none_in table part slot at own out = dite (ℕ_discrete slot at) (λ same. rw (r
     elim (nat_lt 0 (slice_index table at)) as (λ (b : Bool). at_slot slot (if b then last_in table at ∷ [] else []) ≡ 0)
     [ true ↦ none_at (last_in table at) slot other | false ↦ refl ])
 
-below_own : (part : Part) (table : List ℕ) (slots : ℕ) → IsOwnTable part table → AreIn part (opened_below table slots)
+-- a poller opened connections in its own slots alone
+pub below_own : (part : Part) (table : List ℕ) (slots : ℕ) → IsOwnTable part table → AreIn part (opened_below table slots)
 below_own part table zero own slot out = refl
 below_own part table (suc slots) own slot out =
     omega (arith, below_own part table slots own slot out, none_in table part slot slots own out, at_slot-append slot (opened_below table slots) (opened_in table slots))
 
--- a poller opened connections in its own slots alone
-pub own_opened : (part : Part) (table : List ℕ) → IsOwnTable part table → AreIn part (all_opened table)
-own_opened part table own = below_own part table (length table) own
-
 -- what a round posts for time
 pub own_sweep : (part : Part) (old new : PollerState) → AreIn part (all_opened old.table) → AreIn part (sweep_of old new)
-own_sweep part old new own slot out =
-    elim (new.swept == old.swept) as (λ (b : Bool). at_slot slot (if b then [] else all_opened old.table) ≡ 0) [ true ↦ refl | false ↦ own slot out ]
+own_sweep part old new own slot out = grind (arith, own slot out)
 
 pub few_sweep : (old new : PollerState) → length (sweep_of old new) ≤ length old.table
-few_sweep old new =
-    let few = few_below old.table (length old.table) in
-    elim (new.swept == old.swept) as (λ (b : Bool). length (if b then [] else all_opened old.table) ≤ length old.table) [ true ↦ omega arith | false ↦ few ]
+few_sweep old new = grind (arith, few_below old.table (length old.table))
 
 -- no sweep was made
 pub no_sweep : (old : PollerState) (swept : ℕ) → swept ≡ old.swept → (if swept == old.swept then [] else all_opened old.table) ≡ []
@@ -229,13 +210,16 @@ no_sweep old swept same = rw (eq-eqb swept old.swept same)
 past_later : (second limit last : ℕ) → is_past second limit last ≡ true → second ≢ last
 past_later second limit last past same = grind (arith, nat_tests)
 
--- a sweep was made
-pub sweep_is : (limit : ℕ) (p r : PollerState) → r ≡ record p { swept = p.second } → is_due limit p ≡ true → sweep_of p r ≡ all_opened p.table
-sweep_is limit p r counted due = rw (counted, ne_eqb p.second p.swept (past_later p.second limit p.swept due))
+-- a sweep was made, or none was due
+pub swept_by : (limit : ℕ) (p r : PollerState) (due : Bool) {second : ℕ} → due ≡ is_due limit p → r ≡ record p { swept = if due then p.second else p.swept; second = second }
+    → sweep_of p r ≡ (if due then all_opened p.table else [])
+swept_by limit p r true due is = rw (is, ne_eqb p.second p.swept (past_later p.second limit p.swept (sym due)))
+swept_by limit p r false due is = rw (is, eq-eqb p.swept p.swept refl)
 
--- the listener was not reported
-pub flag_still : (told flag : Bool) (batch : List ℕ) → (IsTrue told ↔ Contains batch 0) → told ≡ false → IsTrue flag ↔ (IsTrue flag ⊎ Contains batch 0)
-flag_still told flag batch is not = (λ up. inl up, by_either) where
-  by_either : IsTrue flag ⊎ Contains batch 0 → IsTrue flag
-  by_either (inl up) = up
-  by_either (inr has) = let so : told ≡ true = is.1 has in cc
+-- the listener was reported, or not
+pub flag_raised : (told flag : Bool) (batch : List ℕ) → (IsTrue told ↔ Contains batch 0) → IsTrue (flag || told) ↔ (IsTrue flag ⊎ Contains batch 0)
+flag_raised told true batch is = (λ up. inl up, λ any. refl)
+flag_raised told false batch is = (λ up. inr (is.0 up), by_either) where
+  by_either : IsTrue false ⊎ Contains batch 0 → IsTrue told
+  by_either (inl up) = absurd (cc)
+  by_either (inr has) = is.1 has

@@ -1,13 +1,11 @@
 -- Connections that are opened one after the other, why one is closed unopened, and a round of its parts.
 use Rattle.std.proofs.{Common.{◌≡◌, ◌⊎◌, ℕ, ◌+◌, ◌<◌, ◌≤◌, List, [], ◌∷◌, ◌++◌, length, drop, slice_get, slice_set, min, cond, Bool, true, refl, sym, ◌∙◌, arith, inl, inr, append_assoc, length-append, Option, Some, None, ◌==◌, Result, Ok, Err, OnOk, IfErr, OnErr, IsErr, IsErrAnd, slice_index, ◌≢◌, ◌↔◌, false, IsTrue}, lemmas.{Bool.{cases_lt, false≢true}, List.{append-nil, length-set, get_or-set_other, get_or_past, Sums.sum_by-append}, Grind.get_or-set_at, Option.{none-some, same_Some}}}
 use Rattle.claims.{specs.{declared.answers.Posted.Posted, Calls.PostChange, Seats.{SeatState, TableId, Adds}}, proofs.Seats.adds_both}
-use Rattle.dispatch.{specs.{Posts.HoldsOnly, declared.{shared.Own.Own, split.Part.Part, front.{Unopened.Unopened, Route.Route, Waiting.{Waiting, TheVariants.{No, Brief, Long}}}}, Hands.{HandState, ticket_room}, Acts.{Act, AreMade, Register, Adopt, placing}, Splits.IsIn, Told.cause_of}, proofs.Holding.{holds_still, released_all, woke_behind_post}}
+use Rattle.dispatch.{specs.{Posts.HoldsOnly, declared.{shared.Own.Own, front.{Unopened.Unopened, Route.Route, Waiting.{Waiting, TheVariants.{No, Brief, Long}}}}, Hands.{HandState, ticket_room}, Acts.{Act, AreMade, Register, Adopt, placing}, Told.cause_of}, proofs.Holding.{holds_still, released_all, woke_behind_post}}
 use Rattle.ready.specs.declared.ticket.Ticket.{Ticket}
 use Rattle.token.specs.Names.{last_generation}
-use Rattle.rounds.{specs.{Acts.{Act as Acted, opening, all_reported, ArePosted, Delivered, swept_after, sweep_of}, Openings.{times, slots_in, AreIn, AreOpened, OnlyTook, Between, LetGo, Started, Connected, AcceptDone, IsOpened, IsLost, IsSpent, AreLost, Fate, next_in, Opened, Held, DropsFor, Placed, lacks, lead_of}, Pollers.{PollerState, Counted, counted_up, HasOpenedAll}, Episodes.opened_after, Rounds.{AcceptEnded, HasLeft, RoundDone, RoundKeeps, ListenerKept, ListensToOpen, MayWait, MayWaitBriefly, WaitLasted, WaitedAsMay}}, proofs.Acts.{at_slot-append, acts_none, acts_one, acts_both, tries_none, tries_both, try_opened, try_held, none_at, posted_none, no_sweep}}
+use Rattle.rounds.{specs.{Acts.{Act as Acted, ActsMade, AreTries, all_reported, ArePosted, Delivered, swept_after, sweep_of}, Openings.{times, slots_in, AreIn, AreOpened, OnlyTook, Between, LetGo, Started, Connected, AcceptDone, IsOpened, IsLost, IsSpent, AreLost, Fate, next_in, Opened, Held, DropsFor, Placed, lacks, lead_of}, Pollers.{PollerState, Counted, counted_up, HasOpenedAll}, Rounds.{AcceptEnded, HasLeft, IsOver, RoundDone, RoundKeeps, ListenerKept, ListensNoMore, ListensToOpen, Looked, MayWait, MayWaitBriefly, WaitLasted, WaitedAsMay}}, proofs.Acts.{at_slot-append, acts_none, acts_both, tries_none, tries_both, posted_none, no_sweep}}
 use Rattle.relay_log.specs.declared.{cause.Cause.Cause, faults.ServerFault.{ServerFault, TheVariants.Worn}}
-use mathlib.Core.Logic.{dite}
-use native.Mathlib.Decide.{ℕ_discrete}
 use Rattle.claims.specs.declared.view.Exchange.TheVariants as exchange
 use Rattle.claims.specs.declared.answers.Posted.TheVariants as posted
 use Rattle.relay_log.specs.declared.cause.Cause.TheVariants as cause
@@ -15,19 +13,16 @@ use Rattle.dispatch.specs.declared.front.Unopened.TheVariants as unopened
 
 -- counts
 
-counted_same : {old new : ℕ} → new ≡ old → Counted old 0 new
+pub counted_same : {old new : ℕ} → new ≡ old → Counted old 0 new
 counted_same same = inl (omega arith)
 
 pub counted_one : (most old new : ℕ) → new ≡ min (old + 1) most → (new ≡ old + 1) ⊎ ((most ≤ old + 1) × (most ≤ new))
-counted_one most old new is = dite (ℕ_discrete new (old + 1)) (λ same. inl same) (λ other. inr (omega arith, omega arith))
+counted_one most old new is = grind arith
 
 counted_both : (most a b c m n : ℕ)
     → (b ≡ a + m) ⊎ ((most ≤ a + m) × (most ≤ b)) → (c ≡ b + n) ⊎ ((most ≤ b + n) × (most ≤ c))
     → (c ≡ a + (m + n)) ⊎ ((most ≤ a + (m + n)) × (most ≤ c))
-counted_both most a b c m n (inl first) (inl second) = inl (omega arith)
-counted_both most a b c m n (inl first) (inr second) = let x = second.0 in inr (omega arith, second.1)
-counted_both most a b c m n (inr first) (inl second) = let x = first.0 in let y = first.1 in inr (omega arith, omega arith)
-counted_both most a b c m n (inr first) (inr second) = let x = first.0 in inr (omega arith, second.1)
+counted_both most a b c m n first second = grind arith
 
 -- lists of slots
 
@@ -42,16 +37,10 @@ opened-append : (xs ys : List Ticket) (a b c : List ℕ) → AreOpened a xs b �
 opened-append [] ys a b c same rest = rw same at rest
 opened-append (x ∷ xs) ys a b c first rest = (first.0, opened-append xs ys (slice_set a x.slot x.generation) b c first.1 rest)
 
-own_both : (p q : Part) (xs ys : List Ticket) → q ≡ p → AreIn p xs → AreIn q ys → AreIn p (xs ++ ys)
-own_both p q xs ys same one two slot out = omega (arith, one slot out, two slot (λ is. out (rw same at is)), at_slot-append slot xs ys)
-
 -- why slots are lost
 
 raised : (xs : List ℕ) (i n slot : ℕ) → n ≡ slice_index xs i + 1 → slice_index xs slot ≤ slice_index (slice_set xs i n) slot
-raised xs i n slot next = dite (ℕ_discrete slot i) (λ same. by_length same (cases_lt i (length xs))) (λ other. omega (arith, get_or-set_other xs i slot n 0 other)) where
-  by_length : slot ≡ i → (i < length xs) ⊎ (length xs ≤ i) → slice_index xs slot ≤ slice_index (slice_set xs i n) slot
-  by_length same (inl inside) = rw (get_or-set_at xs i slot n 0 same inside, same) (omega arith)
-  by_length same (inr outside) = omega (arith, get_or_past xs slot 0 (omega arith))
+raised xs i n slot next = grind (arith, get_or-set_other, get_or-set_at, get_or_past)
 
 -- an opening leaves the size of the table, and no generation gets less
 opened_rises : (ts : List Ticket) (a b : List ℕ) → AreOpened a ts b → (slot : ℕ) → (length b ≡ length a) × (slice_index a slot ≤ slice_index b slot)
@@ -61,16 +50,17 @@ opened_rises (t ∷ ts) a b opened slot =
     (rest.0 ∙ length-set a t.slot t.generation, omega (arith, rest.1, raised a t.slot t.generation slot opened.0))
 
 -- a slot that is spent stays so
-spent_still : (p q : PollerState) (ts : List Ticket) (slot : ℕ) → q.part ≡ p.part → AreOpened p.table ts q.table → IsSpent p slot → IsSpent q slot
-spent_still p q ts slot part opened (inl others) = inl (rw part others)
-spent_still p q ts slot part opened (inr (inl outside)) = inr (inl (omega (arith, (opened_rises ts p.table q.table opened slot).0)))
-spent_still p q ts slot part opened (inr (inr (inl wide))) = inr (inr (inl wide))
-spent_still p q ts slot part opened (inr (inr (inr last))) = inr (inr (inr (omega (arith, (opened_rises ts p.table q.table opened slot).1))))
+module _ (p q : PollerState) (ts : List Ticket) (part : q.part ≡ p.part) (opened : AreOpened p.table ts q.table) where
+  spent_still : (slot : ℕ) → IsSpent p slot → IsSpent q slot
+  spent_still slot (inl others) = inl (rw part others)
+  spent_still slot (inr (inl outside)) = inr (inl (omega (arith, (opened_rises ts p.table q.table opened slot).0)))
+  spent_still slot (inr (inr (inl wide))) = inr (inr (inl wide))
+  spent_still slot (inr (inr (inr last))) = inr (inr (inr (omega (arith, (opened_rises ts p.table q.table opened slot).1))))
 
-lost_still : (p q : PollerState) (ts : List Ticket) (held lost : List ℕ) → q.part ≡ p.part → AreOpened p.table ts q.table → AreLost p held lost → AreLost q held lost
-lost_still p q ts held [] part opened none = none
-lost_still p q ts held (slot ∷ lost) part opened (inl spent) = inl (spent_still p q ts slot part opened spent.0, lost_still p q ts held lost part opened spent.1)
-lost_still p q ts held (slot ∷ lost) part opened (inr found) = inr (found.0, found.1, lost_still p q ts found.0 lost part opened found.2)
+  lost_still : (held lost : List ℕ) → AreLost p held lost → AreLost q held lost
+  lost_still held [] none = none
+  lost_still held (slot ∷ lost) (inl spent) = inl (spent_still slot spent.0, lost_still held lost spent.1)
+  lost_still held (slot ∷ lost) (inr found) = inr (found.0, found.1, lost_still found.0 lost found.2)
 
 lost_both : (p : PollerState) (h k ls ms : List ℕ) → AreLost p h ls → AreLost p k ms → AreLost p (h ++ k) (ls ++ ms)
 lost_both p h k [] ms none two = rw none two
@@ -81,7 +71,7 @@ module _ {p q r : PollerState} {a b c : Own} where
   -- connections, and then others
   connected_both : {xs ys : List Ticket} {ls ms h k : List ℕ} → Connected xs ls h p q a b → Connected ys ms k q r b c → Connected (xs ++ ys) (ls ++ ms) (h ++ k) p r a c
   connected_both {xs} {ys} {ls} {ms} {h} {k} one two = record {
-    why = lost_both r h k ls ms (lost_still q r ys h ls two.part two.table one.why) two.why;
+    why = lost_both r h k ls ms (lost_still q r ys two.part two.table h ls one.why) two.why;
     tries = one.tries ++ two.tries;
     are = tries_both one.are two.are;
     made = acts_both _ _ _ _ _ one.made two.made;
@@ -90,7 +80,7 @@ module _ {p q r : PollerState} {a b c : Own} where
     unused = rw (length-append ls ms) (counted_both _ _ _ _ _ _ one.unused two.unused);
     batch = two.batch ∙ one.batch;
     part = two.part ∙ one.part;
-    own = own_both p.part q.part xs ys one.part one.own two.own;
+    own = λ slot out. omega (arith, one.own slot out, two.own slot (λ is. out (rw one.part at is)), at_slot-append slot xs ys);
     tickets = rw (two.tickets, one.tickets) (append_assoc a.hand.tickets xs ys);
     ready = two.ready ∙ one.ready;
     gave = two.gave ∙ one.gave;
@@ -111,7 +101,7 @@ abbrev pub SamePoller : PollerState → PollerState → Type 0
 SamePoller p q = record { table : q.table ≡ p.table; opened : q.opened ≡ p.opened; lost : q.lost ≡ p.lost; batch : q.batch ≡ p.batch; part : q.part ≡ p.part }
 
 pub still : (p : PollerState) → SamePoller p p
-still p = record { table = refl; opened = refl; lost = refl; batch = refl; part = refl }
+still p = assumption
 
 -- slots were taken, and nothing was opened
 pub accept_took : {p q : PollerState} {a b : Own} → SamePoller p q → OnlyTook a b → AcceptDone p q a b
@@ -139,14 +129,7 @@ accept_took {p} {q} {a} {b} same took = record {
 
 -- nothing happened
 pub took_none : (a : Own) → OnlyTook a a
-took_none a = record {
-  seat = refl;
-  ready = refl;
-  tickets = refl;
-  capacity = refl;
-  gave = refl;
-  slots = λ slot. omega arith;
-}
+took_none a = search arith
 
 -- nothing was opened, and nothing was taken
 pub accept_none : {p q : PollerState} {a : Own} → SamePoller p q → AcceptDone p q a a
@@ -166,11 +149,31 @@ slot_left : (s slot : ℕ) (a b : Own) (hand : HandState) → hand ≡ record a.
     → times s (slots_in b) + times s a.hand.slots ≡ times s (slots_in a) + (times s b.hand.slots + times s (slot ∷ []))
 slot_left s slot a b hand taken is free slots = rw (free, slots, taken) (omega (arith, times_first s a.hand.slots slot is))
 
+-- one slot is no longer used
+pub lost_one : {p q : PollerState} {a b : Own} {slot : ℕ} (held : List ℕ) (tries : List Acted) → q ≡ record p { lost = counted_up p.lost 1 } → AreLost p held (slot ∷ [])
+    → AreTries [] held tries → ActsMade tries a.seat b.seat → b.hand.tickets ≡ a.hand.tickets → b.ready ≡ a.ready → b.free ≡ a.free
+    → Connected [] (slot ∷ []) held p q a b
+lost_one {p} {a = a} held tries lost why are made tickets ready free = rw lost (record {
+  why = why;
+  tries = tries;
+  are = are;
+  made = made;
+  table = refl;
+  counted = counted_same refl;
+  unused = counted_one _ p.lost _ refl;
+  batch = refl;
+  part = refl;
+  own = λ slot out. refl;
+  tickets = rw tickets (sym (append-nil a.hand.tickets));
+  ready = ready;
+  gave = rw free;
+})
+
 -- what became of a slot that was taken in hand
 module _ {p q : PollerState} {a : Own} {hand : HandState} (taken : hand ≡ record a.hand { slots = drop 1 a.hand.slots }) where
   -- that it was taken changes nothing that a connection says
   from_hand : {ts : List Ticket} {ls h : List ℕ} {b : Own} → Connected ts ls h p q (record a { hand = hand }) b → Connected ts ls h p q a b
-  from_hand {ts} one = record {
+  from_hand one = record {
     why = one.why;
     tries = one.tries;
     are = one.are;
@@ -193,21 +196,7 @@ module _ {p q : PollerState} {a : Own} {hand : HandState} (taken : hand ≡ reco
     opened = [];
     lost = slot ∷ [];
     held = [];
-    connected = rw lost (record {
-      why = inl (spent, refl);
-      tries = [];
-      are = tries_none;
-      made = acts_none a.seat;
-      table = refl;
-      counted = counted_same refl;
-      unused = counted_one _ p.lost _ refl;
-      batch = refl;
-      part = refl;
-      own = λ s out. refl;
-      tickets = rw taken (sym (append-nil a.hand.tickets));
-      ready = refl;
-      gave = refl;
-    });
+    connected = lost_one [] [] lost (inl (spent, refl)) tries_none (acts_none a.seat) (rw taken) refl refl;
     slots = λ s. omega (arith, slot_left s slot a (record a { hand = hand }) hand taken is refl refl);
   }
 
@@ -254,8 +243,7 @@ room_same took = rw (took.capacity, took.tickets)
 
 -- the next try is not worth making
 pub ended_by : (p : PollerState) (own : Own) → (p.starved ≡ true) ⊎ HasLeft p → AcceptEnded p own
-ended_by p own (inl starved) = inl (inl starved)
-ended_by p own (inr left) = inr (inl left)
+ended_by p own why = grind arith
 
 -- what became of an accepted connection that was placed, with the acts that were made from there on
 fate_by : {slot : ℕ} {p q : PollerState} {opened dropped : Type 0} {after made : List Act → Type 0} {a b : SeatState} → ((acts : List Act) → after acts → made (Register ∷ acts))
@@ -270,11 +258,7 @@ placed_fate same next joined placed = fate_by joined (rw (same, next) at placed.
 -- a slot that has no next names
 pub no_names : (table : List ℕ) (slot : ℕ) → (slot ≤ 32767 → slot < length table → slice_index table slot ≡ last_generation)
     → (length table ≤ slot) ⊎ ((32768 ≤ slot) ⊎ (last_generation ≤ slice_index table slot))
-no_names table slot last = by_case (cases_lt slot (length table)) (cases_lt slot 32768) where
-  by_case : (slot < length table) ⊎ (length table ≤ slot) → (slot < 32768) ⊎ (32768 ≤ slot) → (length table ≤ slot) ⊎ ((32768 ≤ slot) ⊎ (last_generation ≤ slice_index table slot))
-  by_case (inr outside) width = inl outside
-  by_case (inl inside) (inr wide) = inr (inl wide)
-  by_case (inl inside) (inl narrow) = inr (inr (omega (arith, last (omega arith) inside)))
+no_names table slot last = grind arith
 
 -- a call refuses what a call of its own refused, and no more is said where it does
 pub passed_up : {T E : Type 0} (r : Result T E) (e : E) (P : E → Type 0) → IsErrAnd r (λ y. y ≡ e) → P e → IfErr r P
@@ -289,59 +273,13 @@ pub if_fails : {T E A : Type 0} (r : Result T E) → A → OnErr r A
 if_fails (Ok x) a = tt
 if_fails (Err y) a = a
 
--- no connection was placed, since the slot was not free
-pub not_placed : {p q : PollerState} {a : Own} {seat : SeatState} {slot : ℕ} → q ≡ record p { lost = counted_up p.lost 1 } → Adds slot (exchange.NotFree ∷ []) a.seat seat
-    → Connected [] (slot ∷ []) (slot ∷ []) p q a (record a { seat = seat })
-not_placed {p} {q} {a} {seat} {slot} lost adds =
-    let ticket : Ticket = record { slot = slot; generation = 0 } in
-    let try : Acted = record { ticket = ticket; exchanges = exchange.NotFree ∷ [] } in
-    rw lost (record {
-      why = inr ([], refl, refl);
-      tries = try ∷ [];
-      are = try_held ticket;
-      made = acts_one try a.seat seat adds;
-      table = refl;
-      counted = counted_same refl;
-      unused = counted_one _ p.lost _ refl;
-      batch = refl;
-      part = refl;
-      own = λ s out. refl;
-      tickets = sym (append-nil a.hand.tickets);
-      ready = refl;
-      gave = refl;
-    })
-
--- the connection was placed in a slot that was adopted for it, and started
-pub placed : {p r q : PollerState} {t : Ticket} {a b : Own} (found noted : ℕ) → r ≡ record p { table = slice_set p.table t.slot t.generation; opened = counted_up p.opened 1 }
-    → q ≡ record r { episodes = opened_after r.episodes } → IsIn p.part t.slot → t.generation ≡ slice_index p.table t.slot + 1
-    → Adds t.slot (opening found noted) a.seat b.seat → b.hand ≡ record a.hand { tickets = a.hand.tickets ++ t ∷ [] } → b.ready ≡ a.ready → b.free ≡ a.free
-    → Connected (t ∷ []) [] [] p q a b
-placed {p} {r} {q} {t} {a} {b} found noted counted told here next adds hand ready free =
-    let try : Acted = record { ticket = t; exchanges = opening found noted } in
-    rw (told, counted) (record {
-      why = refl;
-      tries = try ∷ [];
-      are = try_opened t found noted;
-      made = acts_one try a.seat b.seat adds;
-      table = (next, refl);
-      counted = counted_one _ p.opened _ refl;
-      unused = counted_same refl;
-      batch = refl;
-      part = refl;
-      own = λ slot out. none_at t slot (λ same. out (rw same here));
-      tickets = rw hand;
-      ready = ready;
-      gave = rw free;
-    })
-
 -- the note of an opening was posted by the slot's holder, who then let it go
 pub started_by : (t : Ticket) (noted : ℕ) (r : Posted) (a : Own) (first second : SeatState) (b : Own) → HoldsOnly t.slot a.seat
     → Adds t.slot (exchange.Take noted ∷ []) a.seat first
     → PostChange t.slot first r second → (r ≡ posted.Wake) ⊎ (r ≡ posted.Quiet) → LetGo t (record a { seat = second }) b → Started t a b
 started_by t noted posted.Wake a first second b only took change is left =
     absurd (false≢true (sym change.1 ∙ (holds_still _ _ _ _ took only refl).here))
-started_by t noted posted.Worn a first second b only took change (inl is) left = cc
-started_by t noted posted.Worn a first second b only took change (inr is) left = cc
+started_by t noted posted.Worn a first second b only took change is left = absurd (grind arith)
 started_by t noted posted.Quiet a first second b only took change is left =
     let holder = holds_still _ _ _ _ took only refl in
     let due = woke_behind_post t.slot first second left.woke change holder.here left.quiet in
@@ -361,32 +299,22 @@ between_still between seat table = record { same = rw seat between.same; idle = 
 pub between_took : {claims : TableId} {a b : Own} {p q : PollerState} → Between claims a p → OnlyTook a b → q.table ≡ p.table → Between claims b q
 between_took between took table = between_still between took.seat table
 
--- why a connection is closed unopened: by what the front answered
-pub refused_drops : (may_refuse : Unopened → Type 0) (may_tell : Route → Type 0) (proxy : Bool) (why : Unopened) (c : Cause)
-    → may_refuse why → c ≡ cause_of why → DropsFor may_refuse may_tell proxy c
-refused_drops may_refuse may_tell proxy why c refuses is = rw is (by_front why refuses) where
-  by_front : (w : Unopened) → may_refuse w → DropsFor may_refuse may_tell proxy (cause_of w)
-  by_front unopened.Connect refuses = refuses
-  by_front unopened.Register refuses = refuses
+-- why a connection is closed unopened: by what the front answered, by what the lead lacked, or for want of memory
+module _ (may_refuse : Unopened → Type 0) (may_tell : Route → Type 0) (proxy : Bool) where
+  pub refused_drops : (why : Unopened) (c : Cause) → may_refuse why → c ≡ cause_of why → DropsFor may_refuse may_tell proxy c
+  refused_drops unopened.Connect c refuses is = rw is refuses
+  refused_drops unopened.Register c refuses is = rw is refuses
 
--- by what the lead lacked
-pub lacking_drops : (may_refuse : Unopened → Type 0) (may_tell : Route → Type 0) (proxy : Bool) (route : Route) (c : Cause)
-    → may_tell route → c ≡ lacks (lead_of proxy route) → DropsFor may_refuse may_tell proxy c
-lacking_drops may_refuse may_tell proxy route c told is = rw is (by_lead (lead_of proxy route) refl) where
-  by_lead : (lead : Option (List ℕ)) → lead_of proxy route ≡ lead → DropsFor may_refuse may_tell proxy (lacks lead)
-  by_lead None same = (route, told, same)
-  by_lead (Some lead) same = (lead, (route, told, same))
+  pub lacking_drops : (route : Route) (c : Cause) → may_tell route → c ≡ lacks (lead_of proxy route) → DropsFor may_refuse may_tell proxy c
+  lacking_drops route c told is = rw is (by_lead (lead_of proxy route) refl) where
+    by_lead : (lead : Option (List ℕ)) → lead_of proxy route ≡ lead → DropsFor may_refuse may_tell proxy (lacks lead)
+    by_lead None same = (route, told, same)
+    by_lead (Some lead) same = (lead, (route, told, same))
 
--- for want of memory
-pub memory_drops : (may_refuse : Unopened → Type 0) (may_tell : Route → Type 0) (proxy : Bool) (route : Route) (lead : List ℕ) (c : Cause)
-    → may_tell route → lead_of proxy route ≡ Some lead → c ≡ cause.Memory → DropsFor may_refuse may_tell proxy c
-memory_drops may_refuse may_tell proxy route lead c told same is = rw is (lead, (route, told, same))
+  pub memory_drops : (route : Route) (lead : List ℕ) (c : Cause) → may_tell route → lead_of proxy route ≡ Some lead → c ≡ cause.Memory → DropsFor may_refuse may_tell proxy c
+  memory_drops route lead c told same is = rw is (lead, (route, told, same))
 
 -- A round: the reports were delivered, a sweep was made or none, and connections were opened
-
--- the look for reports, from the start of a round on
-abbrev pub Looked : PollerState → PollerState → Type 0
-Looked p q = q ≡ record p { listening = q.listening; reported = q.reported; failed = q.failed; waited = q.waited; batch = q.batch }
 
 pub round_of : (c : Own) {p q r v t : PollerState} {a b d e : Own} → Looked p q → OnlyTook a b
     → Delivered q.table q.batch b.seat c.seat b.hand c.hand → c.ready ≡ b.ready → c.free ≡ b.free → AreIn q.part (all_reported q.table q.batch) → r ≡ record q { accepting = r.accepting }
@@ -433,13 +361,8 @@ ended_still {p} {q} {a} {b} ended is left = by_count (cases_lt p.opened p.most) 
   by_count (inl some) = let same = left (λ all. omega (arith, some, all)) in rw (same.1, same.0) ended
   by_count (inr all) = inl (inr (inr (inr (rw is all))))
 
--- the front listens as before, unless all was opened before
-abbrev pub Listens : PollerState → PollerState → Type 0
-Listens old new = (new.listening ≡ old.listening) ⊎ (HasOpenedAll old × (new.listening ≡ false))
-
-kept : (p q : PollerState) → Listens p q → ListenerKept p q
-kept p q (inl same) = inl same
-kept p q (inr closed) = inr (inl closed.0, closed.1)
+kept : (p q : PollerState) → ListensNoMore p q → ListenerKept p q
+kept p q listens = grind arith
 
 -- the poller waits only where it may, and for as long
 pub waits_if : (waiting : Waiting) (limit : ℕ) (p q r : PollerState) (a b : Own) → q ≡ record p { listening = q.listening }
@@ -460,41 +383,23 @@ Lasting limit had old new = record {
   heavy : new.heavy ≡ old.heavy;
   waits : WaitedAsMay limit old new had;
   over : new.over ≡ old.over;
-  listening : Listens old new;
+  listening : ListensNoMore old new;
 }
 
-pub looked_lasts : (limit : ℕ) (had : Own) (p q r : PollerState) → q ≡ record p { batch = [] }
-    → r ≡ record q { listening = r.listening; reported = r.reported; failed = r.failed; waited = r.waited; batch = r.batch }
-    → Listens q r → WaitedAsMay limit q r had → Lasting limit had p r
-looked_lasts limit had p q r begun looked listens waits = record {
-  opening = rw (looked, begun);
-  most = rw (looked, begun);
-  heavy = rw (looked, begun);
-  waits = rw begun at waits;
-  over = rw (looked, begun);
-  listening = rw begun at listens;
-}
+pub looked_lasts : (limit : ℕ) (had : Own) (p : PollerState) {q r : PollerState} → q ≡ record p { batch = [] }
+    → Looked q r → ListensNoMore q r → WaitedAsMay limit q r had → Lasting limit had p r
+looked_lasts limit had p begun looked listens waits = search (looked, begun, rw begun at waits, rw begun at listens)
 
--- the hand had no room for a round
-pub ended_early : (enough : Bool) (slots words room : ℕ) → (IsTrue enough ↔ (512 + slots ≤ room)) → enough ≡ false → slots ≡ words → room < 512 + words
-ended_early enough slots words room is not same = grind arith
-
--- it had room for one
-pub begun_not_early : {X : Type 0} (slots words room : ℕ) → 512 + slots ≤ room → slots ≡ words → room < 512 + words → X
-begun_not_early slots words room enough same few = absurd (omega arith)
+-- the hand had room for a round
+pub begun_not_early : {X : Type 0} (needed room : ℕ) → needed ≤ room → room < needed → X
+begun_not_early needed room enough few = absurd (omega arith)
 
 -- what a round keeps that has come to its end, or was refused
 pub keeps : {limit : ℕ} {p q : PollerState} {a b : Own} → Lasting limit a p q → (q.swept ≡ p.swept) ⊎ (q.swept ≡ swept_after limit p.second p.swept)
     → b.ready.history.taken ≡ a.ready.history.taken → RoundKeeps limit p q a b
-keeps {p = p} {q = q} same swept took = record {
-  opening = same.opening;
-  most = same.most;
-  heavy = same.heavy;
-  swept = swept;
-  listens = kept p q same.listening;
-  over = λ over. inl (sym same.over ∙ over);
-  took = took;
-}
+keeps {p = p} {q = q} {b = b} same swept took =
+    let over : q.over ≡ true → (p.over ≡ true) ⊎ IsOver q b = λ over. inl (sym same.over ∙ over) in
+    assumption (kept p q same.listening)
 
 -- a round that was refused so has nothing to say
 pub but_worn : {T : Type 0} {X : Type 0} (r : Result T ServerFault) (e : ServerFault) → IsErrAnd r (λ y. y ≡ e) → e ≡ Worn → r ≢ Err Worn → X
@@ -502,11 +407,10 @@ but_worn (Ok x) e is worn other = absurd is
 but_worn (Err y) e is worn other = absurd (other (rw (is, worn)))
 
 pub over_before : {a b : Bool} {X : Type 0} → b ≡ a → (b ≡ true) ⊎ X → (a ≡ true) ⊎ X
-over_before same (inl over) = inl (sym same ∙ over)
-over_before same (inr now) = inr now
+over_before same over = rw same at over
 
 -- the front listens as before, since it ends only once all connections were opened
-pub listens_still : (p : PollerState) {q r : PollerState} {a b : Own} → Listens p q → r ≡ record q { listening = r.listening; over = r.over }
+pub listens_still : (p : PollerState) {q r : PollerState} {a b : Own} → ListensNoMore p q → r ≡ record q { listening = r.listening; over = r.over }
     → ((HasOpenedAll q → ⊥) → (b ≡ a) × (r ≡ q)) → ListensToOpen r → ListenerKept p r
 listens_still p {q} {r} same is left closed = by_count (cases_lt q.opened q.most) where
   by_count : (q.opened < q.most) ⊎ (q.most ≤ q.opened) → ListenerKept p r

@@ -2,13 +2,12 @@
 use Rattle.std.specs.{Prelude.{◌≡◌, ◌⊎◌, ℕ, zero, suc, ◌==◌, nat_lt, Bool, true, false, if◌then◌else◌, List, [], ◌∷◌, ◌++◌, length, map, Option, Some, None, slice_index}, List.{All, filter_map, count_by}}
 use Rattle.claims.specs.{declared.view.Exchange.{Exchange, TheVariants.{Post, Take, Release, Adopted, NotFree}}, Views.minted_by, Seats.{SeatState, trace_at}}
 use Rattle.ready.specs.declared.ticket.Ticket.{Ticket}
-use Rattle.token.specs.{declared.name.Name.{Name, TheVariants.{Listener, Waker, End}}, Numbers.name_of}
+use Rattle.token.specs.{declared.name.Name.{Name, TheVariants.{End}}, Numbers.name_of}
 use Rattle.relay_core.specs.Idle.{is_past}
 use Rattle.dispatch.specs.Hands.{HandState}
 use Rattle.rounds.specs.Pollers.{PollerState}
 
--- Acts: the exchanges of each at the slot of its ticket
-
+-- the exchanges at the slot of a ticket
 pub record Act : Type 0 where
   pub ticket : Ticket
   pub exchanges : List Exchange
@@ -45,8 +44,8 @@ pub record ArePosts (tickets : List Ticket) (posts : List Act) : Type 0 where
   pub each : All IsPost posts
   pub in_order : tickets_of posts ≡ tickets
 
--- a connection was opened: its slot was adopted, the notes of the connection before it were taken, the note of the
--- opening was posted, and the slot was released
+-- a connection was opened: its slot was adopted, old notes were taken, the note of the opening was posted, and the slot
+-- was released
 abbrev pub opening : ℕ → ℕ → List Exchange
 opening found noted = Adopted found ∷ Take noted ∷ Post false ∷ Release true ∷ []
 
@@ -70,19 +69,14 @@ pub record AreTries (opened : List Ticket) (held : List ℕ) (tries : List Act) 
   pub made : due_of tries ≡ opened
   pub found : held_of tries ≡ held
 
--- What delivering the reports of one poll does. Each report that names an end of a connection which its slot still has
--- becomes a note, and each note that found nobody at work there makes a ticket
-
 -- The connection that a name is of, if its slot still has it: the slot's generation in the table is the name's. A slot
 -- that the table lacks reads as generation 0, which no end has
 abbrev pub connection : List ℕ → Option Name → Option Ticket
 connection generations (Some (End end)) =
     if slice_index generations end.slot == end.generation then Some (record { slot = end.slot; generation = end.generation }) else None
-connection generations (Some Listener) = None
-connection generations (Some Waker) = None
-connection generations None = None
+connection generations name = None
 
--- the connection that a report is for, by the report's number
+-- the connection that a report is for, by its number
 abbrev pub reported : List ℕ → ℕ → Option Ticket
 reported generations number = connection generations (name_of number)
 
@@ -94,8 +88,8 @@ all_reported generations batch = filter_map (reported generations) batch
 abbrev pub at_slot : ℕ → List Ticket → ℕ
 at_slot slot tickets = count_by (λ t. t.slot == slot) tickets
 
--- A note was posted for each of these connections, in order, by one exchange at its slot, and those of them that woke
--- left their tickets in hand, in order. Nothing else of the seat or of the hand changed
+-- A note was posted for each of these connections, in order, by one exchange at its slot, and those that woke left
+-- their tickets in hand. Nothing else of the seat or of the hand changed
 pub record ArePosted (tickets : List Ticket) (old new : SeatState) (had has : HandState) : Type 0 where
   pub posts : List Act
   pub are : ArePosts tickets posts
@@ -105,8 +99,6 @@ pub record ArePosted (tickets : List Ticket) (old new : SeatState) (had has : Ha
 -- each report for a connection was posted
 abbrev pub Delivered : List ℕ → List ℕ → SeatState → SeatState → HandState → HandState → Type 0
 Delivered generations batch old new had has = ArePosted (all_reported generations batch) old new had has
-
--- What a round posts for time: a connection whose sockets report nothing is looked at again once the idle limit has passed
 
 -- the last connection that was opened in a slot
 abbrev pub last_in : List ℕ → ℕ → Ticket
@@ -124,8 +116,7 @@ opened_below table (suc slots) = opened_below table slots ++ opened_in table slo
 abbrev pub all_opened : List ℕ → List Ticket
 all_opened table = opened_below table (length table)
 
--- A sweep is due in a round: at the second that the round before it read, the limit had passed since the last sweep.
--- The round has asked for reports since then
+-- a sweep is due in a round: at the second that the round before it read, the limit had passed since the last sweep
 abbrev pub is_due : ℕ → PollerState → Bool
 is_due limit p = is_past p.second limit p.swept
 
@@ -133,7 +124,6 @@ is_due limit p = is_past p.second limit p.swept
 abbrev pub swept_after : ℕ → ℕ → ℕ → ℕ
 swept_after limit second last = if is_past second limit last then second else last
 
--- what a round posted for time: each slot in which a connection was opened, if it made a sweep, and nothing if the
--- second of the last sweep is what it was
+-- what a round posted for time: all of these, if it made a sweep, and nothing if the second of the last one stayed
 abbrev pub sweep_of : PollerState → PollerState → List Ticket
 sweep_of old new = if new.swept == old.swept then [] else all_opened old.table

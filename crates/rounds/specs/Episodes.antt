@@ -4,9 +4,8 @@ use Rattle.relay_log.specs.{Messages.{drop_message, drops_message}, declared.cau
 use Rattle.rounds.specs.{Pollers.counted_up, declared.{episodes.{Accepted.{Accepted, TheVariants.{Again, Blocked, Starved}}, Episodes.Episodes, Tally.Tally, Drops.Drops}, dropping.Owed.Owed}}
 use Rattle.relay_log.specs.declared.cause.Cause.TheVariants as cause
 
--- A signal, a connection that was given up before it was accepted, or a network error that the new socket had pending:
--- the next connection may be accepted at once. EAGAIN says that none waits. Anything else counts as a lack of
--- descriptors or memory
+-- After a signal, a connection that was given up, or an error that the new socket had pending, the next connection may
+-- be accepted at once. EAGAIN says that none waits. Anything else counts as a lack of descriptors or memory
 abbrev pub accepted_of : ErrorKind → Accepted
 accepted_of Interrupted = Again
 accepted_of ConnectionAborted = Again
@@ -18,9 +17,8 @@ accepted_of error = Starved
 
 -- only the answer that none waits takes the accept flag down
 abbrev pub flag_after : Accepted → Bool → Bool
-flag_after Again flag = flag
 flag_after Blocked flag = false
-flag_after Starved flag = flag
+flag_after class flag = flag
 
 -- whether accept(2) is starved: until it answers that none waits, or gives a connection
 abbrev pub starved_after : Accepted → Bool → Bool
@@ -28,15 +26,14 @@ starved_after Again starved = starved
 starved_after Blocked starved = false
 starved_after Starved starved = true
 
--- what is logged once for as long as it lasts: a lack was logged, and that clients wait for a slot is over once none
--- waits
+-- a lack was logged, and that clients wait for a slot is over once none waits
 abbrev pub episodes_after : Accepted → Episodes → Episodes
 episodes_after Again e = e
 episodes_after Blocked e = record e { full = false }
 episodes_after Starved e = record e { starved = true }
 
--- Which lines the log gets of accepted connections that are closed unopened. The first of a cause has a line of its own.
--- Those that follow it are counted, and logged by one line a second
+-- Of accepted connections that are closed unopened the first of a cause has a line of its own. Those that follow it are
+-- counted, and logged by one line a second
 
 -- nothing was logged of a cause, and nothing is counted
 abbrev pub no_tally : Tally
@@ -111,8 +108,6 @@ pub record AreLogged (second : ℕ) (d : Drops) : Type 0 where
   pub connect : due_at second d.connect ≡ 0
   pub register : due_at second d.register ≡ 0
   pub address : due_at second d.address ≡ 0
-
--- What is logged once, when it begins, and not again while it lasts
 
 -- nothing was logged that still lasts
 abbrev pub no_episodes : Episodes

@@ -16,8 +16,8 @@ use Rattle.statistics.specs.declared.event.Event.TheVariants as event
 use Rattle.relay_log.specs.declared.cause.Cause.TheVariants as cause
 use Rattle.dispatch.specs.declared.front.Unopened.TheVariants as unopened
 
--- Between two steps of a round the poller's thread holds no slot, its seat is one of these claim words, and its table
--- has a generation for each slot
+-- Between two steps of a round the poller's thread holds no slot of these claim words, and its table has a generation
+-- for each slot
 pub record Between (claims : TableId) (own : Own) (poller : PollerState) : Type 0 where
   pub same : own.seat.table ≡ claims
   pub idle : HoldsNothing own.seat
@@ -55,15 +55,14 @@ pub record OnlyTook (had has : Own) : Type 0 where
   pub gave : has.free.history.put ≡ had.free.history.put
   pub slots : SlotsCounted had has [] []
 
--- The slot of a connection was released. The ticket is in hand if that answered Wake, as it does if the seat knew of a
--- note
+-- the slot was released, and the ticket is in hand if that answered Wake, as it does if the seat knew of a note
 pub record LetGo (ticket : Ticket) (old new : Own) : Type 0 where
   pub woke : Bool
   pub quiet : woke ≡ false → (account_at old.seat ticket.slot).known ≡ 0
   pub seat : Adds ticket.slot (exchange.Release woke ∷ []) old.seat new.seat
   pub hand : new.hand ≡ record old.hand { tickets = old.hand.tickets ++ made_by (minted_by (exchange.Release woke ∷ [])) ticket }
 
--- an opening from the adoption of its slot on: the one ticket for it is in hand
+-- an opening, once its slot was adopted: the one ticket for it is in hand
 pub record Started (ticket : Ticket) (old new : Own) : Type 0 where
   pub noted : ℕ
   pub seat : Adds ticket.slot (drop 1 (opening 0 noted)) old.seat new.seat
@@ -80,9 +79,8 @@ abbrev pub AreLost : PollerState → List ℕ → List ℕ → Type 0
 AreLost p held [] = held ≡ []
 AreLost p held (slot ∷ lost) = (IsSpent p slot × AreLost p held lost) ⊎ ((rest : List ℕ) × (held ≡ slot ∷ rest) × AreLost p rest lost)
 
--- These connections were opened in the poller's own slots, each with the next generation of its slot, with one note and
--- with one ticket, which is in hand after the others. And these slots are no longer used, since they are spent, or are
--- among those that were found not to be free. That is all that the seat did
+-- These connections were opened in the poller's own slots, each with the next generation of its slot, one note and one
+-- ticket, which is in hand after the others. These slots are no longer used. That is all that the seat did
 pub record Connected (opened : List Ticket) (lost held : List ℕ) (old new : PollerState) (had has : Own) : Type 0 where
   pub table : AreOpened old.table opened new.table
   pub counted : Counted old.opened (length opened) new.opened
@@ -98,9 +96,7 @@ pub record Connected (opened : List Ticket) (lost held : List ℕ) (old new : Po
   pub ready : has.ready ≡ had.ready
   pub gave : has.free.history.put ≡ had.free.history.put
 
--- What became of an accepted connection, as it counts: it was opened, or closed unopened, which is logged with its
--- cause or counted for a later line, or its slot is no longer used. An opening alone ends what is logged once for as
--- long as it lasts
+-- What became of an accepted connection, as it counts: it was opened, or closed unopened, or its slot is no longer used
 abbrev pub IsOpened : PollerState → PollerState → Type 0
 IsOpened old new =
     (new.opened ≡ counted_up old.opened 1) × (new.dropped ≡ old.dropped) × (new.lost ≡ old.lost)
@@ -122,15 +118,11 @@ IsLost old new =
 abbrev pub line_between : Option SocketAddrV4 → Option SocketAddrV4 → Option (List ℕ)
 line_between (Some client) (Some accepted) =
     Some (proxy_line (ipv4_octets (v4_ip client)) (v4_port client) (ipv4_octets (v4_ip accepted)) (v4_port accepted))
-line_between (Some client) None = None
-line_between None accepted = None
-
-abbrev pub line_of : Route → Option (List ℕ)
-line_of route = line_between route.client route.accepted
+line_between client accepted = None
 
 -- without a line nothing is sent; None if there must be one and an address is missing
 abbrev pub lead_of : Bool → Route → Option (List ℕ)
-lead_of true route = line_of route
+lead_of true route = line_between route.client route.accepted
 lead_of false route = Some []
 
 -- what was lacking if there is no lead: an address, or else memory
@@ -142,22 +134,21 @@ lacks (Some lead) = cause.Memory
 abbrev pub LeadGiven : (Route → Type 0) → Bool → Option (List ℕ) → Type 0
 LeadGiven may_tell proxy lead = (route : Route) × may_tell route × (lead_of proxy route ≡ lead)
 
--- Why an accepted connection is closed unopened: the front refused to open it; or the front opened it, and an address
--- of the line for its target is missing, or else memory ran out
+-- Why an accepted connection is closed unopened: the front refused to open it; or it opened it, and an address of the
+-- line is missing, or else memory ran out
 abbrev pub DropsFor : (Unopened → Type 0) → (Route → Type 0) → Bool → Cause → Type 0
 DropsFor may_refuse may_tell proxy cause.Memory = (lead : List ℕ) × LeadGiven may_tell proxy (Some lead)
 DropsFor may_refuse may_tell proxy cause.Connect = may_refuse unopened.Connect
 DropsFor may_refuse may_tell proxy cause.Register = may_refuse unopened.Register
 DropsFor may_refuse may_tell proxy cause.Address = LeadGiven may_tell proxy None
 
--- Which of the acts of an opening were made before its connection was placed: its sockets were registered; or else they may
--- have been, and are closed again
+-- before a connection is placed its sockets are registered; without one they may have been, and are closed again
 abbrev pub Registered : {S T E : Type 0} → (act.Act → ℕ → S → S → Type 0) → ℕ → Result T E → S → S → Type 0
 Registered made slot (Ok opened) from to = made act.Register slot from to
 Registered made slot (Err cause) from to = (to ≡ from) ⊎ made act.Register slot from to
 
--- What became of an accepted connection that was for this slot, with what is logged and counted of it, and the acts that were
--- made there: it was opened; it was dropped; no connection can be opened in the slot; or one exchange found that it is not free
+-- What became of an accepted connection that was for this slot, what is logged and counted of it, and the acts that
+-- were made there: it was opened; it was dropped; no connection can be opened in the slot; or one exchange found it held
 pub data Fate (slot : ℕ) (opened dropped : Type 0) (made : List act.Act → Type 0)
     (old new : PollerState) (had has : SeatState) : Type 0 where
   Opened : IsOpened old new → opened → made act.open_slot → Fate slot opened dropped made old new had has
@@ -185,8 +176,7 @@ pub record IsNext (p : PollerState) (t : Ticket) : Type 0 where
   pub generation : t.generation ≡ slice_index p.table t.slot + 1
   pub most : t.generation ≤ last_generation
 
--- Placing a connection in a free slot: it was opened there, or the slot was found not to be free and is no longer used.
--- At most one ticket more is in hand
+-- a connection was placed: it was opened there, or the slot was found not to be free and is no longer used
 pub record Placed (logged : Ticket → Type 0) (made : List act.Act → Type 0) (t : Ticket)
     (old new : PollerState) (had has : Own) : Type 0 where
   pub done : Connected (t ∷ []) [] [] old new had has ⊎ Connected [] (t.slot ∷ []) (t.slot ∷ []) old new had has
@@ -196,8 +186,7 @@ pub record Placed (logged : Ticket → Type 0) (made : List act.Act → Type 0) 
   pub slots : has.hand.slots ≡ had.hand.slots
   pub room : ticket_room had.hand ≤ ticket_room has.hand + 1
 
--- What accepting did: connections were opened, and each slot that was taken was opened, or is in hand, or is no longer
--- used. A connection whose opening failed leaves its slot in hand
+-- what accepting did: each slot that was taken was opened, or is in hand, or is no longer used
 pub record AcceptDone (old new : PollerState) (had has : Own) : Type 0 where
   pub opened : List Ticket
   pub lost : List ℕ
@@ -229,7 +218,6 @@ abbrev pub OnlyOpened : PollerState → PollerState → Type 0
 OnlyOpened old new =
     new ≡ record old { table = new.table; opened = new.opened; dropped = new.dropped; lost = new.lost; episodes = new.episodes }
 
--- a thread's ends of the queues are as they were
 pub record SameQueues (old new : Own) : Type 0 where
   pub ready : new.ready ≡ old.ready
   pub free : new.free ≡ old.free

@@ -7,13 +7,11 @@ use Rattle.relay_log.specs.declared.faults.ServerFault.{ServerFault}
 use Rattle.dispatch.specs.declared.front.Waiting.TheVariants as waiting
 use Rattle.relay_log.specs.declared.faults.ServerFault.TheVariants as server_fault
 
--- The reports of the batch were delivered: each that is for a connection was posted at its slot, and those that woke
--- made their tickets. Then came the posts of a sweep, if one was made, and those that woke made theirs. Then
--- connections were opened, each with one post and one ticket at its slot. All tickets that were to be put before, then
--- those of the reports, of the sweep and of the openings are put or in hand, in this order. Each slot that was taken
--- was opened, or is in hand, or is no longer used: then no connection can be opened in it, or one of the last acts found
--- it held. These acts, in this order, are all that the seat did. Nothing was posted or opened at a slot of another
--- poller
+-- The reports of the batch were delivered: each that is for a connection was posted at its slot. Then came the posts of
+-- a sweep, if one was made, and then connections were opened. These acts, in this order, are all that the seat did, and
+-- all are at the poller's own slots. The tickets that were to be put before, then those of the reports, of the sweep
+-- and of the openings are put or in hand, in this order. Each slot that was taken was opened, or is in hand, or is no
+-- longer used
 pub record RoundDone (old new : PollerState) (had has : Own) : Type 0 where
   pub reports : List Act
   pub sweep : List Act
@@ -42,11 +40,24 @@ pub record NoSlot (own : Own) : Type 0 where
   pub hand : own.hand.slots ≡ []
   pub queue : HeldOnce 0 own.free.history
 
--- the front listens as before, or no longer: then all connections that the poller may open were opened, before or now
+-- a look for reports changes at most this of what the poller keeps
+abbrev pub Looked : PollerState → PollerState → Type 0
+Looked old new = new ≡ record old {
+  listening = new.listening;
+  reported = new.reported;
+  failed = new.failed;
+  waited = new.waited;
+  batch = new.batch;
+}
+
+-- the front listens as before, or no longer, since all connections that the poller may open were opened before
+abbrev pub ListensNoMore : PollerState → PollerState → Type 0
+ListensNoMore old new = (new.listening ≡ old.listening) ⊎ (HasOpenedAll old × (new.listening ≡ false))
+
+-- the same, or since they were opened now
 abbrev pub ListenerKept : PollerState → PollerState → Type 0
 ListenerKept old new = (new.listening ≡ old.listening) ⊎ ((HasOpenedAll old ⊎ HasOpenedAll new) × (new.listening ≡ false))
 
--- once all connections that the poller may open were opened, its front does not listen
 abbrev pub ListensToOpen : PollerState → Type 0
 ListensToOpen p = HasOpenedAll p → p.listening ≡ false
 
@@ -70,7 +81,7 @@ HasLeft p = (p.left ≡ true) × (p.accepting ≡ true)
 abbrev pub MayWaitBriefly : ℕ → PollerState → Own → Type 0
 MayWaitBriefly limit p own = (is_due limit p ≡ false) × (own.hand.tickets ≡ []) × HasLeft p
 
--- a round waited for reports only if it might, and for as long, by what the poller kept and its thread had in hand before
+-- a round waited for reports only if it might, and for as long
 abbrev pub WaitedAsMay : ℕ → PollerState → PollerState → Own → Type 0
 WaitedAsMay limit old new had = new.waited ≢ 0 → MayWait limit old had ⊎ ((new.waited ≤ 1) × MayWaitBriefly limit old had)
 
@@ -82,23 +93,23 @@ AcceptEnded p own = AcceptMayEnd p own ⊎ (HasLeft p ⊎ (p.tries ≡ 0))
 abbrev pub EndedEarly : ℕ → Own → Type 0
 EndedEarly slots own = ticket_room own.hand < spare_room + slots
 
--- then nothing happens, but that no reports are left from the round before
+-- then it empties its batch alone
 pub record NotBegun (old new : PollerState) (had has : Own) : Type 0 where
   pub own : has ≡ had
   pub poller : new ≡ record old { batch = [] }
 
--- a connection may be accepted now: one may be waiting, it would be opened, and a free slot is in hand
+-- a connection may be waiting, it would be opened, and a free slot is in hand
 pub record MayAccept (p : PollerState) (own : Own) : Type 0 where
   pub flag : p.accepting ≡ true
   pub left : HasOpenedAll p → ⊥
   pub slot : 1 ≤ length own.hand.slots
 
--- why the poller does not wait: a sweep is due, or a ticket is in hand, or a connection may be accepted now, the system
--- did not lack what that needs, and no client was left to other pollers
+-- why the poller does not wait: a sweep is due, or a ticket is in hand, or a connection may be accepted now, accept(2)
+-- was not starved, and no client was left to other pollers
 abbrev pub MayNotWait : ℕ → PollerState → Own → Type 0
 MayNotWait limit p own = (is_due limit p ≡ true) ⊎ ((own.hand.tickets ≢ []) ⊎ ((p.starved ≡ false) × (p.left ≡ false) × MayAccept p own))
 
--- a wait for reports is as long as it may be now: for as long as the front waits, for a millisecond, or no wait at all
+-- a wait for reports is as long as it may be now
 pub record WaitsAsMay (wait : Waiting) (limit : ℕ) (p : PollerState) (own : Own) : Type 0 where
   pub long : wait ≡ waiting.Long → MayWait limit p own
   pub brief : wait ≡ waiting.Brief → MayWaitBriefly limit p own
@@ -109,8 +120,7 @@ pub record WaitLasted (wait : Waiting) (millis : ℕ) : Type 0 where
   pub none : wait ≡ waiting.No → millis ≡ 0
   pub brief : wait ≡ waiting.Brief → millis ≤ 1
 
--- a client waits for a slot: the listener was reported, and connections would be opened, but no slot was free even
--- before any was
+-- a client waits for a slot: the listener was reported, and connections would be opened, but no slot is free
 pub record IsFull (p : PollerState) (own : Own) : Type 0 where
   pub reported : Contains p.batch 0
   pub left : HasOpenedAll p → ⊥
@@ -120,19 +130,16 @@ pub record IsFull (p : PollerState) (own : Own) : Type 0 where
 abbrev pub IsBack : PollerState → Own → Type 0
 IsBack p own = p.part.slots ≤ length own.hand.slots + p.lost
 
--- the poller is over only once all connections that it may open were opened, and each of its slots is back in hand or
--- no longer used
+-- all connections that it may open were opened, and each of its slots is back
 pub record IsOver (p : PollerState) (own : Own) : Type 0 where
   pub opened : HasOpenedAll p
   pub back : IsBack p own
 
--- free slots were taken in hand: at one moment none was left in the queue, or there are this many in hand, or no more
--- fit
+-- free slots were taken in hand: none was left in the queue at one moment, or this many are in hand, or no more fit
 abbrev pub TookAll : ℕ → Own → Type 0
 TookAll slots own = HeldOnce 0 own.free.history ⊎ ((slots ≤ length own.hand.slots) ⊎ (HasRoom own.hand → ⊥))
 
--- once all connections that it may open were opened, the poller takes its slots in hand, and is over if all of them are
--- back
+-- once all connections that it may open were opened, the poller takes its slots in hand, and is over if all are back
 abbrev pub LooksForAll : PollerState → Own → Type 0
 LooksForAll p own = HasOpenedAll p → TookAll p.part.slots own × (IsBack p own → p.over ≡ true)
 
@@ -141,9 +148,8 @@ pub record SweepMade (limit : ℕ) (old new : PollerState) (had has : Own) : Typ
   pub posted : ArePosted (sweep_of old new) had.seat has.seat had.hand has.hand
   pub swept : new.swept ≡ swept_after limit old.second old.swept
 
--- A round that began and was not refused: it delivered what its front reported, its second is one that the clock may
--- show, a sweep was made if one was due, accepting ended for a reason, the front does not listen once all connections
--- were opened, the poller is over if it can be, and no drop is left to be logged at this second
+-- A round that began and was not refused: it delivered what its front reported, at a second that the clock may show. A
+-- sweep was made if one was due, accepting ended for a reason, and no drop is left to be logged at this second
 pub record RoundEnded (tells : ℕ → Type 0) (limit : ℕ) (old new : PollerState) (has : Own) : Type 0 where
   pub read : new.batch ≡ new.reported
   pub second : tells new.second
@@ -153,9 +159,8 @@ pub record RoundEnded (tells : ℕ → Type 0) (limit : ℕ) (old new : PollerSt
   pub back : LooksForAll new has
   pub drops : AreLogged new.second new.episodes.drops
 
--- What every round keeps: what connections are opened with, how many may be, and the heavy marks. The second of the last
--- sweep is what it was, or that of a sweep that was due. It listens as before, or no longer. It is over as before, or
--- since all its slots are back. And its thread took no ticket from the queue
+-- What every round keeps. The second of the last sweep is what it was, or that of a sweep that was due. The poller is
+-- over as before, or since all its slots are back. Its thread took no ticket from the queue
 pub record RoundKeeps (limit : ℕ) (old new : PollerState) (had has : Own) : Type 0 where
   pub opening : new.opening ≡ old.opening
   pub most : new.most ≡ old.most

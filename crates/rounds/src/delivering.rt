@@ -1,5 +1,5 @@
 //! The reports of one poll become notes at their slots.
-ghost use Rattle.std.specs.Prelude.{◌≡◌, ℕ, ◌-◌, ◌<◌, ◌≤◌, ◌↔◌, ◌∷◌, [], length, take, IsTrue, IfOk, OnOk, IfErr, OnErr, IfSome, Contains};
+ghost use Rattle.std.specs.{Prelude.{◌≡◌, ℕ, ◌-◌, ◌<◌, ◌≤◌, ◌↔◌, [], length, take, IsTrue, IfOk, OnOk, IfErr, OnErr, IfSome, Contains}, List.cons_option};
 ghost use Rattle.claims.specs.Seats.{HoldsNothing};
 ghost use Rattle.dispatch.specs.{Hands.ticket_room, Posts.OnlyWorn};
 ghost use Rattle.rounds.specs.Acts.{connection, reported, ArePosted, Delivered};
@@ -13,9 +13,9 @@ use token::{Name, Token, unpack};
 /// Posts a note for each report of a batch, and adds a ticket to the hand for each post that answers Wake. Returns
 /// whether the listener was reported.
 ///
-/// A batch has the numbers of the tokens that were reported, in order (epoll_wait(2)), and the table has each slot's
-/// generation. A number that names no end, such as the waker's, leaves no note, and neither does an end whose slot
-/// the table lacks or has with another generation: its connection was closed after the report arrived.
+/// A batch has the numbers of the tokens that were reported, in order (epoll_wait(2)), and the table each slot's
+/// generation. A number that names no end, such as the waker's, leaves no note, and neither does an end whose slot the
+/// table lacks or has with another generation: its connection was closed after the report arrived.
 ///
 /// The only refusal is `Worn`: the seat has posted 2^56 times. Then the reports before that one are delivered.
 pub fn deliver(
@@ -37,52 +37,31 @@ pub fn deliver(
     ensures same { seat.new.table ≡ seat.old.table }
 {
     for number in batch {
-        report(claims, seat, table, *number, hand)?;
+        post_note(claims, seat, connection(table, *number), hand)?;
     }
     Ok(batch.contains(&LISTENER))
 }
 
-/// Posts a note for one report, if it is for a connection. `Worn` changes nothing.
-fn report(
-    claims: &Claims,
-    seat: &mut ClaimSeat,
-    table: &[u64],
-    number: u64,
-    hand: &mut Hand,
-) -> Result<(), ServerFault>
-    requires same { seat.old.table ≡ claims.now }
-    requires idle { HoldsNothing seat.old }
-    requires sized { length table.now ≡ claims.now.words }
-    requires room { length hand.old.tickets < hand.old.capacity }
-    ensures delivered { OnOk result (Delivered table.now (number ∷ []) seat.old seat.new hand.old hand.new) }
-    ensures seat { OnErr result (seat.new ≡ seat.old) }
-    ensures hand { OnErr result (hand.new ≡ hand.old) }
-    ensures worn { IfErr result (λ fault. OnlyWorn fault seat.new) }
-{
-    let Some(ticket) = connection(table, number) else {
-        return Ok(());
-    };
-    post_note(claims, seat, ticket, hand)
-}
-
-/// Posts a note at a connection's slot, and adds its ticket to the hand if the post answers Wake. `Worn` changes
-/// nothing.
+/// Posts a note at a connection's slot, if there is one, and adds its ticket to the hand if the post answers Wake.
 #[tactic(auto, using(crate::proofs::Acts::posted_quiet, crate::proofs::Acts::posted_woke))]
 pub(crate) fn post_note(
     claims: &Claims,
     seat: &mut ClaimSeat,
-    ticket: Ticket,
+    ticket: Option<Ticket>,
     hand: &mut Hand,
 ) -> Result<(), ServerFault>
     requires same { seat.old.table ≡ claims.now }
     requires idle { HoldsNothing seat.old }
-    requires inside { ticket.slot < claims.now.words }
+    requires inside { IfSome ticket (λ ticket. ticket.slot < claims.now.words) }
     requires room { length hand.old.tickets < hand.old.capacity }
-    ensures posted { OnOk result (ArePosted (ticket ∷ []) seat.old seat.new hand.old hand.new) }
+    ensures posted { OnOk result (ArePosted (cons_option ticket []) seat.old seat.new hand.old hand.new) }
     ensures seat { OnErr result (seat.new ≡ seat.old) }
     ensures hand { OnErr result (hand.new ≡ hand.old) }
     ensures worn { IfErr result (λ fault. OnlyWorn fault seat.new) }
 {
+    let Some(ticket) = ticket else {
+        return Ok(());
+    };
     match claims.post(seat, ticket.slot) {
         Posted::Wake => hand.keep_ticket(ticket),
         Posted::Quiet => {}
@@ -102,7 +81,6 @@ fn connection(table: &[u64], number: u64) -> Option<Ticket>
     }
 }
 
-/// The connection of an end, if it is still in its slot.
 fn connection_of(table: &[u64], end: Token) -> Option<Ticket>
     ensures value { result ≡ connection table.now (Some (Name.End end)) }
     ensures inside { IfSome result (λ ticket. ticket.slot < length table.now) }

@@ -7,8 +7,7 @@ use crate::episodes::Drops;
 use relay_log::{Cause, Logs, log_drop, log_drops};
 use std::marker::Model;
 
-/// A line that must be logged, about one drop or several. This value cannot be dropped, and only [`Owed::log`] takes
-/// it.
+/// A line that must be logged. This value cannot be dropped, and only [`Owed::log`] takes it.
 pub(crate) struct Owed {
     cause: Cause,
     /// How many drops the line counts. 0 for the line about one drop.
@@ -36,9 +35,9 @@ impl Owed {
     }
 }
 
-/// An accepted connection is closed unopened. That was logged with its cause, or is counted for a later line. Nothing
-/// but [`Dropped::log`] makes this value, and only [`Poller::count_dropped`](crate::Poller::count_dropped) takes it.
-/// It cannot be dropped, so each closed connection is counted.
+/// An accepted connection is closed unopened, which was logged with its cause, or is counted for a later line. Only
+/// [`Dropped::log`] makes this value, which cannot be dropped, and only
+/// [`Poller::count_dropped`](crate::Poller::count_dropped) takes it.
 ///
 /// In a clause it is the cause.
 pub(crate) struct Dropped {

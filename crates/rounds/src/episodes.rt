@@ -1,6 +1,4 @@
-//! What the errors of accept(2) mean, and what is logged of accepting. What lasts is logged once, when it begins, and
-//! not again while it lasts. Of the accepted connections that are closed unopened the first of a cause has a line of its
-//! own, and those that follow it are counted.
+//! What the errors of accept(2) mean, and what is logged of accepting.
 ghost use Rattle.std.specs.Prelude.{◌≡◌, IfSome, Some};
 ghost use Rattle.rounds.specs.Episodes.{accepted_of, all_logged_at, dropped_at, dropped_for, due_at, follows, is_counted, line_of, no_drops, no_episodes, no_tally, owed, owed_for, tally_of, logged_at, with_tally, AreLogged};
 ghost use Rattle.log.specs.declared.level.Level.TheVariants as level;
@@ -83,7 +81,6 @@ impl Tally {
         }
     }
 
-    /// Whether a drop at this second is counted, and has no line of its own.
     fn is_counted(&self, second: u64) -> bool
         ensures { result ≡ is_counted second self.now }
     {
@@ -105,7 +102,7 @@ impl Tally {
         Some(Owed::new(cause, 0))
     }
 
-    /// Returns the line for what is counted, if anything is and this second has had no line.
+    /// Returns the line for what is counted, if this second has had no line.
     fn counted_line(&mut self, cause: Cause, second: u64) -> Option<Owed>
         ensures tally { self.new ≡ logged_at second self.old }
         ensures owed { result ≡ owed cause (due_at second self.old) }
@@ -120,7 +117,7 @@ impl Tally {
         Some(Owed::new(cause, more))
     }
 
-    /// The next drop has a line of its own again. Returns the line for what is counted until now, if anything is.
+    /// The next drop has a line of its own again. Returns the line for what is counted until now.
     fn end(&mut self, cause: Cause) -> Option<Owed>
         ensures tally { self.new ≡ no_tally }
         ensures owed { result ≡ owed cause self.old.more }
@@ -134,7 +131,6 @@ impl Tally {
     }
 }
 
-/// Whether no whole second passed between the last drop, if there was one, and this second.
 fn follows(second: u64, last: Option<u64>) -> bool
     ensures { result ≡ follows second last }
 {
@@ -190,7 +186,6 @@ impl Drops {
         log_owed(rt, self.tell_of(Cause::Address, second));
     }
 
-    /// Returns the line for what is counted of a cause, if anything is and this second has had no line of it.
     fn tell_of(&mut self, cause: Cause, second: u64) -> Option<Owed>
         ensures drops { self.new ≡ with_tally cause (logged_at second (tally_of cause self.old)) self.old }
         ensures owed { result ≡ owed cause (due_at second (tally_of cause self.old)) }
@@ -214,8 +209,6 @@ impl Drops {
         log_owed(rt, self.end_of(Cause::Address));
     }
 
-    /// Returns the line for what is counted of a cause until now, if anything is. The next drop for it has a line of
-    /// its own.
     fn end_of(&mut self, cause: Cause) -> Option<Owed>
         ensures drops { self.new ≡ with_tally cause no_tally self.old }
         ensures owed { result ≡ owed cause (tally_of cause self.old).more }
@@ -229,7 +222,6 @@ impl Drops {
     }
 }
 
-/// Logs the line, if there is one.
 fn log_owed<L: Logs>(rt: &L, owed: Option<Owed>)
     ensures { IfSome owed (λ line. L.logged rt.now level.Warn (Some (line_of line))) }
 {

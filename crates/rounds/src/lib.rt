@@ -2,21 +2,14 @@
 //! connections.
 //!
 //! A report about a socket becomes a note at its slot ([`deliver`]). The first note at a slot that nobody holds makes a
-//! ticket. A connection is opened with one note and one ticket of its own. Its target may first be sent a line with the
-//! addresses of the client's connection; if one of the two is not known then, the opening has failed, and the
-//! connection is closed. For connections whose sockets report nothing a round posts notes, too, once the idle limit has
-//! passed: its sweep. What a round is lent is in `dispatch`; what becomes of the tickets is in `turns`.
-//!
-//! - [`Poller`] is what a poller keeps between its rounds, and [`Opening`] what its connections are opened with
-//!   ([`open`]).
-//! - [`Episodes`] is what a poller logs once for as long as it lasts, and [`Drops`] what it logs of clients that are
-//!   closed unopened.
+//! ticket. A connection is opened with one note and one ticket of its own ([`open`]). Its target may first be sent a
+//! line with the addresses of the client's connection; if one of the two is not known, the opening has failed. For
+//! connections whose sockets report nothing a round posts notes, too, once the idle limit has passed: its sweep. What a
+//! round is lent is in `dispatch`; what becomes of the tickets is in `turns`.
 //!
 //! # Inside
 //!
-//! - `WaitsAsMay` says when a round waits for reports (`poll`: `wait`): if no sweep is due, no ticket is in hand, and
-//!   either nothing can be accepted (no client, no free slot, or all were opened) or accept(2) was starved; and for a
-//!   millisecond if the last round left a client. The front was asked to wait no longer (`waited`). The wait is a fault
+//! - `WaitsAsMay` says when a round waits for reports, and for how long (`poll`: `wait`, `waited`). The wait is a fault
 //!   exactly if it gave an error other than a signal (`polled`); its batch is delivered (`deliver_batch`).
 //! - Each error of accept(2) has its class, and only the answer that no connection waits lowers the accept flag
 //!   (`accepted_of`, `not_accepted`: `flag`). A lack lasts until that answer or a connection (`starved_after`).
@@ -27,16 +20,14 @@
 //!   anybody (`log_if_full`: `full`, `found`). It stays so until accept(2) answers that nobody waits.
 //! - Both tokens of a connection have the next generation of its slot (`next_names`). Its pair is a fresh one with the
 //!   poller's size of ring, made at the second of the round (`connect`: `pair`), and its lead the PROXY line of the
-//!   addresses that the front gave, or nothing (`lead`, by `LeadGiven`). Without a pair the cause that is logged is the
-//!   front's, or `address` if targets are sent the line and the front gave a route without one of the two, or else
-//!   `memory` (`cause`, by `DropsFor`).
+//!   addresses that the front gave, or nothing (`lead`, by `LeadGiven`). `DropsFor` says which cause is logged if there
+//!   is no pair (`cause`).
 //! - An accepted connection counts as opened, as dropped, or by its slot as lost (`open`: `counted`, by `Fate`), and
-//!   once: what comes with it out of `Poller::accept` cannot be dropped, and only these counts take it (`Uncounted`).
-//!   An opening passes its line to the log, and both are counted at their slot (`OpeningLogged`, `DropCounted`). A
-//!   connection counts as dropped only if the log gets a line or a count of it (`Dropped`), and a slot is lost only if
-//!   one exchange found that it is not free (`Held`), or if no connection can be opened there (`Spent`). After an
-//!   opening that failed the slot is in hand, and nowhere else (`prepare`: `failed`; `round`: `slots`). Slots start at
-//!   generation 0 (`Poller::new`), and a table has its poller's own alone (`IsOwnTable`).
+//!   once (`Uncounted`). An opening passes its line to the log, and both are counted at their slot (`OpeningLogged`,
+//!   `DropCounted`). A connection counts as dropped only if the log gets a line or a count of it (`Dropped`). A slot is
+//!   lost only if one exchange found that it is not free (`Held`), or if no connection can be opened there (`Spent`).
+//!   After an opening that failed the slot is in hand, and nowhere else (`prepare`: `failed`; `round`: `slots`). Slots
+//!   start at generation 0 (`Poller::new`), and a table has its poller's own alone (`IsOwnTable`).
 #![tactic(auto)]
 
 mod delivering;

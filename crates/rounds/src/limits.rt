@@ -1,6 +1,6 @@
 //! The limits of a round.
 
-/// The most tries of accept(2) in one round. The tickets of what was opened wait no longer than that for their turns.
+/// The most tries of accept(2) in one round, for which the tickets of what was opened wait.
 pub const MAX_ACCEPTS: usize = 4;
 
 /// A round begins only if the poller's hand has room for a ticket of each slot, which a sweep may take, and this many

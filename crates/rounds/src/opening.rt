@@ -1,7 +1,5 @@
-//! Opens an accepted connection, in the order in which it happens: a free slot, the names of the slot's next
-//! connection, the connection to the target, what the target is sent first, the pair, the place, and the one note
-//! that starts it.
-ghost use Rattle.std.specs.{Prelude.{◌≡◌, ◌≢◌, ◌⊎◌, ◌+◌, ◌<◌, ◌≤◌, [], ◌∷◌, ◌++◌, drop, length, Err, Some, None, IfOk, IfErr, OnOk, OnErr, OnSome, IfSome, IsNone, slice_get, slice_index}, Net.{Addr.ipv4_octets, Socket.{v4_ip, v4_port}}};
+//! Opens an accepted connection.
+ghost use Rattle.std.specs.{Prelude.{◌≡◌, ◌+◌, ◌<◌, ◌≤◌, [], ◌∷◌, ◌++◌, drop, length, Err, Some, None, IfOk, IfErr, OnOk, OnErr, OnSome, IfSome, IsNone, slice_get, slice_index}, Net.{Addr.ipv4_octets, Socket.{v4_ip, v4_port}}};
 ghost use Rattle.claims.specs.Seats.{HoldsNothing, OnlyAt};
 ghost use Rattle.relay_core.specs.{Pairs.fresh, Proxy.proxy_line};
 ghost use Rattle.rounds.specs.{Episodes.dropped_for, Openings.{lacks, lead_of, next_in, Between, DropCounted, DropsFor, Fate, IsNext, LeadGiven, LetGo, OneAccepted, OnlyOpened, OpeningLogged, Placed, Registered, SameQueues, Started}, Pollers.AreGenerations};
@@ -30,21 +28,19 @@ use token::{Side, Token, next_gen};
 pub struct Opening {
     /// The bytes of a ring, 1 to 65,536.
     pub ring: usize,
-    /// Whether a target is first sent a line with the addresses of its client's connection (PROXY protocol, version
-    /// 1).
+    /// Whether a target is first sent a line with its client's addresses (PROXY protocol, version 1).
     pub proxy: bool,
 }
 
 /// The names of a connection's two ends.
 #[derive(Clone, Copy)]
-pub(crate) struct Names {
-    pub(crate) client: Token,
-    pub(crate) target: Token,
+struct Names {
+    client: Token,
+    target: Token,
 }
 
-/// Opens an accepted connection in the free slot in hand. It gets the slot's next generation, one note and one
-/// ticket, and is logged. If its opening fails, it is closed and logged or counted, and its slot is as it was, and in
-/// hand.
+/// Opens an accepted connection in the oldest free slot in hand. It gets the slot's next generation, one note and one
+/// ticket, and is logged. If its opening fails, it is closed and logged or counted, and its slot is in hand again.
 ///
 /// A slot of another poller, outside the table, at its last generation or not free, none of which happens in any run,
 /// is no longer used, and the connection is closed.
@@ -90,6 +86,8 @@ pub fn open<F: Front + Counting, A: Moves<F>, R: Wait + Logs>(
         poller.count_lost(uncounted);
         return Ok(());
     };
+    let generation = names.client.generation();
+    let ticket = Ticket { slot, generation };
     match prepare(
         rt,
         alloc,
@@ -100,7 +98,7 @@ pub fn open<F: Front + Counting, A: Moves<F>, R: Wait + Logs>(
         client,
         names,
     ) {
-        Ok(berth) => place(rt, acts, shared, own, poller, berth, uncounted),
+        Ok(berth) => place(rt, acts, shared, own, poller, ticket, berth, uncounted),
         Err(dropped) => {
             poller.count_dropped(shared, slot, dropped, uncounted);
             Ok(())
@@ -108,8 +106,7 @@ pub fn open<F: Front + Counting, A: Moves<F>, R: Wait + Logs>(
     }
 }
 
-/// Starts the connection to the target, and makes the pair. If that fails, it is closed and logged or counted, and
-/// its slot is in hand again.
+/// Connects. If that fails, it is logged or counted, and the slot is in hand again.
 fn prepare<F: Front, A: Moves<F>, N: Log>(
     rt: &N,
     alloc: Global,
@@ -144,9 +141,8 @@ fn prepare<F: Front, A: Moves<F>, N: Log>(
     }
 }
 
-/// The names of the ends of a slot's next connection. None if the table lacks the slot, or if the slot has had its
-/// last generation.
-pub(crate) fn next_names(table: &[u64], slot: usize) -> Option<Names>
+/// The names of the ends of a slot's next connection, unless the table lacks the slot, or it had its last generation.
+fn next_names(table: &[u64], slot: usize) -> Option<Names>
     requires { AreGenerations table.now }
     ensures client { IfSome result (λ names. names.client ≡ record {
       slot = slot;
@@ -167,9 +163,9 @@ pub(crate) fn next_names(table: &[u64], slot: usize) -> Option<Names>
     Some(Names { client, target })
 }
 
-/// Starts the connection to the target, and makes the pair. A refusal closes the client's connection, and the
-/// target's if it had been started, and the log may say whose it was.
-pub(crate) fn connect<F: Front, A: Moves<F>, N: Log>(
+/// Starts the connection to the target, and makes the pair. A refusal closes both sockets, and the log may say whose
+/// they were.
+fn connect<F: Front, A: Moves<F>, N: Log>(
     rt: &N,
     alloc: Global,
     acts: &mut A,
@@ -204,8 +200,7 @@ pub(crate) fn connect<F: Front, A: Moves<F>, N: Log>(
     }
 }
 
-/// A connection that has a place in memory of its own. If there is none for it, both sockets are closed, and the log may
-/// say whose they were.
+/// A connection in memory of its own.
 fn boxed<F: Front, N: Log>(
     rt: &N,
     alloc: Global,
@@ -226,17 +221,14 @@ fn boxed<F: Front, N: Log>(
     }
 }
 
-/// A value in memory of its own. If there is none for it, it is dropped.
 fn moved_to_heap<T: Drop>(alloc: Global, value: T) -> Result<Box<T>, AllocError>
     ensures { IfOk result (λ boxed. boxed.value ≡ value) }
 {
     Ok(Box::new(alloc, value)?)
 }
 
-/// Starts the connection to the target, and makes the pair, at the second of the round. If targets are sent a line with
-/// the addresses of their clients' connections, the pair begins with it on the way up. A refusal closes the target's
-/// connection if it had been started. The cause is the front's, or `Address` if an address of the line is missing, or
-/// `Memory`.
+/// Starts the connection to the target, and makes the pair, at the second of the round. A refusal closes the target's
+/// connection.
 #[tactic(auto, using(crate::proofs::Rounds::refused_drops, crate::proofs::Rounds::lacking_drops, crate::proofs::Rounds::memory_drops))]
 fn reach<F: Front, A: Moves<F>, N: Log>(
     rt: &N,
@@ -273,10 +265,7 @@ fn reach<F: Front, A: Moves<F>, N: Log>(
     Ok((pair, target))
 }
 
-/// What the target of a connection by this route is sent before the client's own bytes: with `proxy` the line with both
-/// addresses, else nothing, which takes no memory.
-///
-/// Refuses with `Address` if an address of the line is missing, and with `Memory` if there is none for the line.
+/// What the target is sent first: with `proxy` the line with both addresses, else nothing, which takes no memory.
 fn lead(alloc: Global, proxy: bool, route: &Route) -> Result<Vec<u8>, Cause>
     ensures lead { IfOk result (λ lead. lead_of proxy route.now ≡ Some lead.items) }
     ensures short { IfOk result (λ lead. length lead.items ≤ 107) }
@@ -291,7 +280,7 @@ fn lead(alloc: Global, proxy: bool, route: &Route) -> Result<Vec<u8>, Cause>
     }
 }
 
-/// The line for a client with this address, which was accepted on that one. Refuses with `Memory` if there is none.
+/// The line for a client with this address, which was accepted on that one.
 fn line(alloc: Global, client: SocketAddrV4, accepted: SocketAddrV4) -> Result<Vec<u8>, Cause>
     ensures line { IfOk result (λ line. line.items ≡ proxy_line (ipv4_octets (v4_ip client)) (v4_port client)
         (ipv4_octets (v4_ip accepted)) (v4_port accepted)) }
@@ -303,7 +292,7 @@ fn line(alloc: Global, client: SocketAddrV4, accepted: SocketAddrV4) -> Result<V
     Ok(line)
 }
 
-/// Logs whose connection could not be opened, and why, if the log takes that.
+/// Logs whose connection could not be opened, and why.
 fn log_unopened<N: Log>(
     rt: &N,
     clients: ClientsAt,
@@ -328,35 +317,27 @@ fn log_unopened<N: Log>(
     }
 }
 
-/// The ticket of a connection.
-fn ticket_of<F: Front>(berth: &Box<Berth<F::Client, F::Target>>) -> Ticket
-    ensures { result ≡ record { slot = berth.now.value.pair.slot; generation = berth.now.value.pair.generation } }
-{
-    Ticket {
-        slot: berth.pair.slot(),
-        generation: berth.pair.generation(),
-    }
-}
-
-/// Places a prepared connection in its slot, which has it from then on.
+/// Places a connection in its slot, which has it from then on.
 fn place<F: Front + Counting, A: Moves<F>, R: Wait + Logs>(
     rt: &R,
     acts: &mut A,
     shared: &Shared<F>,
     own: &mut Own,
     poller: &mut Poller<F>,
+    ticket: Ticket,
     berth: Box<Berth<F::Client, F::Target>>,
     uncounted: Uncounted,
 ) -> Result<(), ServerFault>
     requires between { Between shared.now.claims own.old poller.old }
-    requires next { IsNext poller.old (record { slot = berth.value.pair.slot; generation = berth.value.pair.generation }) }
+    requires next { IsNext poller.old ticket }
+    requires slot { berth.value.pair.slot ≡ ticket.slot }
+    requires generation { berth.value.pair.generation ≡ ticket.generation }
     requires room { 1 ≤ ticket_room own.old.hand }
     ensures between { Between shared.now.claims own.new poller.new }
     ensures worn { IfErr result (λ fault. OnlyWorn fault own.new.seat) }
     ensures placed { OnOk result (Placed (OpeningLogged (R.logged rt.now) F.counted)
-        (λ made. AreMade A.made berth.value.pair.slot made acts.old acts.new)
-        (record { slot = berth.value.pair.slot; generation = berth.value.pair.generation }) poller.old poller.new own.old own.new) }
-    ensures in_order { OnErr result (AreMade A.made berth.value.pair.slot placing acts.old acts.new) }
+        (λ made. AreMade A.made ticket.slot made acts.old acts.new) ticket poller.old poller.new own.old own.new) }
+    ensures in_order { OnErr result (AreMade A.made ticket.slot placing acts.old acts.new) }
     ensures poller { poller.new ≡ record poller.old {
       table = poller.new.table;
       opened = poller.new.opened;
@@ -365,7 +346,6 @@ fn place<F: Front + Counting, A: Moves<F>, R: Wait + Logs>(
     } }
     ensures ready { own.new.ready ≡ own.old.ready }
 {
-    let ticket = ticket_of::<F>(&berth);
     if let Some(from) = F::peer(&berth.client) {
         log_peer(rt, shared.clients, ticket.slot, ticket.generation, &from);
     }
@@ -382,8 +362,7 @@ fn place<F: Front + Counting, A: Moves<F>, R: Wait + Logs>(
 }
 
 /// Puts a connection into the place of its slot, which is held, posts the note that starts it, and releases the slot.
-/// The notes of the previous connection are discarded.
-pub(crate) fn start<F: Front, A: Moves<F>, R: Wait>(
+fn start<F: Front, A: Moves<F>, R: Wait>(
     rt: &R,
     acts: &mut A,
     shared: &Shared<F>,
@@ -414,7 +393,7 @@ pub(crate) fn start<F: Front, A: Moves<F>, R: Wait>(
     }
 }
 
-/// Releases the slot of a connection that is in its place, and keeps the ticket in hand if notes wait.
+/// Releases the slot of a connection in its place, and keeps the ticket in hand if notes wait.
 #[tactic(auto, using(crate::proofs::Rounds::holding))]
 fn let_go<F: Front, A: Acts>(acts: &mut A, shared: &Shared<F>, own: &mut Own, ticket: Ticket)
     requires same { own.old.seat.table ≡ shared.now.claims }

@@ -1,5 +1,5 @@
 //! What a poller keeps between its rounds.
-ghost use Rattle.std.specs.Prelude.{◌≡◌, ◌-◌, ◌<◌, ◌≤◌, ◌↔◌, [], length, IfOk, OnOk, OnErr, IsTrue, replicate, slice_set, true, false};
+ghost use Rattle.std.specs.Prelude.{◌≡◌, ◌||◌, if◌then◌else◌, ◌-◌, ◌<◌, ◌≤◌, ◌↔◌, [], length, IfOk, OnOk, OnErr, IsTrue, replicate, slice_set, true, false};
 ghost use Rattle.token.specs.Names.{last_generation};
 ghost use Rattle.dispatch.specs.Splits.{IsIn};
 ghost use Rattle.rounds.specs.{Episodes.{all_logged_at, dropped_for, no_episodes, opened_after, AreLogged}, Pollers.{AreGenerations, IsOwnTable, HasOpenedAll, counted_up, max_accepts}};
@@ -17,47 +17,34 @@ use std::alloc::{AllocError, Global};
 use std::io;
 use std::marker::Model;
 
-/// What a poller keeps between its rounds: where connections and reports come from, and what it knows of them.
+/// What a poller keeps between its rounds (`PollerState` of `specs/Pollers.antt`).
 #[derive(Drop)]
 pub struct Poller<F: Front> {
     /// Where connections and reports come from.
     pub(crate) front: F,
-    // Each slot's generation.
     pub(crate) table: Vec<u64>,
-    // The reports of the last wait, which the round delivers: numbers of tokens.
     pub(crate) batch: Vec<u64>,
-    // Whether a connection may be waiting to be accepted.
     pub(crate) accepting: bool,
-    // Whether accept(2) was starved at its last answer. A round waits for reports then.
     pub(crate) starved: bool,
-    // Whether the last round left a client to other pollers.
     pub(crate) left: bool,
-    // How many tries of accept(2) the last round left.
     pub(crate) tries: usize,
     pub(crate) opening: Opening,
-    // The slots in which it opens connections.
     pub(crate) part: Part,
     /// Which tickets its thread leaves to the workers. It is lent to the turns in that thread.
     pub heavy: HeavyMarks,
-    // How many connections it may open in all.
     most: u64,
     opened: u64,
-    // How many connections it has closed unopened.
     dropped: u64,
-    // How many slots are no longer used. A round that looks for the end counts them as free.
     pub(crate) lost: u64,
-    // The second of the last round, at which it opens connections, and that of the last sweep.
     pub(crate) second: u64,
     pub(crate) swept: u64,
-    // Whether all slots were found to be back, once no more connections may be opened.
     pub(crate) over: bool,
-    // What is logged once, when it begins.
     pub(crate) episodes: Episodes,
 }
 
-/// A connection was accepted, and is counted nowhere yet. Nothing but [`Poller::accept`] makes one, and only
-/// `count_opened`, `count_dropped` and `count_lost` of that poller take it. It cannot be dropped, so each accepted
-/// connection is counted once.
+/// A connection was accepted, and is counted nowhere yet. Only [`Poller::accept`] makes this value, and only
+/// `count_opened`, `count_dropped` and `count_lost` take it. It cannot be dropped, so each accepted connection is
+/// counted once.
 pub struct Uncounted(());
 
 impl<F: Front> Model for Poller<F> {
@@ -95,11 +82,9 @@ impl<F: Front> Model for Poller<F> {
 }
 
 impl<F: Front> Poller<F> {
-    /// A poller that has opened no connection yet. Its table is for `table` slots. It opens connections in a part of
-    /// them, `most` in all at most, as `opening` says.
+    /// A poller that has opened no connection yet. It may open `most` in all, in a part of `table` slots.
     ///
-    /// Fails only if there is no memory for what it keeps of each slot and for the batch. A round allocates memory
-    /// only for connections and log lines.
+    /// Fails only if there is no memory. A round allocates memory only for connections and log lines.
     #[tactic(auto, using(crate::proofs::Acts::own_none, crate::proofs::Acts::are_none))]
     pub fn new(
         alloc: Global,
@@ -158,8 +143,8 @@ impl<F: Front> Poller<F> {
         })
     }
 
-    /// From now on this slot counts as having had this many connections: the next one there has the next generation, up
-    /// to the last, 2^47 - 1. A server starts at 0; `drill` starts near the last.
+    /// From now on this slot counts as having had this many connections. A server starts at 0; `drill` starts near the
+    /// last, 2^47 - 1.
     #[tactic(auto, using(crate::proofs::Acts::own_set))]
     pub fn start_at(&mut self, slot: usize, generation: u64)
         requires inside { slot < length self.old.table }
@@ -170,16 +155,14 @@ impl<F: Front> Poller<F> {
         self.table[slot] = generation;
     }
 
-    /// The poller begins at this second: its first sweep comes once the idle limit has passed since then. Without this
-    /// call it counts from second 0.
+    /// The poller begins at this second, in place of second 0: its first sweep comes once the idle limit has passed.
     pub fn begin_at(&mut self, second: u64)
         ensures { self.new ≡ record self.old { swept = second } }
     {
         self.swept = second;
     }
 
-    /// Whether the poller has opened all connections that it may, and all of them are closed. A round finds that out by
-    /// the slots that were given back.
+    /// Whether a round has found that all connections were opened that the poller may open, and that all are closed.
     pub fn is_over(&self) -> bool
         ensures { result ≡ self.now.over }
     {
@@ -202,7 +185,7 @@ impl<F: Front> Poller<F> {
         self.part
     }
 
-    /// From now on it opens no more connections: it counts as having opened all that it may.
+    /// From now on it opens no more connections.
     pub fn stop_opening(&mut self)
         ensures { self.new ≡ record self.old { most = 0 } }
     {
@@ -224,25 +207,21 @@ impl<F: Front> Poller<F> {
         self.batch.as_slice()
     }
 
-    /// The listener was reported: a connection may be waiting to be accepted.
-    pub(crate) fn raise_accept_flag(&mut self)
-        ensures { self.new ≡ record self.old { accepting = true } }
+    /// A connection may be waiting to be accepted if the listener was reported.
+    pub(crate) fn raise_accept_flag(&mut self, reported: bool)
+        ensures { self.new ≡ record self.old { accepting = self.old.accepting || reported } }
     {
-        self.accepting = true;
+        self.accepting = self.accepting || reported;
     }
 
-    /// The round is made at this second.
-    pub(crate) fn set_second(&mut self, second: u64)
-        ensures { self.new ≡ record self.old { second = second } }
+    /// The round is made at this second. It made a sweep at the second of the one before, or none.
+    pub(crate) fn set_second(&mut self, swept: bool, second: u64)
+        ensures { self.new ≡ record self.old { swept = if swept then self.old.second else self.old.swept; second = second } }
     {
+        if swept {
+            self.swept = self.second;
+        }
         self.second = second;
-    }
-
-    /// A round made a sweep at its second.
-    pub(crate) fn count_sweep(&mut self)
-        ensures { self.new ≡ record self.old { swept = self.old.second } }
-    {
-        self.swept = self.second;
     }
 
     /// A round may try accept(2) this many times again, and has left no client.
@@ -261,7 +240,7 @@ impl<F: Front> Poller<F> {
         self.left
     }
 
-    /// Tries accept(2) once ([`Front::accept`]), which counts as one of the round's tries if any is left.
+    /// Tries accept(2) once.
     pub(crate) fn accept(&mut self) -> io::Result<(F::Client, Uncounted)>
         ensures accepted { OnOk result (self.new ≡ record self.old { tries = self.old.tries - 1; starved = false }) }
         ensures refused { OnErr result (self.new ≡ record self.old { tries = self.old.tries - 1 }) }
@@ -272,8 +251,7 @@ impl<F: Front> Poller<F> {
         Ok((client, Uncounted(())))
     }
 
-    /// A round opens an accepted connection in a slot that its thread holds: the slot has the ticket's generation
-    /// from now on. The statistics have it, too.
+    /// A connection is opened in a slot that the thread holds: the slot has the ticket's generation from now on.
     #[tactic(auto, using(crate::proofs::Acts::own_set))]
     pub(crate) fn count_opened<A: Acts>(
         &mut self,
@@ -300,7 +278,7 @@ impl<F: Front> Poller<F> {
         uncounted.spend();
     }
 
-    /// A round closes a connection unopened. That is logged with its cause, or counted for a later line.
+    /// A connection is closed unopened. That is logged with its cause, or counted for a later line.
     pub(crate) fn log_dropped<N: Logs>(&mut self, rt: &N, cause: Cause) -> Dropped
         ensures cause { result ≡ cause }
         ensures drops { self.new ≡ record self.old {
@@ -311,7 +289,7 @@ impl<F: Front> Poller<F> {
         Dropped::log(rt, &mut self.episodes.drops, cause, self.second)
     }
 
-    /// A round logs at its second how many are counted, of each cause of which that second has had no line.
+    /// Logs what is counted of each cause of which the round's second has had no line.
     pub(crate) fn log_counted<N: Logs>(&mut self, rt: &N)
         ensures logged { self.new ≡ record self.old
             { episodes = record self.old.episodes { drops = all_logged_at self.old.second self.old.episodes.drops } } }
@@ -320,8 +298,8 @@ impl<F: Front> Poller<F> {
         self.episodes.drops.log_counted(rt, self.second);
     }
 
-    /// A connection was opened, or the thread ends: logs all that is counted. From now on a lack is logged again, and
-    /// the next drop of each cause has a line of its own.
+    /// A connection was opened, or the thread ends: logs all that is counted. A lack, and the next drop of each cause,
+    /// have a line again.
     pub fn end_episodes<N: Logs>(&mut self, rt: &N)
         ensures { self.new ≡ record self.old { episodes = opened_after self.old.episodes } }
     {
@@ -349,7 +327,7 @@ impl<F: Front> Poller<F> {
         uncounted.spend();
     }
 
-    /// A round found a slot that is no longer used, and closed the accepted connection that was for it.
+    /// The slot for an accepted connection is no longer used, and the connection was closed.
     pub(crate) fn count_lost(&mut self, uncounted: Uncounted)
         ensures { self.new ≡ record self.old { lost = counted_up self.old.lost 1 } }
     {
@@ -359,7 +337,6 @@ impl<F: Front> Poller<F> {
 }
 
 impl Uncounted {
-    /// It is counted.
     fn spend(self) {
         let Uncounted(()) = self;
     }

@@ -1,8 +1,8 @@
-//! A round of the poller: it delivers reports, and accepts and opens connections.
-ghost use Rattle.std.specs.{Prelude.{◌≡◌, ◌≢◌, ◌⊎◌, ◌+◌, ◌-◌, ◌<◌, ◌≤◌, ◌↔◌, [], length, Ok, Err, IsOk, OnOk, OnErr, IfErr, IfSome, IfOk, IsTrue, MatchResult, Contains, true, false}, IoError.error_kind, declared.io.ErrorKind.TheVariants.Interrupted};
+//! A round of the poller.
+ghost use Rattle.std.specs.{Prelude.{◌≡◌, ◌≢◌, ◌⊎◌, ◌+◌, ◌-◌, ◌<◌, ◌≤◌, ◌↔◌, [], length, Ok, Err, IsOk, OnOk, OnErr, IfErr, IfOk, IsTrue, MatchResult, Contains, true, false}, IoError.error_kind, declared.io.ErrorKind.TheVariants.Interrupted};
 ghost use Rattle.claims.specs.Seats.{HoldsNothing};
 ghost use Rattle.ready.specs.Steps.{HeldOnce};
-ghost use Rattle.rounds.specs.{Acts.{Delivered, all_reported}, Episodes.{accepted_of, episodes_after, flag_after, starved_after, AreLogged}, Openings.{AreIn, Between, OnlyTook, AcceptDone, OneAccepted, OnlyAccepted}, Pollers.{HasOpenedAll, max_accepts, spare_room}, Rounds.{AcceptEnded, EndedEarly, HasLeft, IsFull, IsOver, ListensToOpen, LooksForAll, MayAccept, MayNotWait, MayWait, MayWaitBriefly, NoSlot, NoneToAccept, NotBegun, RoundDone, RoundEnded, RoundKeeps, RoundRefused, TookAll, WaitLasted, WaitedAsMay, WaitsAsMay}};
+ghost use Rattle.rounds.specs.{Acts.{Delivered, all_reported}, Episodes.{accepted_of, episodes_after, flag_after, starved_after}, Openings.{AreIn, Between, OnlyTook, AcceptDone, OneAccepted, OnlyAccepted}, Pollers.{HasOpenedAll, max_accepts, spare_room}, Rounds.{AcceptEnded, EndedEarly, HasLeft, IsFull, IsOver, ListensNoMore, ListensToOpen, Looked, LooksForAll, MayAccept, MayNotWait, MayWait, MayWaitBriefly, NoSlot, NoneToAccept, NotBegun, RoundDone, RoundEnded, RoundKeeps, RoundRefused, TookAll, WaitLasted, WaitedAsMay, WaitsAsMay}};
 ghost use Rattle.dispatch.specs.{Hands.ticket_room, Posts.OnlyWorn};
 
 use crate::delivering::deliver;
@@ -11,6 +11,7 @@ use crate::limits::{MAX_ACCEPTS, SPARE_ROOM};
 use crate::opening::open;
 use crate::poller::Poller;
 use crate::sweeping::{is_due, keep_time};
+use claims::Claims;
 use dispatch::{Clock, Front, Hand, LISTENER, Own, Shared, Timing, Waiting};
 use log::{Log, error};
 use relay_log::{ServerFault, log_all_taken};
@@ -20,26 +21,23 @@ use std::sync::Wait;
 
 /// One round of the poller.
 ///
-/// If the hand has no room for a ticket of each slot and 512 more, the round ends at once, and only its batch is
-/// emptied. Else the tickets in hand stay there, in front of those of the round. The round asks once for reports and
-/// delivers them ([`deliver`]). It waits for them only if no sweep is due, no ticket is in hand, and either no
-/// connection can be accepted or accept(2) was starved; if the round before left a client to other pollers, it waits a
-/// millisecond at most. A sweep is due if at the
-/// second of the round before at least the idle limit had passed since the last sweep, or since the poller began: the
-/// round then posts a note at each slot in which the poller has opened a connection, in rising order. Without a limit
-/// there are no sweeps. Then the round reads its second. While connections may be waiting and a slot is free, it
-/// accepts and opens them, with at most 4 calls of accept(2), until its front leaves one to other pollers.
+/// If the hand has no room for a ticket of each slot and 512 more, only the batch is emptied. Else the tickets in hand
+/// stay there, in front of those of the round. The round asks once for reports and delivers them ([`deliver`]). It
+/// waits for them only if no sweep is due, no ticket is in hand, and either no connection can be accepted or accept(2)
+/// was starved; if the round before left a client to other pollers, for a millisecond at most. A sweep is due if at the
+/// second of the round before the idle limit, if there is one, had passed since the last sweep, or since the poller
+/// began: the round then posts a note at each slot in which the poller has opened a connection, in rising order. Then
+/// it reads its second. While connections may be waiting and a slot is free, it accepts and opens them, with at most 4
+/// calls of accept(2), until its front leaves one to other pollers.
 ///
-/// Once all connections that the poller may open were opened, its front no longer listens: neither at the round's
-/// end, nor while it asks for reports, if they were opened before.
+/// Once all connections that the poller may open were opened, its front no longer listens.
 ///
-/// An opened connection has the slot's next generation, one note and one ticket, and is logged. A connection whose
-/// opening fails is closed and logged or counted, and its slot is as it was, and in hand. At its end the round logs
-/// what is counted, once a second. If the listener was reported and no slot is free, that is logged by the poller with
-/// which all have found it. What connections are opened with stays the same.
+/// An opened connection has the slot's next generation, one note and one ticket, and is logged. One whose opening fails
+/// is closed and logged or counted, and its slot is in hand. At its end the round logs what is counted, once a second.
+/// If the listener was reported and no slot is free, the poller with which all have found that logs it.
 ///
-/// Refusals: `Poll` if waiting for reports failed, and `Worn` if the seat has posted 2^56 times. Afterwards the seat
-/// holds no slot, even after a refusal.
+/// Refusals: `Poll` if waiting for reports failed, and `Worn` if the seat has posted 2^56 times. Even then the seat
+/// holds no slot.
 pub fn poller_round<F: Front, C: Clock, R: Wait + Log>(
     rt: &R,
     alloc: Global,
@@ -60,30 +58,31 @@ pub fn poller_round<F: Front, C: Clock, R: Wait + Log>(
     ensures keeps { RoundKeeps timing.now.limit poller.old poller.new own.old own.new }
     ensures refused { IfErr result (λ fault. RoundRefused fault poller.new own.new) }
 {
-    if !begin(&own.hand, poller, shared.claims.slots()) {
+    if !begin(&shared.claims, &own.hand, poller) {
         return Ok(());
     }
     look(rt, own, poller, timing.limit)?;
     deliver_batch(shared, own, poller)?;
     keep_time(shared, own, poller, timing)?;
     accept(rt, alloc, shared, own, poller)?;
+    poller.log_counted(rt);
     take_back(rt, own, poller);
     Ok(())
 }
 
-/// The start of a round. Returns false if the hand has no room for a ticket of each of this many slots and 512 more.
-fn begin<F: Front>(hand: &Hand, poller: &mut Poller<F>, slots: usize) -> bool
+/// The start of a round. Returns false if the hand has no room for a ticket of each slot and 512 more.
+fn begin<F: Front>(claims: &Claims, hand: &Hand, poller: &mut Poller<F>) -> bool
     ensures poller { poller.new ≡ record poller.old { batch = [] } }
-    ensures room { IsTrue result ↔ (spare_room + slots ≤ ticket_room hand.now) }
+    ensures early { result ≡ false → ticket_room hand.now < spare_room + claims.now.words }
+    ensures room { result ≡ true → spare_room + claims.now.words ≤ ticket_room hand.now }
 {
     poller.batch.clear();
+    let slots = claims.slots();
     let room = hand.room();
     room >= SPARE_ROOM && room - SPARE_ROOM >= slots
 }
 
-/// Asks for reports. If the poller may open no more connections, its front stops listening before. It waits for reports
-/// unless a sweep is due, a ticket is in hand, or a connection can be accepted, accept(2) was not starved, and no client
-/// was left to other pollers.
+/// Asks for reports, and waits for them if it may. A poller that may open no more connections stops listening before.
 fn look<F: Front, R: Wait + Log>(
     rt: &R,
     own: &mut Own,
@@ -92,15 +91,9 @@ fn look<F: Front, R: Wait + Log>(
 ) -> Result<(), ServerFault>
     requires room { 1 ≤ ticket_room own.old.hand }
     ensures took { OnlyTook own.old own.new }
-    ensures poller { poller.new ≡ record poller.old {
-      listening = poller.new.listening;
-      reported = poller.new.reported;
-      failed = poller.new.failed;
-      waited = poller.new.waited;
-      batch = poller.new.batch;
-    } }
+    ensures poller { Looked poller.old poller.new }
     ensures waits { WaitedAsMay limit poller.old poller.new own.old }
-    ensures listens { (poller.new.listening ≡ poller.old.listening) ⊎ (HasOpenedAll poller.old × (poller.new.listening ≡ false)) }
+    ensures listens { ListensNoMore poller.old poller.new }
     ensures batch { poller.new.batch ≡ poller.new.reported }
     ensures failed { IfErr result (λ fault. (fault ≡ ServerFault.Poll) × (poller.new.failed ≡ true) × (poller.new.batch ≡ [])) }
     ensures few { length poller.new.batch ≤ 256 }
@@ -113,7 +106,7 @@ fn look<F: Front, R: Wait + Log>(
 /// Once all connections that it may open have been opened, the poller's front listens no longer.
 fn listen_to_open<F: Front>(poller: &mut Poller<F>)
     ensures poller { poller.new ≡ record poller.old { listening = poller.new.listening } }
-    ensures listens { (poller.new.listening ≡ poller.old.listening) ⊎ (HasOpenedAll poller.old × (poller.new.listening ≡ false)) }
+    ensures listens { ListensNoMore poller.old poller.new }
     ensures closed { ListensToOpen poller.new }
 {
     if poller.has_opened_all() {
@@ -121,7 +114,6 @@ fn listen_to_open<F: Front>(poller: &mut Poller<F>)
     }
 }
 
-/// How long the poller may wait for reports.
 fn may_wait<F: Front, R: Wait>(rt: &R, own: &mut Own, poller: &Poller<F>, limit: u64) -> Waiting
     requires room { 1 ≤ ticket_room own.old.hand }
     ensures took { OnlyTook own.old own.new }
@@ -140,7 +132,7 @@ fn may_wait<F: Front, R: Wait>(rt: &R, own: &mut Own, poller: &Poller<F>, limit:
     }
 }
 
-/// Asks for reports, for as long as the poller may wait now. After a signal the batch is empty.
+/// Asks for reports. After a signal the batch is empty.
 fn poll<F: Front, R: Log>(
     rt: &R,
     _own: &Own,
@@ -181,8 +173,7 @@ fn polled<R: Log>(rt: &R, answer: io::Result<()>) -> Result<(), ServerFault>
     }
 }
 
-/// Delivers the reports of the batch, and raises the accept flag if the listener was reported. None is delivered to a
-/// slot of another poller, since the table has no connection there.
+/// Delivers the reports of the batch. None is for a slot of another poller, since the table has no connection there.
 fn deliver_batch<F: Front>(
     shared: &Shared<F>,
     own: &mut Own,
@@ -206,39 +197,12 @@ fn deliver_batch<F: Front>(
         poller.batch(),
         &mut own.hand,
     )?;
-    if listener {
-        poller.raise_accept_flag();
-    }
+    poller.raise_accept_flag(listener);
     Ok(())
 }
 
-/// Accepts and opens connections while one may be waiting and a slot is free. Logs that a client waits for a slot, if
-/// none is free, and what was closed unopened.
-fn accept<F: Front, R: Wait + Log>(
-    rt: &R,
-    alloc: Global,
-    shared: &Shared<F>,
-    own: &mut Own,
-    poller: &mut Poller<F>,
-) -> Result<(), ServerFault>
-    requires between { Between shared.now.claims own.old poller.old }
-    requires room { max_accepts ≤ ticket_room own.old.hand }
-    ensures between { Between shared.now.claims own.new poller.new }
-    ensures worn { IfErr result (λ fault. OnlyWorn fault own.new.seat) }
-    ensures done { OnOk result (AcceptDone poller.old poller.new own.old own.new) }
-    ensures ended { OnOk result (AcceptEnded poller.new own.new) }
-    ensures ready { own.new.ready ≡ own.old.ready }
-    ensures poller { OnlyAccepted poller.old poller.new }
-    ensures logged { OnOk result (AreLogged poller.new.second poller.new.episodes.drops) }
-{
-    log_if_full(rt, shared, own, poller);
-    accept_all(rt, alloc, shared, own, poller)?;
-    poller.log_counted(rt);
-    Ok(())
-}
-
-/// Before any is accepted: if a client waits for a slot, the poller is full until accept(2) answers that nobody waits.
-/// The last poller that becomes full logs it.
+/// If a client waits for a slot, the poller is full until accept(2) answers that nobody waits. The last poller that
+/// becomes full logs it.
 fn log_if_full<F: Front, R: Wait + Log>(
     rt: &R,
     shared: &Shared<F>,
@@ -264,7 +228,7 @@ fn log_if_full<F: Front, R: Wait + Log>(
     }
 }
 
-/// Whether a client waits for a slot: the listener was reported, the client would be opened, and no slot is free.
+/// Whether a client waits for a slot.
 fn is_full<F: Front, R: Wait>(rt: &R, own: &mut Own, poller: &Poller<F>) -> bool
     requires room { 1 ≤ ticket_room own.old.hand }
     ensures took { OnlyTook own.old own.new }
@@ -274,8 +238,8 @@ fn is_full<F: Front, R: Wait>(rt: &R, own: &mut Own, poller: &Poller<F>) -> bool
     poller.batch().contains(&LISTENER) && !poller.has_opened_all() && !has_slot(rt, own)
 }
 
-/// Accepts and opens connections while one may be waiting and a slot is free.
-fn accept_all<F: Front, R: Wait + Log>(
+/// Accepts and opens connections while one may be waiting and a slot is free. If none is free before, that is logged.
+fn accept<F: Front, R: Wait + Log>(
     rt: &R,
     alloc: Global,
     shared: &Shared<F>,
@@ -291,6 +255,7 @@ fn accept_all<F: Front, R: Wait + Log>(
     ensures ready { own.new.ready ≡ own.old.ready }
     ensures poller { OnlyAccepted poller.old poller.new }
 {
+    log_if_full(rt, shared, own, poller);
     poller.reset_tries();
     for _try in 0..MAX_ACCEPTS {
         if !may_accept(rt, own, poller) {
@@ -303,7 +268,7 @@ fn accept_all<F: Front, R: Wait + Log>(
     Ok(())
 }
 
-/// Whether to try accept(2): a connection may be waiting, it would be opened, and a free slot is in hand.
+/// Whether to try accept(2).
 fn may_accept<F: Front, R: Wait>(rt: &R, own: &mut Own, poller: &Poller<F>) -> bool
     requires room { 1 ≤ ticket_room own.old.hand }
     ensures took { OnlyTook own.old own.new }
@@ -314,8 +279,8 @@ fn may_accept<F: Front, R: Wait>(rt: &R, own: &mut Own, poller: &Poller<F>) -> b
     poller.accepting && !poller.has_opened_all() && has_slot(rt, own)
 }
 
-/// Tries accept(2), and opens the connection that it gives, unless the client is better left to another poller. Returns
-/// whether another try is worth making: not after a client was left, nor if the system lacked what accept(2) needs.
+/// Accepts and opens one connection, unless the client is better left to another poller. Returns whether another try is
+/// worth making: not after a client was left, nor if the system lacked what accept(2) needs.
 fn accept_next<F: Front, R: Wait + Log>(
     rt: &R,
     alloc: Global,
@@ -357,7 +322,6 @@ fn has_slot<R: Wait>(rt: &R, own: &mut Own) -> bool
     own.hand.slots() > 0 || take_one(rt, own)
 }
 
-/// Takes a free slot in hand, if there is one.
 fn take_one<R: Wait>(rt: &R, own: &mut Own) -> bool
     requires room { length own.old.hand.slots < own.old.hand.capacity }
     ensures took { OnlyTook own.old own.new }
@@ -375,8 +339,7 @@ fn take_one<R: Wait>(rt: &R, own: &mut Own) -> bool
     }
 }
 
-/// What an answer without a connection does to the accept flag. That accept(2) is starved is logged once until a
-/// connection is opened.
+/// What an answer without a connection means. That accept(2) is starved is logged once until a connection is opened.
 fn not_accepted<F: Front, R: Log>(
     rt: &R,
     shared: &Shared<F>,
@@ -420,13 +383,12 @@ fn end_full<F: Front>(shared: &Shared<F>, poller: &mut Poller<F>)
     poller.episodes.full = false;
 }
 
-/// Logs why a system call failed.
 fn log_failure<R: Log>(rt: &R, call: &str, error: &io::Error) {
     error!(rt; target: "relayd", "{call}: {error}");
 }
 
-/// Once the poller has opened all connections that it may, its front listens no longer, and it takes the free slots in
-/// hand to see whether all are there. A slot that is no longer used counts as free.
+/// Once the poller has opened all connections that it may, it takes the free slots in hand to see whether all are
+/// there. A slot that is no longer used counts as free.
 fn take_back<F: Front, R: Wait>(rt: &R, own: &mut Own, poller: &mut Poller<F>)
     ensures took { OnlyTook own.old own.new }
     ensures poller { poller.new ≡ record poller.old { listening = poller.new.listening; over = poller.new.over } }

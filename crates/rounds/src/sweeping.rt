@@ -1,5 +1,5 @@
-//! What a round posts for time: a note at each slot in which a connection was opened, once the idle limit has passed.
-ghost use Rattle.std.specs.Prelude.{◌≡◌, ◌⊎◌, ◌<◌, ◌≤◌, length, IfErr, OnErr, OnOk};
+//! What a round posts for time.
+ghost use Rattle.std.specs.{Prelude.{◌≡◌, ◌<◌, ◌≤◌, [], if◌then◌else◌, length, IfErr, IfSome, OnErr, OnOk}, List.cons_option};
 ghost use Rattle.claims.specs.Seats.{HoldsNothing};
 ghost use Rattle.rounds.specs.{Acts.{ArePosted, all_opened, is_due, opened_in, sweep_of}, Openings.{AreIn, Between, SameQueues}, Rounds.SweepMade};
 ghost use Rattle.dispatch.specs.{Hands.ticket_room, Posts.OnlyWorn};
@@ -31,33 +31,15 @@ pub(crate) fn keep_time<F: Front, C: Clock>(
     ensures own { AreIn poller.old.part (sweep_of poller.old poller.new) }
     ensures queues { SameQueues own.old own.new }
 {
-    sweep_if_due(shared, own, poller, timing.limit)?;
-    poller.set_second(timing.moment().second);
-    Ok(())
-}
-
-/// Makes a sweep if one is due. The poller opened no connection in the slots of another one, and posts none there.
-fn sweep_if_due<F: Front>(
-    shared: &Shared<F>,
-    own: &mut Own,
-    poller: &mut Poller<F>,
-    limit: u64,
-) -> Result<(), ServerFault>
-    requires between { Between shared.now.claims own.old poller.old }
-    requires room { length poller.old.table ≤ ticket_room own.old.hand }
-    ensures between { Between shared.now.claims own.new poller.new }
-    ensures poller { poller.new ≡ record poller.old { swept = poller.new.swept } }
-    ensures worn { IfErr result (λ fault. OnlyWorn fault own.new.seat) }
-    ensures swept { OnOk result (SweepMade limit poller.old poller.new own.old own.new) }
-    ensures unswept { OnErr result (poller.new.swept ≡ poller.old.swept) }
-    ensures own { AreIn poller.old.part (sweep_of poller.old poller.new) }
-    ensures queues { SameQueues own.old own.new }
-{
-    if !is_due(poller, limit) {
-        return Ok(());
-    }
-    sweep(&shared.claims, &mut own.seat, poller.table(), &mut own.hand)?;
-    poller.count_sweep();
+    let due = is_due(poller, timing.limit);
+    sweep(
+        &shared.claims,
+        &mut own.seat,
+        poller.table(),
+        due,
+        &mut own.hand,
+    )?;
+    poller.set_second(due, timing.moment().second);
     Ok(())
 }
 
@@ -70,50 +52,41 @@ pub(crate) fn is_due<F: Front>(poller: &Poller<F>, limit: u64) -> bool
     limit > 0 && second >= last && second - last >= limit
 }
 
-/// Posts a note at each slot in which a connection was opened, in rising order.
-///
-/// The only refusal is `Worn`: the seat has posted 2^56 times. Then the slots before that one have their notes.
+/// Posts a note at each slot in which a connection was opened, in rising order, if a sweep is due.
 fn sweep(
     claims: &Claims,
     seat: &mut ClaimSeat,
     table: &[u64],
+    due: bool,
     hand: &mut Hand,
 ) -> Result<(), ServerFault>
     requires same { seat.old.table ≡ claims.now }
     requires idle { HoldsNothing seat.old }
     requires sized { length table.now ≡ claims.now.words }
     requires room { length table.now ≤ ticket_room hand.old }
-    ensures posted { OnOk result (ArePosted (all_opened table.now) seat.old seat.new hand.old hand.new) }
+    ensures posted { OnOk result (ArePosted (if due then all_opened table.now else []) seat.old seat.new hand.old hand.new) }
     ensures worn { IfErr result (λ fault. OnlyWorn fault seat.new) }
     ensures idle { HoldsNothing seat.new }
     ensures same { seat.new.table ≡ seat.old.table }
 {
+    if !due {
+        return Ok(());
+    }
     for slot in 0..table.len() {
-        sweep_slot(claims, seat, table, slot, hand)?;
+        post_note(claims, seat, last_in(table, slot), hand)?;
     }
     Ok(())
 }
 
-/// Posts a note at a slot, if a connection was opened there. `Worn` changes nothing.
-fn sweep_slot(
-    claims: &Claims,
-    seat: &mut ClaimSeat,
-    table: &[u64],
-    slot: usize,
-    hand: &mut Hand,
-) -> Result<(), ServerFault>
-    requires same { seat.old.table ≡ claims.now }
-    requires idle { HoldsNothing seat.old }
-    requires sized { length table.now ≡ claims.now.words }
-    requires inside { slot < length table.now }
-    requires room { length hand.old.tickets < hand.old.capacity }
-    ensures posted { OnOk result (ArePosted (opened_in table.now slot) seat.old seat.new hand.old hand.new) }
-    ensures seat { OnErr result (seat.new ≡ seat.old) }
-    ensures worn { IfErr result (λ fault. OnlyWorn fault seat.new) }
+/// The last connection that was opened in a slot.
+fn last_in(table: &[u64], slot: usize) -> Option<Ticket>
+    requires { slot < length table.now }
+    ensures opened { cons_option result [] ≡ opened_in table.now slot }
+    ensures inside { IfSome result (λ ticket. ticket.slot < length table.now) }
 {
     let generation = table[slot];
     if generation == 0 {
-        return Ok(());
+        return None;
     }
-    post_note(claims, seat, Ticket { slot, generation }, hand)
+    Some(Ticket { slot, generation })
 }

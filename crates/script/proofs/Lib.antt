@@ -1,4 +1,3 @@
-pub mod Prelude
 pub mod FirstLine
 pub mod Playing
 pub mod Keeping

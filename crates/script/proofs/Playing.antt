@@ -1,63 +1,45 @@
 -- Lines that are played one after the other.
-use Rattle.script.proofs.Prelude.{◌≡◌, ℕ, Bool, zero, suc, ◌+◌, List, [], ◌∷◌, take, Some, Result, Ok, Err, refl, sym, subst, add-one, slice_get, Fault, NoMemory, Gives, Refused, StopsAt, and_then, played}
+use Rattle.std.{proofs.{Common.{◌≡◌, ℕ, Bool, ◌+◌, List, [], ◌∷◌, ◌++◌, take, drop, Some, Result, Ok, Err, refl, sym, ap, ◌∙◌, subst, add-one, drop-cons}, lemmas.{List.{take-append-drop, take_more}, Option.{slice_get_within, get_or_from_slice_get}}}, specs.Prelude.slice_get}
+use Rattle.script.specs.{declared.fault.Fault.{Fault, TheVariants.NoMemory}, Faults.{Gives, Refused, StopsAt, and_then, played}}
 
-one_step : {X : Type 0} (r : Result X Fault) → and_then (λ (x : X). Ok x) r ≡ r
-one_step (Ok x) = refl
-one_step (Err fault) = refl
+-- a line parts all of them
+parted : {L : Type 0} (ls : List L) (i : ℕ) (l : L) → slice_get ls i ≡ Some l → ls ≡ take i ls ++ l ∷ drop (i + 1) ls
+parted ls i l there =
+    let within = slice_get_within ls i l there in
+    sym (take-append-drop i ls) ∙ rw (drop-cons ls i l within, get_or_from_slice_get ls i l l there, add-one i) refl
 
-further : {X L : Type 0} (stepped : X → L → Result X Fault) (y : X) (ls : List L) (i : ℕ) (l : L)
-    → ((x : X) → played stepped x (take i ls) ≡ Ok y → played stepped x (take (suc i) ls) ≡ stepped y l)
-    → (r : Result X Fault) → and_then (λ (x : X). played stepped x (take i ls)) r ≡ Ok y
-    → and_then (λ (x : X). played stepped x (take (suc i) ls)) r ≡ stepped y l
-further stepped y ls i l more (Ok x) came = more x came
-further stepped y ls i l more (Err fault) came = absurd (cc)
+module _ {X L : Type 0} (stepped : X → L → Result X Fault) where
+  one_step : (r : Result X Fault) → and_then (λ (x : X). Ok x) r ≡ r
+  one_step (Ok x) = refl
+  one_step (Err fault) = refl
 
-one_more : {X L : Type 0} (stepped : X → L → Result X Fault) (x y : X) (ls : List L) (i : ℕ) (l : L)
-    → played stepped x (take i ls) ≡ Ok y → slice_get ls i ≡ Some l → played stepped x (take (suc i) ls) ≡ stepped y l
-one_more stepped x y [] i l came here = absurd (cc)
-one_more stepped x y (k ∷ ls) zero l came here =
-    let same : x ≡ y = cc in
-    let this : k ≡ l = cc in
-    rw (same, this) (one_step (stepped y l))
-one_more stepped x y (k ∷ ls) (suc i) l came here =
-    further stepped y ls i l (λ z came'. one_more stepped z y ls i l came' here) (stepped x k) came
+  after_both : (ls ms : List L) (r : Result X Fault)
+      → ((x : X) → played stepped x (ls ++ ms) ≡ and_then (λ (y : X). played stepped y ms) (played stepped x ls))
+      → and_then (λ (x : X). played stepped x (ls ++ ms)) r ≡ and_then (λ (y : X). played stepped y ms) (and_then (λ (x : X). played stepped x ls) r)
+  after_both ls ms (Ok x) each = each x
+  after_both ls ms (Err fault) each = refl
 
--- after the first i lines comes the line at i
-pub played_more : {X L : Type 0} (stepped : X → L → Result X Fault) (x y : X) (ls : List L) (i : ℕ) (l : L)
-    → played stepped x (take i ls) ≡ Ok y → slice_get ls i ≡ Some l → played stepped x (take (i + 1) ls) ≡ stepped y l
-played_more stepped x y ls i l came here = rw add-one (one_more stepped x y ls i l came here)
+  played_append : (x : X) (ls ms : List L) → played stepped x (ls ++ ms) ≡ and_then (λ (y : X). played stepped y ms) (played stepped x ls)
+  played_append x [] ms = refl
+  played_append x (l ∷ ls) ms = after_both ls ms (stepped x l) (λ y. played_append y ls ms)
 
--- a line that is refused is where all lines end
-refused_ends : {X L : Type 0} (stepped : X → L → Result X Fault) (t : Bool) (fault : Fault) (ls : List L) (r : Result X Fault)
-    → Refused t r fault → Gives (and_then (λ (x : X). played stepped x ls) r) (Err fault)
-refused_ends stepped t fault ls (Ok x) is = rw is.0 tt
-refused_ends stepped t fault ls (Err NoMemory) is = rw is tt
-refused_ends stepped t fault ls _ is = rw is refl
+  -- after the first i lines comes the line at i
+  pub played_more : (x y : X) (ls : List L) (i : ℕ) (l : L) → played stepped x (take i ls) ≡ Ok y → slice_get ls i ≡ Some l → played stepped x (take (i + 1) ls) ≡ stepped y l
+  played_more x y ls i l came there =
+      let within = slice_get_within ls i l there in
+      rw (take_more ls i l within, get_or_from_slice_get ls i l l there, played_append x (take i ls) (l ∷ []), came) (one_step (stepped y l))
 
-goes_on : {X L : Type 0} (stepped : X → L → Result X Fault) (fault : Fault) (y : X) (ls : List L) (i : ℕ)
-    → ((x : X) → played stepped x (take i ls) ≡ Ok y → Gives (played stepped x ls) (Err fault))
-    → (r : Result X Fault) → and_then (λ (x : X). played stepped x (take i ls)) r ≡ Ok y
-    → Gives (and_then (λ (x : X). played stepped x ls) r) (Err fault)
-goes_on stepped fault y ls i rest (Ok x) came = rest x came
-goes_on stepped fault y ls i rest (Err e) came = absurd (cc)
+  -- a line that is refused is where all lines end
+  refused_ends : (takes : Bool) (fault : Fault) (ls : List L) (r : Result X Fault) → Refused takes r fault → Gives (and_then (λ (x : X). played stepped x ls) r) (Err fault)
+  refused_ends takes fault ls (Ok x) is = rw is.0 tt
+  refused_ends takes fault ls (Err NoMemory) is = rw is tt
+  refused_ends takes fault ls _ is = rw is refl
 
-stepped_same : {X L : Type 0} (stepped : X → L → Result X Fault) (x y : X) (k l : L) → x ≡ y → k ≡ l → stepped x k ≡ stepped y l
-stepped_same stepped x y k l same this = rw (same, this) refl
-
-stops_give : {X L : Type 0} (stepped : X → L → Result X Fault) (t : Bool) (x y : X) (ls : List L) (i : ℕ) (l : L) (fault : Fault)
-    → played stepped x (take i ls) ≡ Ok y → slice_get ls i ≡ Some l → Refused t (stepped y l) fault
-    → Gives (played stepped x ls) (Err fault)
-stops_give stepped t x y [] i l fault came here is = absurd (cc)
-stops_give {X} stepped t x y (k ∷ ls) zero l fault came here is =
-    let starts : x ≡ y = cc in
-    let this : k ≡ l = cc in
-    let same : stepped x k ≡ stepped y l = stepped_same stepped x y k l starts this in
-    refused_ends stepped t fault ls (stepped x k) (subst (λ (r : Result X Fault). Refused t r fault) (sym same) is)
-stops_give stepped t x y (k ∷ ls) (suc i) l fault came here is =
-    goes_on stepped fault y ls i (λ z came'. stops_give stepped t z y ls i l fault came' here is) (stepped x k) came
-
--- where lines stop is the fault of all of them
-pub plays_give : {X L : Type 0} (stepped : X → L → Result X Fault) (takes : X → L → Bool) (x start y : X) (ls : List L) (fault : Fault)
-    → x ≡ start → StopsAt stepped takes x ls fault y → Gives (played stepped start ls) (Err fault)
-plays_give stepped takes x start y ls fault same stop =
-    subst (λ z. Gives (played stepped z ls) (Err fault)) same (stops_give stepped (takes y stop.line) x y ls stop.index stop.line fault stop.before stop.there stop.refused)
+  -- where lines stop is the fault of all of them
+  pub plays_give : (takes : X → L → Bool) (x start y : X) (ls : List L) (fault : Fault) → x ≡ start → StopsAt stepped takes x ls fault y → Gives (played stepped start ls) (Err fault)
+  plays_give takes x start y ls fault same stop =
+      let rest = drop (stop.index + 1) ls in
+      let all : played stepped start ls ≡ and_then (λ (z : X). played stepped z rest) (stepped y stop.line) =
+      ap (λ z. played stepped z ls) (sym same) ∙ ap (played stepped x) (parted ls stop.index stop.line stop.there)
+      ∙ played_append x (take stop.index ls) (stop.line ∷ rest) ∙ ap (and_then (λ (z : X). played stepped z (stop.line ∷ rest))) stop.before in
+      subst (λ (r : Result X Fault). Gives r (Err fault)) (sym all) (refused_ends (takes y stop.line) fault rest (stepped y stop.line) stop.refused)

@@ -1,6 +1,9 @@
 -- From what was computed of the text that was read, and what was written of it, to the whole input.
-use Rattle.script.{proofs.{Prelude.{◌≡◌, ℕ, List, [], ◌∷◌, Option, Some, None, Ok, option_and_then, IfSome, State, step, run, NumberedEvent, and_then, or_not_allowed, played, events_in, event_word, line_happened, EveryRunIsSound, EveryRun, ◌≢◌, ◌⊎◌, ◌+◌, ◌<◌, ◌≤◌, ap, length, length-append, take, Result, Err, inl, inr, refl, sym, ◌∙◌, subst, arith, IfOk, IfOk-at_ok, take_all, length-take-le, cases_lt, lt-ltb, Appends, TakesSome, Fault, TooLong, NoMemory, Outcome, Report, ScriptFault, Script, Reached, Gives, Plan, TakesMemory, most_bytes, parsed, said_by, reached_by, fault_line, LeadsTo, Tells, WritesReport, AnswersFault, WritesFault, EveryByte, EveryEnd}, Keeping.{keeps_bytes, keeps_end}}, specs.declared.running.Outcome.TheVariants.Refused}
-use Rattle.world.specs.States.{opening}
+use Rattle.std.{proofs.{Common.{◌≡◌, ℕ, List, [], ◌∷◌, Option, Some, None, Ok, option_and_then, ◌≢◌, ◌⊎◌, ◌+◌, ◌<◌, ◌≤◌, ap, length, length-append, take, Result, Err, inl, inr, refl, sym, ◌∙◌, subst, arith}, lemmas.{Option.IfSome_then, List.{take_all, length-take-le}, Bool.{cases_lt, lt-ltb}}}, specs.{Prelude.IfSome, Io.KnownBytes.Appends}}
+use Rattle.world.specs.{States.{State, opening}, Steps.step, Runs.run}
+use Rattle.script_text.specs.{declared.steps.NumberedEvent.NumberedEvent, Events.event_word}
+use Rattle.script.{specs.{Faults.{and_then, or_not_allowed, played, Gives}, Plans.events_in, Runs.{line_happened, EveryRunIsSound, EveryRun, reached_by, fault_line, LeadsTo, WritesReport, AnswersFault, WritesFault, EveryByte, EveryEnd}, declared.{fault.Fault.{Fault, TheVariants.{TooLong, NoMemory}}, running.{Outcome.{Outcome, TheVariants.{Report, Refused}}, ScriptFault.ScriptFault}, script.{Script.Script, Reached.Reached}}, Scripts.{Plan, TakesMemory, most_bytes, parsed, said_by}}, proofs.Keeping.{keeps_bytes, keeps_end}}
+use Rattle.input.specs.Texts.{TakesSome}
 
 -- The headline of every run, for the events of a script.
 
@@ -63,23 +66,17 @@ of_input : (text input : List ℕ) (r : Result Reached Fault) → text ≡ take 
 of_input text input r front to = of_front input r (subst (λ (t : List ℕ). LeadsTo t r) front to)
 
 -- what was written for the text that was read is what the whole input leads to
-pub reports : (a : Option (List ℕ)) (text front : List ℕ) (r : Result Outcome ScriptFault) (old new : Option (List ℕ))
-    → text ≡ front → IfSome a (λ input. front ≡ take (most_bytes + 1) input) → (r ≡ Ok Report → WritesReport text old new)
-    → r ≡ Ok Report → IfSome a (λ input. WritesReport input old new)
-reports None text front r old new same cut told is = tt
-reports (Some input) text front r old new same cut told is = whole (told is)
-  where
-    whole : WritesReport text old new → WritesReport input old new
-    whole (reached, (to, wrote)) = (reached, (of_input text input (Ok reached) (same ∙ cut) to, wrote))
+module _ (a : Option (List ℕ)) (text front : List ℕ) (r : Result Outcome ScriptFault) (old new : Option (List ℕ)) (same : text ≡ front)
+    (cut : IfSome a (λ input. front ≡ take (most_bytes + 1) input)) where
+  pub reports : (r ≡ Ok Report → WritesReport text old new) → r ≡ Ok Report → IfSome a (λ input. WritesReport input old new)
+  reports told is = IfSome_then a cut (λ input front_is.
+      let (reached, found) = told is in
+      (reached, (of_input text input (Ok reached) (same ∙ front_is) found.0, found.1)))
 
-pub refuses : (a : Option (List ℕ)) (text front : List ℕ) (r : Result Outcome ScriptFault) (old new : Option (List ℕ))
-    → text ≡ front → IfSome a (λ input. front ≡ take (most_bytes + 1) input) → (r ≡ Ok Refused → AnswersFault text old new)
-    → r ≡ Ok Refused → IfSome a (λ input. WritesFault input old new)
-refuses None text front r old new same cut told is = tt
-refuses (Some input) text front r old new same cut told is = whole (told is)
-  where
-    whole : AnswersFault text old new → WritesFault input old new
-    whole (fault, (to, wrote)) = inl (fault, (of_input text input (Err fault) (same ∙ cut) to, wrote))
+  pub refuses : (r ≡ Ok Refused → AnswersFault text old new) → r ≡ Ok Refused → IfSome a (λ input. WritesFault input old new)
+  refuses told is = IfSome_then a cut (λ input front_is.
+      let (fault, found) = told is in
+      inl (fault, (of_input text input (Err fault) (same ∙ front_is) found.0, found.1)))
 
 -- memory ran out before the script was read
 some_taken : (a b : Option (List ℕ)) → TakesSome a b → IfSome a (λ input. input ≢ [])
@@ -92,25 +89,9 @@ pub ran_out : (a b old new : Option (List ℕ)) → TakesSome a b → Appends ol
 ran_out None b old new some wrote = tt
 ran_out (Some input) b old new some wrote = inr (some_taken (Some input) b some, wrote)
 
--- what was printed of a state
-pub tells_report : (text : List ℕ) (reached : Reached) (r : Result Outcome ScriptFault) (old new : Option (List ℕ))
-    → LeadsTo text (Ok reached) → IfOk r (λ told. Tells reached told old new) → r ≡ Ok Report → WritesReport text old new
-tells_report text reached r old new to told is = (reached, (to, IfOk-at_ok (λ (u : Outcome). Tells reached u old new) is told))
-
--- there was no memory for the report of a script
-leads_may : (text : List ℕ) (reached : Reached) → LeadsTo text (Ok reached) → TakesMemory text
+-- a text that leads to a state may take memory
+pub leads_may : (text : List ℕ) (reached : Reached) → LeadsTo text (Ok reached) → TakesMemory text
 leads_may text reached (script, (is, to)) = inl (script, is)
-
-pub tells_refused : (text : List ℕ) (reached : Reached) (r : Result Outcome ScriptFault) (old new : Option (List ℕ))
-    → LeadsTo text (Ok reached) → IfOk r (λ told. Tells reached told old new) → r ≡ Ok Refused → AnswersFault text old new
-tells_refused text reached r old new to told is =
-    (NoMemory, (leads_may text reached to, IfOk-at_ok (λ (u : Outcome). Tells reached u old new) is told))
-
--- the line of a fault was written
-pub fault_told : (text : List ℕ) (fault : Fault) (r : Result Outcome ScriptFault) (old new : Option (List ℕ))
-    → LeadsTo text (Err fault) → IfOk r (λ told. (told ≡ Refused) × Appends old new (fault_line fault)) → r ≡ Ok Refused → AnswersFault text old new
-fault_told text fault r old new to told is =
-    (fault, (to, (IfOk-at_ok (λ (u : Outcome). (u ≡ Refused) × Appends old new (fault_line fault)) is told).1))
 
 -- the two laws hold of every text
 pub every_byte : (a : Option (List ℕ)) → IfSome a EveryByte

@@ -57,8 +57,8 @@ pub record StopsAt {X L : Type 0} (stepped : X → L → Result X Fault) (takes 
   pub before : played stepped old (take index ls) ≡ Ok new
   pub refused : Refused (takes new line) (stepped new line) fault
 
--- All steps were made, or those before the first that is refused. So a line that is not allowed is never reported as out of
--- memory.
+-- All steps were made, or those before the first that is refused. So a line that is not allowed is never reported as
+-- out of memory.
 abbrev pub Plays : {X L : Type 0} → (X → L → Result X Fault) → (X → L → Bool) → X → List L → Result (Unit {0}) Fault → X → Type 0
 Plays stepped takes old ls (Ok x) new = played stepped old ls ≡ Ok new
 Plays stepped takes old ls (Err fault) new = StopsAt stepped takes old ls fault new

@@ -1,19 +1,16 @@
 -- What a run writes, given what its reader had. Part of the promises.
 use Rattle.std.specs.{Prelude.{Bool, Result, Ok, ℕ, List, ◌++◌, codes, ◌≡◌, ◌≢◌, ◌⊎◌, [], Option, Some, Err}, Io.KnownBytes.Appends}
 use Rattle.world.specs.{States.{State, opening}, Steps.step, Memory.may_allocate, declared.{limits.Limits.Limits, event.Event.Event}, Runs.run, Headline.HeadlineHolds, Support.SupportHolds}
-use Rattle.script.specs.{declared.{fault.Fault.{Fault, TheVariants.NoMemory}, script.{Script.Script, Reached.Reached}, transfer.Transfer.Transfer, running.Outcome.{Outcome, TheVariants.{Report, Refused}}}, Plans.{WorldPlan, FlowPlan, events_in}, Scripts.{FlowOf, TakesMemory, parsed, said_by}, Transfers.{run_of, KeepsBytes, KeepsEnd}, Faults.{and_then, or_not_allowed, played, fault_text}}
+use Rattle.script.specs.{declared.{fault.Fault.{Fault, TheVariants.NoMemory}, script.{Script.Script, Reached.Reached}, transfer.Transfer.Transfer}, Plans.{WorldPlan, FlowPlan, events_in}, Scripts.{FlowOf, TakesMemory, parsed, said_by}, Transfers.{run_of, KeepsBytes, KeepsEnd}, Faults.{and_then, or_not_allowed, played, fault_text}}
 use Rattle.script_text.specs.{declared.steps.NumberedEvent.NumberedEvent, Events.event_word, Pages.{newline, shown_bytes, stream_text}, WorldReports.world_report}
 use Rattle.script.specs.declared.script.Script.TheVariants as script
 use Rattle.script.specs.declared.script.Reached.TheVariants as reached
 
--- What a script leads to. It is the state after all of it, or the fault of the first line that is
--- not allowed.
+-- What a script leads to: the state after all of it, or the fault of the first line that is not allowed.
 
--- the event of a line
 abbrev pub line_happened : State → NumberedEvent → Result State Fault
 line_happened st e = or_not_allowed e.line (event_word e.event) (step st e.event)
 
--- whether memory may run out for it
 abbrev pub line_takes_memory : State → NumberedEvent → Bool
 line_takes_memory st e = may_allocate st e.event
 
@@ -24,22 +21,19 @@ abbrev pub reached_by : Script → Result Reached Fault
 reached_by (script.Flow plan) = and_then (λ t. Ok (reached.Flow t)) (run_of plan)
 reached_by (script.World plan) = and_then (λ st. Ok (reached.World st)) (world_of plan)
 
--- What is written of a script of one direction: its report, or the line of a fault.
-
--- sent is what the destination took, unread what waits at the source
+-- of one direction: sent is what the destination took, unread what waits at the source
 abbrev pub report : Transfer → List ℕ
 report t = codes "up sent=" ++ (shown_bytes t.destination.taken ++ stream_text t.flow.ring t.source.unread t.flow.end_seen t.flow.shut)
 
 abbrev pub fault_line : Fault → List ℕ
 fault_line fault = fault_text fault ++ newline
 
--- what is written of a state
 abbrev pub report_of : Reached → List ℕ
 report_of (reached.Flow transfer) = report transfer
 report_of (reached.World state) = world_report state
 
--- What a text leads to: the state after the whole script that it is, or its first fault. The whole text is
--- parsed before the first step is made. Memory runs out only for a text that takes some.
+-- What a text leads to: the state after the whole script that it is, or its first fault. The whole text is parsed
+-- before the first step is made. Memory runs out only for a text that takes some.
 abbrev pub LeadsTo : List ℕ → Result Reached Fault → Type 0
 LeadsTo text (Ok reached) = (script : Script) × ((parsed text ≡ Ok (said_by script)) × (reached_by script ≡ Ok reached))
 LeadsTo text (Err NoMemory) = TakesMemory text
@@ -57,11 +51,6 @@ AnswersFault text old new = (fault : Fault) × (LeadsTo text (Err fault) × Appe
 -- the same, or that memory ran out before the script was read, which has a byte at least
 abbrev pub WritesFault : List ℕ → Option (List ℕ) → Option (List ℕ) → Type 0
 WritesFault text old new = AnswersFault text old new ⊎ ((text ≢ []) × Appends old new (fault_line NoMemory))
-
--- what was written of a state: its report, or that there was no memory for it
-abbrev pub Tells : Reached → Outcome → Option (List ℕ) → Option (List ℕ) → Type 0
-Tells reached Report old new = Appends old new (report_of reached)
-Tells reached Refused old new = Appends old new (fault_line NoMemory)
 
 -- the two laws, of the script of one direction that a text is
 abbrev pub EveryByte : List ℕ → Type 0

@@ -15,11 +15,14 @@ abbrev pub or_malformed : {X : Type 0} → ℕ → Option X → Result X Fault
 or_malformed line (Some x) = Ok x
 or_malformed line None = Err (Malformed line)
 
+-- what each line says, with its number, up to the first malformed one
+abbrev pub lines_as : {X Y : Type 0} → (List ℕ → Option X) → (ℕ → X → Y) → List NumberedLine → Result (List Y) Fault
+lines_as read numbered [] = Ok []
+lines_as read numbered (l ∷ ls) =
+    and_then (λ x. and_then (λ ys. Ok (numbered l.number x ∷ ys)) (lines_as read numbered ls)) (or_malformed l.number (read l.text))
+
 abbrev pub steps_of : List NumberedLine → Result (List NumberedStep) Fault
-steps_of [] = Ok []
-steps_of (l ∷ ls) =
-    and_then (λ step. and_then (λ steps. Ok ((record { line = l.number; step = step }) ∷ steps)) (steps_of ls))
-    (or_malformed l.number (step_of l.text))
+steps_of lines = lines_as step_of (λ line step. record { line = line; step = step }) lines
 
 -- an event as its line says it
 pub record SaidLine : Type 0 where
@@ -27,17 +30,13 @@ pub record SaidLine : Type 0 where
   pub said : Said
 
 abbrev pub events_of : List NumberedLine → Result (List SaidLine) Fault
-events_of [] = Ok []
-events_of (l ∷ ls) =
-    and_then (λ said. and_then (λ rest. Ok ((record { line = l.number; said = said }) ∷ rest)) (events_of ls))
-    (or_malformed l.number (event_of l.text))
+events_of lines = lines_as event_of (λ line said. record { line = line; said = said }) lines
 
 -- a script as a text says it
 pub data Plan : Type 0 where
   FlowOf : FlowPlan → Plan
   WorldOf : Limits → List SaidLine → Plan
 
--- what a script says
 abbrev pub said_line : NumberedEvent → SaidLine
 said_line e = record { line = e.line; said = said_of e.event }
 
@@ -63,31 +62,27 @@ parsed text = if nat_lt most_bytes (length text) then Err TooLong else plan_of (
 abbrev pub IsScript : List ℕ → Type 0
 IsScript text = (script : Script) × (parsed text ≡ Ok (said_by script))
 
--- the first of these lines is a step, or an event
-abbrev pub starts_with_step : List NumberedLine → Bool
-starts_with_step [] = false
-starts_with_step (l ∷ ls) = is_some (step_of l.text)
-
-abbrev pub starts_with_event : List NumberedLine → Bool
-starts_with_event [] = false
-starts_with_event (l ∷ ls) = is_some (event_of l.text)
+-- the first of these lines can be read
+abbrev pub starts_with : {X : Type 0} → (List ℕ → Option X) → List NumberedLine → Bool
+starts_with read [] = false
+starts_with read (l ∷ ls) = is_some (read l.text)
 
 -- the same of the lines after a header, by what it is of
 abbrev pub goes_on : Option Header → List NumberedLine → Bool
 goes_on None lines = false
-goes_on (Some (header.Flow ring)) lines = starts_with_step lines
-goes_on (Some (header.World limits)) lines = starts_with_event lines
+goes_on (Some (header.Flow ring)) lines = starts_with step_of lines
+goes_on (Some (header.World limits)) lines = starts_with event_of lines
 
 abbrev pub begins_well : List NumberedLine → Bool
 begins_well [] = false
 begins_well (l ∷ ls) = goes_on (header_of l.text) ls
 
--- A text of a script's size that begins with a good header and a good line after it. The lines that follow may be
+-- A text of a script's size that begins with a good header and a good line after it. Lines that follow may be
 -- malformed: a list is made of the lines as they are read.
 abbrev pub BeginsWell : List ℕ → Type 0
 BeginsWell text = (length text ≤ most_bytes) × IsTrue (begins_well (telling_lines 1 (lines_of text)))
 
 -- What takes memory once it was read: a script, for which a machine is made, and what begins well. So memory can't run
--- out for a text that is too long, or has no line, a malformed header, or a malformed line right after that.
+-- out for a text that is too long, has no line or a malformed header, or a malformed line right after that.
 abbrev pub TakesMemory : List ℕ → Type 0
 TakesMemory text = IsScript text ⊎ BeginsWell text

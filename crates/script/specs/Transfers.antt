@@ -16,8 +16,8 @@ opening ring = record { source = opened Client; flow = empty_stream ring []; des
 abbrev pub read_size : Stream → ℕ
 read_size flow = min (free_room flow) 16384
 
--- the ends and the ring after a step, if it is allowed: what came and what a socket replies by the
--- rules of sockets, and no read once the end was seen, no shutdown before the last byte has left
+-- the ends and the ring after a step, if it is allowed: what comes and what a socket replies by the rules of sockets,
+-- and no read once the end was seen, no shutdown before the last byte has left
 abbrev pub stepped : Transfer → Step → Option Transfer
 stepped t (Arrive bytes) = option_map (λ r. record t { source = r.value }) (arrival t.source bytes)
 stepped t Fin = option_map (λ r. record t { source = r.value }) (finish t.source)
@@ -42,11 +42,9 @@ takes_memory (Arrive bytes) = true
 takes_memory (Wrote n full) = true
 takes_memory _ = false
 
--- the same of the step of a line
 abbrev pub line_takes_memory : Transfer → NumberedStep → Bool
 line_takes_memory t s = takes_memory s.step
 
--- the step of a line
 abbrev pub line_stepped : Transfer → NumberedStep → Result Transfer Fault
 line_stepped t s = or_not_allowed s.line (word_of s.step) (stepped t s.step)
 

@@ -1,6 +1,3 @@
-//! What a person reads in addition to a fault: the word that is malformed and what is expected there, or why a step
-//! is not allowed at that point.
-
 use crate::machine::Machine;
 use crate::running::{MAX_BYTES, MAX_SHOWN};
 use crate::{Fault, Script, parse};
@@ -10,9 +7,8 @@ use script_text::{
 };
 use std::alloc::Global;
 
-/// The cause of a fault, for a person, on one line: which word is malformed and what is expected there, or why the
-/// step is not allowed. `text` is the script that has the fault. None if nothing more is known, or there is no memory
-/// for it.
+/// The cause of a fault, for a person, on one line: which word is malformed and what is expected there, or why the step
+/// is not allowed. `text` is the script. None if nothing more is known, or there is no memory for it.
 pub fn cause(alloc: Global, text: &[u8], fault: Fault) -> Option<String> {
     match fault {
         Fault::TooLong => String::from_str(alloc, "a script has at most 1048576 bytes").ok(),
@@ -26,7 +22,7 @@ pub fn cause(alloc: Global, text: &[u8], fault: Fault) -> Option<String> {
     }
 }
 
-/// Which word of a line is malformed, after the first one unless that is the wrong one, and what is expected there.
+/// Which word of a line is malformed, after its first one, and what is expected there.
 fn malformed(alloc: Global, text: &[u8], number: u64) -> Option<String> {
     let (line, wrong) = wrong_line(alloc, text, number)?;
     let mut cause = Page::new(alloc);
@@ -55,7 +51,7 @@ fn quote(cause: &mut Page, word: &[u8]) {
     cause.put(&[Piece::Text(end)]);
 }
 
-/// Adds the first 64 bytes of a word, of which those that are not printable ASCII are escaped.
+/// Adds the first 64 bytes of a word, escaped where they are not printable ASCII.
 fn show(cause: &mut Page, word: &[u8]) {
     for byte in word.iter().take(MAX_SHOWN) {
         let byte = [*byte];
@@ -66,8 +62,8 @@ fn show(cause: &mut Page, word: &[u8]) {
     }
 }
 
-/// The line with this number, and what is wrong with it. It is read again, as it was when its fault was found: the
-/// first line is a header, which decides on what the others are.
+/// The line with this number, and what is wrong with it. It is read again: the first line is a header, which decides on
+/// what the others are.
 fn wrong_line(alloc: Global, text: &[u8], number: u64) -> Option<(&[u8], Wrong<'_>)> {
     if text.len() > MAX_BYTES {
         return None;
@@ -81,7 +77,6 @@ fn wrong_line(alloc: Global, text: &[u8], number: u64) -> Option<(&[u8], Wrong<'
     }
 }
 
-/// A line after the header, and what is wrong with it.
 fn wrong_behind<'a>(
     alloc: Global,
     header: &Header,

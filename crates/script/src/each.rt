@@ -11,12 +11,11 @@ use std::alloc::{AllocError, Global};
 use std::io::{Read, Write};
 
 /// Does what [`run`](crate::run) does, and writes the report after each step in place of the one at the end: the line
-/// of the script's header and then of each step, as `> LINE`, and below it those lines of the report after it that
-/// are not in the report before. The step of a line is written before the next one is made.
+/// of the script's header and then of each step, as `> LINE`, and below it those lines of the report after it that are
+/// not in the report before. The step of a line is written before the next one is made.
 ///
 /// The faults are those of `run`. What is written before a step that is not allowed stands, and the line of the fault
-/// follows. `explain` is called once for a fault, before its line is written, also if memory runs out for what is to
-/// be written.
+/// follows. `explain` is called once for a fault, before its line, also if memory runs out for what is to be written.
 pub fn run_each<R: Read, W: Write, X: Explain>(
     alloc: Global,
     reader: &mut R,
@@ -35,8 +34,7 @@ pub fn run_each<R: Read, W: Write, X: Explain>(
     }
 }
 
-/// Shows each step of the script that a text stands for, or those before its fault, which `explain` is given, and
-/// then the line of the fault.
+/// Shows each step, or those before the script's fault, which `explain` is given, and then the line of the fault.
 fn answer_each<W: Write, X: Explain>(
     alloc: Global,
     text: &[u8],
@@ -46,37 +44,17 @@ fn answer_each<W: Write, X: Explain>(
     ensures { result ≢ Err ScriptFault.Read }
 {
     match show(alloc, text, writer) {
-        Ok(()) => Ok(Outcome::Report),
-        Err(Halt::Refused(fault)) => {
+        Ok(true) => Ok(Outcome::Report),
+        Ok(false) => Err(ScriptFault::Write),
+        Err(fault) => {
             explain.explain(text, fault);
             tell_fault(writer, fault)
         }
-        Err(Halt::Unwritten) => Err(ScriptFault::Write),
     }
 }
 
-/// Why not all was shown.
-enum Halt {
-    /// The script has a fault, or memory ran out.
-    Refused(Fault),
-    /// It could not be written.
-    Unwritten,
-}
-
-impl From<Fault> for Halt {
-    fn from(fault: Fault) -> Halt {
-        Halt::Refused(fault)
-    }
-}
-
-impl From<AllocError> for Halt {
-    fn from(_error: AllocError) -> Halt {
-        Halt::Refused(Fault::NoMemory)
-    }
-}
-
-/// Shows each step of the script that a text stands for, or those before its fault.
-fn show<W: Write>(alloc: Global, text: &[u8], writer: &mut W) -> Result<(), Halt> {
+/// Shows each step of the script that a text stands for, or those before its fault. False if it could not be written.
+fn show<W: Write>(alloc: Global, text: &[u8], writer: &mut W) -> Result<bool, Fault> {
     let script = parse(alloc, text)?;
     let lines = Lines::new(text);
     match &script {
@@ -98,13 +76,17 @@ fn show_steps<M: Machine, W: Write>(
     mut machine: M,
     steps: &[M::Step],
     writer: &mut W,
-) -> Result<(), Halt> {
-    put(alloc, writer, &mut lines, &machine.report(alloc)?)?;
+) -> Result<bool, Fault> {
+    if !put(alloc, writer, &mut lines, &machine.report(alloc)?)? {
+        return Ok(false);
+    }
     for step in steps {
         let changes = machine.show(alloc, step)?;
-        put(alloc, writer, &mut lines, &changes)?;
+        if !put(alloc, writer, &mut lines, &changes)? {
+            return Ok(false);
+        }
     }
-    Ok(())
+    Ok(true)
 }
 
 /// Writes the next line of a script, with a mark, and then a text, and flushes both.
@@ -113,15 +95,12 @@ fn put<W: Write>(
     writer: &mut W,
     lines: &mut Lines<'_>,
     text: &String,
-) -> Result<(), Halt> {
+) -> Result<bool, AllocError> {
     let mut shown = Vec::from_slice(alloc, b"> ")?;
     if let Some(line) = lines.next() {
         shown.extend_from_slice(line.text)?;
     }
     shown.extend_from_slice(b"\n")?;
     shown.extend_from_slice(text.as_bytes())?;
-    if writer.write_all(shown.as_slice()).is_err() || writer.flush().is_err() {
-        return Err(Halt::Unwritten);
-    }
-    Ok(())
+    Ok(writer.write_all(shown.as_slice()).is_ok() && writer.flush().is_ok())
 }

@@ -53,15 +53,14 @@ impl FlowScript {
         }
     }
 
-    /// The state before the first step. Fails only if there is no memory for its ring.
+    /// The state before the first step.
     pub fn open(&self, alloc: Global) -> Result<Transfer, AllocError>
         ensures { IfOk result (λ transfer. transfer ≡ opening self.now.ring) }
     {
         Transfer::new(alloc, self.ring)
     }
 
-    /// Makes all steps, or those before the first that is refused, which has the fault: it is not allowed, or it is,
-    /// takes memory, and that ran out.
+    /// Makes all steps, or those before the first that is refused, whose fault it gives.
     #[tactic(auto, using(crate::proofs::Playing::played_more, std::proofs::lemmas::Option::gets, std::proofs::lemmas::Grind::common_steps))]
     pub fn play(&self, transfer: &mut Transfer) -> Result<(), Fault>
         ensures { Plays line_stepped line_takes_memory transfer.old self.now.steps result transfer.new }

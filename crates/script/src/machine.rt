@@ -1,5 +1,3 @@
-//! What the steps of a script are made on.
-
 use crate::script::print_transfer;
 use crate::world_script::happen;
 use crate::{Fault, Transfer};
@@ -15,7 +13,7 @@ pub(crate) trait Machine: Drop {
     /// A step, with the number of its line.
     type Step;
 
-    /// Makes a step, or returns the fault of its line.
+    /// Makes a step, or gives the fault of its line.
     fn make(&mut self, step: &Self::Step) -> Result<(), Fault>;
 
     /// Makes a step: the lines of the report after it that are not in the report before.

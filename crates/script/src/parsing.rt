@@ -1,6 +1,6 @@
 ghost use Rattle.std.specs.Prelude.{◌≡◌, ◌^◌, ◌<◌, IsErrOf, IsTrue, Some};
-ghost use Rattle.script_text.specs.Headers.{IsWithin};
-ghost use Rattle.script.specs.{Faults.GivesBy, Scripts.{BeginsWell, goes_on, headed, parsed, steps_of, events_of, said_by, said_lines, starts_with_event, starts_with_step}};
+ghost use Rattle.script_text.specs.{Headers.IsWithin, Events.{step_of, event_of}};
+ghost use Rattle.script.specs.{Faults.GivesBy, Scripts.{BeginsWell, begins_well, goes_on, headed, parsed, plan_of, steps_of, events_of, said_by, said_lines, starts_with}};
 
 use crate::running::MAX_BYTES;
 use crate::{Fault, FlowScript, Script, WorldScript};
@@ -19,7 +19,14 @@ pub fn parse(alloc: Global, text: &[u8]) -> Result<Script, Fault>
     if text.len() > MAX_BYTES {
         return Err(Fault::TooLong);
     }
-    let mut lines = Lines::new(text);
+    plan(alloc, Lines::new(text))
+}
+
+/// The same of its lines.
+fn plan(alloc: Global, mut lines: Lines) -> Result<Script, Fault>
+    ensures script { GivesBy said_by (plan_of lines.entry) result }
+    ensures memory { IsErrOf result Fault.NoMemory → IsTrue (begins_well lines.entry) }
+{
     let Some(first) = lines.next() else {
         return Err(Fault::NoWorld);
     };
@@ -29,7 +36,7 @@ pub fn parse(alloc: Global, text: &[u8]) -> Result<Script, Fault>
     }
 }
 
-/// The script that the lines after its header stand for, or their first fault.
+/// The same of the lines after the header.
 fn headed(alloc: Global, header: Header, lines: Lines) -> Result<Script, Fault>
     requires { IsWithin header }
     ensures script { GivesBy said_by (headed header lines.entry) result }
@@ -47,10 +54,9 @@ fn headed(alloc: Global, header: Header, lines: Lines) -> Result<Script, Fault>
     }
 }
 
-/// The steps that the lines stand for, or their first fault.
 fn steps(alloc: Global, mut lines: Lines) -> Result<Vec<NumberedStep>, Fault>
     ensures steps { GivesBy (λ steps. steps.items) (steps_of lines.entry) result }
-    ensures memory { IsErrOf result Fault.NoMemory → IsTrue (starts_with_step lines.entry) }
+    ensures memory { IsErrOf result Fault.NoMemory → IsTrue (starts_with step_of lines.entry) }
 {
     let mut steps = Vec::new(alloc);
     while let Some(line) = lines.next() {
@@ -67,10 +73,9 @@ fn steps(alloc: Global, mut lines: Lines) -> Result<Vec<NumberedStep>, Fault>
     Ok(steps)
 }
 
-/// The events that the lines stand for, or their first fault.
 fn events(alloc: Global, mut lines: Lines) -> Result<Vec<NumberedEvent>, Fault>
     ensures events { GivesBy (λ events. said_lines events.items) (events_of lines.entry) result }
-    ensures memory { IsErrOf result Fault.NoMemory → IsTrue (starts_with_event lines.entry) }
+    ensures memory { IsErrOf result Fault.NoMemory → IsTrue (starts_with event_of lines.entry) }
 {
     let mut events = Vec::new(alloc);
     while let Some(line) = lines.next() {

@@ -1,5 +1,5 @@
 ghost use Rattle.std.specs.{Prelude.{◌≡◌, ◌≢◌, ◌+◌, IfOk, IfErr, IfSome, Ok, Err}, Io.KnownBytes.Appends};
-ghost use Rattle.script.specs.{Scripts.most_bytes, Runs.{fault_line, LeadsTo, Tells, WritesReport, AnswersFault, WritesFault, EveryByte, EveryEnd, EveryRun, EveryRunIsSound}};
+ghost use Rattle.script.specs.{Scripts.most_bytes, Runs.{fault_line, LeadsTo, WritesReport, AnswersFault, WritesFault, EveryByte, EveryEnd, EveryRun, EveryRunIsSound, report_of}};
 ghost use Rattle.input.specs.Texts.{TakesAtMost};
 
 use crate::{Fault, Reached, parse};
@@ -12,13 +12,13 @@ use std::io::{Read, Write};
 use thiserror::Error;
 use world::laws::every_run_holds;
 
-/// Receives a script's fault, in addition to the line that is written for it.
+/// Receives a script's fault, beside the line that is written for it.
 pub trait Explain {
-    /// This script has this fault. `text` is what was read of it, which is all of it unless it is too long.
+    /// `text` is what was read of the script, which is all of it unless it is too long.
     fn explain(&self, text: &[u8], fault: Fault);
 }
 
-/// The maximum number of bytes in a script.
+/// The most bytes of a script.
 pub const MAX_BYTES: usize = 1_048_576;
 
 /// The most bytes of a word that are shown to a person.
@@ -44,15 +44,15 @@ pub enum ScriptFault {
     Write,
 }
 
-/// Reads a script to its end, or to one byte more than it may have, then computes, and then writes the report of the
-/// state after it or the one line of its fault.
+/// Reads a script to its end, or to one byte more than it may have, and then writes the report of the state after it or
+/// the one line of its fault.
 ///
 /// It makes at most 1,048,577 reads. Any error of the reader, even one that a signal causes, is [`ScriptFault::Read`]
 /// at once. If memory runs out, the line is `out of memory`: so never for an input without a byte, nor, once it was
 /// read, for one that is too long, or whose header or first line after it is malformed.
 ///
-/// If the script that was read has a fault, `explain` is called once, before anything is written. Otherwise it is not
-/// called; nor is it if memory runs out before the script was read, or for its output.
+/// `explain` is called once, before anything is written, if the script that was read has a fault; not if memory runs
+/// out before it was read, or for its output.
 #[tactic(auto, using(crate::proofs::Telling::every_byte, crate::proofs::Telling::every_end, crate::proofs::Telling::every_run))]
 pub fn run<R: Read, W: Write, X: Explain>(
     alloc: Global,
@@ -60,8 +60,8 @@ pub fn run<R: Read, W: Write, X: Explain>(
     writer: &mut W,
     explain: &X,
 ) -> Result<Outcome, ScriptFault>
-    // What is written is the report of the script that was read, or the line of its fault, or that memory ran out,
-    // and nothing else.
+    // What is written is the report of the script that was read, or the line of its fault, or that memory ran out, and
+    // nothing else.
     ensures report { result ≡ Ok Outcome.Report
         → IfSome (R.remaining reader.old)
         (λ text. WritesReport text (W.contents writer.old) (W.contents writer.new)) }
@@ -91,7 +91,7 @@ pub fn run<R: Read, W: Write, X: Explain>(
     }
 }
 
-/// Answers that a script was not read: if memory ran out for it, that is reported.
+/// A script was not read: if memory ran out for it, that is reported.
 pub(crate) fn answer_unread<W: Write>(
     writer: &mut W,
     fault: InputFault,
@@ -107,8 +107,8 @@ pub(crate) fn answer_unread<W: Write>(
     }
 }
 
-/// Computes the state after the script that a text stands for, and then writes its report or the one line of the
-/// script's fault, which `explain` is given first.
+/// Writes the report of the state after the script that a text stands for, or the one line of the script's fault, which
+/// `explain` is given first.
 pub fn answer<W: Write, X: Explain>(
     alloc: Global,
     text: &[u8],
@@ -128,7 +128,6 @@ pub fn answer<W: Write, X: Explain>(
     }
 }
 
-/// The state after the script that a text stands for, or its fault.
 #[tactic(auto, using(crate::proofs::Telling::by_script))]
 fn compute(alloc: Global, text: &[u8]) -> Result<Reached, Fault>
     ensures { LeadsTo text.now result }
@@ -142,19 +141,20 @@ fn tell_report<W: Write>(
     writer: &mut W,
     reached: &Reached,
 ) -> Result<Outcome, ScriptFault>
-    ensures ok { IfOk result (λ told. Tells reached.now told (W.contents writer.old) (W.contents writer.new)) }
+    ensures report { result ≡ Ok Outcome.Report → Appends (W.contents writer.old) (W.contents writer.new) (report_of reached.now) }
+    ensures refused { result ≡ Ok Outcome.Refused → Appends (W.contents writer.old) (W.contents writer.new) (fault_line Fault.NoMemory) }
     ensures err { IfErr result (λ fault. fault ≡ ScriptFault.Write) }
 {
     match reached.report(alloc) {
-        Ok(report) => write(writer, report.as_bytes(), Outcome::Report),
+        Ok(report) => write_report(writer, report.as_bytes()),
         Err(error) => tell_fault(writer, Fault::from(error)),
     }
 }
 
-/// Writes the line of a fault. It allocates no memory, so each fault is reported as itself.
+/// Writes the line of a fault. It takes no memory, so each fault is reported as itself.
 pub(crate) fn tell_fault<W: Write>(writer: &mut W, fault: Fault) -> Result<Outcome, ScriptFault>
-    ensures ok { IfOk result (λ told. (told ≡ Outcome.Refused) × Appends (W.contents writer.old) (W.contents writer.new)
-        (fault_line fault)) }
+    ensures report { result ≢ Ok Outcome.Report }
+    ensures refused { result ≡ Ok Outcome.Refused → Appends (W.contents writer.old) (W.contents writer.new) (fault_line fault) }
     ensures err { IfErr result (λ fault. fault ≡ ScriptFault.Write) }
 {
     if write!(writer, "{fault}\n").is_err() || writer.flush().is_err() {
@@ -163,15 +163,15 @@ pub(crate) fn tell_fault<W: Write>(writer: &mut W, fault: Fault) -> Result<Outco
     Ok(Outcome::Refused)
 }
 
-/// Writes all of a line, and flushes it.
-fn write<W: Write>(writer: &mut W, line: &[u8], told: Outcome) -> Result<Outcome, ScriptFault>
-    ensures ok { IfOk result (λ outcome. (outcome ≡ told) × Appends (W.contents writer.old) (W.contents writer.new) line.now) }
+fn write_report<W: Write>(writer: &mut W, report: &[u8]) -> Result<Outcome, ScriptFault>
+    ensures report { result ≡ Ok Outcome.Report → Appends (W.contents writer.old) (W.contents writer.new) report.now }
+    ensures refused { result ≢ Ok Outcome.Refused }
     ensures err { IfErr result (λ fault. fault ≡ ScriptFault.Write) }
 {
-    if writer.write_all(line).is_err() || writer.flush().is_err() {
+    if writer.write_all(report).is_err() || writer.flush().is_err() {
         return Err(ScriptFault::Write);
     }
-    Ok(told)
+    Ok(Outcome::Report)
 }
 
 /// After every list of events that can happen the headline holds, and what it depends on: tickets, rest, table and

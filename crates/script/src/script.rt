@@ -1,5 +1,5 @@
 ghost use Rattle.std.specs.Prelude.{◌≡◌, string_bytes, IfOk};
-ghost use Rattle.script.specs.{Faults.Gives, Runs.{reached_by, report, fault_line, report_of}};
+ghost use Rattle.script.specs.{Faults.Gives, Runs.{reached_by, report, report_of}};
 
 use crate::{Fault, FlowScript, Transfer, WorldScript};
 use script_text::{Page, Piece, print, put_stream};
@@ -38,8 +38,7 @@ impl Script {
 }
 
 impl Reached {
-    /// The report of the state: [`print`] for a world, and [`print_transfer`] for one direction. Fails only if memory
-    /// for it ran out.
+    /// The report of the state. Fails only if memory for it ran out.
     pub fn report(&self, alloc: Global) -> Result<String, AllocError>
         ensures { IfOk result (λ text. string_bytes text ≡ report_of self.now) }
     {
@@ -69,11 +68,4 @@ pub fn print_transfer(alloc: Global, transfer: &Transfer) -> Result<String, Allo
         transfer.flow.is_shut(),
     );
     page.finish()
-}
-
-/// The line of a fault. Fails only if memory for it ran out.
-pub fn fault_line(alloc: Global, fault: Fault) -> Result<String, AllocError>
-    ensures { IfOk result (λ text. string_bytes text ≡ fault_line fault) }
-{
-    format!(in alloc; "{fault}\n")
 }

@@ -22,8 +22,7 @@ pub struct Transfer {
 }
 
 impl Transfer {
-    /// One direction in its initial state, with a ring of at most `ring` bytes. Fails only if there is no memory for
-    /// the ring.
+    /// One direction in its initial state, with a ring of at most `ring` bytes, for which memory may run out.
     pub fn new(alloc: Global, ring: usize) -> Result<Transfer, AllocError>
         requires least { 1 ≤ ring }
         requires most { ring ≤ 65536 }
@@ -63,7 +62,7 @@ impl Transfer {
         Ok(())
     }
 
-    /// Makes the step of a line, or returns the fault of that line.
+    /// Makes the step of a line, or gives the fault of that line.
     pub(crate) fn carry_out(&mut self, numbered: &NumberedStep) -> Result<(), Fault>
         ensures { Carries (line_takes_memory self.old numbered.now) (line_stepped self.old numbered.now) self.old result self.new }
     {

@@ -55,15 +55,14 @@ impl WorldScript {
         }
     }
 
-    /// The world before the first event. Fails only if there is no memory for it.
+    /// The world before the first event.
     pub fn open(&self, alloc: Global) -> Result<World, AllocError>
         ensures { IfOk result (λ world. world ≡ opening self.now.limits) }
     {
         World::new(alloc, self.limits)
     }
 
-    /// Makes all events happen, or those before the first that is refused, which has the fault: it is not allowed, or
-    /// it is, may take memory, and that ran out.
+    /// Makes all events happen, or those before the first that is refused, whose fault it gives.
     #[tactic(auto, using(crate::proofs::Playing::played_more, std::proofs::lemmas::Option::gets, std::proofs::lemmas::Grind::common_steps))]
     pub fn play(&self, world: &mut World) -> Result<(), Fault>
         ensures { Plays line_happened line_takes_memory world.old self.now.events result world.new }
@@ -75,7 +74,7 @@ impl WorldScript {
     }
 }
 
-/// Makes the event of a line happen, or returns the fault of that line.
+/// Makes the event of a line happen, or gives the fault of that line.
 pub(crate) fn happen(world: &mut World, numbered: &NumberedEvent) -> Result<(), Fault>
     ensures { Carries (line_takes_memory world.old numbered.now) (line_happened world.old numbered.now) world.old result world.new }
 {

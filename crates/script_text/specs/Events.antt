@@ -1,5 +1,5 @@
 -- The events of a world's script, and the lines that say them. Part of the promises.
-use Rattle.std.specs.{Prelude.{◌≡◌, ℕ, false, List, [], ◌∷◌, codes, ◌+◌, nat_lt, nat_le, ◌&&◌, if◌then◌else◌, length, Option, Some, None, option_map, option_and_then}, Str.bytes_eq}
+use Rattle.std.specs.{Prelude.{ℕ, List, [], ◌∷◌, codes, ◌+◌, nat_lt, nat_le, ◌&&◌, if◌then◌else◌, length, Option, Some, None, option_map, option_and_then}, Str.bytes_eq}
 use Rattle.world.specs.declared.event.{Event.Event, Change.Change, Listening.Listening, Polling.Polling, Act.Act, Reported.Reported}
 use Rattle.script_text.specs.{declared.{word.Word.Word, steps.Step.Step}, Texts.{pieces_of, words_of, number_of, number_below, bytes_of, word_then, if_last, full_of}}
 use Rattle.token.specs.{Names.last_generation, declared.{side.Side.Side, name.Name.Name}, Sides.side_named, Kinds.kind_named}
@@ -18,7 +18,6 @@ use Rattle.script_text.specs.declared.steps.Step.TheVariants as step
 
 -- The first word of a step or an event, by which a fault names it.
 
--- the first word of a step or an event
 abbrev pub word_text : Word → List ℕ
 word_text word.Accept = codes "accept"
 word_text word.Arrive = codes "arrive"
@@ -50,10 +49,19 @@ word_text word.Tick = codes "tick"
 word_text word.Vanish = codes "vanish"
 word_text word.Wrote = codes "wrote"
 
--- the first of these words, if there is one, is none of them
-abbrev pub BeginsOtherwise : List (List ℕ) → Type 0
-BeginsOtherwise [] = Unit {0}
-BeginsOtherwise (name ∷ words) = (w : Word) → bytes_eq name (word_text w) ≡ false
+abbrev pub all_words : List Word
+all_words =
+    word.Accept ∷ word.Arrive ∷ word.Call ∷ word.Claim ∷ word.Close ∷ word.Connect ∷ word.Deliver ∷ word.Drop ∷ word.End ∷ word.Fin
+    ∷ word.Free ∷ word.Idle ∷ word.Open ∷ word.Poll ∷ word.Pop ∷ word.Post ∷ word.Put ∷ word.Read ∷ word.Release ∷ word.Reset
+    ∷ word.Retire ∷ word.Room ∷ word.Shut ∷ word.Spurious ∷ word.Sweep ∷ word.Take ∷ word.Tick ∷ word.Vanish ∷ word.Wrote ∷ []
+
+-- the first of these words that a text is
+abbrev pub word_among : List Word → List ℕ → Option Word
+word_among [] text = None
+word_among (w ∷ ws) text = if bytes_eq text (word_text w) then Some w else word_among ws text
+
+unfoldable pub word_named : List ℕ → Option Word
+word_named text = word_among all_words text
 
 abbrev pub change_word : Change → Word
 change_word (change.Arrive bytes) = word.Arrive
@@ -102,7 +110,6 @@ pub data Said : Type 0 where
   Polls : List Name → Said
   Plainly : Event → Said
 
--- what an event says
 abbrev pub said_of : Event → Said
 said_of (event.Network slot side (change.Arrive bytes)) = Arrives slot side bytes.items
 said_of (event.Poll (polling.Poll names)) = Polls names.items
@@ -127,7 +134,7 @@ end_of (slot ∷ generation ∷ side ∷ []) =
     (side_named side)) (generation_of generation)) (slot_of slot)
 end_of _ = None
 
--- `listener`, `waker` or the name of an end, whose parts stand between dots
+-- a name as the queue has it
 abbrev pub name_of : List ℕ → Option Name
 name_of word =
     if bytes_eq word (codes "listener") then Some name.Listener
@@ -156,21 +163,6 @@ accepting_of word =
     else if bytes_eq word (codes "starved") then Some accepting.Starved
     else None
 
--- what a worker does, if its number says all else
-abbrev pub act_of : List ℕ → Option Act
-act_of word =
-    if bytes_eq word (codes "pop") then Some act.Pop
-    else if bytes_eq word (codes "claim") then Some act.Claim
-    else if bytes_eq word (codes "take") then Some act.Take
-    else if bytes_eq word (codes "post") then Some act.Post
-    else if bytes_eq word (codes "release") then Some act.Release
-    else if bytes_eq word (codes "idle") then Some act.Expire
-    else if bytes_eq word (codes "close") then Some act.Close
-    else if bytes_eq word (codes "retire") then Some act.Retire
-    else if bytes_eq word (codes "free") then Some act.Free
-    else None
-
--- a reply to a call, and what it carries
 abbrev pub reply_of : List (List ℕ) → Option Reply
 reply_of [] = None
 reply_of (name ∷ words) =
@@ -184,7 +176,7 @@ reply_of (name ∷ words) =
     else if bytes_eq name (codes "failed") then word_then kind_named (λ kind. if_last (reply.Failed kind)) words
     else None
 
--- what a report without a cause is about: `listener`, `waker`, or a slot and a side
+-- what a report without a cause is about
 abbrev pub reported_of : List (List ℕ) → Option Reported
 reported_of [] = None
 reported_of (who ∷ words) =
@@ -198,82 +190,72 @@ reported_of (who ∷ words) =
 abbrev pub change_event : Change → List (List ℕ) → Option Event
 change_event change = word_then slot_of (λ slot. word_then side_named (λ side. if_last (event.Network slot side change)))
 
--- `poller`, or the number of a worker
 abbrev pub put_event : List (List ℕ) → Option Event
 put_event [] = None
 put_event (who ∷ words) =
     if bytes_eq who (codes "poller") then if_last (event.Poll polling.Put) words
     else option_and_then (λ worker. if_last (event.Work worker act.Put) words) (worker_of who)
 
--- the next call of the worker of this number gets this reply
 abbrev pub call_event : List (List ℕ) → Option Event
 call_event = word_then worker_of (λ worker words. option_map (λ answer. event.Work worker (act.Call answer)) (reply_of words))
 
 abbrev pub act_event : Act → List (List ℕ) → Option Event
 act_event act = word_then worker_of (λ worker. if_last (event.Work worker act))
 
--- the events that carry no list
-abbrev pub plain_event : List ℕ → List (List ℕ) → Option Event
-plain_event name words =
-    if bytes_eq name (codes "tick") then word_then number_of (λ n. if_last (event.Tick n)) words
-    else if bytes_eq name (codes "connect") then if_last (event.Listen listening.Connect) words
-    else if bytes_eq name (codes "accept") then word_then accepting_of (λ answer. if_last (event.Listen (listening.Accept answer))) words
-    else if bytes_eq name (codes "drop") then if_last (event.Listen listening.Drop) words
-    else if bytes_eq name (codes "fin") then change_event change.Fin words
-    else if bytes_eq name (codes "reset") then change_event change.Reset words
-    else if bytes_eq name (codes "room") then change_event change.Room words
-    else if bytes_eq name (codes "spurious") then option_map event.Spurious (reported_of words)
-    else if bytes_eq name (codes "vanish") then option_map event.Vanish (reported_of words)
-    else if bytes_eq name (codes "open") then if_last (event.Poll polling.Open) words
-    else if bytes_eq name (codes "deliver") then if_last (event.Poll polling.Deliver) words
-    else if bytes_eq name (codes "sweep") then word_then slot_of (λ slot. if_last (event.Poll (polling.Sweep slot))) words
-    else if bytes_eq name (codes "put") then put_event words
-    else if bytes_eq name (codes "call") then call_event words
-    else option_and_then (λ act. act_event act words) (act_of name)
+-- the events that carry no list, by the first word
+abbrev pub plain_event : Word → List (List ℕ) → Option Event
+plain_event word.Tick words = word_then number_of (λ n. if_last (event.Tick n)) words
+plain_event word.Connect words = if_last (event.Listen listening.Connect) words
+plain_event word.Accept words = word_then accepting_of (λ answer. if_last (event.Listen (listening.Accept answer))) words
+plain_event word.Drop words = if_last (event.Listen listening.Drop) words
+plain_event word.Fin words = change_event change.Fin words
+plain_event word.Reset words = change_event change.Reset words
+plain_event word.Room words = change_event change.Room words
+plain_event word.Spurious words = option_map event.Spurious (reported_of words)
+plain_event word.Vanish words = option_map event.Vanish (reported_of words)
+plain_event word.Open words = if_last (event.Poll polling.Open) words
+plain_event word.Deliver words = if_last (event.Poll polling.Deliver) words
+plain_event word.Sweep words = word_then slot_of (λ slot. if_last (event.Poll (polling.Sweep slot))) words
+plain_event word.Put words = put_event words
+plain_event word.Call words = call_event words
+plain_event word.Pop words = act_event act.Pop words
+plain_event word.Claim words = act_event act.Claim words
+plain_event word.Take words = act_event act.Take words
+plain_event word.Post words = act_event act.Post words
+plain_event word.Release words = act_event act.Release words
+plain_event word.Idle words = act_event act.Expire words
+plain_event word.Close words = act_event act.Close words
+plain_event word.Retire words = act_event act.Retire words
+plain_event word.Free words = act_event act.Free words
+plain_event _ words = None
 
--- a slot, a side, and the bytes that arrive there
 abbrev pub arrival : List (List ℕ) → Option Said
 arrival = word_then slot_of (λ slot. word_then side_named (λ side. word_then bytes_of (λ bytes. if_last (Arrives slot side bytes))))
 
 -- an event that carries no list is said as it stands
-abbrev pub event_of_words : List (List ℕ) → Option Said
-event_of_words [] = None
-event_of_words (name ∷ words) =
-    if bytes_eq name (codes "arrive") then arrival words
-    else if bytes_eq name (codes "poll") then option_map Polls (names_of words)
-    else option_map said_of (plain_event name words)
+abbrev pub event_by : Word → List (List ℕ) → Option Said
+event_by word.Arrive words = arrival words
+event_by word.Poll words = option_map Polls (names_of words)
+event_by first words = option_map said_of (plain_event first words)
 
--- the event that a line says
 abbrev pub event_of : List ℕ → Option Said
-event_of line = event_of_words (words_of line)
+event_of line = word_then word_named event_by (words_of line)
 
 -- The steps of a script of one direction, and the lines that say them.
 
--- the steps that carry no bytes
-abbrev pub plain_step : List ℕ → List (List ℕ) → Option Step
-plain_step name words =
-    if bytes_eq name (codes "fin") then if_last step.Fin words
-    else if bytes_eq name (codes "room") then if_last step.Room words
-    else if bytes_eq name (codes "read") then word_then number_of (λ n. if_last (step.Read n)) words
-    else if bytes_eq name (codes "end") then if_last step.End words
-    else if bytes_eq name (codes "wrote") then word_then number_of (λ n left. option_map (λ full. step.Wrote n full) (full_of left)) words
-    else if bytes_eq name (codes "shut") then if_last step.Shut words
-    else None
+abbrev pub step_by : Word → List (List ℕ) → Option Step
+step_by word.Arrive words = word_then bytes_of (λ bytes. if_last (step.Arrive bytes)) words
+step_by word.Fin words = if_last step.Fin words
+step_by word.Room words = if_last step.Room words
+step_by word.Read words = word_then number_of (λ n. if_last (step.Read n)) words
+step_by word.End words = if_last step.End words
+step_by word.Wrote words = word_then number_of (λ n left. option_map (λ full. step.Wrote n full) (full_of left)) words
+step_by word.Shut words = if_last step.Shut words
+step_by _ words = None
 
-abbrev pub arrive_step : List (List ℕ) → Option Step
-arrive_step words = word_then bytes_of (λ bytes. if_last (step.Arrive bytes)) words
-
-abbrev pub step_of_words : List (List ℕ) → Option Step
-step_of_words [] = None
-step_of_words (name ∷ words) =
-    if bytes_eq name (codes "arrive") then arrive_step words
-    else plain_step name words
-
--- the step that a line says
 abbrev pub step_of : List ℕ → Option Step
-step_of line = step_of_words (words_of line)
+step_of line = word_then word_named step_by (words_of line)
 
--- the first word of a step
 abbrev pub word_of : Step → Word
 word_of (step.Arrive bytes) = word.Arrive
 word_of step.Fin = word.Fin

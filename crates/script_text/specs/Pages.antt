@@ -3,7 +3,7 @@ use Rattle.std.specs.{Prelude.{◌≡◌, ℕ, List, [], ◌∷◌, ◌++◌, co
 use Rattle.hex.specs.Hex.{encode_lower}
 use Rattle.kernel_model.specs.Ends.{is_nonempty}
 use Rattle.script_text.specs.declared.page.Piece.{Piece, TheVariants.{Text, Number, Named, Bytes}}
-use Rattle.token.specs.{declared.name.Name.Name, Names.EndName, Sides.side_name}
+use Rattle.token.specs.{declared.name.Name.Name, Sides.side_name}
 use Rattle.world.specs.declared.actors.Ticket.{Ticket}
 use Rattle.token.specs.declared.name.Name.TheVariants as name
 
@@ -36,13 +36,10 @@ Adds old new bytes = IfSome new (λ text. option_map (λ before. before ++ bytes
 abbrev pub spaced : {X : Type 0} → (X → List ℕ) → List X → List ℕ
 spaced text xs = flat_map (λ x. codes " " ++ text x) xs
 
-abbrev pub end_text : EndName → List ℕ
-end_text n = decimal n.slot ++ (codes "." ++ (decimal n.generation ++ (codes "." ++ side_name n.side)))
-
 abbrev pub name_text : Name → List ℕ
 name_text name.Listener = codes "listener"
 name_text name.Waker = codes "waker"
-name_text (name.End n) = end_text n
+name_text (name.End n) = decimal n.slot ++ (codes "." ++ (decimal n.generation ++ (codes "." ++ side_name n.side)))
 
 abbrev pub ticket_text : Ticket → List ℕ
 ticket_text t = decimal t.slot ++ (codes "." ++ decimal t.generation)
@@ -53,7 +50,7 @@ abbrev pub yes_or_no : Bool → List ℕ
 yes_or_no is_so = if is_so then codes "yes" else codes "no"
 
 -- what is written of one direction after the bytes that were sent, and a lead: the bytes in the ring, those that wait
--- unread; whether the end was read, and whether it was passed on
+-- unread, whether the end was read, and whether it was passed on
 abbrev pub stream_text : List ℕ → List ℕ → Bool → Bool → List ℕ
 stream_text ring unread ended shut =
     codes " ring=" ++ (shown_bytes ring

@@ -1,9 +1,8 @@
 //! The lines of a report that an event changes.
 
-use crate::page::{Page, Piece};
+use crate::page::{Page, Piece, put_all};
 use crate::report::{
-    put_past, put_place, put_queue_lines, put_rest_line, put_standing, put_way, put_worker, taken,
-    unread,
+    put_place, put_queue_lines, put_rest_line, put_standing, put_way, put_worker, taken, unread,
 };
 use std::alloc::{AllocError, Global};
 use token::{Direction, Name};
@@ -15,7 +14,7 @@ use world::{Doing, Event, Polling, Reported, Slot, World};
 pub struct Outline {
     worker: usize,
     slot: usize,
-    /// The lines of the queues, of the worker and of the slot.
+    /// Of the queues, the worker and the slot.
     lines: String,
     up: Way,
     down: Way,
@@ -60,12 +59,12 @@ impl Outline {
         self.put_way(&mut page, world, self.up, Direction::Up);
         self.put_way(&mut page, world, self.down, Direction::Down);
         if let Some(past) = world.past().get(self.past..) {
-            put_past(&mut page, past);
+            put_all(&mut page, past);
         }
         page.finish()
     }
 
-    /// Adds the line of one direction, if it was another one before.
+    /// Adds the line of one direction if it has changed.
     fn put_way(&self, page: &mut Page, world: &World, before: Way, direction: Direction) {
         if let Some(connection) = world.connection(self.slot) {
             if way(world, self.slot, direction) != before {

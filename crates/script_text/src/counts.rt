@@ -1,10 +1,7 @@
-//! How many events of each kind have happened.
-
 use crate::event_line::kind_of;
 use crate::page::{Page, Piece};
 use world::Event;
 
-/// How many kinds are counted.
 const KINDS: usize = 39;
 
 /// The kinds, in the order in which they are printed.

@@ -1,13 +1,13 @@
 //! The header of a world's script, and the line of an event, as the readers of this crate read them. No clause says
 //! what they are: tests have `sim` read what is written of a drill or of a recording.
 
-use crate::page::{Page, Piece, put_names};
+use crate::page::{Page, Piece, put_all};
 use crate::word::word_of;
 use kernel_model::{Accepting, Reply};
 use token::Side;
 use world::{Act, Change, Event, Limits, Listening, Polling, Reported};
 
-/// Adds the header of a world with these limits, with its end.
+/// Adds the header of a world with these limits, and its end.
 pub fn put_header(page: &mut Page, limits: &Limits) {
     page.put(&[
         Piece::Named("world slots=", limits.slots as u64),
@@ -34,7 +34,7 @@ pub fn put_event(page: &mut Page, event: &Event) {
         Event::Network(slot, side, change) => put_change(page, *slot, *side, change),
         Event::Spurious(who) | Event::Vanish(who) => put_reported(page, *who),
         Event::Listen(Listening::Accept(answer)) => put_word(page, accepting_word(*answer)),
-        Event::Poll(Polling::Poll(names)) => put_names(page, names.as_slice()),
+        Event::Poll(Polling::Poll(names)) => put_all(page, names.as_slice()),
         Event::Poll(Polling::Sweep(slot)) => put_number(page, *slot as u64),
         Event::Poll(Polling::Put) => put_word(page, "poller"),
         Event::Listen(_) | Event::Poll(_) => {}
@@ -71,7 +71,6 @@ fn put_reported(page: &mut Page, who: Reported) {
     }
 }
 
-/// What a worker's call gave.
 fn put_call(page: &mut Page, worker: usize, reply: Reply) {
     put_number(page, worker as u64);
     put_word(page, reply_word(reply));

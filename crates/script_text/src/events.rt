@@ -1,6 +1,6 @@
 // The events in a script of a world.
 ghost use Rattle.std.specs.Prelude.{◌≡◌, ◌≤◌, nat_lt, ◌∷◌, [], None, Err, if◌then◌else◌, option_map};
-ghost use Rattle.script_text.specs.{Events.{word_text, said_of, slot_of, accepting_of, change_event, put_event, call_event, act_event, plain_event, arrival, event_of, generation_of, end_of, name_of, are_names, names_of, reply_of, reported_of}, Texts.{number_of, word_then, if_last, Reads, ReadsBy, full_of}};
+ghost use Rattle.script_text.specs.{Events.{said_of, slot_of, accepting_of, change_event, put_event, call_event, act_event, plain_event, arrival, event_of, generation_of, end_of, name_of, are_names, names_of, reply_of, reported_of}, Texts.{number_of, word_then, if_last, Reads, ReadsBy, full_of}};
 ghost use Rattle.token.specs.Kinds.{kind_named};
 
 use crate::Word;
@@ -18,8 +18,9 @@ use world::{Act, Change, Event, Listening, Polling, Reported};
 const EVENTS: &str =
     "not a step of a world; one of accept, arrive, call, claim, close, connect, deliver, drop, fin, free, idle, open, poll, pop, post, put, release, reset, retire, room, spurious, sweep, take, tick and vanish is wanted";
 
-/// The event that a line of a world's script stands for, or what is wrong with it: the first such word from the left.
-/// If memory ran out for the list that an event has, that is returned instead.
+/// The event that a line of a world's script stands for, or the first word from the left that is wrong; or that memory
+/// ran out for the list that an event has.
+#[tactic(auto, using(crate::proofs::FirstWords::plain_event_of))]
 pub fn read_event<'a>(alloc: Global, line: &'a [u8]) -> Result<Event, NotRead<'a>>
     ensures { ReadsBy said_of (event_of line.now) result }
 {
@@ -41,9 +42,8 @@ fn arrive<'a>(alloc: Global, mut words: Pieces<'a>) -> Result<Event, NotRead<'a>
     Ok(Event::Network(slot, side, Change::Arrive(bytes.into_vec())))
 }
 
-/// An event that carries no list.
 fn plain_event(first: Word, words: Pieces<'_>) -> Result<Event, Wrong<'_>>
-    ensures { Reads (plain_event (word_text first) words.entry) result }
+    ensures { Reads (plain_event first words.entry) result }
 {
     match first {
         Word::Tick => tick(words),
@@ -82,7 +82,6 @@ fn tick(mut words: Pieces<'_>) -> Result<Event, Wrong<'_>>
     last(Event::Tick(seconds as u64), words)
 }
 
-/// What accept(2) gives.
 fn accept(mut words: Pieces<'_>) -> Result<Event, Wrong<'_>>
     ensures { Reads (word_then accepting_of (λ answer. if_last (Event.Listen (Listening.Accept answer))) words.entry) result }
 {
@@ -154,7 +153,6 @@ fn work(act: Act, mut words: Pieces<'_>) -> Result<Event, Wrong<'_>>
     last(Event::Work(worker, act), words)
 }
 
-/// The generation in a name, 1 to 2^47 - 1.
 fn generation_said(word: &[u8]) -> Option<u64>
     ensures { result ≡ generation_of word.now }
 {
@@ -170,15 +168,9 @@ fn generation_said(word: &[u8]) -> Option<u64>
 fn end(mut parts: Pieces) -> Option<Name>
     ensures { result ≡ end_of parts.entry }
 {
-    let Some(slot) = parts.next() else {
-        return None;
-    };
-    let Some(generation) = parts.next() else {
-        return None;
-    };
-    let Some(side) = parts.next() else {
-        return None;
-    };
+    let slot = parts.next()?;
+    let generation = parts.next()?;
+    let side = parts.next()?;
     match parts.next() {
         Some(_) => None,
         None => end_named(slot, generation, side),
@@ -189,15 +181,9 @@ fn end(mut parts: Pieces) -> Option<Name>
 fn end_named(slot: &[u8], generation: &[u8], side: &[u8]) -> Option<Name>
     ensures { result ≡ end_of (slot.now ∷ generation.now ∷ side.now ∷ []) }
 {
-    let Some(slot) = number_below(MAX_SLOTS, slot) else {
-        return None;
-    };
-    let Some(generation) = generation_said(generation) else {
-        return None;
-    };
-    let Some(side) = Side::named(side) else {
-        return None;
-    };
+    let slot = number_below(MAX_SLOTS, slot)?;
+    let generation = generation_said(generation)?;
+    let side = Side::named(side)?;
     match Token::pack(slot, side, generation) {
         Ok(token) => Some(Name::End(token)),
         Err(_) => None,
@@ -218,7 +204,7 @@ fn name(word: &[u8]) -> Option<Name>
 }
 
 /// The names of a poll, at most 256.
-pub(crate) fn names<'a>(alloc: Global, mut words: Pieces<'a>) -> Result<Vec<Name>, NotRead<'a>>
+fn names<'a>(alloc: Global, mut words: Pieces<'a>) -> Result<Vec<Name>, NotRead<'a>>
     ensures { ReadsBy (λ names. names.items) (names_of words.entry) result }
 {
     let mut names = Vec::new(alloc);
@@ -251,8 +237,7 @@ fn not_a_name<'a>(count: usize, word: &'a [u8]) -> Wrong<'a> {
     }
 }
 
-/// Why a poll is not read if there was no memory for its names: still the first malformed word after the first `count`,
-/// if there is one.
+/// Why a poll is not read if there was no memory for its names: still the first malformed word after the first `count`.
 fn lacking<'a>(error: AllocError, count: usize, words: Pieces<'a>) -> NotRead<'a>
     requires { count ≤ 256 }
     ensures { ReadsBy (λ all. all) (are_names count words.entry) (Err result) }
@@ -277,8 +262,8 @@ fn are_names<'a>(mut count: usize, mut words: Pieces<'a>) -> Result<(), Wrong<'a
     Ok(())
 }
 
-/// What a report without cause is about: `listener`, `waker`, or a slot and a side.
-pub(crate) fn reported(mut words: Pieces<'_>) -> Result<Reported, Wrong<'_>>
+/// What a report without cause is about.
+fn reported(mut words: Pieces<'_>) -> Result<Reported, Wrong<'_>>
     ensures { Reads (reported_of words.entry) result }
 {
     let wanted = "listener, waker or the number of a slot, 0 to 63, is wanted";
@@ -295,7 +280,7 @@ pub(crate) fn reported(mut words: Pieces<'_>) -> Result<Reported, Wrong<'_>>
 }
 
 /// The answer to a call.
-pub(crate) fn reply(mut words: Pieces<'_>) -> Result<Reply, Wrong<'_>>
+fn reply(mut words: Pieces<'_>) -> Result<Reply, Wrong<'_>>
     ensures { Reads (reply_of words.entry) result }
 {
     let wanted = "one of blocked, end, failed, interrupted, joined, read, shut and wrote is wanted";

@@ -22,8 +22,7 @@ pub enum Header {
     World(Limits),
 }
 
-/// The header that a line stands for, or what is wrong with it: the first such word from the left. Allocates no
-/// memory.
+/// The header that a line stands for, or what is wrong with it: the first such word from the left.
 pub fn read_header(line: &[u8]) -> Result<Header, Wrong<'_>>
     ensures value { Reads (header_of line.now) result }
     ensures range { IfOk result IsWithin }
@@ -52,8 +51,7 @@ fn lone_ring(mut words: Pieces<'_>) -> Result<usize, Wrong<'_>>
     last(ring, words)
 }
 
-/// The sizes of a world: `slots=S workers=W ring=R budget=B`, perhaps `gen=G`, perhaps `idle=L`, and perhaps
-/// `lead=HEX`.
+/// The sizes of a world: `slots=S workers=W ring=R budget=B`, and what may stand after them.
 fn limits(mut words: Pieces<'_>) -> Result<Limits, Wrong<'_>>
     ensures value { Reads (limits_of words.entry) result }
     ensures range { IfOk result IsWithinLimits }
@@ -89,7 +87,7 @@ fn limits(mut words: Pieces<'_>) -> Result<Limits, Wrong<'_>>
     with_extras(sizes, words)
 }
 
-/// Sizes with what stands after them: `gen=G`, `idle=L` and `lead=HEX` in this order, each of which may be left out.
+/// `gen=G`, `idle=L` and `lead=HEX` in this order, each of which may be left out.
 fn with_extras(sizes: Limits, mut words: Pieces<'_>) -> Result<Limits, Wrong<'_>>
     requires { IsWithinLimits sizes }
     ensures value { Reads (with_extras sizes words.entry) result }
@@ -107,7 +105,7 @@ fn with_extras(sizes: Limits, mut words: Pieces<'_>) -> Result<Limits, Wrong<'_>
     })
 }
 
-/// What may stand after these parts, for a person.
+/// What may stand after these parts.
 fn behind(generation: Option<u64>, idle: Option<u64>, has_lead: bool) -> &'static str {
     if has_lead {
         "the line should end before this word"
@@ -120,7 +118,7 @@ fn behind(generation: Option<u64>, idle: Option<u64>, has_lead: bool) -> &'stati
     }
 }
 
-/// The generation that `gen=G` says as the first word, 0 to 2^47 - 2; or none, and the word stays.
+/// The generation that `gen=G` says as the first word; or none, and the word stays.
 fn generation(words: &mut Pieces<'_>) -> Option<u64>
     ensures value { optional generation_of 0 words.old ≡ record { value = unwrap_or result 0; words = words.new } }
     ensures range { IfSome result (λ generation. generation < last_generation) }
@@ -133,7 +131,7 @@ fn generation(words: &mut Pieces<'_>) -> Option<u64>
     Some(generation as u64)
 }
 
-/// The idle limit that `idle=L` says as the first word, 1 to 86,400 seconds; or none, and the word stays.
+/// The same of `idle=L`, in seconds.
 fn idle(words: &mut Pieces<'_>) -> Option<u64>
     ensures { optional idle_of 0 words.old ≡ record { value = unwrap_or result 0; words = words.new } }
 {
@@ -142,7 +140,7 @@ fn idle(words: &mut Pieces<'_>) -> Option<u64>
     Some(idle as u64)
 }
 
-/// The lead that `lead=HEX` says as the first word, 1 to 107 bytes; or none, and the word stays.
+/// The same of `lead=HEX`.
 fn lead(words: &mut Pieces<'_>) -> Option<Lead>
     ensures { optional lead_of [] words.old ≡ record { value = unwrap_or result []; words = words.new } }
 {
@@ -151,7 +149,6 @@ fn lead(words: &mut Pieces<'_>) -> Option<Lead>
     Some(lead)
 }
 
-/// `ring=R`, 1 to 65,536 bytes.
 fn ring<'a>(words: &mut Pieces<'a>) -> Result<usize, Wrong<'a>>
     ensures value { Takes (first_as ring_of words.old) result words.new }
     ensures range { IfOk result IsRing }

@@ -1,4 +1,3 @@
-//! The lines of a text.
 ghost use Rattle.std.specs.Prelude.{◌≡◌, ◌∷◌, ◌+◌, ◌<◌, ◌^◌, [], length, MatchOption};
 ghost use Rattle.script_text.specs.Texts.{lines_of, says_nothing, telling_lines};
 
@@ -8,7 +7,7 @@ use std::marker::Model;
 /// A line that is not skipped.
 #[derive(Clone, Copy)]
 pub struct Line<'a> {
-    /// Its number in the text, from 1.
+    /// From 1.
     pub number: u64,
     /// Its bytes, without the line feed.
     pub text: &'a [u8],

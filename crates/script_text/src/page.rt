@@ -1,6 +1,5 @@
-//! Text that is written piece by piece.
-ghost use Rattle.std.specs.{Prelude.{◌≡◌, [], Some, None, IfOk, string_bytes, ◌++◌, codes, if◌then◌else◌}, Fmt.decimal};
-ghost use Rattle.script_text.specs.Pages.{Adds, piece_text, pieces_text, name_text, ticket_text, spaced, stream_text, yes_or_no};
+ghost use Rattle.std.specs.{Prelude.{◌≡◌, [], Some, None, IfOk, string_bytes, if◌then◌else◌, flat_map}, Fmt.decimal};
+ghost use Rattle.script_text.specs.Pages.{Adds, piece_text, pieces_text, stream_text, yes_or_no};
 
 use std::alloc::{AllocError, Global};
 use std::marker::Model;
@@ -13,7 +12,7 @@ pub enum Piece<'a> {
     Text(&'a str),
     /// A number in decimal digits.
     Number(u64),
-    /// The name of a number, and the number right after it.
+    /// A text, and a number right after it.
     Named(&'a str, u64),
     /// Bytes in lower-case hexadecimal, `-` for none.
     Bytes(&'a [u8]),
@@ -24,7 +23,6 @@ pub enum Piece<'a> {
 pub struct Page {
     alloc: Global,
     text: String,
-    /// The allocator's error, once memory ran out.
     lost: Option<AllocError>,
 }
 
@@ -37,7 +35,7 @@ impl Model for Page {
 }
 
 impl Page {
-    /// An empty text. Allocates no memory.
+    /// An empty text.
     pub fn new(alloc: Global) -> Page
         ensures { result ≡ Some [] }
     {
@@ -97,53 +95,72 @@ impl Page {
     }
 }
 
-/// Adds names as a poll has them, each with a space in front.
-pub fn put_names(page: &mut Page, names: &[Name])
-    ensures { Adds page.old page.new (spaced name_text names.now) }
+/// What is written in a list, one after the other.
+pub(crate) trait Listed {
+    ghost use Rattle.std.specs.Prelude.{ℕ, List};
+    ghost use Rattle.script_text.specs.Pages.{Adds};
+
+    ghost text: { Self → List ℕ };
+
+    fn put(&self, page: &mut Page)
+        ensures { Adds page.old page.new (Self.text self.now) };
+}
+
+/// Adds all of a list.
+pub(crate) fn put_all<T: Listed>(page: &mut Page, items: &[T])
+    ensures { Adds page.old page.new (flat_map T.text items.now) }
 {
-    for name in names {
-        put_name(page, name);
+    for item in items {
+        item.put(page);
     }
 }
 
-fn put_name(page: &mut Page, name: &Name)
-    ensures { Adds page.old page.new (codes " " ++ name_text name.now) }
-{
-    match *name {
-        Name::Listener => page.put(&[Piece::Text(" listener")]),
-        Name::Waker => page.put(&[Piece::Text(" waker")]),
-        Name::End(token) => page.put(&[
-            Piece::Named(" ", token.slot() as u64),
-            Piece::Named(".", token.generation()),
-            Piece::Text("."),
-            Piece::Text(token.side().name()),
-        ]),
+/// As a poll has it, with a space in front.
+impl Listed for Name {
+    ghost use Rattle.std.specs.Prelude.{◌++◌, codes};
+    ghost use Rattle.script_text.specs.Pages.{name_text};
+
+    ghost text = { λ name. codes " " ++ name_text name };
+
+    fn put(&self, page: &mut Page) {
+        match *self {
+            Name::Listener => page.put(&[Piece::Text(" listener")]),
+            Name::Waker => page.put(&[Piece::Text(" waker")]),
+            Name::End(token) => page.put(&[
+                Piece::Named(" ", token.slot() as u64),
+                Piece::Named(".", token.generation()),
+                Piece::Text("."),
+                Piece::Text(token.side().name()),
+            ]),
+        }
     }
 }
 
-/// Adds tickets, each with a space in front.
-pub(crate) fn put_tickets(page: &mut Page, tickets: &[Ticket])
-    ensures { Adds page.old page.new (spaced ticket_text tickets.now) }
-{
-    for ticket in tickets {
+impl Listed for Ticket {
+    ghost use Rattle.std.specs.Prelude.{◌++◌, codes};
+    ghost use Rattle.script_text.specs.Pages.{ticket_text};
+
+    ghost text = { λ ticket. codes " " ++ ticket_text ticket };
+
+    fn put(&self, page: &mut Page) {
         page.put(&[
-            Piece::Named(" ", ticket.slot as u64),
-            Piece::Named(".", ticket.generation),
+            Piece::Named(" ", self.slot as u64),
+            Piece::Named(".", self.generation),
         ]);
     }
 }
 
-/// Adds numbers, each with a space in front.
-pub(crate) fn put_numbers(page: &mut Page, numbers: &[usize])
-    ensures { Adds page.old page.new (spaced decimal numbers.now) }
-{
-    for number in numbers {
-        page.put(&[Piece::Named(" ", *number as u64)]);
+impl Listed for usize {
+    ghost use Rattle.std.specs.{Prelude.{◌++◌, codes}, Fmt.decimal};
+
+    ghost text = { λ number. codes " " ++ decimal number };
+
+    fn put(&self, page: &mut Page) {
+        page.put(&[Piece::Named(" ", *self as u64)]);
     }
 }
 
-/// Adds what is written of one direction after the bytes that were sent, and a lead: the bytes in the ring, those that
-/// wait unread; whether the end was read, and whether it was passed on.
+/// Adds what is written of one direction after the bytes that were sent, and a lead.
 pub fn put_stream<'a>(page: &mut Page, ring: &'a [u8], unread: &'a [u8], ended: bool, shut: bool)
     ensures { Adds page.old page.new (stream_text ring.now unread.now ended shut) }
 {

@@ -1,17 +1,15 @@
-//! What reads the next word of a line, or says what is wrong with it. The numbers in the texts are those of the limits;
-//! a row of `tests/program/causes` tries each text with the last word that is taken and the first that is not. A ring's
-//! limit is [`Flow::MAX`](flow::Flow::MAX), a lead's [`Flow::MAX_LEAD`](flow::Flow::MAX_LEAD), a generation's
-//! `token::MAX_GENERATION`, and a poll's `kernel_model::MAX_POLLED`.
+//! What reads the next word of a line, or says what is wrong with it. The numbers in the texts are those of the limits:
+//! a row of `tests/program/causes` tries each text with the last word that is taken and the first that is not.
 ghost use Rattle.std.specs.{Prelude.{◌≡◌, ◌∷◌, [], MatchResult, IfOk, IfErr, IsSome}, List.list_all};
 ghost use Rattle.token.specs.Sides.{side_named};
-ghost use Rattle.script_text.specs.{Events.{word_text, BeginsOtherwise, slot_of, worker_of}, Texts.{number_of, bytes_of, first_as, word_then, line_end, if_last, full_of, Reads, ReadsBy, Takes, number_below, value_after, is_lower_hex, is_hex_text}};
+ghost use Rattle.script_text.specs.{Events.{word_named, slot_of, worker_of}, Texts.{number_of, bytes_of, first_as, word_then, line_end, if_last, full_of, Reads, ReadsBy, Takes, number_below, value_after, is_lower_hex, is_hex_text}};
 
 use crate::{Bytes, Word};
 use input::{Pieces, is, is_digit, number};
 use std::alloc::{AllocError, Global};
 use token::Side;
 
-/// The most slots of a world.
+/// Of a world: the most slots, workers, calls of one turn, and seconds of an idle limit.
 pub(crate) const MAX_SLOTS: usize = 64;
 
 /// The most workers of a world.
@@ -41,7 +39,7 @@ pub(crate) fn first_word<'a>(
     words: &mut Pieces<'a>,
     wanted: &'static str,
 ) -> Result<Word, Wrong<'a>>
-    ensures { MatchResult result (λ first. words.old ≡ word_text first ∷ words.new) (λ _. BeginsOtherwise words.old) }
+    ensures { Takes (first_as word_named words.old) result words.new }
 {
     let name = word(words, wanted)?;
     match Word::named(name) {
@@ -121,7 +119,7 @@ pub(crate) fn count<'a>(words: &mut Pieces<'a>) -> Result<usize, Wrong<'a>>
     said(number(word), word, wanted)
 }
 
-/// Bytes in hexadecimal, after which the line ends. A line that goes on is malformed, even if there is no memory.
+/// Bytes, after which the line ends. A line that goes on is malformed, even if there is no memory.
 pub(crate) fn last_bytes<'a>(alloc: Global, mut words: Pieces<'a>) -> Result<Bytes, NotRead<'a>>
     ensures { ReadsBy (λ bytes. bytes) (word_then bytes_of if_last words.entry) result }
 {
@@ -157,7 +155,7 @@ pub struct Wrong<'a> {
     pub word: Option<&'a [u8]>,
     /// Whether it is the line's first word, with which no line of this kind begins.
     pub is_first: bool,
-    /// What is expected in its place, as a person reads it.
+    /// What is expected in its place, for a person.
     pub wanted: &'static str,
 }
 
@@ -166,7 +164,7 @@ pub struct Wrong<'a> {
 pub enum NotRead<'a> {
     /// This word is wrong.
     Malformed(Wrong<'a>),
-    /// Memory ran out, so that the line may be right.
+    /// The line may be right.
     NoMemory,
 }
 
@@ -234,8 +232,7 @@ pub(crate) fn value_after(key: &[u8], word: &[u8]) -> Option<usize>
     number(word.strip_prefix(key)?)
 }
 
-/// The bytes that a text stands for in lower-case hexadecimal, 1 to 1,024 of them. Memory is asked for only if it
-/// stands for some.
+/// The bytes that a text stands for in lower-case hexadecimal, 1 to 1,024 of them; only for these is memory asked for.
 pub(crate) fn bytes(alloc: Global, text: &[u8]) -> Result<Option<Bytes>, AllocError>
     ensures value { IfOk result (λ bytes. bytes ≡ bytes_of text.now) }
     ensures memory { IfErr result (λ _. IsSome (bytes_of text.now)) }
@@ -259,14 +256,12 @@ pub(crate) fn is_hex_text(text: &[u8]) -> bool
     0 < text.len() && text.len() <= MAX_DIGITS && is_all_lower_hex(text)
 }
 
-/// Whether each byte is a lower-case hexadecimal digit.
 fn is_all_lower_hex(text: &[u8]) -> bool
     ensures { result ≡ list_all is_lower_hex text.now }
 {
     text.iter().all(|byte| is_lower_hex(*byte))
 }
 
-/// Whether a byte is a lower-case hexadecimal digit.
 fn is_lower_hex(byte: u8) -> bool
     ensures { result ≡ is_lower_hex byte }
 {

@@ -1,5 +1,4 @@
-//! Why an event is not allowed at that point, by the world before it. If more than one reason holds, the first is
-//! given.
+//! Why an event is not allowed, by the world before it: the first reason that holds.
 
 use kernel_model::{Accepting, End, Kernel, MAX_BACKLOG, Open, Reply};
 use relay_core::{Call, Pair, Verdict};
@@ -8,7 +7,7 @@ use world::{
     Act, Change, Connection, Doing, Event, Listening, Polling, Reported, Slot, Worker, World,
 };
 
-/// What is said if no more specific reason is known.
+/// What is said if no other reason is known.
 pub const NOT_HERE: &str = "it is not possible in this state";
 
 const BROKEN: &str = "an error has come to the socket";
@@ -50,7 +49,7 @@ pub fn end_reason(end: &End) -> &'static str {
     }
 }
 
-/// Why a write of what is left of a lead, or if that is nothing, of a ring, does not take this many bytes.
+/// Why a write of what is left of a lead, or else of a ring, does not take this many bytes.
 pub fn wrote_reason(end: &End, lead: usize, ring: usize, count: usize) -> &'static str {
     match count {
         _ if !end.has_room() => "the socket has no room",
@@ -79,7 +78,7 @@ const READABLE: &str = "the socket is readable";
 
 const WRITABLE: &str = "the socket is writable";
 
-/// Why an event is not allowed in a world, for a person. No clause says it: rows of scripts that are refused show it.
+/// Why an event is not allowed in a world, for a person. Only rows of scripts that are refused show it.
 pub fn event_reason(world: &World, event: &Event) -> &'static str {
     match event {
         Event::Tick(seconds) => tick_reason(world, *seconds),
@@ -96,12 +95,10 @@ pub fn event_reason(world: &World, event: &Event) -> &'static str {
     }
 }
 
-/// Whether no connection can be idle for too long.
 fn is_unlimited(world: &World) -> bool {
     world.limits().idle == 0
 }
 
-/// Why that many seconds do not pass.
 fn tick_reason(world: &World, seconds: u64) -> &'static str {
     match seconds {
         _ if is_unlimited(world) => UNLIMITED,
@@ -131,7 +128,6 @@ fn vacant_reason(world: &World, slot: usize) -> &'static str {
     }
 }
 
-/// One end of the connection in a slot.
 fn end_at(world: &World, slot: usize, side: Side) -> Option<&Open> {
     let connection = world.connection(slot)?;
     world.kernel().end(connection.descriptor(side))
@@ -197,7 +193,6 @@ fn poll_reason(world: &World, polling: &Polling) -> &'static str {
     }
 }
 
-/// Why a poll does not give these names.
 fn names_reason(kernel: &Kernel, names: &[Name]) -> &'static str {
     for name in names {
         if !kernel.is_queued(name) {

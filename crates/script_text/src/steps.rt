@@ -1,6 +1,6 @@
 // The steps in a script of one direction.
-ghost use Rattle.std.specs.Prelude.{◌≡◌, option_map};
-ghost use Rattle.script_text.specs.{Events.{word_of, word_text, plain_step, arrive_step, step_of}, Texts.{number_of, word_then, if_last, full_of, Reads, ReadsBy}};
+ghost use Rattle.std.specs.Prelude.{◌≡◌, ◌≢◌, option_map};
+ghost use Rattle.script_text.specs.{Events.{word_of, step_by, step_of}, Texts.{number_of, word_then, if_last, full_of, Reads, ReadsBy}};
 
 use crate::Word;
 use crate::readers::{NotRead, Wrong, count, first_word, is_full, last, last_bytes};
@@ -24,7 +24,7 @@ impl Model for Bytes {
 }
 
 impl Bytes {
-    /// Takes these bytes. Allocates no memory.
+    /// Takes no memory, nor does [`Bytes::into_vec`].
     pub fn new(bytes: Vec<u8>) -> Bytes
         ensures { result ≡ bytes.items }
     {
@@ -65,7 +65,7 @@ pub enum Step {
     Shut,
 }
 
-/// A step, and its line number in the text, from 1.
+/// A step, and the number of its line in the text, from 1; skipped lines count.
 #[derive(Drop)]
 pub struct NumberedStep {
     /// The line number; skipped lines count.
@@ -74,7 +74,7 @@ pub struct NumberedStep {
     pub step: Step,
 }
 
-/// An event of a world, and its line number in the text, from 1.
+/// The same of an event of a world.
 #[derive(Drop)]
 pub struct NumberedEvent {
     /// The line number; skipped lines count.
@@ -104,8 +104,8 @@ impl Step {
 const STEPS: &str =
     "not a step of a flow; one of arrive, end, fin, read, room, shut and wrote is wanted";
 
-/// The step that a line of a script of one direction stands for, or what is wrong with it: the first such word from the
-/// left. If memory ran out for the bytes that a step brings, that is returned instead.
+/// The step that a line of a script of one direction stands for, or the first word from the left that is wrong; or that
+/// memory ran out for the bytes that a step brings.
 pub fn read_step<'a>(alloc: Global, line: &'a [u8]) -> Result<Step, NotRead<'a>>
     ensures { ReadsBy (λ step. step) (step_of line.now) result }
 {
@@ -118,7 +118,7 @@ pub fn read_step<'a>(alloc: Global, line: &'a [u8]) -> Result<Step, NotRead<'a>>
 }
 
 fn arrive<'a>(alloc: Global, words: Pieces<'a>) -> Result<Step, NotRead<'a>>
-    ensures { ReadsBy (λ step. step) (arrive_step words.entry) result }
+    ensures { ReadsBy (λ step. step) (step_by Word.Arrive words.entry) result }
 {
     Ok(Step::Arrive(last_bytes(alloc, words)?))
 }
@@ -126,7 +126,8 @@ fn arrive<'a>(alloc: Global, words: Pieces<'a>) -> Result<Step, NotRead<'a>>
 /// A step that carries no bytes.
 #[tactic(auto, using(crate::proofs::FirstWords::other_step))]
 fn plain_step(first: Word, words: Pieces<'_>) -> Result<Step, Wrong<'_>>
-    ensures { Reads (plain_step (word_text first) words.entry) result }
+    requires { first ≢ Word.Arrive }
+    ensures { Reads (step_by first words.entry) result }
 {
     match first {
         Word::Fin => last(Step::Fin, words),

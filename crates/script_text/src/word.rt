@@ -1,5 +1,5 @@
-ghost use Rattle.std.specs.{Prelude.{◌≡◌, false, IfSome, IfNone}, Str.bytes_eq};
-ghost use Rattle.script_text.specs.{Events.{word_text, event_word}, declared.word.Word.Word};
+ghost use Rattle.std.specs.Prelude.{◌≡◌};
+ghost use Rattle.script_text.specs.Events.{word_text, word_named, event_word};
 
 use std::fmt;
 use world::{Act, Change, Event, Listening, Polling};
@@ -38,7 +38,7 @@ pub enum Word {
     Wrote,
 }
 
-/// All words, in the order of the variants, and how each is written in a script.
+/// Each word at its place, and how it is written.
 static WORDS: [(Word, &str); 29] = [
     (Word::Accept, "accept"),
     (Word::Arrive, "arrive"),
@@ -74,8 +74,7 @@ static WORDS: [(Word, &str); 29] = [
 impl Word {
     /// The word that a text is, if it is one.
     pub(crate) fn named(text: &[u8]) -> Option<Word>
-        ensures some { IfSome result (λ word. text.now ≡ word_text word) }
-        ensures none { IfNone result ((word : Word) → bytes_eq text.now (word_text word) ≡ false) }
+        ensures { result ≡ word_named text.now }
     {
         for (word, _) in &WORDS {
             if text == word.text().as_bytes() {

@@ -22,7 +22,7 @@ pub record HasBegun (slots : ℕ) (opens : Opening) (p : PollerState) : Type 0 w
   pub episodes : p.episodes ≡ no_episodes
 
 -- The pollers, as the settings say: one for each part of the slots, in order, which has opened nothing yet and has its
--- share of what may be opened; and of the fronts, in this order, each has what it reported and whether it failed
+-- share of what may be opened; and in this order what each front reported and whether it failed
 pub record PollersBegin (settings : Settings) (split : Split) (reports : List (List ℕ)) (failures : List Bool)
     (pollers : List PollerState) : Type 0 where
   pub parts : map (λ poller. poller.part) pollers ≡ each_part split.slots split.size (λ part. part)

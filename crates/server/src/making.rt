@@ -15,7 +15,7 @@ use std::alloc::{AllocError, Global};
 use std::sync::Wait;
 use threads::Server;
 
-/// How the slots of a server are dealt to its pollers, as the settings say.
+/// How the settings deal the slots of a server to its pollers.
 pub fn split_of(settings: &Settings) -> Split
     ensures slots { result.slots ≡ settings.now.slots }
     ensures pollers { parts_of result.slots result.size ≡ pollers_for settings.now.slots settings.now.workers }
@@ -81,13 +81,15 @@ fn frees_of(
     let pollers = split.pollers();
     let mut frees = Vec::with_capacity(alloc, pollers)?;
     for number in 0..pollers {
-        frees.push_reserved(free_of(rt, alloc, split, number, workers)?);
+        let part = split.part(number);
+        let ends = FreeQueue::new(rt, alloc, part.first, part.slots, workers + 1)?;
+        frees.push_reserved(ends);
     }
     Ok(frees)
 }
 
 /// A poller for each part of the slots, in order.
-#[tactic(auto, using(crate::proofs::Parts::one_more, crate::proofs::Parts::none_taken))]
+#[tactic(auto, using(crate::proofs::Parts::one_more))]
 fn pollers_of<F: Front + Drop>(
     alloc: Global,
     settings: &Settings,
@@ -110,25 +112,7 @@ fn pollers_of<F: Front + Drop>(
     Ok(pollers)
 }
 
-/// The ends of a poller's queue of free slots, which holds its part of the slots.
-fn free_of(
-    rt: &impl Wait,
-    alloc: Global,
-    split: Split,
-    number: usize,
-    workers: usize,
-) -> Result<Vec<FreeQueue>, AllocError>
-    requires number { number < parts_of split.slots split.size }
-    requires workers { workers ≤ 31 }
-    ensures { IfOk result (λ all. all.items ≡ filled (part_of split.slots split.size number).first
-        (part_of split.slots split.size number).slots
-        ∷ replicate workers (unused (part_of split.slots split.size number).slots)) }
-{
-    let part = split.part(number);
-    FreeQueue::new(rt, alloc, part.first, part.slots, workers + 1)
-}
-
-/// The poller with this number. It opens connections in its part of the slots, and no more than its share of all.
+/// It opens connections in its part of the slots, and no more than its share of all.
 fn poller_of<F: Front + Drop>(
     alloc: Global,
     settings: &Settings,
@@ -152,8 +136,7 @@ fn poller_of<F: Front + Drop>(
     Poller::new(alloc, front, settings.slots, part, opening, most)
 }
 
-/// How many connections the poller with this number may open, of the `stop_after` that the server may; with 0, which is
-/// no limit, as many as can be counted. The shares differ by one at most, and the first ones are the greater.
+/// How many connections the poller with this number may open, of the `stop_after` that the server may; 0 is no limit.
 fn share_of(stop_after: u32, pollers: usize, number: usize) -> u64
     requires { 1 ≤ pollers }
     ensures { result ≡ share_of stop_after pollers number }
@@ -169,7 +152,8 @@ fn share_of(stop_after: u32, pollers: usize, number: usize) -> u64
     }
 }
 
-/// What this many threads share, of which this many poll, and for each of them a seat and an end of the queue of tickets.
+/// What this many threads share, of which this many poll, and for each of them a seat and an end of the queue of
+/// tickets.
 fn shared_of<F: Front>(
     alloc: Global,
     settings: &Settings,
@@ -189,7 +173,10 @@ where
     ensures refused { IfErr result (λ fault. fault ≡ ServerFault.NoMemory) }
 {
     let places = Places::new(alloc, settings.slots)?;
-    let (claims, parts) = open_claims(alloc, settings.slots, threads)?;
+    let ready = ReadyQueue::new(alloc, settings.slots, threads)?;
+    let Ok((claims, seats)) = Claims::open(alloc, settings.slots, threads) else {
+        return Err(ServerFault::NoMemory);
+    };
     let shared = Shared {
         claims,
         places,
@@ -200,29 +187,13 @@ where
         shares_light: shares_light(pollers, settings.workers),
         clients: ClientsAt::Debug,
     };
-    Ok((shared, parts))
+    Ok((shared, Parts { seats, ready }))
 }
 
-/// Whether workers run light tickets, too. Where several threads poll, as many as work, a worker that sleeps says nothing of
-/// an idle processor: it would wait for one, and the tickets that it took with it.
+/// Whether workers run light tickets, too. Where several threads poll, as many as work, a worker that sleeps says
+/// nothing of an idle processor: it would wait for one, and so would its tickets.
 fn shares_light(pollers: usize, workers: usize) -> bool
     ensures { IsTrue result ↔ SharesLight pollers workers }
 {
     pollers < 2 || pollers < workers
-}
-
-/// The claim words, and for each thread a seat and an end of the queue of tickets.
-fn open_claims(alloc: Global, slots: usize, threads: usize) -> Result<(Claims, Parts), ServerFault>
-    requires slots { (1 ≤ slots) × (slots ≤ 4096) }
-    requires threads { (1 ≤ threads) × (threads ≤ 32) }
-    ensures slots { IfOk result (λ made. made.0.words ≡ slots) }
-    ensures seats { IfOk result (λ made. made.1.seats.items ≡ replicate threads (fresh_seat made.0)) }
-    ensures ready { IfOk result (λ made. made.1.ready.items ≡ replicate threads (unused slots)) }
-    ensures refused { IfErr result (λ fault. fault ≡ ServerFault.NoMemory) }
-{
-    let ready = ReadyQueue::new(alloc, slots, threads)?;
-    match Claims::open(alloc, slots, threads) {
-        Ok((claims, seats)) => Ok((claims, Parts { seats, ready })),
-        Err(_) => Err(ServerFault::NoMemory),
-    }
 }

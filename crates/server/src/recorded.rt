@@ -21,11 +21,9 @@ use std::thread::{self, Threads};
 use threads::Outcome;
 
 /// Serves as [`serve`](crate::serve) does, and records into the file what each thread does, until the server ends: then
-/// the last line says that all is recorded. A thread of its own writes the file, and the call returns once that has
-/// written all. If records come faster than it can write, or the file cannot be written, the recording ends, a warning
-/// is logged, and the server serves on.
-///
-/// It ends as `serve` does, or by `NoMemory` or `Threads` if the recording cannot begin.
+/// the last line says that all is recorded. A thread of its own writes the file, and the call returns once all is
+/// written. If records come faster than it can write, or the file cannot be written, the recording ends, a warning is
+/// logged, and the server serves on. By `NoMemory` or `Threads` it may also refuse to begin.
 pub fn serve_recorded<
     G: Gate + Sync,
     C: Clock + Sync,
@@ -57,7 +55,6 @@ pub fn serve_recorded<
     )
 }
 
-/// What a recording needs in addition to its server.
 #[derive(Drop)]
 struct Recording<'a, W, R> {
     rt: &'a R,
@@ -78,7 +75,6 @@ impl<W: Write + Drop, R: Wait + Log> Recording<'_, W, R> {
     }
 }
 
-/// Starts the thread that writes, serves, and waits until all is written.
 fn serve_beside<W, R, S>(recording: &Recording<'_, W, R>, serve: S) -> Outcome
 where
     W: Write + Send + Drop,
@@ -102,8 +98,7 @@ where
     )
 }
 
-/// Runs a server with these fronts, one for each poller. Records what they do, and what the gate and the clock do that
-/// it is lent.
+/// Runs a server with these fronts, one for each poller, and records what they, the gate and the clock do.
 pub(crate) fn run_recorded<F, G: Gate + Sync, C: Clock + Sync, R: Wait + Threads + Log + Sync>(
     rt: &R,
     alloc: Global,

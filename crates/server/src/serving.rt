@@ -22,7 +22,7 @@ use threads::{Outcome, Server, run_threads};
 pub struct Lent<'a, G, C> {
     /// Called once all threads have been started, and before and after each turn.
     pub gate: &'a G,
-    /// The clock by which the idle limit is counted.
+    /// By it the idle limit is counted.
     pub clock: &'a C,
     /// Another thread sets this once no more connections may be opened.
     pub is_stopped: &'a AtomicBool,
@@ -36,8 +36,7 @@ pub struct Lent<'a, G, C> {
 
 /// Serves on the bound socket: accepts connections and forwards each one to the settings' target. Beside the settings'
 /// number of workers there are as many pollers' threads, but at most one for each 64 slots, and at least one; one of
-/// them is the calling thread. The settings' idle limit is counted by the clock that is lent. If the settings' `proxy`
-/// is set, each target is first sent a line with the addresses of its client's connection.
+/// them is the calling thread. With the settings' `proxy` each target is first sent a line with its client's addresses.
 ///
 /// It returns once `stop_after` connections were opened, or `is_stopped` was set, and all connections that were
 /// opened are closed; or on a fault. Once no more may be opened, the listening socket is closed. When it returns,
@@ -56,7 +55,7 @@ pub fn serve<G: Gate + Sync, C: Clock + Sync, R: Net + Dial + Wait + Threads + L
     serve_into(rt, alloc, settings, bound, lent, None)
 }
 
-/// Serves, and records into the queue, if there is one.
+/// Records into the queue, if there is one.
 pub(crate) fn serve_into<
     G: Gate + Sync,
     C: Clock + Sync,
@@ -123,7 +122,6 @@ where
     run_threads(rt, alloc, lent.gate, timing, lent.is_stopped, server)
 }
 
-/// The settings' idle limit, counted by this clock.
 fn timing_of<'a, C>(settings: &Settings, clock: &'a C) -> Timing<'a, C>
     ensures { result.limit ≡ settings.now.idle }
 {
@@ -133,7 +131,6 @@ fn timing_of<'a, C>(settings: &Settings, clock: &'a C) -> Timing<'a, C>
     }
 }
 
-/// Has connections counted in these statistics, if there are any.
 fn count_in<F: Front>(
     shared: &mut Shared<F>,
     statistics: Option<&Arc<Statistics>>,
@@ -146,7 +143,6 @@ fn count_in<F: Front>(
     Ok(())
 }
 
-/// Sets at which level clients are logged: at info if `log_clients`.
 fn log_in<F: Front>(shared: &mut Shared<F>, log_clients: bool)
     ensures { shared.new.claims ≡ shared.old.claims }
 {

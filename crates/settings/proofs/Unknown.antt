@@ -49,19 +49,6 @@ name_among name (e ∷ es) h =
 pub all_left : (es : List Entry) → IsStrictlySortedBy string_cmp (keys_of es) → IsLeft (members_view es) (keys_of es)
 all_left es sorted = record { unknown = λ name h. name_among name es h.0; present = λ name h. name_present name es h; ordered = sorted }
 
--- a known name need not be left
-pub left_more : (doc : Members) (k : String Global) (left : List (String Global)) (key : Key) → string_bytes k ≡ key_name key → IsLeft doc (k ∷ left) → IsLeft doc left
-unfolding IsStrictlySortedBy
-left_more doc k left key known h =
-    record {
-      unknown = λ name u. elim (h.unknown name u) [
-        | inl same ↦ absurd (u.1 key (sym same ∙ known))
-        | inr more ↦ more
-      ];
-      present = λ name among. h.present name (inr among);
-      ordered = h.ordered.1;
-    }
-
 -- where none is left, none is unknown
 pub none_left : (doc : Members) → IsLeft doc [] → HasNoUnknown doc
 none_left doc h name u = absurd (h.unknown name u)
@@ -72,30 +59,33 @@ not_above k name [] sorted among = absurd among
 not_above k name (y ∷ left) sorted (inl same) = λ greater. let less : slice_cmp nat_cmp k name ≡ Less = rw (← same) sorted.0 in cc
 not_above k name (y ∷ left) sorted (inr more) = not_above k name left sorted.1 more
 
--- an unknown name in front is the first one
-pub first_left : (doc : Members) (k : String Global) (left : List (String Global)) → ((key : Key) → string_bytes k ≢ key_name key) → IsLeft doc (k ∷ left)
-    → IsFirstUnknown doc (string_bytes k)
+-- A name in front, by what its look-up answers: a known name need not be left, and an unknown one is the first.
+
+pub left_known : (doc : Members) (k : String Global) (left : List (String Global)) (text : List ℕ) (r : Option Key) → text ≡ string_bytes k → is_some r ≡ true
+    → IfSome r (λ key. text ≡ key_name key) → IsLeft doc (k ∷ left) → IsLeft doc left
 unfolding IsStrictlySortedBy
-first_left doc k left no_key h = (
-  (h.present (string_bytes k) (inl refl), no_key),
+left_known doc k left text None same found known h = absurd (cc found)
+left_known doc k left text (Some key) same found known h =
+    record {
+      unknown = λ name u. elim (h.unknown name u) [
+        | inl here ↦ absurd (u.1 key (sym here ∙ sym same ∙ known))
+        | inr more ↦ more
+      ];
+      present = λ name among. h.present name (inr among);
+      ordered = h.ordered.1;
+    }
+
+pub first_unnamed : (doc : Members) (k : String Global) (left : List (String Global)) (text : List ℕ) (r : Option Key) → text ≡ string_bytes k → is_some r ≡ false
+    → IfNone r ((key : Key) → text ≢ key_name key) → IsLeft doc (k ∷ left) → IsFirstUnknown doc (string_bytes k)
+unfolding IsStrictlySortedBy
+first_unnamed doc k left text (Some key) same missed unknown h = absurd (cc missed)
+first_unnamed doc k left text None same missed unknown h = (
+  (h.present (string_bytes k) (inl refl), λ key e. unknown key (same ∙ e)),
   λ other u. elim (h.unknown other u) [
-    | inl same ↦ λ greater. let equal : slice_cmp nat_cmp (string_bytes k) other ≡ Equal = rw (← same) (tied_itself nat_list_cmp_total (string_bytes k)) in cc
+    | inl here ↦ λ greater. let equal : slice_cmp nat_cmp (string_bytes k) other ≡ Equal = rw (← here) (tied_itself nat_list_cmp_total (string_bytes k)) in cc
     | inr more ↦ not_above (string_bytes k) other left h.ordered.0 more
   ],
 )
-
--- by what the look-up of the name in front answers
-pub left_known : (doc : Members) (k : String Global) (left : List (String Global)) (text : List ℕ) (r : Option Key) → text ≡ string_bytes k → is_some r ≡ true
-    → IfSome r (λ key. text ≡ key_name key)
-    → IsLeft doc (k ∷ left) → IsLeft doc left
-left_known doc k left text (Some key) same found known h = left_more doc k left key (sym same ∙ known) h
-left_known doc k left text None same found known h = absurd (cc found)
-
-pub first_unnamed : (doc : Members) (k : String Global) (left : List (String Global)) (text : List ℕ) (r : Option Key) → text ≡ string_bytes k → is_some r ≡ false
-    → IfNone r ((key : Key) → text ≢ key_name key)
-    → IsLeft doc (k ∷ left) → IsFirstUnknown doc (string_bytes k)
-first_unnamed doc k left text (Some key) same missed unknown h = absurd (cc missed)
-first_unnamed doc k left text None same missed unknown h = first_left doc k left (λ key e. unknown key (same ∙ e)) h
 
 -- a blank text is the empty document
 pub blank_document : (text : List ℕ) → IsBlank text → parse_document text ≡ Some no_members

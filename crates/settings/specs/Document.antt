@@ -1,5 +1,5 @@
 -- What a TOML document sets, by the table of the settings, and what is wrong in one. Part of the promises.
-use Rattle.std.specs.{Prelude.{◌≡◌, ◌≢◌, ℕ, ◌≤◌, List, [], ◌∷◌, Some, None, MatchOption, IsSome, pos, ◌⊎◌, ◌++◌}, Ordering.nat_cmp, Cmp.Lexicographic.slice_cmp, declared.cmp.Ordering.TheVariants.Greater, Str.IsUtf8, Fmt.decimal}
+use Rattle.std.specs.{Prelude.{◌≡◌, ◌≢◌, ℕ, ◌≤◌, List, [], ◌∷◌, Some, None, Result, Ok, Err, MatchOption, IsSome, pos, ◌⊎◌, ◌++◌}, Ordering.nat_cmp, Cmp.Lexicographic.slice_cmp, declared.cmp.Ordering.TheVariants.Greater, Str.IsUtf8, Fmt.decimal}
 use Rattle.toml.specs.{Data.{Data, Members, get_member, as_str, as_integer, as_bool}, Parse.parse_document}
 use Rattle.settings.specs.{Addresses.{IsAddress, address_text}, Table.{level_name, truth_name, key_name, Setting, address, number, level, truth, ValueKind, an_address, a_number, a_level, a_truth, Row, row_of, setting, keys}, declared.{table.Key.Key, faults.SettingsFault.{SettingsFault, TheVariants.{Missing, WrongKind, OutOfRange, BadAddress, NotToml, UnknownKey}}, fields.Settings.Settings}}
 
@@ -40,6 +40,11 @@ abbrev pub Faults : Row → Members → SettingsFault → Type 0
 Faults row doc fault =
     MatchOption (get_member (key_name row.key) doc) ((row.default ≡ None) × (fault ≡ Missing row.key))
     (λ d. Refuses row.kind row.key d fault)
+
+-- what was read for a key
+abbrev pub Reads : {X : Type 0} → (X → Setting) → Row → Members → Result X SettingsFault → Type 0
+Reads setting row doc (Ok x) = Gives row doc (setting x)
+Reads setting row doc (Err fault) = Faults row doc fault
 
 -- each key is set
 abbrev pub GivesEach : Members → (Key → Setting) → Type 0

@@ -8,14 +8,17 @@ use Rattle.settings.specs.{Table.key_name, declared.faults.SettingsFault.{Settin
 abbrev pub shown_character : ℕ → List ℕ
 shown_character c = if is_control c then codes "\\u{" ++ (digits 16 false c ++ codes "}") else encode_utf8 c
 
+-- what stands for those of so many characters that are not shown
+abbrev pub dots : ℕ → List ℕ
+dots count = if nat_lt 64 count then codes ".." else []
+
 -- the first 64 characters, and `..` where there are more
 abbrev pub one_line : List ℕ → List ℕ
-one_line text = flat_map shown_character (take 64 (chars text)) ++ (if nat_lt 64 (length (chars text)) then codes ".." else [])
+one_line text = flat_map shown_character (take 64 (chars text)) ++ dots (length (chars text))
 
 -- the last 64 characters, and `..` where there are more
 abbrev pub end_of_line : List ℕ → List ℕ
-end_of_line text = (if nat_lt 64 (length (chars text)) then codes ".." else [])
-    ++ flat_map shown_character (drop (length (chars text) - 64) (chars text))
+end_of_line text = dots (length (chars text)) ++ flat_map shown_character (drop (length (chars text) - 64) (chars text))
 
 -- a key has a value, which it does not take
 abbrev pub IsOfValue : SettingsFault → Type 0

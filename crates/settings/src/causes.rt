@@ -1,4 +1,3 @@
-//! The causes of faults, for a person: the line, what it says, and what is expected there.
 ghost use Rattle.std.specs.{Prelude.{◌≡◌, None}, Str.IsUtf8};
 ghost use Rattle.settings.specs.Faults.{IsOfValue};
 
@@ -9,10 +8,10 @@ use crate::table::{Key, ROWS};
 use crate::wanted::Wanted;
 use std::alloc::{AllocError, Global};
 use std::fmt;
-use toml::{Table, Value};
+use toml::Value;
 
-/// The cause of a fault, for a person: the line, what it says, and what is expected there. `bytes` is the text with
-/// the fault. `None` if there is no memory for the cause.
+/// The cause of a fault, for a person: the line, what it says, and what is expected there. `bytes` is the text with the
+/// fault. `None` if there is no memory for it.
 pub fn cause(alloc: Global, bytes: &[u8], fault: &SettingsFault) -> Option<String>
     ensures memory { IsUtf8 bytes.now → fault.now ≡ SettingsFault.NoMemory → result ≡ None }
 {
@@ -26,7 +25,10 @@ pub fn cause(alloc: Global, bytes: &[u8], fault: &SettingsFault) -> Option<Strin
     match fault {
         SettingsFault::NotToml => not_toml(alloc, text),
         SettingsFault::UnknownKey(name) => unknown(alloc, text, name.as_str()),
-        SettingsFault::Missing(key) => missing(alloc, *key).ok(),
+        SettingsFault::Missing(key) => {
+            let wanted = Wanted::by(*key);
+            format!(in alloc; "{key}: {wanted}").ok()
+        }
         SettingsFault::WrongKind(key)
         | SettingsFault::OutOfRange(key)
         | SettingsFault::BadAddress(key) => refused(alloc, text, *key),
@@ -34,7 +36,7 @@ pub fn cause(alloc: Global, bytes: &[u8], fault: &SettingsFault) -> Option<Strin
     }
 }
 
-/// The line number, from 1, of the byte at this index.
+/// The line, from 1, of the byte at this index.
 fn line_at(bytes: &[u8], index: usize) -> usize {
     let mut line = 1usize;
     for byte in bytes.iter().take(index) {
@@ -69,12 +71,6 @@ fn unknown(alloc: Global, text: &str, name: &str) -> Option<String> {
     format!(in alloc; "{place}{name}: one of {names} is wanted").ok()
 }
 
-/// A required key, and what it takes.
-fn missing(alloc: Global, key: Key) -> Result<String, AllocError> {
-    let wanted = Wanted::by(key);
-    format!(in alloc; "{key}: {wanted}")
-}
-
 /// A value that a key does not take, and what the key takes.
 fn refused(alloc: Global, text: &str, key: Key) -> Option<String> {
     let place = place_of(alloc, text, key.name()).ok()?;
@@ -82,7 +78,6 @@ fn refused(alloc: Global, text: &str, key: Key) -> Option<String> {
     refused_value(alloc, place.as_str(), document.get(key.name())?, key).ok()
 }
 
-/// The place of a key with a value that it does not take, and what it takes.
 fn refused_value(
     alloc: Global,
     place: &str,
@@ -97,8 +92,7 @@ fn refused_value(
 }
 
 /// The cause of a fault in a text that says what the arguments of a command line say: the argument and its value, as
-/// they are typed, and what is expected there. `None` if it is no fault of a value, or there is no memory for the
-/// cause.
+/// they are typed, and what is expected there. `None` if it is no fault of a value, or there is no memory for it.
 pub fn argument_cause(alloc: Global, bytes: &[u8], fault: &SettingsFault) -> Option<String>
     ensures other { (IsOfValue fault.now → ⊥) → result ≡ None }
 {
@@ -112,16 +106,21 @@ pub fn argument_cause(alloc: Global, bytes: &[u8], fault: &SettingsFault) -> Opt
     refused_argument(alloc, document.get(key.name())?, *key).ok()
 }
 
-/// An argument with a value that it does not take, and what it takes.
+/// An argument, by its option or by what stands for it in a help text, with a value that it does not take, and what it
+/// takes.
 fn refused_argument(alloc: Global, value: &Value, key: Key) -> Result<String, AllocError> {
-    let name = ArgumentName(key);
+    let row = ROWS[key as usize];
     let typed = typed(alloc, value)?;
     let wanted = Wanted::in_place_of_word(typed.as_str(), key);
     let typed = OneLine(typed.as_str());
-    format!(in alloc; "{name} {typed}: {wanted}")
+    let (dashes, name) = match row.option {
+        Some(option) => ("--", option),
+        None => ("", row.value_name),
+    };
+    format!(in alloc; "{dashes}{name} {typed}: {wanted}")
 }
 
-/// A value as it is typed on a command line, where a text has no quotes.
+/// A value as it is typed on a command line: a text has no quotes there.
 fn typed(alloc: Global, value: &Value) -> Result<String, AllocError> {
     match value.as_str() {
         Some(text) => String::from_str(alloc, text),
@@ -129,21 +128,6 @@ fn typed(alloc: Global, value: &Value) -> Result<String, AllocError> {
     }
 }
 
-/// A key as it is typed on a command line: its option, or what stands for it in a help text.
-#[derive(Clone, Copy)]
-struct ArgumentName(Key);
-
-impl fmt::Display for ArgumentName {
-    fn fmt<W: fmt::Write>(&self, f: &mut fmt::Formatter<W>) -> fmt::Result {
-        let row = ROWS[self.0 as usize];
-        match row.option {
-            Some(option) => write!(f, "--{option}"),
-            None => f.write_str(row.value_name),
-        }
-    }
-}
-
-/// The names of all keys.
 #[derive(Clone, Copy)]
 struct KeyNames;
 
@@ -169,9 +153,9 @@ fn place_of(alloc: Global, text: &str, name: &str) -> Result<String, AllocError>
     }
 }
 
-/// The first line, from 1, that begins what sets a key: the text up to its end, or up to the end of a value that
-/// spans lines, is TOML that has the key. Only lines that contain the name as it is are tried, and the text is parsed
-/// at most [`MAX_LOOKS`] times.
+/// The first line, from 1, that begins what sets a key: the text up to its end, or up to the end of a value that spans
+/// lines, is TOML that has the key. Only lines with the name as it is are tried, and the text is parsed at most
+/// [`MAX_LOOKS`] times.
 fn line_of(alloc: Global, text: &str, name: &str) -> Result<Option<usize>, AllocError> {
     let mut looks = 0usize;
     let mut start = 0usize;
@@ -199,18 +183,13 @@ fn line_of(alloc: Global, text: &str, name: &str) -> Result<Option<usize>, Alloc
     Ok(None)
 }
 
-/// Whether a text has this name at its top level. None if it is not TOML, as where a value has not ended.
+/// Whether a text sets this name at its top level. None if it is not TOML, as where a value has not ended.
 fn sets(alloc: Global, text: &str, name: &str) -> Result<Option<bool>, AllocError> {
     match toml::table_from_str(alloc, text) {
-        Ok(document) => Ok(Some(is_in(&document, name))),
+        Ok(document) => Ok(Some(document.get(name).is_some())),
         Err(error) if error.is_memory() => Err(AllocError),
         Err(_) => Ok(None),
     }
-}
-
-/// Whether a document has this name at its top level.
-fn is_in(document: &Table, name: &str) -> bool {
-    document.get(name).is_some()
 }
 
 /// What is wrong in a line that is not TOML.
@@ -223,8 +202,8 @@ pub(crate) enum Slip<'a> {
 }
 
 impl<'a> Slip<'a> {
-    /// What is wrong in the line of a text in which this byte stands, where the text stops being TOML. None if it is
-    /// nothing that has a word here, or there is no memory to find out.
+    /// What is wrong in the line with this byte, where a text stops being TOML. None if that has no word here, or there
+    /// is no memory to find out.
     pub(crate) fn of(alloc: Global, text: &'a str, index: usize) -> Option<Slip<'a>> {
         let (before, line) = line_around(text, index)?;
         let (name, written) = line.split_once('=')?;
@@ -238,7 +217,7 @@ impl<'a> Slip<'a> {
     }
 }
 
-/// The lines before the one in which this byte of a text stands, and that line.
+/// The lines before the one with this byte of a text, and that line.
 fn line_around(text: &str, index: usize) -> Option<(&str, &str)> {
     let start = match text.get(..index)?.rfind('\n') {
         Some(end) => end.saturating_add(1),

@@ -21,7 +21,7 @@ impl Model for KeyText {
 }
 
 impl KeyText {
-    /// A copy of the text.
+    /// A copy.
     pub fn new(alloc: Global, text: &str) -> Result<KeyText, AllocError>
         ensures { IfOk result (λ key. key ≡ text.now) }
     {
@@ -49,15 +49,13 @@ impl fmt::Display for KeyText {
     }
 }
 
-/// The first thing that is wrong in a settings text, or that there was no memory to find out.
-///
-/// Errors are checked in this order: a text that is not TOML; the first unknown key, in byte order; and then key by
-/// key, in the order of `Key`, one that is missing, of the wrong kind, out of range or a bad address.
+/// The first thing that is wrong in a settings text: it is not TOML; then the first unknown key, in byte order; and
+/// then the fault of the first key, in the order of [`Key`], that has one.
 #[derive(Debug, Drop)]
 pub enum SettingsFault {
     /// The bytes are not UTF-8, or not a TOML document.
     NotToml,
-    /// A key at the top level that is not one of the table.
+    /// It is at the top level.
     UnknownKey(KeyText),
     /// A required key that the text leaves out.
     Missing(Key),

@@ -1,5 +1,5 @@
 //! The settings as the relay uses them.
-ghost use Rattle.std.specs.Prelude.{◌≡◌, ◌≤◌, Some};
+ghost use Rattle.std.specs.Prelude.{◌≤◌, Some};
 
 use crate::addresses::{Address, AddressText};
 use crate::faults::SettingsFault;
@@ -16,24 +16,23 @@ pub struct Settings {
     pub listen: Address,
     /// The IPv4 address and port, at least 1, to which each connection is forwarded.
     pub target: Address,
-    /// Bytes buffered for each direction of a connection, 1 to 65,536.
+    /// The bytes that are buffered for each direction of a connection, 1 to 65,536.
     pub ring: usize,
-    /// The most calls of the core that a thread makes for one connection before another gets its turn, 1 to 1,024.
+    /// The most calls that a thread makes for one connection before another gets its turn, 1 to 1,024.
     pub budget: u32,
     /// Worker threads, 1 to 16.
     pub workers: usize,
     /// The maximum number of connections at a time, 1 to 4,096.
     pub slots: usize,
-    /// The relay ends once it has opened this many connections and all of them are closed; 0 for no such limit.
+    /// The relay ends once it has opened this many connections and all are closed; 0 for no such limit.
     pub stop_after: u32,
     /// The level of the messages on standard error.
     pub log: LogLevel,
     /// How many seconds a connection may move nothing before it fails, up to 86,400; 0 for no such limit.
     pub idle: u32,
-    /// Whether the target is first sent a line of the PROXY protocol's version 1, with the client's address and the
-    /// one on which the client was accepted.
+    /// Whether the target is first sent a line of the PROXY protocol, version 1: the client's address, and the one on
+    /// which it was accepted.
     pub proxy: bool,
-    // What every reader may rely on: the ranges hold for every value of the type.
     pub ghost target_port: { 1 ≤ target.1 },
     pub ghost ring_range: { (1 ≤ ring) × (ring ≤ 65536) },
     pub ghost budget_range: { (1 ≤ budget) × (budget ≤ 1024) },

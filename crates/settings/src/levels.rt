@@ -1,4 +1,3 @@
-//! The levels of the relay's messages.
 ghost use Rattle.std.specs.Prelude.{◌≡◌, ◌≢◌, Some, IfSome, IfNone};
 ghost use Rattle.settings.specs.Table.{level_name};
 
@@ -31,7 +30,7 @@ impl LogLevel {
         }
     }
 
-    /// The level with this name, if there is one. Case matters.
+    /// The level with this name. Case matters.
     pub fn named(text: &str) -> Option<LogLevel>
         ensures named { IfSome result (λ level. text.now ≡ level_name level) }
         ensures none { IfNone result ((level : LogLevel) → text.now ≢ level_name level) }

@@ -1,5 +1,3 @@
-//! The fixed numbers beside those of the table.
-
 /// The most characters of an outside text that are shown on a line.
 pub(crate) const MAX_SHOWN: usize = 64;
 

@@ -1,6 +1,5 @@
-//! A text from outside, as shown to a person.
-ghost use Rattle.std.specs.{Prelude.{◌≡◌, Some, [], drop, codes, nat_lt, if◌then◌else◌}, Str.chars};
-ghost use Rattle.settings.specs.Faults.{shown_character, one_line, end_of_line};
+ghost use Rattle.std.specs.{Prelude.{◌≡◌, Some, drop}, Str.chars};
+ghost use Rattle.settings.specs.Faults.{shown_character, dots, one_line, end_of_line};
 
 use crate::limits::MAX_SHOWN;
 use std::fmt;
@@ -42,14 +41,13 @@ impl fmt::Display for EndOfLine<'_> {
     }
 }
 
-/// What stands for the first of this many characters, where these are not shown.
 fn dots_before(count: usize) -> &'static str
-    ensures { result.now ≡ (if nat_lt 64 count then codes ".." else []) }
+    ensures { result.now ≡ dots count }
 {
     if count > MAX_SHOWN { ".." } else { "" }
 }
 
-/// What follows the first characters of a text, this many of them.
+/// What follows this many characters of a text.
 fn without_first(text: &str, count: usize) -> &str
     ensures { chars result.now ≡ drop count (chars text.now) }
 {

@@ -1,7 +1,6 @@
-//! Reading a settings text.
-ghost use Rattle.std.specs.{Prelude.{◌≡◌, ◌≢◌, ℕ, ◌≤◌, IfSome, IfNone, IfOk, IfErr, Err, string_bytes, option_map}, Str.IsUtf8};
-ghost use Rattle.toml.specs.{Data.get_member, Errors.IsBlank, View.{view, table_view}};
-ghost use Rattle.settings.specs.{Table.{key_name, setting, an_address, a_number, a_level, a_truth, address, number, level, truth, required, optional}, Document.{Gives, Faults, Refuses, Writes, IsFirstUnknown, HasNoUnknown, IsSettingsOf, IsFaultOf}};
+ghost use Rattle.std.specs.{Prelude.{◌≡◌, ◌≢◌, ◌≤◌, IfSome, IfNone, IfOk, IfErr, Err, string_bytes, option_map}, Str.IsUtf8};
+ghost use Rattle.toml.specs.{Data.{Members, get_member}, Errors.IsBlank, View.{view, table_view}};
+ghost use Rattle.settings.specs.{Table.{key_name, setting, an_address, a_number, a_level, a_truth, address, number, level, truth, required, optional}, Document.{Reads, IsDocument, IsFirstUnknown, HasNoUnknown, IsSettingsOf, IsFaultOf}};
 
 use crate::addresses::{Address, address_of};
 use crate::faults::{KeyText, SettingsFault};
@@ -13,8 +12,8 @@ use toml::{Table, Value};
 
 /// The settings of a text, or the first fault in it.
 ///
-/// `NoMemory` means that memory ran out, and says nothing about the text; a blank text and bytes that are not UTF-8
-/// need no memory.
+/// `NoMemory` says nothing about the text. A blank text and bytes that are not UTF-8 need no memory.
+#[tactic(auto, using(crate::proofs::Unknown::named_not_blank))]
 pub fn parse(alloc: Global, bytes: &[u8]) -> Result<Settings, SettingsFault>
     ensures settings { IfOk result (λ s. IsSettingsOf bytes.now s) }
     ensures fault { IfErr result (λ fault. fault ≢ SettingsFault.NoMemory → IsFaultOf bytes.now fault) }
@@ -22,13 +21,9 @@ pub fn parse(alloc: Global, bytes: &[u8]) -> Result<Settings, SettingsFault>
     ensures none { IfErr result (λ fault. fault ≢ SettingsFault.NoMemory → (s : Settings) → ¬ (IsSettingsOf bytes.now s)) }
     ensures memory { result ≡ Err SettingsFault.NoMemory → IsUtf8 bytes.now × (¬ (IsBlank bytes.now)) }
 {
-    let Ok(text) = std::str::from_utf8(bytes) else {
-        return Err(SettingsFault::NotToml);
-    };
-    let document = match toml::table_from_str(alloc, text) {
+    let document = match document_of(alloc, bytes) {
         Ok(document) => document,
-        Err(error) if error.is_memory() => return Err(SettingsFault::NoMemory),
-        Err(_) => return Err(SettingsFault::NotToml),
+        Err(fault) => return Err(fault),
     };
     match first_unknown(&document) {
         Some(name) => Err(unknown_key(alloc, name.as_str())),
@@ -36,7 +31,23 @@ pub fn parse(alloc: Global, bytes: &[u8]) -> Result<Settings, SettingsFault>
     }
 }
 
-/// The fault for an unknown key, whose name it keeps if there is memory for a copy.
+fn document_of(alloc: Global, bytes: &[u8]) -> Result<Table, SettingsFault>
+    ensures document { IfOk result (λ document. IsDocument bytes.now (table_view document)) }
+    ensures fault { IfErr result (λ fault. fault ≢ SettingsFault.NoMemory
+        → (fault ≡ SettingsFault.NotToml) × ((document : Members) → ¬ (IsDocument bytes.now document))) }
+    ensures memory { result ≡ Err SettingsFault.NoMemory → IsUtf8 bytes.now × (¬ (IsBlank bytes.now)) }
+{
+    let Ok(text) = std::str::from_utf8(bytes) else {
+        return Err(SettingsFault::NotToml);
+    };
+    match toml::table_from_str(alloc, text) {
+        Ok(document) => Ok(document),
+        Err(error) if error.is_memory() => Err(SettingsFault::NoMemory),
+        Err(_) => Err(SettingsFault::NotToml),
+    }
+}
+
+/// The fault that this key is unknown, if there is memory for a copy of its name.
 fn unknown_key(alloc: Global, name: &str) -> SettingsFault
     ensures { result ≢ SettingsFault.NoMemory → result ≡ SettingsFault.UnknownKey name.now }
 {
@@ -61,27 +72,36 @@ fn first_unknown(document: &Table) -> Option<&String>
 
 /// The address of a row's key.
 pub(crate) fn address_at(document: &Table, row: AddressRow) -> Result<Address, SettingsFault>
-    ensures gives { IfOk result (λ a. Gives (required row.key (an_address row.lowest_port)) (table_view document.now) (address a)) }
+    ensures reads { Reads address (required row.key (an_address row.lowest_port)) (table_view document.now) result }
     ensures range { IfOk result (λ a. row.lowest_port ≤ a.1) }
-    ensures fault { IfErr result (Faults (required row.key (an_address row.lowest_port)) (table_view document.now)) }
 {
-    match value_at(document, row.key) {
-        Some(value) => as_address(value, row.key, row.lowest_port),
-        None => Err(SettingsFault::Missing(row.key)),
+    let Some(value) = value_at(document, row.key) else {
+        return Err(SettingsFault::Missing(row.key));
+    };
+    let Some(text) = value.as_str() else {
+        return Err(SettingsFault::WrongKind(row.key));
+    };
+    match address_of(text) {
+        Some(address) if row.lowest_port <= address.1 => Ok(address),
+        _ => Err(SettingsFault::BadAddress(row.key)),
     }
 }
 
 /// The whole number of a row's key.
 pub(crate) fn number_at(document: &Table, row: NumberRow) -> Result<u32, SettingsFault>
     requires { (row.low ≤ row.default) × (row.default ≤ row.high) }
-    ensures gives { IfOk result (λ n. Gives (optional row.key (a_number row.low row.high) (number row.default))
-        (table_view document.now) (number n)) }
+    ensures reads { Reads number (optional row.key (a_number row.low row.high) (number row.default)) (table_view document.now) result }
     ensures range { IfOk result (λ n. (row.low ≤ n) × (n ≤ row.high)) }
-    ensures fault { IfErr result (Faults (optional row.key (a_number row.low row.high) (number row.default)) (table_view document.now)) }
 {
-    match value_at(document, row.key) {
-        Some(value) => as_number(value, row.key, row.low, row.high),
-        None => Ok(row.default),
+    let Some(value) = value_at(document, row.key) else {
+        return Ok(row.default);
+    };
+    let Some(n) = value.as_integer() else {
+        return Err(SettingsFault::WrongKind(row.key));
+    };
+    match u32::try_from(n) {
+        Ok(n) if row.low <= n && n <= row.high => Ok(n),
+        _ => Err(SettingsFault::OutOfRange(row.key)),
     }
 }
 
@@ -91,66 +111,11 @@ pub(crate) fn level_at(
     key: Key,
     default: LogLevel,
 ) -> Result<LogLevel, SettingsFault>
-    ensures gives { IfOk result (λ l. Gives (optional key a_level (level default)) (table_view document.now) (level l)) }
-    ensures fault { IfErr result (Faults (optional key a_level (level default)) (table_view document.now)) }
+    ensures reads { Reads level (optional key a_level (level default)) (table_view document.now) result }
 {
-    match value_at(document, key) {
-        Some(value) => as_level(value, key),
-        None => Ok(default),
-    }
-}
-
-/// The truth value of a key.
-pub(crate) fn truth_at(document: &Table, key: Key, default: bool) -> Result<bool, SettingsFault>
-    ensures gives { IfOk result (λ b. Gives (optional key a_truth (truth default)) (table_view document.now) (truth b)) }
-    ensures fault { IfErr result (Faults (optional key a_truth (truth default)) (table_view document.now)) }
-{
-    match value_at(document, key) {
-        Some(value) => as_truth(value, key),
-        None => Ok(default),
-    }
-}
-
-/// The value that the document has for a key.
-fn value_at(document: &Table, key: Key) -> Option<&Value>
-    ensures { option_map (λ v. view v.now) result ≡ get_member (key_name key) (table_view document.now) }
-{
-    document.get(key.name())
-}
-
-/// The address that a value stands for, whose port is at least `lowest_port`.
-fn as_address(value: &Value, key: Key, lowest_port: u16) -> Result<Address, SettingsFault>
-    ensures writes { IfOk result (λ a. Writes (an_address lowest_port) (view value.now) (address a)) }
-    ensures fault { IfErr result (Refuses (an_address lowest_port) key (view value.now)) }
-{
-    let Some(text) = value.as_str() else {
-        return Err(SettingsFault::WrongKind(key));
+    let Some(value) = value_at(document, key) else {
+        return Ok(default);
     };
-    match address_of(text) {
-        Some(address) if lowest_port <= address.1 => Ok(address),
-        _ => Err(SettingsFault::BadAddress(key)),
-    }
-}
-
-/// The whole number that a value stands for, from `low` to `high`.
-fn as_number(value: &Value, key: Key, low: u32, high: u32) -> Result<u32, SettingsFault>
-    ensures writes { IfOk result (λ n. Writes (a_number low high) (view value.now) (number n)) }
-    ensures fault { IfErr result (Refuses (a_number low high) key (view value.now)) }
-{
-    let Some(n) = value.as_integer() else {
-        return Err(SettingsFault::WrongKind(key));
-    };
-    match u32::try_from(n) {
-        Ok(n) if low <= n && n <= high => Ok(n),
-        _ => Err(SettingsFault::OutOfRange(key)),
-    }
-}
-
-/// The level that a value names.
-fn as_level(value: &Value, key: Key) -> Result<LogLevel, SettingsFault>
-    ensures writes { IfOk result (λ l. Writes a_level (view value.now) (level l)) }
-    ensures fault { IfErr result (Refuses a_level key (view value.now)) }
-{
     let Some(text) = value.as_str() else {
         return Err(SettingsFault::WrongKind(key));
     };
@@ -160,13 +125,21 @@ fn as_level(value: &Value, key: Key) -> Result<LogLevel, SettingsFault>
     }
 }
 
-/// The truth value that a value is.
-fn as_truth(value: &Value, key: Key) -> Result<bool, SettingsFault>
-    ensures writes { IfOk result (λ b. Writes a_truth (view value.now) (truth b)) }
-    ensures fault { IfErr result (Refuses a_truth key (view value.now)) }
+/// The truth value of a key.
+pub(crate) fn truth_at(document: &Table, key: Key, default: bool) -> Result<bool, SettingsFault>
+    ensures reads { Reads truth (optional key a_truth (truth default)) (table_view document.now) result }
 {
+    let Some(value) = value_at(document, key) else {
+        return Ok(default);
+    };
     match value.as_bool() {
         Some(truth) => Ok(truth),
         None => Err(SettingsFault::WrongKind(key)),
     }
+}
+
+fn value_at(document: &Table, key: Key) -> Option<&Value>
+    ensures { option_map (λ v. view v.now) result ≡ get_member (key_name key) (table_view document.now) }
+{
+    document.get(key.name())
 }

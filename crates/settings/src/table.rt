@@ -18,7 +18,8 @@ pub fn pollers_for(slots: usize, workers: usize) -> usize
     (slots / LEAST_SLOTS).min(workers).max(1)
 }
 
-/// A key of a settings text, in the order in which keys are read and printed.
+/// A key of a settings text, in the order in which keys are read and printed. [`Settings`](crate::Settings) says what
+/// each is for.
 #[derive(Clone, Copy, Debug, PartialEq, Eq)]
 pub enum Key {
     /// The address to which clients connect.
@@ -71,7 +72,7 @@ impl Key {
         }
     }
 
-    /// What stands for the key where a text leaves it out, as it is printed. A key without it is required.
+    /// What stands for the key where a text leaves it out, as it is printed; None of a required key.
     pub fn default(self) -> Option<&'static str>
         ensures { option_map (λ text. text.now) result ≡ option_map setting_text (row_of self).default }
     {
@@ -85,7 +86,7 @@ impl Key {
         ROWS[self as usize].takes
     }
 
-    /// Whether the key takes a truth value.
+    /// Whether it takes a truth value.
     pub fn takes_truth(self) -> bool
         ensures { IsTrue result ↔ ((row_of self).kind ≡ a_truth) }
     {
@@ -107,14 +108,14 @@ pub(crate) struct AddressRow {
     pub(crate) key: Key,
     /// The lowest port that it takes.
     pub(crate) lowest_port: u16,
-    /// An address that it takes, as it is written.
+    /// Such an address, as it is written.
     pub(crate) example: &'static str,
-    /// What a port alone lacks in front, and what that address stands for.
+    /// What a port alone lacks in front, and what that stands for.
     pub(crate) host: &'static str,
     pub(crate) stands_for: &'static str,
 }
 
-/// A key that takes a whole number, from the low one to the high one.
+/// A key that takes a whole number from `low` to `high`.
 #[derive(Clone, Copy)]
 pub(crate) struct NumberRow {
     pub(crate) key: Key,
@@ -177,7 +178,7 @@ pub(crate) const STOP_AFTER: NumberRow = NumberRow {
     default: 0,
 };
 
-/// In seconds; 0 stands for no limit. The most is a day.
+/// In seconds, up to a day.
 pub(crate) const IDLE: NumberRow = NumberRow {
     key: Key::Idle,
     low: 0,
@@ -205,16 +206,16 @@ pub struct Row {
     /// The key as written in a settings text.
     pub(crate) name: &'static str,
     pub(crate) takes: Takes,
-    /// What stands for the key where a text leaves it out, as it is printed. A key without it is required.
+    /// As [`Key::default`] gives it.
     pub(crate) default: Option<&'static str>,
-    /// Its option. An argument without one is required, and is known by its place.
+    /// Its option. An argument without one is known by its place.
     pub option: Option<&'static str>,
     /// What stands for its value in a help text.
     pub value_name: &'static str,
     pub help: &'static str,
 }
 
-/// The rows, in the order of the keys.
+/// A row for each key, in their order.
 pub static ROWS: [Row; 10] = [
     Row {
         key: Key::Listen,

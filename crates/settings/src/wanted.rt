@@ -1,5 +1,3 @@
-//! What is wanted in place of a value that a key does not take.
-
 use crate::addresses::{address_of, decimal_number};
 use crate::one_line::OneLine;
 use crate::table::{AddressRow, Key, Takes};
@@ -7,7 +5,7 @@ use std::fmt;
 use std::net::{Ipv4Addr, Ipv6Addr};
 use toml::Value;
 
-/// What is wrong with a text: the part that is wrong, and the words before and after that part.
+/// The part of a text that is wrong, and the words before and after it.
 #[derive(Clone, Copy)]
 pub(crate) struct Mistake<'a> {
     pub(crate) before: &'static str,
@@ -31,7 +29,7 @@ enum Kind {
     NoNumber,
 }
 
-/// What is looked for, in this order, and the words before and after the part that is wrong.
+/// What is looked for, in this order, and the words of its [`Mistake`].
 static KINDS: [(Kind, &str, &str); 11] = [
     (Kind::Blank, "an address has no blanks", ""),
     (Kind::Scheme, "an address alone is wanted, without ", "://"),
@@ -59,7 +57,7 @@ static KINDS: [(Kind, &str, &str); 11] = [
 ];
 
 impl<'a> Mistake<'a> {
-    /// What is wrong with a text that is no address. None if it is something else than what has words here.
+    /// What is wrong with a text that is no address. None if that has no words here.
     pub(crate) fn of(text: &'a str) -> Option<Mistake<'a>> {
         for (kind, before, after) in &KINDS {
             if let Some(part) = kind.part_of(text) {
@@ -75,7 +73,7 @@ impl<'a> Mistake<'a> {
 }
 
 impl Kind {
-    /// The part of a text that is wrong in this way. None if none is.
+    /// The part of a text that is wrong in this way.
     fn part_of(self, text: &str) -> Option<&str> {
         let (host, port) = host_and_port(text);
         match self {
@@ -119,12 +117,11 @@ fn ipv6_in(text: &str) -> Option<&str> {
     }
 }
 
-/// Whether a text is four numbers, as an address has them.
 fn is_ipv4(text: &str) -> bool {
     text.parse::<Ipv4Addr>().is_ok()
 }
 
-/// Whether a text is made as a host's name is: of letters, digits, `-`, `_` and `.`, with a letter among them.
+/// Whether a text is made of letters, digits, `-`, `_` and `.`, with a letter among them.
 fn is_name(text: &str) -> bool {
     let bytes = text.as_bytes();
     bytes.iter().all(|byte| byte.is_ascii_alphanumeric() || matches!(byte, b'-' | b'_' | b'.'))
@@ -136,13 +133,13 @@ fn are_digits(text: &str) -> bool {
     text.as_bytes().iter().all(|byte| byte.is_ascii_digit())
 }
 
-/// Whether a text is a number that is written with a zero in front, after a sign or none.
+/// Whether a text is a number with a zero in front, after a sign or none.
 pub fn has_leading_zero(text: &str) -> bool {
     let digits = text.strip_prefix('-').unwrap_or(text);
     matches!(digits.as_bytes(), [b'0', _, ..]) && are_digits(digits)
 }
 
-/// Whether a text is a number over this one. Digits that are no number are too many, or none.
+/// Whether a text is a number over this one. Digits that are no number are too many.
 fn is_over(text: &str, most: u32) -> bool {
     let is_within = matches!(text.parse::<u32>(), Ok(number) if number <= most);
     are_digits(text) && !text.is_empty() && !is_within
@@ -156,7 +153,7 @@ impl fmt::Display for Mistake<'_> {
     }
 }
 
-/// What is wanted in place of a value.
+/// What is wanted in place of a value that a key does not take.
 #[derive(Clone, Copy)]
 pub(crate) enum Wanted<'a> {
     /// What the key takes.
@@ -176,7 +173,7 @@ impl<'a> Wanted<'a> {
         Wanted::Value(key.takes())
     }
 
-    /// What is wanted in place of a value that a key refuses, and that is `word` without quotes.
+    /// In place of a value that a key refuses, and that is `word` without quotes.
     pub(crate) fn in_place_of(value: &Value, word: &'a str, key: Key) -> Wanted<'a> {
         if !is_word(value) || !matches!(key.takes(), Takes::Address(_)) {
             return Wanted::by(key);
@@ -184,7 +181,7 @@ impl<'a> Wanted<'a> {
         Wanted::in_place_of_word(word, key)
     }
 
-    /// What is wanted in place of a word that a key refuses, as it is typed on a command line.
+    /// In place of a word that a key refuses, as it is typed on a command line.
     pub(crate) fn in_place_of_word(word: &'a str, key: Key) -> Wanted<'a> {
         let mistake = match key.takes() {
             Takes::Address(row) if address_of(word).is_some() => {
@@ -200,8 +197,8 @@ impl<'a> Wanted<'a> {
         }
     }
 
-    /// What is wanted in place of what a line has for a key, where that is no value of TOML. None if it is a text
-    /// that is wrong in another way than by its quotes.
+    /// In place of what a line has for a key, where that is no value of TOML. None of a text that is wrong in another
+    /// way than by its quotes.
     pub(crate) fn in_place_of_written(written: &'a str, key: Key) -> Option<Wanted<'a>> {
         match key.takes() {
             Takes::Address(_) | Takes::Level if !written.is_empty() => quotes_of(written, key),
@@ -212,13 +209,10 @@ impl<'a> Wanted<'a> {
 
 /// Whether a value is a text or a whole number.
 fn is_word(value: &Value) -> bool {
-    match value.as_str() {
-        Some(_) => true,
-        None => value.as_integer().is_some(),
-    }
+    value.as_str().is_some() || value.as_integer().is_some()
 }
 
-/// The address that a port alone stands for, or one with `*` before it. None if it is something else.
+/// The address that a port alone, or one with `*` before it, stands for.
 fn port_alone(word: &str, row: AddressRow) -> Option<Mistake<'_>> {
     let ("" | "*", port) = host_and_port(word) else {
         return None;
@@ -233,7 +227,7 @@ fn port_alone(word: &str, row: AddressRow) -> Option<Mistake<'_>> {
     })
 }
 
-/// What is wanted in place of a text that lacks its quotes, or its last one. None if it has other quotes.
+/// What is wanted in place of a text that lacks its quotes, or its last one.
 fn quotes_of(written: &str, key: Key) -> Option<Wanted<'_>> {
     let quote = if written.starts_with('\'') { '\'' } else { '"' };
     match written.split_once(quote) {

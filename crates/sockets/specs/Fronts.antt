@@ -38,8 +38,8 @@ abbrev pub Fails : Result (Unit {0}) Error → Type 0
 Fails (Ok done) = ⊥
 Fails (Err error) = error_kind error ≢ Interrupted
 
--- how a front's connections are forwarded, the most milliseconds that it waits for reports, the numbers that its last
--- poll gave, whether that failed, how many milliseconds it could take, whether the front has a share of the listening
+-- A front: how its connections are forwarded, the most milliseconds that it waits for reports, the numbers that its
+-- last poll gave, whether that failed, how many milliseconds it could take, whether it has a share of the listening
 -- socket, and how many times in a row it has left a client to other pollers
 pub record Watched : Type 0 where
   pub forwarding : Forwarding
@@ -50,26 +50,36 @@ pub record Watched : Type 0 where
   pub listening : Bool
   pub left : ℕ
 
--- the longest wait for reports of each of this many pollers, 16 at most, in milliseconds: together they wake at most 10
--- times a second by themselves
+-- the longest wait for reports of each of this many pollers, in milliseconds: together they wake at most 10 times a
+-- second by themselves
 abbrev pub wait_of : ℕ → ℕ
 wait_of pollers = 100 * max (min pollers 16) 2
+
+-- a front as it begins, one of this many
+abbrev pub fresh_front : Forwarding → ℕ → Watched
+fresh_front forwarding pollers = record {
+  forwarding = forwarding;
+  wait = wait_of pollers;
+  reported = [];
+  failed = false;
+  waited = 0;
+  listening = true;
+  left = 0;
+}
 
 -- how many times in a row a front leaves a client at most
 abbrev pub most_left : ℕ
 most_left = 16
 
--- What a wait for reports says of this front, beside what it says of any: whether it failed, how long it could take if it
--- was a long one, and how many times in a row a client was left. After a brief one that gave no report that is as many as
--- there may be, so the next client is accepted; no other wait changes it
+-- What a wait for reports says of this front, beside what it says of any. After a brief one that gave no report the
+-- next client is accepted
 pub record WaitEnded (wait : Waiting) (answer : Result (Unit {0}) Error) (old new : Watched) : Type 0 where
   pub fails : IsTrue new.failed ↔ Fails answer
   pub asked : wait ≡ waiting.Long → new.waited ≡ old.wait
   pub quiet : OnOk answer (wait ≡ waiting.Brief → new.reported ≡ [] → new.left ≡ most_left)
   pub kept : wait ≢ waiting.Brief → new.left ≡ old.left
 
--- a socket that listens: the address that the system was asked for, and the one that it gave, which has its port if any
--- port was asked for
+-- a socket that listens: the address that the system was asked for, and the one that it gave
 pub record Listens (L : Type 0) : Type 0 where
   pub listener : L
   pub asked : SocketAddr
@@ -90,7 +100,7 @@ abbrev pub IsLocal : {S : Type 0} → (Made → S → S → Type 0) → S → Op
 IsLocal did socket address = (named : Result SocketAddr Error) × did (NamedHere named) socket socket × (address ≡ v4_of (result_ok named))
 
 -- The addresses that a front gives of a client's connection: none unless targets are sent them, and else the client's
--- own, as accept(2) gave it. The one on which it was accepted only the system knows
+-- own. The one on which it was accepted only the system knows
 abbrev pub IsRoute : Bool → Option SocketAddr → Route → Type 0
 IsRoute false peer route = route ≡ record { client = None; accepted = None }
 IsRoute true peer route = route.client ≡ v4_of peer

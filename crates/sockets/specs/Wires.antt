@@ -9,8 +9,8 @@ use Rattle.sockets.specs.declared.forwarding.Patience.{Patience}
 use Rattle.relay_core.specs.declared.call.CallKind.TheVariants as call
 use Rattle.engine.specs.declared.class.Class.TheVariants as class
 
--- A socket sends at once (TCP_NODELAY of tcp(7)), or it may wait for more to send along: whether it sends at once, and
--- how many full offers came in a row, up to four
+-- whether a socket sends at once (TCP_NODELAY of tcp(7)), or may wait for more to send along, and how many full offers
+-- came in a row, up to four
 pub record Sending : Type 0 where
   pub at_once : Bool
   pub full_offers : ℕ
@@ -29,9 +29,9 @@ pub record IsOffered (bytes : ℕ) (old new : Sending) : Type 0 where
   pub short : bytes < 16384 → new.full_offers ≡ 0
   pub at_once : IsTrue new.at_once ↔ (IsTrue old.at_once × (new.full_offers < 4))
 
--- the count of its answers, when it sends, whether it reads the socket or answers "would block" to reads by itself, the
--- address at its other end, if it is known, the name under which it is reported, if it is, and for how long the socket
--- was given to wait for its peer
+-- what is known of a socket: the count of its answers, when it sends, whether the wire reads it or answers "would
+-- block" to reads by itself, the address at its other end, the name under which it is reported, and how long it waits
+-- for its peer
 pub record Socket : Type 0 where
   pub tally : Tallied
   pub sending : Sending
@@ -40,7 +40,6 @@ pub record Socket : Type 0 where
   pub watched : Option EndName
   pub patience : Patience
 
--- a wire: the system's socket, and what is known of it
 pub record Wired (S : Type 0) : Type 0 where
   pub stream : S
   pub socket : Socket
@@ -52,19 +51,16 @@ unset = record { connect = None; keepalive = None }
 abbrev pub unlimited : Patience → Patience
 unlimited patience = record patience { connect = None }
 
--- a new one, which is known to be connected or not, reads, is not reported, and whose socket was given no time
+-- a new one, which is known to be connected or not
 abbrev pub fresh_wire : Bool → Option SocketAddr → Socket
 fresh_wire joined peer = record { tally = tally joined 0 0; sending = waiting; reads = true; peer = peer; watched = None; patience = unset }
 
--- one that sends at once
 abbrev pub promptly : Socket → Socket
 promptly socket = record socket { sending = prompt }
 
--- one that is reported under this name
 abbrev pub under : EndName → Socket → Socket
 under name socket = record socket { watched = Some name }
 
--- one whose socket was given this time
 abbrev pub patient : Patience → Socket → Socket
 patient patience socket = record socket { patience = patience }
 
@@ -72,7 +68,6 @@ patient patience socket = record socket { patience = patience }
 abbrev pub SameButWatched : Socket → Socket → Type 0
 SameButWatched old new = new ≡ record old { watched = new.watched }
 
--- which call was asked for
 abbrev pub call_of : Asked → CallKind
 call_of (Read most) = call.Read
 call_of (Write offer) = call.Write
@@ -108,7 +103,6 @@ goes_on call class.Blocked reads = reads
 abbrev pub goes_on_after : ℕ → ℕ → Bool → Bool
 goes_on_after count offered reads = if count == 0 then (if offered == 0 then reads else true) else reads
 
--- whether the wire reads the socket after an answer
 abbrev pub reads_after : Asked → Given → Bool → Bool → Bool
 reads_after asked (Refused kind) joined reads = goes_on (call_of asked) (class_by (call_of asked) joined kind) reads
 reads_after (Write offer) (Took count) joined reads = goes_on_after count (length offer) reads
@@ -119,7 +113,6 @@ abbrev pub ReadsAfter : Asked → Given → Socket → Socket → Type 0
 ReadsAfter (Read most) given old new = Unit {0}
 ReadsAfter asked given old new = new.reads ≡ reads_after asked given old.tally.joined old.reads
 
--- all that a call changed of what is known
 pub record IsCalled (asked : Asked) (given : Given) (old new : Socket) : Type 0 where
   pub tally : new.tally ≡ tally_after asked given old.tally
   pub sending : SendsAfter asked old.sending new.sending
@@ -129,10 +122,10 @@ pub record IsCalled (asked : Asked) (given : Given) (old new : Socket) : Type 0 
   pub patience : new.patience ≡ old.patience
 
 -- One system call on a socket, with its answer: read(2), write(2) or shutdown(2); SO_ERROR of socket(7);
--- getpeername(2), getsockname(2); TCP_NODELAY of tcp(7), on or off; TCP_USER_TIMEOUT, in milliseconds, where 0 is no
--- limit of the socket's own; and epoll_ctl(2), which registered the socket under this number, with this word, if with
--- any. And SO_KEEPALIVE of socket(7), with the first probe after this many seconds, which takes a call for each of its
--- numbers. And a look, which is no system call: whether a report that names reading came since the last look
+-- getpeername(2); getsockname(2); TCP_NODELAY of tcp(7); TCP_USER_TIMEOUT, in milliseconds, where 0 is none;
+-- SO_KEEPALIVE of socket(7), after this many seconds, by a call for each of its numbers; epoll_ctl(2), under this
+-- number and with this word. And a look, which is no system call: whether a report that names reading came since the
+-- last look
 pub data Made : Type 0 where
   Called : Asked → Given → Made
   Pending : Result (Option Error) Error → Made
@@ -152,8 +145,7 @@ module _ {S : Type 0} (did : Made → S → S → Type 0) where
     pub off : was ≡ true → is ≡ false → did (SentAtOnce false) before after
     pub kept : is ≡ was → after ≡ before
 
-  -- a socket is given this many seconds to wait for its connection, or for a silent peer, and is left alone if none are
-  -- given
+  -- a socket is given this many seconds to wait for its connection, or for a silent peer, or is left alone
   abbrev pub Limits : Option ℕ → S → S → Type 0
   Limits (Some seconds) before after = did (GivesUpAfter (seconds * 1000)) before after
   Limits None before after = after ≡ before
@@ -178,9 +170,8 @@ module _ {S : Type 0} (did : Made → S → S → Type 0) where
   JoinGives (Ok (Some error)) given socket = given ≡ Refused (pending_kind (error_kind error))
   JoinGives (Ok None) given socket = (named : Result SocketAddr Error) × did (Named named) socket socket × (given ≡ call_gave named)
 
-  -- If the wire reads, a read is one system call, for all that was asked, and gives what it gave. If the wire does not
-  -- read, it looks first: if there was a report of something to read, it reads from then on; else it answers "would
-  -- block" by itself, without a system call
+  -- If the wire reads, a read is one system call, and gives what it gave. Else it looks first: if there was a report of
+  -- something to read, it reads from then on, and if not, it answers "would block" by itself
   pub record Reads (most : ℕ) (given : Given) (joined was is : Bool) (before after : S) : Type 0 where
     pub reads : Bool
     pub looked : S
@@ -195,8 +186,7 @@ module _ {S : Type 0} (did : Made → S → S → Type 0) where
   Joins given before after =
       (pending : Result (Option Error) Error) × did (Pending pending) before after × JoinGives pending given after
 
-  -- The system calls that a call on the wire asks for. A write and a shutdown are one, for all that was asked, and give
-  -- what it gave. After a write the socket may start to wait
+  -- the system calls that a call on the wire asks for: after a write the socket may start to wait
   abbrev pub Asks : Asked → Given → Socket → Socket → S → S → Type 0
   Asks (Read most) given old new before after = Reads most given old.tally.joined old.reads new.reads before after
   Asks (Write offer) given old new before after =
@@ -210,7 +200,6 @@ module _ {S : Type 0} (did : Made → S → S → Type 0) where
       (asked_for : S) × Asks asked given old new before asked_for
       × Lifts old.patience.connect old.tally.joined new.tally.joined asked_for after
 
-  -- all that a call on the wire does
   abbrev pub IsDone : Asked → Given → Wired S → Wired S → Type 0
   IsDone asked given old new =
       IsCalled asked given old.socket new.socket × Makes asked given old.socket new.socket old.stream new.stream

@@ -27,8 +27,7 @@ impl<L> Model for Bound<L> {
 }
 
 impl<L> Bound<L> {
-    /// The address, which prints as `A.B.C.D:PORT`. If the settings ask for port 0, it has the port that the system
-    /// chose.
+    /// The address, with the port that the system chose if the settings ask for port 0.
     pub fn text(&self) -> SocketAddr
         ensures { result ≡ self.now.address }
     {
@@ -36,8 +35,8 @@ impl<L> Bound<L> {
     }
 }
 
-/// Listens on the settings' address and on no other, with the longest backlog that the system allows. The address of
-/// a server that ended a moment ago can be reused at once (SO_REUSEADDR of socket(7)).
+/// Listens on the settings' address, with the longest backlog that the system allows, also right after another server
+/// that listened there has ended (SO_REUSEADDR of socket(7)).
 ///
 /// Refuses with `Listen` if the system refuses. The cause was then logged, at level error.
 pub fn bind<R: Net + Log>(rt: &R, settings: &Settings) -> Result<Bound, ServerFault>
@@ -68,17 +67,14 @@ fn listen<R: Net, L: Listening + Drop>(rt: &R, asked: SocketAddr) -> io::Result<
     })
 }
 
-/// A socket that the system was asked to have listen at an address.
-///
-/// Only the system knows at which addresses a socket listens, so the trait leaves that open. What is proved of any
-/// such socket says for which address the system was asked.
+/// A socket that the system was asked to have listen at an address. Only the system knows at which it does, so the
+/// trait leaves that open.
 trait Listening: Sized {
     ghost use Rattle.std.specs.declared.net.SocketAddr.{SocketAddr};
 
-    // What the system makes when it is asked to listen at an address.
+    // What the system makes when it is asked to listen at an address, and what it says of the address.
     ghost listens: { SocketAddr → Self → Type 0 };
 
-    // What the system says of the address at which a socket listens.
     ghost told: { SocketAddr → Self → Type 0 };
 
     /// Listens at an address (socket(2), bind(2), listen(2)).

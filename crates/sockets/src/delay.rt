@@ -6,10 +6,8 @@ use relay_core::MAX_READ;
 use std::marker::Model;
 
 /// When a socket sends at once, by TCP_NODELAY of tcp(7): from the first quiet turn on, but for bulk until the
-/// connection is quiet again.
-///
-/// Sending at once, a request in two writes is not held back by a peer that is slow to acknowledge the first. In bulk
-/// it costs up to 30 % more processor time. The switch back at a quiet turn's end also sends a short tail that waits.
+/// connection is quiet again. So a request in two writes is not held back by a peer that is slow to acknowledge the
+/// first. In bulk it would cost up to 30 % more processor time. The switch back also sends a short tail that waits.
 #[derive(Clone, Copy)]
 pub(crate) struct Delay {
     at_once: bool,
@@ -30,7 +28,7 @@ impl Model for Delay {
 }
 
 impl Delay {
-    /// A socket as the system creates it, which may wait.
+    /// A socket as the system creates it.
     pub(crate) fn new() -> Delay
         ensures { result ≡ waiting }
     {

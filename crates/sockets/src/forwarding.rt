@@ -11,10 +11,9 @@ use std::net::{Net, SocketAddr};
 pub struct Forwarding {
     /// The address to which each client is connected.
     pub target: SocketAddr,
-    /// Whether the targets are sent a line with the addresses of their clients' connections, for which the system is
-    /// asked.
+    /// Whether the targets are sent a line with the addresses of their clients' connections.
     pub proxy: bool,
-    /// How long to wait for a target or a client that does not answer.
+    /// How long to wait for a peer that does not answer.
     pub patience: Patience,
 }
 
@@ -60,10 +59,9 @@ impl Patience {
     }
 }
 
-/// A handle that starts connections. A thread may be started with a front that needs this alone; `Net` names types of
-/// its own, and what needs it stays on the thread that was passed it.
+/// A handle that starts connections. A thread may be started with a front that needs this alone, and not with `Net`.
 pub trait Dial {
-    /// Starts a connection to an address (socket(2), connect(2)), and does not wait for it.
+    /// Starts a connection to an address (socket(2), connect(2)).
     fn dial(&self, address: SocketAddr) -> io::Result<TcpStream>;
 }
 

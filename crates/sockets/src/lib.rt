@@ -2,9 +2,9 @@
 //! epoll(7) ([`open_all`]). All sockets are edge-triggered, and nothing waits except
 //! [`Front::poll`](dispatch::Front::poll).
 //!
-//! - [`Sockets`] is the front of one poller, and [`Forwarding`] says where it connects clients, and whether targets are
-//!   sent their addresses. All fronts share one listening socket ([`Bound`]), and each leaves clients to those that
-//!   have fewer (`loads`). [`Wakers`] wakes the poller of a slot.
+//! - [`Sockets`] is the front of one poller, and [`Forwarding`] says where it connects clients. All fronts share one
+//!   listening socket ([`Bound`]), and each leaves clients to those that have fewer (`loads`). [`Wakers`] wakes the
+//!   poller of a slot.
 //! - [`SocketWire`] is one end of a connection: a socket, and what is known of it. After a read that would block it
 //!   reads again only once its front has reported something to read (`readiness`).
 //!

@@ -1,20 +1,17 @@
-//! The fixed numbers of the sockets.
-
-/// The longest wait for reports of one poller or of two, in milliseconds for each. That of more pollers is so much
-/// longer that all together wake as often as two.
+/// The longest wait for reports of one poller or of two, in milliseconds for each. More pollers wait so much longer
+/// that all together wake as often as two.
 pub(crate) const WAIT_MILLIS: u64 = 100;
 
 /// The most pollers that the settings can ask for.
 pub(crate) const MAX_POLLERS: usize = 16;
 
-/// After this many full offers in a row, the bytes count as bulk, which is sent in larger parts if the socket may
-/// wait for more.
+/// After this many full offers in a row, the bytes count as bulk.
 pub(crate) const BULK: u8 = 4;
 
 /// This many probes without an answer end a connection.
 pub(crate) const PROBES: u32 = 5;
 
-/// A poller leaves no client to another that has fewer by this many or less.
+/// A poller leaves no client to another that has fewer by this many or less, nor by this part of that one's number.
 pub(crate) const LEAST_MARGIN: usize = 2;
 
 /// Nor to one that has fewer by this part of its own number or less.

@@ -1,6 +1,3 @@
-//! How many clients each poller has. By these counts a poller leaves clients to others.
-ghost use Rattle.std.specs.Prelude.{◌≤◌};
-
 use crate::limits::{LEAST_MARGIN, MARGIN_PART};
 use dispatch::Split;
 use std::alloc::{AllocError, Global};
@@ -16,15 +13,14 @@ pub(crate) struct Load {
     listens: AtomicBool,
 }
 
-/// For each poller how many clients it has, as far as all others know. Nothing depends on these counts but which poller
-/// takes a client first.
+/// For each poller how many clients it has. Nothing depends on these counts but which poller takes a client first.
 #[derive(Drop)]
 pub(crate) struct Loads {
     each: Vec<Arc<Load>>,
 }
 
 impl Loads {
-    /// For each part of the slots a poller that listens and has no client.
+    /// Of pollers that listen and have no client.
     pub(crate) fn new(alloc: Global, split: Split) -> Result<Loads, AllocError> {
         let mut each = Vec::with_capacity(alloc, split.pollers())?;
         for poller in 0..split.pollers() {
@@ -37,7 +33,7 @@ impl Loads {
         Ok(Loads { each })
     }
 
-    /// A share of a poller's load: one client more, until it is dropped.
+    /// One client more of this poller, until the share is dropped.
     pub(crate) fn share(&self, poller: usize) -> Option<Arc<Load>> {
         Arc::try_clone(self.each.get(poller)?).ok()
     }
@@ -49,22 +45,18 @@ impl Loads {
         }
     }
 
-    /// Whether this poller has more clients than another that can take one, by more than the margin.
+    /// Whether this poller has more clients than another that can take one, by over the margin.
     pub(crate) fn is_ahead(&self, poller: usize) -> bool {
         let Some(load) = self.each.get(poller) else {
             return false;
         };
         let own = clients(load);
-        for other in self.each.iter() {
+        self.each.iter().any(|other| {
             let count = clients(other);
-            if count < other.most
+            count < other.most
                 && other.listens.load(SeqCst)
                 && own > count.saturating_add(margin(count))
-            {
-                return true;
-            }
-        }
-        false
+        })
     }
 }
 
@@ -73,9 +65,6 @@ fn clients(load: &Arc<Load>) -> usize {
     Arc::strong_count(load).saturating_sub(1)
 }
 
-/// By how many more than this a poller may have and still take the next client.
-fn margin(count: usize) -> usize
-    ensures { 2 ≤ result }
-{
+fn margin(count: usize) -> usize {
     (count / MARGIN_PART).max(LEAST_MARGIN)
 }

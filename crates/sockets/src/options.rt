@@ -1,5 +1,4 @@
-//! The options of a TCP socket that say how long to wait for its peer. Neither the standard library nor `mio` sets
-//! them.
+//! The options of a TCP socket that neither the standard library nor `mio` sets.
 ghost use Rattle.libc.specs.Net.{SockOption};
 
 use crate::limits::PROBES;
@@ -8,8 +7,7 @@ use mio::net::TcpStream;
 use std::io;
 use std::os::fd::{AsRawFd, RawFd};
 
-/// Has the connection fail once it has waited for this many milliseconds to be made, or for what it sent to be taken
-/// (TCP_USER_TIMEOUT of tcp(7)); after 0, as the system does by itself. The most that the system takes is 2^31 - 1.
+/// `Stream::give_up_after` of a socket. The most milliseconds that the system takes is 2^31 - 1.
 pub(crate) fn give_up_after(socket: &TcpStream, millis: u64) -> io::Result<()> {
     let most = i32::MAX as u64;
     let value = millis.min(most) as u32;
@@ -22,8 +20,7 @@ pub(crate) fn give_up_after(socket: &TcpStream, millis: u64) -> io::Result<()> {
 }
 
 /// Has the peer probed after it was silent for this many seconds, then at every fifth of that, and given up after
-/// five probes without an answer (SO_KEEPALIVE of socket(7), TCP_KEEPIDLE, TCP_KEEPINTVL and TCP_KEEPCNT of tcp(7)).
-/// The switch comes last, so that a socket never probes by the system's own numbers.
+/// five probes without an answer. The switch comes last, so that no socket probes by the system's own numbers.
 pub(crate) fn probe(socket: &TcpStream, seconds: u32) -> io::Result<()> {
     let socket = socket.as_raw_fd();
     let between = (seconds / PROBES).max(1);

@@ -1,7 +1,7 @@
 ghost use Rattle.std.specs.{Prelude.{◌≡◌, ◌≢◌, ◌↔◌, ◌⊎◌, IsTrue, if◌then◌else◌, ◌+◌, ◌<◌, ◌≤◌, ◌++◌, [], length, replicate, true, false, Some, None, IfOk, OnOk, IfErr, OnErr, vec_len, vec_capacity}, IoError.error_kind, declared.io.ErrorKind.TheVariants.Interrupted};
 ghost use Rattle.mio.specs.{Event.event_token, Events.items};
 ghost use Rattle.token.specs.Numbers.{name_of};
-ghost use Rattle.sockets.specs.{Fronts.{Fails, end_in, heard_of, most_left, names_reading, numbers, v4_of, wait_of, IsLocal, IsRoute, MayTell, WaitEnded}, Wires.{SameButWatched, fresh_wire, patient, under, unlimited}};
+ghost use Rattle.sockets.specs.{Fronts.{Fails, end_in, fresh_front, heard_of, most_left, names_reading, numbers, v4_of, wait_of, IsLocal, IsRoute, MayTell, WaitEnded}, Wires.{SameButWatched, fresh_wire, patient, under, unlimited}};
 ghost use Rattle.dispatch.specs.{Splits.parts_of, declared.front.Unopened.TheVariants.{Connect, Register}};
 
 use crate::bound::Bound;
@@ -31,7 +31,7 @@ use std::time::Duration;
 use token::{Name, Token, unpack};
 
 /// The front of one poller over the system's sockets: the listening socket, which all pollers share, one target, and an
-/// epoll(7) instance of its own. It gives the addresses of clients only if targets are sent them.
+/// epoll(7) instance of its own.
 #[derive(Drop)]
 pub struct Sockets<'r, R> {
     rt: &'r R,
@@ -44,9 +44,8 @@ pub struct Sockets<'r, R> {
     events: Events,
     // The longest wait for reports, in milliseconds.
     wait: u64,
-    // Whether the last wait failed, and not by a signal.
+    // Whether the last wait failed, and not by a signal, and how many milliseconds it could take.
     failed: bool,
-    // How many milliseconds it could take.
     waited: u64,
     // How many clients each poller has, and which of these this one is.
     loads: Arc<Loads>,
@@ -84,11 +83,10 @@ pub struct Wakers {
 }
 
 /// A front for each part of the slots, all on one bound socket, which is reported to each of them, and the wakers for
-/// other threads. The fronts connect clients as `forwarding` says.
+/// other threads.
 ///
-/// Refuses with `NoMemory` if there is not enough, and with `Poll` if the system cannot report on sockets
-/// (epoll_create1(2), eventfd(2), epoll_ctl(2)). The cause was then logged, at level error. In both cases the
-/// listening socket is closed.
+/// Refuses with `NoMemory`, and with `Poll` if the system cannot report on sockets (epoll_create1(2), eventfd(2),
+/// epoll_ctl(2)); the cause was then logged, at level error. In both cases the listening socket is closed.
 pub fn open_all<'r, R: Net + Log>(
     rt: &'r R,
     alloc: Global,
@@ -96,16 +94,8 @@ pub fn open_all<'r, R: Net + Log>(
     forwarding: Forwarding,
     split: Split,
 ) -> Result<(Vec<Sockets<'r, R>>, Wakers), ServerFault>
-    ensures opened { IfOk result (λ made. made.0.items ≡ replicate (parts_of split.slots split.size)
-        (record {
-          forwarding = forwarding;
-          wait = wait_of (parts_of split.slots split.size);
-          reported = [];
-          failed = false;
-          waited = 0;
-          listening = true;
-          left = 0;
-        })) }
+    ensures opened { IfOk result (λ made. made.0.items
+        ≡ replicate (parts_of split.slots split.size) (fresh_front forwarding (parts_of split.slots split.size))) }
     ensures wakers { IfOk result (λ made. made.1.split ≡ split) }
     ensures refused { IfErr result (λ fault. (fault ≡ ServerFault.Poll) ⊎ (fault ≡ ServerFault.NoMemory)) }
 {
@@ -117,7 +107,7 @@ pub fn open_all<'r, R: Net + Log>(
     Ok((fronts, Wakers { split, each }))
 }
 
-/// For each of this many pollers its poll, which reports on the listening socket, and its waker.
+/// For each poller its poll, which reports on the listening socket, and its waker.
 fn watched_by_all<R: Net + Log>(
     rt: &R,
     alloc: Global,
@@ -147,16 +137,7 @@ fn fronts_of<'r, R>(
     mut polls: Vec<Poll>,
     forwarding: Forwarding,
 ) -> Result<Vec<Sockets<'r, R>>, AllocError>
-    ensures { IfOk result (λ fronts. fronts.items
-        ≡ replicate (vec_len polls) (record {
-          forwarding = forwarding;
-          wait = wait_of (vec_len polls);
-          reported = [];
-          failed = false;
-          waited = 0;
-          listening = true;
-          left = 0;
-        })) }
+    ensures { IfOk result (λ fronts. fronts.items ≡ replicate (vec_len polls) (fresh_front forwarding (vec_len polls))) }
 {
     let listener = Arc::new(alloc, listener)?;
     let count = polls.len();
@@ -185,7 +166,7 @@ fn fronts_of<'r, R>(
     Ok(fronts)
 }
 
-/// How many milliseconds a poll may take, if a wait takes at most the longest.
+/// How many milliseconds a poll may take.
 fn millis_of(wait: Waiting, longest: u64) -> u64
     ensures longest { wait ≡ Waiting.Long → result ≡ longest }
     ensures brief { wait ≡ Waiting.Brief → result ≡ 1 }
@@ -198,7 +179,6 @@ fn millis_of(wait: Waiting, longest: u64) -> u64
     }
 }
 
-/// The longest wait for reports of each of this many pollers, in milliseconds.
 fn wait_of(pollers: usize) -> u64
     ensures { result ≡ wait_of pollers }
 {
@@ -219,8 +199,8 @@ fn watched<R: Net + Log>(rt: &R, listener: &mut TcpListener) -> Result<(Poll, Wa
 }
 
 impl<R: Dial> Sockets<'_, R> {
-    /// Starts the connection to the target, and gives it its limit. The system looks at that when it sends again, so it
-    /// may come after the start. If the start fails, the client's wire keeps the cause.
+    /// Starts the connection to the target, and gives it its limit, at which the system looks only when it sends again.
+    /// If the start fails, the client's wire keeps the cause.
     fn begin<N: Log>(&self, rt: &N, client: &mut SocketWire) -> Result<SocketWire, Unopened>
         ensures client { client.new ≡ client.old }
         ensures begun { IfOk result (λ target. target.socket ≡ patient self.now.forwarding.patience (fresh_wire false None)) }
@@ -259,8 +239,7 @@ impl<R: Dial> Sockets<'_, R> {
     }
 }
 
-/// The addresses of a client's connection, if targets are sent them. The client's own came with accept(2), and the
-/// socket is asked for the other one.
+/// The addresses of a client's connection, if targets are sent them. The socket is asked for the one at this end.
 fn route_of<S: Stream>(is_told: bool, client: &SocketWire<S>) -> Route
     ensures client { IsRoute is_told client.now.socket.peer result }
     ensures accepted { is_told ≡ true → IsLocal S.did client.now.stream result.accepted }
@@ -284,7 +263,6 @@ fn v4(address: Option<SocketAddr>) -> Option<SocketAddrV4>
     }
 }
 
-/// The poll, which reports on the listening socket, and the waker that ends its waits.
 fn reports_on<R: Net>(rt: &R, listener: &mut TcpListener) -> io::Result<(Poll, Waker)> {
     let poll = Poll::new(rt)?;
     poll.registry().register(listener, mio::Token(LISTENER as usize), Interest::READABLE)?;
@@ -310,8 +288,8 @@ struct Reported {
     heard: Option<Heard>,
 }
 
-/// Sets the word of the end that an event's number names, if the event names reading. Only then is the number given, so
-/// that the wire knows of the report before that becomes a note.
+/// Sets the word of the end that an event's number names, if the event names reading, before the number is given: so
+/// the wire knows of the report before that becomes a note.
 fn tell(told: &Reports, event: &Event) -> Reported
     ensures number { result.number ≡ (event_token event.now).0 }
     ensures heard { result.heard ≡ heard_of told.now event.now }
@@ -334,7 +312,6 @@ fn has_failed(answer: &io::Result<()>) -> bool
     }
 }
 
-/// The end of a connection that a number names, if it names one.
 fn end_of(number: u64) -> Option<Token>
     ensures { result ≡ end_in (name_of number) }
 {
@@ -344,8 +321,7 @@ fn end_of(number: u64) -> Option<Token>
     }
 }
 
-/// Whether an event names reading: there is something to read, or the socket has failed, or the peer has closed it,
-/// which a read finds out.
+/// Whether an event names reading: something to read, a failure, or a close by the peer, which a read finds out.
 fn names_reading(event: &Event) -> bool
     ensures { result ≡ names_reading event.now }
 {
@@ -401,8 +377,7 @@ impl<R: Dial> Front for Sockets<'_, R> {
         Ok(())
     }
 
-    /// It leaves one while another that can take it has fewer clients by more than a margin, but not 17 times in a row,
-    /// and not after a brief wait in which nothing was reported.
+    /// It leaves one while another that can take it has fewer clients by more than a margin.
     fn leaves(&mut self) -> bool
         ensures few { result ≡ true → self.old.left < most_left }
         ensures left { self.new ≡ record self.old { left = if result then self.old.left + 1 else 0 } }
@@ -431,7 +406,7 @@ impl<R: Dial> Front for Sockets<'_, R> {
         ensures { self.new ≡ record self.old { listening = false } }
     {
         if let Some(listener) = self.listener.take() {
-            // Others may go on to listen: without this the socket would still be reported here.
+            // Others may go on to listen, so that the socket stays open.
             let socket = listener.as_raw_fd();
             let _ = self.poll.registry().deregister(&mut SourceFd(&socket));
             self.loads.close(self.poller);

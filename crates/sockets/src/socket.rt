@@ -23,7 +23,7 @@ impl Socket {
         Socket::of(stream, None)
     }
 
-    /// A client's socket that is not reported yet, with its share of its poller's load.
+    /// A client's socket, with its share of its poller's load.
     pub(crate) fn of(stream: TcpStream, share: Option<Arc<Load>>) -> Socket {
         Socket {
             stream,

@@ -12,8 +12,7 @@ use std::net::SocketAddr;
 /// `probe` is one system call, which never waits.
 ///
 /// Only the system knows what a call does, so the trait leaves that open. What is proved of a wire over any such
-/// socket therefore says which calls it makes, with all that it was asked for, and that it gives their answers
-/// unchanged.
+/// socket says which calls it makes, and that it gives their answers unchanged.
 pub trait Stream {
     // What a system call may do: the call with its answer, and the socket before and after.
     ghost did: { Made → Self → Self → Type 0 };
@@ -40,18 +39,16 @@ pub trait Stream {
     fn peer(&self) -> io::Result<SocketAddr>
         ensures { did (Named result) self.now self.now };
 
-    /// The address at this end (getsockname(2)): for a client's socket, the one on which the client was accepted.
+    /// The address at this end (getsockname(2)), on which a client was accepted.
     fn local(&self) -> io::Result<SocketAddr>
         ensures { did (NamedHere result) self.now self.now };
 
-    /// Has the socket send at once, or wait for more to send along (TCP_NODELAY of tcp(7)). It stays as it was if the
-    /// system refuses.
+    /// Has the socket send at once, or wait for more to send along (TCP_NODELAY of tcp(7)), if the system allows it.
     fn send_at_once(&mut self, at_once: bool)
         ensures { did (SentAtOnce at_once) self.old self.new };
 
     /// Has the connection fail once it has waited for this many milliseconds to be made, or for what it sent to be
-    /// taken (TCP_USER_TIMEOUT of tcp(7)); after 0, as the system does by itself. It stays as it was if the system
-    /// refuses.
+    /// taken (TCP_USER_TIMEOUT of tcp(7)); after 0, as the system does by itself.
     fn give_up_after(&mut self, millis: u64) -> io::Result<()>
         ensures { did (GivesUpAfter millis) self.old self.new };
 

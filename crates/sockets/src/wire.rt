@@ -20,12 +20,12 @@ use std::marker::Model;
 use std::net::SocketAddr;
 use token::Token;
 
-/// The wire over one system socket. A write is one system call, which never waits, and so is a read, unless the wire
-/// knows its answer: after a read that would block, it answers "would block" by itself until a report that names
-/// reading has come, or a call fails.
+/// The wire over one system socket. A write is one system call, and so is a read, unless the wire knows its answer:
+/// after a read that would block, it answers "would block" by itself until a report that names reading has come, or a
+/// call fails.
 ///
-/// It counts its answers by [`class_by`](engine::class_by). It specifies the system calls that it makes, and gives
-/// their answers unchanged. It does not specify its bytes, since only the system knows which bytes come.
+/// It counts its answers by [`class_by`](engine::class_by). It specifies the system calls that it makes, but not its
+/// bytes, which only the system knows.
 #[derive(Drop)]
 pub struct SocketWire<S = Socket> {
     stream: S,
@@ -34,9 +34,8 @@ pub struct SocketWire<S = Socket> {
     attention: Attention,
     peer: Option<SocketAddr>,
     watched: Option<Token>,
-    // For how long its socket was given to wait for its peer.
     patience: Patience,
-    // The system's error of the last call that failed, by its number. It is only for the log.
+    // The number of the system's error by which the last call failed, for the log.
     error: Option<i32>,
 }
 
@@ -102,8 +101,8 @@ impl<S: Stream> SocketWire<S> {
         self.peer
     }
 
-    /// Has the socket reported for reading and writing, edge-triggered, under a token's number. Its reports that name
-    /// reading set the word `told`, which is the token's; without it the wire always reads.
+    /// Has the socket reported under a token's number ([`Stream::register`]). Without the word `told`, which is the
+    /// token's, the wire always reads.
     pub(crate) fn watch(
         &mut self,
         registry: &Registry,
@@ -132,7 +131,6 @@ impl<S: Stream> SocketWire<S> {
         self.patience = patience;
     }
 
-    /// Gives the connection this many seconds to be made, if any are given.
     fn limit<N: Log>(&mut self, rt: &N, seconds: Option<u32>)
         ensures limited { Limits S.did seconds self.old.stream self.new.stream }
         ensures same { self.new.socket ≡ self.old.socket }
@@ -145,7 +143,6 @@ impl<S: Stream> SocketWire<S> {
         }
     }
 
-    /// Has the peer probed after it was silent for this many seconds, if any are given.
     fn probe<N: Log>(&mut self, rt: &N, seconds: Option<u32>)
         ensures probed { Probing S.did seconds self.old.stream self.new.stream }
         ensures same { self.new.socket ≡ self.old.socket }
@@ -158,8 +155,8 @@ impl<S: Stream> SocketWire<S> {
         }
     }
 
-    /// The socket is known to be connected. If it had a limit for that, it loses it: the limit also ends a connection
-    /// whose peer takes nothing.
+    /// The socket is known to be connected. A limit for that is lifted, since it also ends a connection whose peer
+    /// takes nothing.
     fn connect(&mut self)
         ensures connected { self.new.socket ≡ record self.old.socket { tally = connected self.old.socket.tally } }
         ensures lifted { Lifts S.did self.old.socket.patience.connect self.old.socket.tally.joined true self.old.stream self.new.stream }
@@ -178,8 +175,7 @@ impl<S: Stream> SocketWire<S> {
         self.error = error.raw_os_error();
     }
 
-    /// Whether the wire reads its socket. If it does not, it looks, and reads from now on if there was a report of
-    /// something to read.
+    /// Whether the wire reads its socket. If it does not, it looks, and reads from now on if it was told to.
     fn looks(&mut self) -> bool
         ensures kept { self.old.socket.reads ≡ true → (result ≡ true) × (self.new.stream ≡ self.old.stream) }
         ensures look { self.old.socket.reads ≡ false → S.did (Looked result) self.old.stream self.new.stream }
@@ -193,8 +189,7 @@ impl<S: Stream> SocketWire<S> {
         told
     }
 
-    /// Counts an error of a call by its class, and gives it. After a read that would block the wire does not read,
-    /// and after a failure it does.
+    /// Counts an error of a call by its class, and gives it.
     fn refuse(&mut self, call: CallKind, error: io::Error) -> io::Error
         ensures same { result ≡ error }
         ensures counted { self.new.socket.tally ≡ counted (class_by call self.old.socket.tally.joined (error_kind error))
@@ -211,7 +206,7 @@ impl<S: Stream> SocketWire<S> {
         error
     }
 
-    /// Whether the wire reads its socket after an error of this class. A failure is kept for the log.
+    /// After a read that would block the wire does not read, and after a failure, which is kept for the log, it does.
     fn heed(&mut self, call: CallKind, class: Class, error: &io::Error)
         ensures { self.new ≡ record self.old { socket = record self.old.socket { reads = goes_on call class self.old.socket.reads } } }
     {
@@ -221,14 +216,11 @@ impl<S: Stream> SocketWire<S> {
                 self.attention.wake();
                 self.keep(error);
             }
-            Class::Blocked => match call {
-                CallKind::Read => self.attention.rest(),
-                CallKind::Write | CallKind::Join | CallKind::Shut => {}
-            },
+            Class::Blocked if call == CallKind::Read => self.attention.rest(),
+            Class::Blocked => {}
         }
     }
 
-    /// A write took `count` of the bytes that were offered.
     fn took(&mut self, count: usize, offered: usize)
         ensures counted { self.new.socket ≡ record self.old.socket {
           tally = took count offered self.old.socket.tally;
@@ -245,7 +237,7 @@ impl<S: Stream> SocketWire<S> {
         }
     }
 
-    /// This many bytes were offered. In bulk the socket may wait for more from now on.
+    /// In bulk the socket may wait for more from now on.
     fn offered(&mut self, bytes: usize)
         ensures offered { IsOffered bytes self.old.socket.sending self.new.socket.sending }
         ensures same { self.new.socket ≡ record self.old.socket { sending = self.new.socket.sending } }
@@ -268,8 +260,8 @@ fn stand<S: Stream>(stream: &mut S) -> io::Result<()>
     Ok(())
 }
 
-/// An error that was pending on a socket, as the answer of a call. It is always a failure of the connection. It is
-/// the system's own, with its number, unless one of its kind could mean something else.
+/// An error that was pending on a socket, as the answer of a call: the system's own, with its number, unless one of its
+/// kind could mean something else than a failure.
 fn failure(pending: io::Error) -> io::Error
     ensures { error_kind result ≡ pending_kind (error_kind pending) }
 {

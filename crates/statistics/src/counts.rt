@@ -35,6 +35,9 @@ pub struct Counts {
     pub down_ended: u64,
 }
 
+/// How many counts there are.
+pub(crate) const COUNTS: usize = 13;
+
 impl Counts {
     /// Nothing was counted.
     pub const NONE: Counts = Counts {
@@ -52,6 +55,58 @@ impl Counts {
         up_ended: 0,
         down_ended: 0,
     };
+
+    pub(crate) fn of(numbers: [u64; COUNTS]) -> Counts {
+        let [
+            up,
+            down,
+            up_ended,
+            down_ended,
+            done,
+            client,
+            target,
+            idle,
+            refused,
+            reset,
+            timedout,
+            dropped,
+            opened,
+        ] = numbers;
+        Counts {
+            opened,
+            dropped,
+            done,
+            client,
+            target,
+            idle,
+            refused,
+            reset,
+            timedout,
+            up,
+            down,
+            up_ended,
+            down_ended,
+        }
+    }
+
+    /// Their numbers: of connections that have ended before those of all that were opened.
+    pub(crate) fn numbers(self) -> [u64; COUNTS] {
+        [
+            self.up,
+            self.down,
+            self.up_ended,
+            self.down_ended,
+            self.done,
+            self.client,
+            self.target,
+            self.idle,
+            self.refused,
+            self.reset,
+            self.timedout,
+            self.dropped,
+            self.opened,
+        ]
+    }
 
     /// The counts once this event was counted, too.
     pub fn after(self, event: Event) -> Counts
@@ -71,7 +126,6 @@ impl Counts {
         counts
     }
 
-    /// The slot's connection has moved this many bytes in all.
     fn move_to(&mut self, up: u64, down: u64)
         ensures { self.new ≡ moved up down self.old }
     {
@@ -79,7 +133,6 @@ impl Counts {
         self.down = self.down_ended.saturating_add(down);
     }
 
-    /// The slot's connection has moved all that it will.
     fn close(&mut self)
         ensures { self.new ≡ closed self.old }
     {
@@ -87,7 +140,6 @@ impl Counts {
         self.down_ended = self.down;
     }
 
-    /// A connection ended like this.
     fn count_verdict(&mut self, verdict: Verdict)
         ensures { self.new ≡ verdict_counted verdict self.old }
     {
@@ -156,7 +208,6 @@ impl Counts {
     }
 }
 
-/// One more.
 fn more(count: u64) -> u64
     ensures { result ≡ more count }
 {

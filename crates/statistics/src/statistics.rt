@@ -8,9 +8,7 @@ use crate::totals::Totals;
 use std::alloc::{AllocError, Global};
 use std::marker::Model;
 
-/// A place for the counts of each slot, which threads share by `&`.
-///
-/// In a clause it is the list of these places.
+/// A place for the counts of each slot, which threads share by `&`. In a clause it is the list of these places.
 #[derive(Drop)]
 pub struct Statistics<M = Atomics> {
     places: Vec<M>,
@@ -25,7 +23,7 @@ impl<M> Model for Statistics<M> {
 }
 
 impl Statistics {
-    /// Nothing is counted yet. This takes all the memory that it ever uses, and fails only if there is not enough.
+    /// This takes all the memory that it ever uses.
     pub fn new(alloc: Global, slots: usize) -> Result<Statistics, AllocError>
         ensures { IfOk result (λ statistics. length statistics ≡ slots) }
     {
@@ -55,8 +53,6 @@ impl<M: Memory> Statistics<M> {
         }
     }
 
-    /// The sums of all slots.
-    ///
     /// A slot whose place changes meanwhile is read again. So the sums are those of a moment at each slot, and not of
     /// one moment at all of them.
     pub fn totals(&self) -> Totals

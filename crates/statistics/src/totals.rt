@@ -4,10 +4,8 @@ ghost use Rattle.statistics.specs.Counts.{added, failed_of, no_sums, opened_of, 
 use crate::counts::Counts;
 use std::fmt::{self, Display};
 
-/// The sums of what was counted at each of this many slots.
-///
-/// It prints as the line of the statistics. There the connections that were opened are those that are open, are done
-/// and have failed, and the failed ones those that failed by a call on either side's socket or by the idle limit.
+/// The sums of what was counted at each of this many slots. It prints as the line of the statistics. There opened are
+/// those that are open, are done and have failed; and failed those by a call on either socket or by the idle limit.
 #[derive(Clone, Copy)]
 pub struct Totals {
     pub slots: usize,
@@ -43,12 +41,7 @@ impl Totals {
     pub fn failed(&self) -> u128
         ensures { result ≡ failed_of self.now.sums }
     {
-        let Counts {
-            client,
-            target,
-            idle,
-            ..
-        } = self.sums;
+        let (client, target, idle) = (self.sums.client, self.sums.target, self.sums.idle);
         u128::from(client) + u128::from(target) + u128::from(idle)
     }
 
@@ -56,16 +49,10 @@ impl Totals {
     pub fn opened(&self) -> u128
         ensures { result ≡ opened_of self.now }
     {
-        let live = u128::from(self.live);
-        let Counts {
-            done,
-            client,
-            target,
-            idle,
-            ..
-        } = self.sums;
+        let (live, done) = (self.live, self.sums.done);
+        let (client, target, idle) = (self.sums.client, self.sums.target, self.sums.idle);
         let failed = u128::from(client) + u128::from(target) + u128::from(idle);
-        live + u128::from(done) + failed
+        u128::from(live) + u128::from(done) + failed
     }
 }
 
@@ -76,7 +63,6 @@ impl Display for Totals {
         let (opened, failed) = (self.opened(), self.failed());
         let (slots, live) = (self.slots, self.live);
         let Counts {
-            opened: _,
             dropped,
             done,
             client,
@@ -87,8 +73,7 @@ impl Display for Totals {
             timedout,
             up,
             down,
-            up_ended: _,
-            down_ended: _,
+            ..
         } = self.sums;
         write!(
             f,

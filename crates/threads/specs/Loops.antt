@@ -1,6 +1,6 @@
 -- Why a thread's loop ends, which fault a server ends by, and what a loop does with tickets and with free slots. Part of
 -- the promises.
-use Rattle.std.specs.{Prelude.{◌≡◌, ◌≢◌, ◌⊎◌, ℕ, zero, suc, ◌+◌, ◌<◌, ◌≤◌, ◌==◌, ◌&&◌, Bool, true, false, nat_lt, if◌then◌else◌, Option, Some, None, option_to_list, List, [], ◌∷◌, ◌++◌, length, map, Result, Ok, Err, slice_get}, List.{count_by, flat_map, sum_by, All}}
+use Rattle.std.specs.{Prelude.{◌≡◌, ◌≢◌, ◌⊎◌, ℕ, zero, suc, ◌+◌, ◌-◌, ◌<◌, ◌≤◌, ◌==◌, ◌&&◌, Bool, true, false, nat_lt, if◌then◌else◌, Option, Some, None, option_to_list, List, [], ◌∷◌, ◌++◌, length, map, Result, Ok, Err, slice_get, slice_set, IfSome}, List.{count_by, flat_map, sum_by, All}}
 use Rattle.token.specs.Names.{last_generation}
 use Rattle.claims.specs.{declared.view.Exchange.{Exchange, TheVariants.Adopted}, Seats.SeatState}
 use Rattle.ready.specs.{declared.ticket.Ticket.Ticket, Steps.{EndState, HeldOnce, TookOne}}
@@ -44,9 +44,16 @@ pub record Run : Type 0 where
 abbrev pub tickets_of : List Run → List Ticket
 tickets_of ran = map (λ (run : Run). run.ticket) ran
 
--- what these turns did at their slots
+-- what a turn did at its slot
+abbrev pub act_of : Run → Act
+act_of run = record { ticket = run.ticket; exchanges = run.exchanges }
+
 abbrev pub acts_of : List Run → List Act
-acts_of ran = map (λ (run : Run). record { ticket = run.ticket; exchanges = run.exchanges }) ran
+acts_of ran = map act_of ran
+
+-- the tickets that turns made, in order
+abbrev pub due_from : List Run → List Ticket
+due_from ran = due_of (acts_of ran)
 
 -- how often a slot stands in a list
 abbrev pub times_in : ℕ → List ℕ → ℕ
@@ -68,12 +75,14 @@ fault_in (Err fault) = fault ∷ []
 abbrev pub faults_of : List Run → List ServerFault
 faults_of ran = flat_map (λ (run : Run). fault_in run.answer) ran
 
--- These turns were made by this seat, and nothing else was: each made the exchanges of its answer, in this order, and
--- the tickets that they made are due
-pub record TurnsMade (ran : List Run) (due : List Ticket) (old new : SeatState) : Type 0 where
-  pub each : All (λ run. IsTurnOf old.table.words run.ticket.slot run.answer run.exchanges) ran
+-- its exchanges are those of its answer, in this order
+abbrev pub IsRun : ℕ → Run → Type 0
+IsRun words run = IsTurnOf words run.ticket.slot run.answer run.exchanges
+
+-- this seat made these turns, and nothing else
+pub record TurnsMade (ran : List Run) (old new : SeatState) : Type 0 where
+  pub each : All (IsRun old.table.words) ran
   pub made : ActsMade (acts_of ran) old new
-  pub due_are : due ≡ due_of (acts_of ran)
 
 -- what each of these ends of queues of free slots has taken
 abbrev pub takes_of : List (EndState ℕ) → List (List (ℕ × ℕ))
@@ -87,49 +96,46 @@ times_by slot end = times_in slot (map (λ (put : ℕ × ℕ). put.1) end.histor
 abbrev pub times_given : ℕ → List (EndState ℕ) → ℕ
 times_given slot ends = sum_by (λ (end : EndState ℕ). times_by slot end) ends
 
--- What a worker did with free slots, by its ends of the queues of all pollers: it took none, and each that it was to
--- give before, or that is free now, is given or in hand, once
+-- What a worker did with free slots, by its ends of all pollers' queues: it took none, and each that it was to give
+-- before, or that is free now, is given or in hand, once
 pub record SlotsGiven (now_free : List ℕ) (old new : Own) (others others_new : List (EndState ℕ)) : Type 0 where
   pub took : takes_of (new.free ∷ others_new) ≡ takes_of (old.free ∷ others)
   pub slots : (slot : ℕ) → times_in slot new.hand.slots + times_given slot (new.free ∷ others_new)
       ≡ times_in slot old.hand.slots + times_given slot (old.free ∷ others) + times_in slot now_free
 
--- One turn with this ticket, by its answer. What was to be put before, and the ticket if it is due again, are put or in
--- hand, and so are free slots
-pub record OneRan (ticket : Ticket) (answer : Result Worked ServerFault) (old new : Own)
-    (others others_new : List (EndState ℕ)) : Type 0 where
-  pub exchanges : List Exchange
-  pub due : List Ticket
-  pub turns : TurnsMade (record { ticket = ticket; answer = answer; exchanges = exchanges } ∷ []) due old.seat new.seat
-  pub tickets : (t : Ticket) → times_of t (tickets_out new) ≡ times_of t (tickets_out old) + times_of t due
-  pub slots : SlotsGiven (freed_by ticket answer) old new others others_new
+-- A worker made these turns. What it was to put before, what they made, and these tickets, are put or in hand, and so are
+-- free slots
+pub record WorkerTurns (ran : List Run) (left : List Ticket) (old new : Own) (others others_new : List (EndState ℕ)) : Type 0 where
+  pub turns : TurnsMade ran old.seat new.seat
+  pub tickets : (t : Ticket) → times_of t (tickets_out new)
+      ≡ times_of t (tickets_out old) + (times_of t (due_from ran) + times_of t left)
+  pub slots : SlotsGiven (freed ran) old new others others_new
+
+-- one turn with this ticket, by its answer
+abbrev pub OneRan : Ticket → Result Worked ServerFault → Own → Own → List (EndState ℕ) → List (EndState ℕ) → Type 0
+OneRan ticket answer old new others others_new = (exchanges : List Exchange)
+    × WorkerTurns (record { ticket = ticket; answer = answer; exchanges = exchanges } ∷ []) [] old new others others_new
 
 -- the tickets that a thread has taken out of their queue so far
 abbrev pub tickets_in : Own → List Ticket
 tickets_in own = map (λ (take : ℕ × Ticket). take.1) own.ready.history.taken
 
--- A worker's thread ran each ticket that it took, in order, but for these, which it took last, and its turns met these
--- faults. What it was to put before, the tickets that are due again, and these, are put or in hand. It took no free
--- slot, and those that it was to give before, and those that its turns freed, are given or in hand
+-- A worker's thread ran each ticket that it took, in order, but for these, which it took last and has in hand, and its
+-- turns met these faults
 pub record WorkerRan (left : List Ticket) (faults : List ServerFault) (old new : Own) (others others_new : List (EndState ℕ)) : Type 0 where
   pub ran : List Run
-  pub due : List Ticket
-  pub turns : TurnsMade ran due old.seat new.seat
+  pub did : WorkerTurns ran left old new others others_new
   pub met : faults_of ran ≡ faults
   pub taken : tickets_in new ≡ tickets_in old ++ (tickets_of ran ++ left)
-  pub tickets : (t : Ticket) → times_of t (tickets_out new) ≡ times_of t (tickets_out old) + (times_of t due + times_of t left)
-  pub slots : SlotsGiven (freed ran) old new others others_new
 
--- why a worker's thread ends: a look found a fault recorded, or it found the queue of tickets closed, and empty at one
--- moment, or its seat is worn
+-- it found the queue of tickets closed, and empty at one moment, or its seat is worn
 abbrev pub WorkerMayEnd : Why → Own → Type 0
 WorkerMayEnd FaultFound own = Unit {0}
 WorkerMayEnd PollerOver own = ⊥
 WorkerMayEnd QueueClosed own = HeldOnce 0 own.ready.history
 WorkerMayEnd (Met fault) own = OnlyWorn fault own.seat
 
--- A worker's thread ran to its end. The fault that a turn met is the one by which it ended. If a look found a fault, one
--- ticket at most was taken and not run
+-- A worker's thread ran to its end. If a look found a fault, one ticket at most was taken and not run
 pub record WorkerEnded (why : Why) (old new : Own) (others others_new : List (EndState ℕ)) : Type 0 where
   pub left : List Ticket
   pub few : (left ≡ []) ⊎ ((why ≡ FaultFound) × (length left ≡ 1))
@@ -143,17 +149,17 @@ pub record Took (ticket : Ticket) (old new : Own) : Type 0 where
   pub free : new.free ≡ old.free
   pub hand : new.hand ≡ old.hand
 
--- A poller's thread ran this many tickets in its hand, and met these faults. What it was to put before, and the tickets
--- that are due again, were run or are put or in hand, each once. The free slots that it was to give before, and those
--- that the turns freed, are given or in hand, each once. It took nothing from a queue
+-- A poller's thread ran this many tickets in its hand, and met these faults. Each ticket that it was to put before, or that
+-- these turns made, was run or is put or in hand, once. Each free slot that it was to give before, or that they freed, is
+-- given or in hand, once. It took nothing from a queue
 pub record OwnTurnsRan (count : ℕ) (faults : List ServerFault) (old new : Own) : Type 0 where
   pub ran : List Run
-  pub due : List Ticket
   pub each : length ran ≡ count
   pub met : faults_of ran ≡ faults
   pub took : TookNothing old new
-  pub turns : TurnsMade ran due old.seat new.seat
-  pub tickets : (t : Ticket) → times_of t (tickets_out new) + times_of t (tickets_of ran) ≡ times_of t (tickets_out old) + times_of t due
+  pub turns : TurnsMade ran old.seat new.seat
+  pub tickets : (t : Ticket) → times_of t (tickets_out new) + times_of t (tickets_of ran)
+      ≡ times_of t (tickets_out old) + times_of t (due_from ran)
   pub slots : (slot : ℕ) → times_in slot (slots_out new) ≡ times_in slot (slots_out old) + times_in slot (freed ran)
 
 -- the thread ended by the fault that its seat is worn, and it is
@@ -168,16 +174,15 @@ pub record SharedAndRan (count : ℕ) (faults : List ServerFault) (p q : PollerS
   pub turns : OwnTurnsRan count faults shared b
   pub poller : q ≡ record p { heavy = q.heavy }
 
--- After a round the tickets in hand were shared, and 32 of those that stayed were run, or fewer: then none is left, or
--- no slot more fits in hand
+-- after a round 32 of the tickets that stayed were run, or fewer: then none is left, or no slot more fits in hand
 pub record TurnsAfter (p q : PollerState) (a b : Own) : Type 0 where
   pub count : ℕ
   pub made : SharedAndRan count [] p q a b
   pub most : count ≤ own_turns
   pub ended : (count ≡ own_turns) ⊎ NoOwnTurn b
 
--- After a round the tickets in hand were shared, and fewer than 32 of those that stayed were run, and then the one, if
--- it was a turn, that met the fault by which the thread ended
+-- after a round fewer than 32 of them were run, and then the one, if it was a turn, that met the fault by which the
+-- thread ended
 pub record TurnsCut (why : Why) (p q : PollerState) (a b : Own) : Type 0 where
   pub count : ℕ
   pub made : SharedAndRan (count + length (faults_by why)) (faults_by why) p q a b
@@ -188,8 +193,8 @@ pub record TurnsCut (why : Why) (p q : PollerState) (a b : Own) : Type 0 where
 abbrev pub NoTicketTaken : Own → Own → Type 0
 NoTicketTaken old new = new.ready.history.taken ≡ old.ready.history.taken
 
--- A look at the flag that stops openings, of which this much is known, showed this. If the flag was set, the poller has
--- opened all that it may from now on, and else it is as it was
+-- A look at the flag that stops openings, of which this much is known, showed this. If it was set, the poller has opened
+-- all that it may from now on, and else it is as it was
 pub record Asked (said : Bool → Type 0) (old new : PollerState) : Type 0 where
   pub found : Bool
   pub looked : said found
@@ -205,8 +210,8 @@ pub record RoundMade (said : Bool → Type 0) (p q : PollerState) (a b : Own) : 
   pub listens : ListenerKept begun q
   pub took : NoTicketTaken a b
 
--- A round, and what came after it. Once all connections that the poller may open were opened, its front does not
--- listen, unless the round ended early
+-- A round, and what came after it. Once all that the poller may open was opened, its front does not listen, unless the
+-- round ended early
 pub record RoundAnd (said : Bool → Type 0) (After : PollerState → PollerState → Own → Own → Type 0) (p q : PollerState)
     (a b : Own) : Type 0 where
   pub polled : PollerState
@@ -219,7 +224,7 @@ pub record RoundAnd (said : Bool → Type 0) (After : PollerState → PollerStat
 abbrev pub StepMade : (Bool → Type 0) → PollerState → PollerState → Own → Own → Type 0
 StepMade said p q a b = RoundAnd said TurnsAfter p q a b
 
--- the last step was not begun: a look found a fault recorded, or the poller is over
+-- the last step was not begun
 pub record NotBegun (why : Why) (p q : PollerState) (a b : Own) : Type 0 where
   pub reason : (why ≡ FaultFound) ⊎ ((why ≡ PollerOver) × (p.over ≡ true))
   pub poller : q ≡ p
@@ -240,7 +245,7 @@ pub record RoundWorn (why : Why) (a b : Own) : Type 0 where
 abbrev pub RoundCut : (Bool → Type 0) → Why → PollerState → PollerState → Own → Own → Type 0
 RoundCut said why p q a b = PollFailed said why p q a b ⊎ RoundWorn why a b
 
--- the last step of a poller's thread, by why it ended: it was not begun, or its round was the end, or the turns after it
+-- the last step of a poller's thread, by why it ended
 abbrev pub StepCut : (Bool → Type 0) → Why → PollerState → PollerState → Own → Own → Type 0
 StepCut said why p q a b = NotBegun why p q a b ⊎ (RoundCut said why p q a b ⊎ RoundAnd said (TurnsCut why) p q a b)
 
@@ -271,10 +276,10 @@ opened_by exchanges ticket = []
 abbrev pub openings_of : List Act → List Ticket
 openings_of acts = flat_map (λ (act : Act). opened_by act.exchanges act.ticket) acts
 
--- What a poller's seat did is these acts, in order. By ticket: what its thread was to put before, and what they made,
--- were run by the thread itself or are put or in hand, each once. No ticket was taken out of the queue. Each free slot
--- that was taken out of its queue, that it was to give before, or that these turns freed, was opened, or is no longer
--- used, or is given or in hand
+-- What a poller's seat did is these acts, in order. Each ticket that its thread was to put before, or that they made, was
+-- run by the thread itself or is put or in hand, once, and none was taken out of the queue. Each free slot that was taken
+-- out of its queue, that it was to give before, or that these turns freed, was opened, or is no longer used, or is given or
+-- in hand
 pub record PollerRan (old new : Own) : Type 0 where
   pub acts : List Act
   pub each : All (IsPollerAct old.seat.table.words) acts
@@ -291,12 +296,19 @@ pub record PollerRan (old new : Own) : Type 0 where
 abbrev pub PollerEnded : Why → Own → Own → Type 0
 PollerEnded why old new = PollerRan old new ⊎ RoundWorn why old new
 
--- Of a worker's ends of the pollers' queues of free slots, in the pollers' order, none changed but the one of the
--- poller with this number
+-- of a worker's ends of the pollers' queues, in the pollers' order, none changed but the one of this poller
 abbrev pub OthersKept : ℕ → List (EndState ℕ) → List (EndState ℕ) → Type 0
 OthersKept poller old new = (other : ℕ) → other ≢ poller → slice_get new other ≡ slice_get old other
 
--- none changed but the one of the poller whose slot this is
+-- A worker exchanges its end of the first poller's queue, which it uses, with that of the poller with this number, if it
+-- has one. The others are of the other pollers, in order
+pub record Changes (poller : ℕ) (used used_new : EndState ℕ) (others others_new : List (EndState ℕ)) : Type 0 where
+  pub first : poller ≡ 0 → (used_new ≡ used) × (others_new ≡ others)
+  pub other : poller ≢ 0 → IfSome (slice_get others (poller - 1)) (λ end. (used_new ≡ end)
+      × (others_new ≡ slice_set others (poller - 1) used))
+  pub none : slice_get others (poller - 1) ≡ None → (used_new ≡ used) × (others_new ≡ others)
+
+-- or but the one of the poller whose slot this is
 abbrev pub GivesToOwner : Split → ℕ → List (EndState ℕ) → List (EndState ℕ) → Type 0
 GivesToOwner split slot old new = (poller : ℕ) × IsIn (part_of split.slots split.size poller) slot
     × (poller < length old → OthersKept poller old new)

@@ -1,4 +1,4 @@
-//! What every thread of a server is handed, the flag that stops openings, and how a fault of one ends the others.
+//! What every thread of a server is handed, and how a fault of one ends the others.
 ghost use Rattle.std.specs.Prelude.{◌≡◌, Bool, OnSome, option_map};
 ghost use Rattle.threads.specs.Loops.{AllWoken, fault_by};
 
@@ -11,7 +11,7 @@ use std::sync::Wait;
 use std::sync::atomic::AtomicBool;
 use std::sync::atomic::Ordering::SeqCst;
 
-/// A flag that is set once no more connections may be opened.
+/// Set once no more connections may be opened.
 pub trait StopFlag {
     // What a look at it showed, if it says so.
     ghost said: { Self → Bool → Type 0 } = { λ _ _. Unit {0} };
@@ -42,8 +42,8 @@ pub struct Context<'a, G, C, R, S = AtomicBool> {
 }
 
 impl<G, C, R: Wait, S> Context<'_, G, C, R, S> {
-    /// The loop of the thread with this number has ended. A fault is recorded, which ends all others: workers that
-    /// sleep are woken, and so are the pollers.
+    /// The loop of the thread with this number has ended. A fault is recorded and ends all others: those that sleep are
+    /// woken.
     pub fn end<F: Front>(
         &self,
         shared: &Shared<F>,

@@ -1,5 +1,5 @@
 //! Divides what a server is made of among its threads.
-ghost use Rattle.std.specs.{Prelude.{◌≡◌, ◌-◌, ◌∷◌, All, length, map, IfOk, IfSome}, Arc.arc_value, List.range_with_len};
+ghost use Rattle.std.specs.{Prelude.{◌≡◌, ◌-◌, ◌∷◌, All, length, map, IfOk, IfSome, OnOk}, Arc.arc_value, List.range_with_len};
 ghost use Rattle.claims.specs.Seats.{fresh_seat};
 ghost use Rattle.dispatch.specs.Posts.{AreFresh};
 ghost use Rattle.threads.specs.Divided.{numbered, IsEndOf, AreEndsFrom, AreLeft, HasOneOfEach};
@@ -10,6 +10,7 @@ use dispatch::{Front, MAX_BATCH, Own, Parts, ServerFault, Shared};
 use ready::FreeQueue;
 use rounds::Poller;
 use std::alloc::Global;
+use std::marker::Model;
 use std::sync::Arc;
 
 /// For how many tickets, and for how many slots, a worker's hand has room. Nothing stays there for long, since a queue
@@ -31,6 +32,15 @@ pub struct Rest {
     pub free: Vec<Vec<FreeQueue>>,
 }
 
+impl Model for Rest {
+    ghost use Rattle.std.specs.Prelude.{map};
+    ghost use Rattle.threads.specs.Divided.{RestState};
+
+    ghost Value = { RestState };
+
+    ghost view = { λ r. record { parts = r.parts; free = map (λ ends. ends.items) r.free.items } };
+}
+
 /// The threads of these pollers, each with an end of its own queue of free slots, and this many workers, each with an
 /// end of every poller's queue, the first poller's first. A thread has the number of its poller, and the workers have
 /// those after.
@@ -47,12 +57,11 @@ where
     F::Waker: Drop,
     requires { AreFresh (arc_value shared.now).claims rest.parts.seats.items }
     ensures pollers { IfOk result (λ made. map (λ thread. (thread.number, thread.poller)) made.pollers.items ≡ numbered pollers.items) }
-    ensures own_slots { IfOk result (λ made. All (λ thread. IsEndOf (map (λ ends. ends.items) rest.free.items) thread.number
-        thread.own.free) made.pollers.items) }
+    ensures own_slots { IfOk result (λ made. All (λ thread. IsEndOf rest.free thread.number thread.own.free) made.pollers.items) }
     ensures workers { IfOk result (λ made. map (λ worker. worker.number) made.workers.items ≡ range_with_len (length pollers.items)
         workers) }
-    ensures all_slots { IfOk result (λ made. All (λ worker. HasOneOfEach (map (λ ends. ends.items) rest.free.items)
-        (worker.own.free ∷ worker.others.items)) made.workers.items) }
+    ensures all_slots { IfOk result (λ made. All (λ worker. HasOneOfEach rest.free (worker.own.free ∷ worker.others.items))
+        made.workers.items) }
 {
     let first = pollers.len();
     let pollers = pollers_of(alloc, shared, &mut rest, pollers)?;
@@ -60,7 +69,7 @@ where
     Ok(ServerThreads { pollers, workers })
 }
 
-/// The threads of the pollers.
+/// The threads of the pollers. A poller whose table is not for these slots is refused; `build` makes none.
 fn pollers_of<F: Front + Drop>(
     alloc: Global,
     shared: &Arc<Shared<F>>,
@@ -70,52 +79,34 @@ fn pollers_of<F: Front + Drop>(
 where
     F::Waker: Drop,
     requires { AreFresh (arc_value shared.now).claims rest.old.parts.seats.items }
-    ensures fresh { AreFresh (arc_value shared.now).claims rest.new.parts.seats.items }
+    ensures fresh { OnOk result (AreFresh (arc_value shared.now).claims rest.new.parts.seats.items) }
     ensures pollers { IfOk result (λ threads. map (λ thread. (thread.number, thread.poller)) threads.items ≡ numbered pollers.items) }
-    ensures slots { IfOk result (λ threads. All (λ thread. IsEndOf (map (λ ends. ends.items) rest.old.free.items) thread.number
-        thread.own.free) threads.items) }
-    ensures left { AreLeft (map (λ ends. ends.items) rest.old.free.items) (map (λ ends. ends.items) rest.new.free.items) }
+    ensures slots { IfOk result (λ threads. All (λ thread. IsEndOf rest.old.free thread.number thread.own.free) threads.items) }
+    ensures left { OnOk result (AreLeft rest.old.free rest.new.free) }
 {
+    let slots = shared.claims.slots();
     let count = pollers.len();
     let mut threads = Vec::with_capacity(alloc, count)?;
     for _thread in 0..count {
         match pollers.pop() {
             Some(poller) => {
-                threads.push_reserved(next_poller(alloc, shared, rest, pollers.len(), poller)?);
+                if poller.table().len() != slots {
+                    return Err(ServerFault::NoMemory);
+                }
+                let number = pollers.len();
+                let (shared, own) = rest.next_own(alloc, shared, number, poller_hand(slots))?;
+                let thread = PollerThread {
+                    shared,
+                    number,
+                    own,
+                    poller,
+                };
+                threads.push_reserved(thread);
             }
             None => unreachable!(),
         }
     }
     Ok(threads)
-}
-
-/// The thread of a poller. A poller whose table is not for these slots is refused; `build` makes none.
-fn next_poller<F: Front + Drop>(
-    alloc: Global,
-    shared: &Arc<Shared<F>>,
-    rest: &mut Rest,
-    number: usize,
-    poller: Poller<F>,
-) -> Result<PollerThread<F>, ServerFault>
-where
-    F::Waker: Drop,
-    requires { AreFresh (arc_value shared.now).claims rest.old.parts.seats.items }
-    ensures fresh { AreFresh (arc_value shared.now).claims rest.new.parts.seats.items }
-    ensures poller { IfOk result (λ thread. (thread.number ≡ number) × (thread.poller ≡ poller)) }
-    ensures slots { IfOk result (λ thread. IsEndOf (map (λ ends. ends.items) rest.old.free.items) number thread.own.free) }
-    ensures left { AreLeft (map (λ ends. ends.items) rest.old.free.items) (map (λ ends. ends.items) rest.new.free.items) }
-{
-    let slots = shared.claims.slots();
-    if poller.table().len() != slots {
-        return Err(ServerFault::NoMemory);
-    }
-    let (shared, own) = owned(alloc, shared, rest, number, poller_hand(slots))?;
-    Ok(PollerThread {
-        shared,
-        number,
-        own,
-        poller,
-    })
 }
 
 /// The room of the hand of a poller's thread: for all that two rounds may put there.
@@ -136,8 +127,8 @@ where
     F::Waker: Drop,
     requires { AreFresh (arc_value shared.now).claims rest.old.parts.seats.items }
     ensures numbers { IfOk result (λ made. map (λ worker. worker.number) made.items ≡ range_with_len first workers) }
-    ensures slots { IfOk result (λ made. All (λ worker. HasOneOfEach (map (λ ends. ends.items) rest.old.free.items)
-        (worker.own.free ∷ worker.others.items)) made.items) }
+    ensures slots { IfOk result (λ made. All (λ worker. HasOneOfEach rest.old.free (worker.own.free ∷ worker.others.items))
+        made.items) }
 {
     let mut made = Vec::with_capacity(alloc, workers)?;
     for index in 0..workers {
@@ -145,93 +136,53 @@ where
         if usize::MAX - first < index {
             return Err(ServerFault::NoMemory);
         }
-        made.push_reserved(next_worker(alloc, shared, rest, first + index)?);
+        let others = rest.other_ends(alloc)?;
+        let (shared, own) = rest.next_own(alloc, shared, 0, WORKER_HAND)?;
+        let worker = Worker {
+            shared,
+            number: first + index,
+            own,
+            others,
+        };
+        made.push_reserved(worker);
     }
     Ok(made)
 }
 
-/// The thread of a worker, with an end of each poller's queue of free slots.
-fn next_worker<F: Front + Drop>(
-    alloc: Global,
-    shared: &Arc<Shared<F>>,
-    rest: &mut Rest,
-    number: usize,
-) -> Result<Worker<F>, ServerFault>
-where
-    F::Waker: Drop,
-    requires { AreFresh (arc_value shared.now).claims rest.old.parts.seats.items }
-    ensures fresh { AreFresh (arc_value shared.now).claims rest.new.parts.seats.items }
-    ensures number { IfOk result (λ worker. worker.number ≡ number) }
-    ensures slots { IfOk result (λ worker. HasOneOfEach (map (λ ends. ends.items) rest.old.free.items)
-        (worker.own.free ∷ worker.others.items)) }
-    ensures left { AreLeft (map (λ ends. ends.items) rest.old.free.items) (map (λ ends. ends.items) rest.new.free.items) }
-{
-    let others = rest.other_ends(alloc)?;
-    let (shared, own) = owned(alloc, shared, rest, 0, WORKER_HAND)?;
-    Ok(Worker {
-        shared,
-        number,
-        own,
-        others,
-    })
-}
-
-/// What the next thread shares with all others, and what it owns, with an end of this poller's queue of free slots.
-fn owned<F: Front + Drop>(
-    alloc: Global,
-    shared: &Arc<Shared<F>>,
-    rest: &mut Rest,
-    poller: usize,
-    capacity: usize,
-) -> Result<(Arc<Shared<F>>, Own), ServerFault>
-where
-    F::Waker: Drop,
-    requires { AreFresh (arc_value shared.now).claims rest.old.parts.seats.items }
-    ensures fresh { AreFresh (arc_value shared.now).claims rest.new.parts.seats.items }
-    ensures slots { IfOk result (λ made. IsEndOf (map (λ ends. ends.items) rest.old.free.items) poller made.1.free) }
-    ensures left { AreLeft (map (λ ends. ends.items) rest.old.free.items) (map (λ ends. ends.items) rest.new.free.items) }
-    ensures shared { IfOk result (λ made. arc_value made.0 ≡ arc_value shared.now) }
-    ensures own { IfOk result (λ made. made.1.seat ≡ fresh_seat (arc_value shared.now).claims) }
-{
-    let same = Arc::try_clone(shared)?;
-    let own = rest.next_own(alloc, shared, poller, capacity)?;
-    Ok((same, own))
-}
-
 impl Rest {
-    /// What the next thread owns, with an end of this poller's queue of free slots.
-    ///
-    /// Refuses with `NoMemory` if there is none for it, or if there are too few parts.
-    pub fn next_own<F: Front>(
+    /// What the next thread shares with all others, and what it owns, with an end of this poller's queue.
+    fn next_own<F: Front>(
         &mut self,
         alloc: Global,
-        shared: &Shared<F>,
+        shared: &Arc<Shared<F>>,
         poller: usize,
         capacity: usize,
-    ) -> Result<Own, ServerFault>
-        requires { AreFresh shared.now.claims self.old.parts.seats.items }
-        ensures fresh { AreFresh shared.now.claims self.new.parts.seats.items }
-        ensures next { IfOk result (λ own. own.seat ≡ fresh_seat shared.now.claims) }
-        ensures slots { IfOk result (λ own. IsEndOf (map (λ ends. ends.items) self.old.free.items) poller own.free) }
-        ensures left { AreLeft (map (λ ends. ends.items) self.old.free.items) (map (λ ends. ends.items) self.new.free.items) }
+    ) -> Result<(Arc<Shared<F>>, Own), ServerFault>
+    where
+        F::Waker: Drop,
+        requires { AreFresh (arc_value shared.now).claims self.old.parts.seats.items }
+        ensures fresh { OnOk result (AreFresh (arc_value shared.now).claims self.new.parts.seats.items) }
+        ensures shared { IfOk result (λ made. arc_value made.0 ≡ arc_value shared.now) }
+        ensures own { IfOk result (λ made. made.1.seat ≡ fresh_seat (arc_value shared.now).claims) }
+        ensures slots { IfOk result (λ made. IsEndOf self.old.free poller made.1.free) }
+        ensures left { OnOk result (AreLeft self.old.free self.new.free) }
     {
         let Some(free) = self.next_end(poller) else {
             return Err(ServerFault::NoMemory);
         };
+        let same = Arc::try_clone(shared)?;
         match self.parts.next_own(alloc, shared, capacity, free)? {
-            Some(own) => Ok(own),
+            Some(own) => Ok((same, own)),
             None => Err(ServerFault::NoMemory),
         }
     }
 
-    /// An end of each queue of free slots but the first poller's, in order.
-    ///
-    /// Refuses with `NoMemory` if there is none for them, or if there are too few parts.
+    /// An end of each queue but the first poller's, in order.
     fn other_ends(&mut self, alloc: Global) -> Result<Vec<FreeQueue>, ServerFault>
-        ensures parts { self.new.parts ≡ self.old.parts }
-        ensures ends { IfOk result (λ ends. AreEndsFrom (map (λ all. all.items) self.old.free.items) 1 ends.items) }
-        ensures all { IfOk result (λ ends. length ends.items ≡ length self.old.free.items - 1) }
-        ensures left { AreLeft (map (λ ends. ends.items) self.old.free.items) (map (λ ends. ends.items) self.new.free.items) }
+        ensures parts { OnOk result (self.new.parts ≡ self.old.parts) }
+        ensures ends { IfOk result (λ ends. AreEndsFrom self.old.free 1 ends.items) }
+        ensures all { IfOk result (λ ends. length ends.items ≡ length self.old.free - 1) }
+        ensures left { OnOk result (AreLeft self.old.free self.new.free) }
     {
         let pollers = self.free.len();
         let mut ends = Vec::with_capacity(alloc, pollers)?;
@@ -244,11 +195,11 @@ impl Rest {
         Ok(ends)
     }
 
-    /// The next end of this poller's queue of free slots.
+    /// The next end of this poller's queue.
     fn next_end(&mut self, poller: usize) -> Option<FreeQueue>
         ensures parts { self.new.parts ≡ self.old.parts }
-        ensures end { IfSome result (λ free. IsEndOf (map (λ ends. ends.items) self.old.free.items) poller free) }
-        ensures left { AreLeft (map (λ ends. ends.items) self.old.free.items) (map (λ ends. ends.items) self.new.free.items) }
+        ensures end { IfSome result (λ free. IsEndOf self.old.free poller free) }
+        ensures left { AreLeft self.old.free self.new.free }
     {
         self.free.get_mut(poller)?.pop()
     }

@@ -27,9 +27,8 @@ pub enum Why {
     Met(ServerFault),
 }
 
-/// A thread's loop has ended. It cannot be dropped, and only [`Ending::end`] takes it. It is made only by a look that
-/// found a fault, a poller that is over, a queue of tickets that was found closed and empty, and a fault of a round or
-/// a turn: all in this file.
+/// A thread's loop has ended. It cannot be dropped, and only [`Ending::end`] takes it. Only what [`Why`] names makes
+/// one, all in this file.
 pub struct Ended {
     why: Why,
 }
@@ -42,16 +41,16 @@ pub struct Ending {
     polling: AtomicUsize,
 }
 
-/// A look found no fault recorded. Nothing but [`Ending::look`] makes one, and it cannot be copied: each round and each
-/// turn asks for one of its own.
+/// A look found no fault recorded. Only [`Ending::look`] makes one. It cannot be copied: each round and each turn asks
+/// for one of its own.
 #[derive(Drop)]
 pub(crate) struct NoFault {
     recorded: bool,
     ghost none: { recorded ≡ false },
 }
 
-/// A ticket, and a look that found no fault once it was taken. Nothing but [`Ending::look_after_take`] makes one: a
-/// look before the sleep for the ticket is too old.
+/// A ticket, and a look that found no fault once it was taken: one before the sleep for the ticket is too old. Only
+/// [`Ending::look_after_take`] makes one.
 #[derive(Drop)]
 pub(crate) struct Cleared {
     pub(crate) ticket: Ticket,
@@ -59,7 +58,6 @@ pub(crate) struct Cleared {
 }
 
 impl Ended {
-    /// A look found a fault.
     fn fault_found(_recorded: bool) -> Ended
         requires { _recorded ≡ true }
         ensures { result.why ≡ Why.FaultFound }
@@ -97,9 +95,8 @@ pub(crate) fn end_if_over<F: Front>(poller: &Poller<F>) -> Result<(), Ended>
     }
 }
 
-/// Takes a ticket, and may sleep until there is one. Because of that it uses up the look for a fault, so that the turn
-/// needs another one after it, and what was in hand must have been put, as far as the queue had room. It refuses once
-/// the queue of tickets is closed and empty.
+/// Takes a ticket, and may sleep until there is one. So it uses up the look for a fault, and what was in hand must have
+/// been put, as far as the queue had room. It refuses once the queue of tickets is closed and empty.
 pub(crate) fn take(rt: &impl Wait, own: &mut Own, _seen: NoFault) -> Result<Ticket, Ended>
     requires put { PutAll own.old.ready own.old.hand.tickets }
     ensures taken { IfOk result (λ ticket. Took ticket own.old own.new) }
@@ -115,7 +112,7 @@ pub(crate) fn take(rt: &impl Wait, own: &mut Own, _seen: NoFault) -> Result<Tick
 }
 
 impl Ending {
-    /// The ending of a server with this many pollers, whose threads do not run yet.
+    /// Of a server with this many pollers, whose threads do not run yet.
     pub fn new(pollers: usize) -> Ending {
         Ending {
             recorded: AtomicBool::new(false),
@@ -124,7 +121,7 @@ impl Ending {
         }
     }
 
-    /// The loop of the thread with this number has ended. If a fault ended it, that is recorded.
+    /// The loop of the thread with this number has ended.
     pub(crate) fn end(&self, rt: &impl Wait, number: usize, ended: Ended) -> Option<Recorded>
         ensures { result ≡ option_map (λ fault. (number, fault)) (fault_by ended.why) }
     {
@@ -135,7 +132,7 @@ impl Ending {
         }
     }
 
-    /// Records the fault of the thread with this number. Of several faults, the lowest-numbered thread's is kept.
+    /// Records the fault of the thread with this number.
     pub(crate) fn record(&self, rt: &impl Wait, number: usize, fault: ServerFault) -> Recorded
         ensures { result ≡ (number, fault) }
     {
@@ -174,7 +171,7 @@ impl Ending {
         self.polling.fetch_sub(1, SeqCst) <= 1
     }
 
-    /// How the server ended, once all its threads have: by the recorded fault that was kept, if any.
+    /// How the server ended, once all its threads have.
     pub(crate) fn outcome(self, _served: Served) -> Outcome {
         self.first.into_inner().outcome()
     }

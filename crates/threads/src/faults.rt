@@ -1,5 +1,4 @@
-//! What becomes of a fault: it is kept, unless a thread with a lower number has met one, and a flag is set that every
-//! thread looks at.
+//! What becomes of a fault: it is kept, unless a thread with a lower number has met one, and a flag is set.
 ghost use Rattle.std.specs.Prelude.{◌≡◌, ◌↔◌, IfErr, IsOk, None, Some, option_map};
 ghost use Rattle.threads.specs.Loops.{earliest};
 
@@ -8,19 +7,19 @@ use std::marker::Model;
 use std::sync::atomic::AtomicBool;
 use std::sync::atomic::Ordering::SeqCst;
 
-/// The fault of the first thread, in the order of their numbers, that met one, with that number.
+/// The number of the first thread, in their order, that met a fault, and the fault.
 #[derive(Drop)]
 pub(crate) struct Earliest {
     kept: Option<(usize, ServerFault)>,
 }
 
-/// A fault was compared with the one that is kept. Nothing but [`Earliest::keep`] makes one, and it cannot be dropped.
+/// A fault was compared with the one that is kept. Only [`Earliest::keep`] makes one, and it cannot be dropped.
 pub(crate) struct Kept {
     number: usize,
     fault: ServerFault,
 }
 
-/// A fault is recorded. Nothing but [`Kept::announce`] makes one, and it cannot be dropped.
+/// A fault is recorded. Only [`Kept::announce`] makes one, and it cannot be dropped.
 ///
 /// In a clause it is the number of the thread that met the fault, and the fault.
 pub struct Recorded {
@@ -75,7 +74,7 @@ impl Earliest {
 }
 
 impl Kept {
-    /// Sets the flag, so that each thread that looks at it from now on finds that there is a fault.
+    /// Each thread that looks at the flag from now on finds that there is a fault.
     pub(crate) fn announce(self, flag: &AtomicBool) -> Recorded
         ensures { result ≡ (self.number, self.fault) }
     {
@@ -86,14 +85,14 @@ impl Kept {
 }
 
 impl Outcome {
-    /// The outcome of a server that was refused before it served.
+    /// Of a server that was refused before it served.
     pub fn refused(fault: ServerFault) -> Outcome
         ensures { result.fault ≡ Some fault }
     {
         Outcome { fault: Some(fault) }
     }
 
-    /// The fault by which the server ended, if it did not end well.
+    /// The fault by which the server ended, if one did.
     pub fn into_result(self) -> Result<(), ServerFault>
         ensures well { IsOk result ↔ self.fault ≡ None }
         ensures fault { IfErr result (λ fault. self.fault ≡ Some fault) }

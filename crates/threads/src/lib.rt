@@ -1,22 +1,21 @@
 //! The threads of a server: what each of them is made of, its loop, and how the fault of one ends all
 //! ([`run_threads`]).
 //!
-//! What a thread does in a round and in a turn is in `rounds` and `turns`, and what it is lent for that in `dispatch`.
-//! Here these parts are divided among the threads ([`divide`]), and each thread makes its rounds, or takes its tickets,
-//! until all is over.
+//! What a thread does in a round and in a turn is in `rounds` and `turns`. Here the parts of a server are divided among
+//! the threads ([`divide`]), and each thread makes its rounds, or takes its tickets, until all is over.
 //!
 //! # Inside
 //!
 //! A worker takes no free slot out of any queue, and loses none (`SlotsGiven`). Its turn puts one into no other queue
 //! than that of the poller whose slot it is (`Worker::turn`: `gives`) and leaves none in hand (`given`). It sleeps for
 //! a ticket only with none in hand, unless the queue was full (`take`: `put`). Why a loop ended is a value that cannot
-//! be dropped, and that nothing outside of `ending.rt` makes or takes apart (`Ended`). `Context::end` takes it: a fault
-//! is recorded under its thread's number (`recorded`), of two faults the first thread's is kept (`Earliest::keep`), and
-//! every poller is woken (`woken`). How a server ended is read from there only once all its threads have ended
-//! (`Served`). Each round, each turn and each taking of a ticket requires a look of its own that found no fault
-//! recorded (`NoFault`), a worker's turn one after the taking, for which it may have slept (`Cleared`). A poller counts
-//! its sweeps from a second that the clock gave (`begin`: `begun`), and one that finds that no more connections may be
-//! opened wakes every poller (`stop_if_asked`: `woken`). Each thread's array is its own by its type (a `Box` in `Own`).
+//! be dropped, and that only `ending.rt` makes or takes apart (`Ended`). `Context::end` takes it: a fault is recorded
+//! under its thread's number (`recorded`), the first thread's is kept (`Earliest::keep`), and every poller is woken
+//! (`woken`). How a server ended is read from there once all its threads have ended (`Served`). Each round, each turn
+//! and each taking of a ticket requires a look of its own that found no fault (`NoFault`), a worker's turn one after
+//! the taking (`Cleared`). A poller counts its sweeps from a second that the clock gave (`begin`: `begun`), and one
+//! that finds that no more connections may be opened wakes every poller (`stop_if_asked`: `woken`). Each thread's array
+//! is its own by its type (a `Box`).
 #![tactic(auto)]
 
 mod context;

@@ -1,9 +1,10 @@
 //! The steps of a poller's thread.
-ghost use Rattle.std.specs.{Prelude.{◌≡◌, ◌⊎◌, ℕ, [], length, slice_get, Ok, Some, None, OnOk, OnSome, IfErr, IfOk, IfSome}, Arc.arc_value};
+ghost use Rattle.std.specs.{Prelude.{◌≡◌, ◌⊎◌, ℕ, [], ◌∷◌, length, slice_get, Ok, Some, None, OnOk, OnSome, IfErr, IfOk, IfSome}, Arc.arc_value};
 ghost use Rattle.claims.specs.Seats.{HoldsNothing};
 ghost use Rattle.rounds.specs.{Episodes.no_drops, Pollers.HasOpenedAll, Rounds.{EndedEarly, ListensToOpen}};
 ghost use Rattle.turns.specs.Turns.{NoOwnTurn};
-ghost use Rattle.threads.specs.{declared.ending.Why.Why, Loops.{AllWoken, faults_by, Asked, LoopMade, OwnTurnsRan, PollerEnded, PollerRan, RoundCut, RoundMade, RunMade, StepCut, StepMade, TurnsAfter, TurnsCut, WornEnd}};
+ghost use Rattle.relay_log.specs.declared.faults.ServerFault.TheVariants.{Worn};
+ghost use Rattle.threads.specs.{declared.ending.Why.Why, Loops.{AllWoken, Asked, LoopMade, OwnTurnsRan, PollerEnded, PollerRan, RoundCut, RoundMade, RunMade, StepCut, StepMade, TurnsAfter, TurnsCut, WornEnd}};
 
 use crate::context::{Context, StopFlag};
 use crate::ending::{Ended, NoFault, end_if_over};
@@ -44,7 +45,7 @@ where
         self.finish(context, ended);
     }
 
-    /// The thread begins: sweeps are counted from now on.
+    /// Sweeps are counted from now on.
     pub fn begin<G: Gate, C: Clock, R: Wait + Log, S: StopFlag>(
         &mut self,
         context: &Context<'_, G, C, R, S>,
@@ -56,8 +57,8 @@ where
         self.poller.begin_at(context.timing.moment().second);
     }
 
-    /// The thread has ended. A fault of its own is recorded, which ends all other threads. After the last poller the
-    /// workers end. What is still counted of clients that were closed unopened is logged.
+    /// The thread has ended, as [`Context::end`] and [`Context::leave`] say. What is still counted of clients that were
+    /// closed unopened is logged.
     pub fn finish<G: Gate, C: Clock, R: Wait + Log, S: StopFlag>(
         &mut self,
         context: &Context<'_, G, C, R, S>,
@@ -90,8 +91,8 @@ where
     }
 
     /// One step of the thread: a round, and the turns of the tickets that it leaves to the poller's own thread, 32 at
-    /// most. It is refused if the thread ends: the poller is over, a fault is recorded before the round or before one
-    /// of the turns, or this step met one.
+    /// most. It is refused if the thread ends: the poller is over, a fault is recorded before the round or one of the
+    /// turns, or this step met one.
     pub fn step<G: Gate, C: Clock, R: Wait + Log, S: StopFlag>(
         &mut self,
         context: &Context<'_, G, C, R, S>,
@@ -110,11 +111,14 @@ where
         if let Err(ended) = end_if_over(&self.poller) {
             return Err(ended);
         }
-        self.round(context, seen)
+        match self.poll(context, seen) {
+            Ok(()) => self.run_turns(context),
+            Err(ended) => Err(ended),
+        }
     }
 
-    /// If the flag that stops openings is set, this poller opens no more connections, and wakes all others, so that
-    /// they see the flag, too.
+    /// If the flag that stops openings is set, this poller opens no more connections, and wakes all others, which see
+    /// the flag, too.
     fn stop_if_asked<G: Gate, C: Clock, R: Wait + Log, S: StopFlag>(
         &mut self,
         context: &Context<'_, G, C, R, S>,
@@ -129,24 +133,7 @@ where
         }
     }
 
-    /// Makes a round, and runs the turns that it left to its own thread.
-    fn round<G: Gate, C: Clock, R: Wait + Log, S: StopFlag>(
-        &mut self,
-        context: &Context<'_, G, C, R, S>,
-        seen: NoFault,
-    ) -> Result<(), Ended>
-        ensures made { OnOk result (StepMade (S.said context.now.is_stopped.now) self.old.poller self.new.poller
-            self.old.own self.new.own) }
-        ensures cut { IfErr result (λ ended. StepCut (S.said context.now.is_stopped.now) ended.why self.old.poller self.new.poller
-            self.old.own self.new.own) }
-    {
-        match self.poll(context, seen) {
-            Ok(()) => self.run_turns(context),
-            Err(ended) => Err(ended),
-        }
-    }
-
-    /// Makes a round, and runs no turn. If no more connections may be opened, the poller opens none in it.
+    /// Makes a round. If no more connections may be opened, the poller opens none in it.
     fn poll<G: Gate, C: Clock, R: Wait + Log, S: StopFlag>(
         &mut self,
         context: &Context<'_, G, C, R, S>,
@@ -173,7 +160,7 @@ where
         }
     }
 
-    /// Runs the tickets in hand that are for its own thread, until a fault is recorded.
+    /// Runs the tickets in hand that stay, until a fault is recorded.
     fn run_turns<G: Gate, C: Clock, R: Wait + Log, S: StopFlag>(
         &mut self,
         context: &Context<'_, G, C, R, S>,
@@ -207,7 +194,7 @@ where
     ) -> Result<Option<Worked>, Ended>
         ensures ran { IfOk result (λ worked. OnSome worked (OwnTurnsRan 1 [] self.old.own self.new.own)) }
         ensures none { IfOk result (λ worked. worked ≡ None → NoOwnTurn self.old.own × (self.new.own ≡ self.old.own)) }
-        ensures cut { IfErr result (λ ended. OwnTurnsRan 1 (faults_by ended.why) self.old.own self.new.own
+        ensures cut { IfErr result (λ ended. OwnTurnsRan 1 (Worn ∷ []) self.old.own self.new.own
             × WornEnd ended.why self.new.own) }
         ensures poller { self.new.poller ≡ record self.old.poller { heavy = self.new.poller.heavy } }
         ensures woken { result ≡ Ok (Some Worked.Ended) → HasOpenedAll self.old.poller

@@ -58,8 +58,7 @@ where
     }
 }
 
-/// The same, without its outcome: faults of threads are recorded. Refuses with `NoMemory`, before any thread has
-/// started, if there is not enough for what the threads own.
+/// The same, without its outcome: faults of threads are recorded.
 fn run_server<'a, F, G: Gate + Sync, C: Clock + Sync, R: Wait + Threads + Log + Sync>(
     rt: &'a R,
     alloc: Global,
@@ -100,7 +99,7 @@ where
     Ok(run_all(&startup, workers))
 }
 
-/// The threads of a server have run, and all have ended. Nothing but [`run_all`] makes one.
+/// All threads of a server have ended. Only [`run_all`] makes one.
 #[derive(Drop)]
 pub(crate) struct Served(());
 
@@ -142,19 +141,17 @@ impl<F: Front + Drop, G: Gate, C: Clock, R: Wait + Log> Startup<'_, F, G, C, R>
 where
     F::Waker: Drop,
 {
-    /// Calls the gate, if each thread has been started.
     fn announce(&self) {
         if !self.context.ending.is_recorded() {
             self.context.gate.all_started();
         }
     }
 
-    /// The next thread of a worker or of a poller that has not begun.
     fn run(&self, is_worker: bool) {
         if is_worker { self.work() } else { self.poll() }
     }
 
-    /// The thread of a poller: the next that has not begun.
+    /// The next poller's thread that has not begun.
     fn poll(&self) {
         let next = self.threads.lock(self.context.rt).pollers.pop();
         if let Some(mut poller) = next {
@@ -163,7 +160,7 @@ where
         }
     }
 
-    /// The thread of a worker: the next that has not begun.
+    /// The next worker's thread that has not begun.
     fn work(&self) {
         let next = self.threads.lock(self.context.rt).workers.pop();
         if let Some(mut worker) = next {

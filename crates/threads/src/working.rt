@@ -1,12 +1,12 @@
 //! The steps of a worker's thread.
-ghost use Rattle.std.specs.{Prelude.{◌≡◌, ◌≢◌, ◌<◌, ◌-◌, [], ◌∷◌, Ok, Err, None, slice_get, slice_set, IfErr, IfOk, IfSome, OnOk}, Arc.arc_value};
+ghost use Rattle.std.specs.{Prelude.{◌≡◌, ◌<◌, [], ◌∷◌, Ok, Err, IfErr, IfOk, OnOk}, Arc.arc_value};
 ghost use Rattle.claims.specs.Seats.{HoldsNothing};
-ghost use Rattle.dispatch.specs.{Hands.HasRoom, Outgoing.{outgoing, slots_out, PutAll}};
+ghost use Rattle.dispatch.specs.{Hands.HasRoom, Outgoing.{outgoing, PutAll}};
 ghost use Rattle.relay_log.specs.declared.faults.ServerFault.TheVariants.{Worn};
-ghost use Rattle.threads.specs.{declared.ending.Why.Why, Loops.{GivesToOwner, OneRan, WorkerEnded, WorkerRan, WornEnd}};
+ghost use Rattle.threads.specs.{declared.ending.Why.Why, Loops.{Changes, GivesToOwner, OneRan, WorkerEnded, WorkerRan, WornEnd}};
 
 use crate::context::Context;
-use crate::ending::{Cleared, Ended, NoFault, take};
+use crate::ending::{Cleared, Ended, take};
 use dispatch::{Clock, Front, Gate, Hand, Own, Shared, give_slots, put_tickets};
 use log::Log;
 use ready::FreeQueue;
@@ -40,7 +40,7 @@ where
         self.finish(context, ended);
     }
 
-    /// The thread has ended. A fault of its own is recorded, and ends all other threads.
+    /// The thread has ended, as [`Context::end`] says.
     pub fn finish<G: Gate, C: Clock, R: Wait + Log, S>(
         &mut self,
         context: &Context<'_, G, C, R, S>,
@@ -71,8 +71,7 @@ where
 
     /// One step of the thread: it puts the tickets in hand, which a queue had refused, takes a ticket, for which it may
     /// wait, and runs its turn. It is refused if the thread ends: the queue of tickets is closed and empty, a fault was
-    /// recorded before or after the ticket was taken, or this step met one. After a fault a ticket that was taken stays
-    /// in hand.
+    /// recorded before or after the taking, or this step met one. After a fault the ticket stays in hand.
     pub fn step<G: Gate, C: Clock, R: Wait + Log, S>(
         &mut self,
         context: &Context<'_, G, C, R, S>,
@@ -89,28 +88,6 @@ where
             thread::yield_now();
             return Ok(());
         }
-        self.run_next(context, seen)
-    }
-
-    /// Puts the tickets in hand, as far as their queue has room.
-    fn put_hand(&mut self, rt: &impl Wait)
-        ensures ran { WorkerRan [] [] self.old.own self.new.own self.old.others.items self.new.others.items }
-        ensures put { PutAll self.new.own.ready self.new.own.hand.tickets }
-    {
-        put_tickets(rt, &mut self.own.ready, &mut self.own.hand);
-    }
-
-    /// Takes a ticket, and runs its turn.
-    fn run_next<G: Gate, C: Clock, R: Wait + Log, S>(
-        &mut self,
-        context: &Context<'_, G, C, R, S>,
-        seen: NoFault,
-    ) -> Result<(), Ended>
-        requires room { HasRoom self.old.own.hand }
-        requires put { PutAll self.old.own.ready self.old.own.hand.tickets }
-        ensures ran { OnOk result (WorkerRan [] [] self.old.own self.new.own self.old.others.items self.new.others.items) }
-        ensures cut { IfErr result (λ ended. WorkerEnded ended.why self.old.own self.new.own self.old.others.items self.new.others.items) }
-    {
         let ticket = match take(context.rt, &mut self.own, seen) {
             Ok(ticket) => ticket,
             Err(ended) => return Err(ended),
@@ -125,6 +102,14 @@ where
                 Err(ended)
             }
         }
+    }
+
+    /// Puts the tickets in hand, as far as their queue has room.
+    fn put_hand(&mut self, rt: &impl Wait)
+        ensures ran { WorkerRan [] [] self.old.own self.new.own self.old.others.items self.new.others.items }
+        ensures put { PutAll self.new.own.ready self.new.own.hand.tickets }
+    {
+        put_tickets(rt, &mut self.own.ready, &mut self.own.hand);
     }
 
     /// Runs a turn. If its connection ends, its slot goes back to the poller that has it.
@@ -146,7 +131,7 @@ where
     {
         let ticket = cleared.ticket;
         let poller = context.split.poller_of(ticket.slot);
-        self.change_queue(poller);
+        change_end(&mut self.own.free, &mut self.others, poller);
         let worked = worker_turn(
             context.rt,
             &self.shared,
@@ -155,48 +140,26 @@ where
             ticket,
             &context.timing,
         );
-        self.give_all(context.rt);
-        self.change_queue(poller);
+        give_until_empty(context.rt, &mut self.own.free, &mut self.own.hand);
+        change_end(&mut self.own.free, &mut self.others, poller);
         Ended::on_fault(worked)
-    }
-
-    /// Swaps its end of the first poller's queue with that of this poller, if it has one. A second call swaps them
-    /// back.
-    fn change_queue(&mut self, poller: usize)
-        ensures seat { self.new.own.seat ≡ self.old.own.seat }
-        ensures hand { self.new.own.hand ≡ self.old.own.hand }
-        ensures ready { self.new.own.ready ≡ self.old.own.ready }
-        ensures shared { self.new.shared ≡ self.old.shared }
-        ensures first { poller ≡ 0 → (self.new.own.free ≡ self.old.own.free) × (self.new.others.items ≡ self.old.others.items) }
-        ensures other { poller ≢ 0 → IfSome (slice_get self.old.others.items (poller - 1)) (λ other. (self.new.own.free ≡ other)
-            × (self.new.others.items ≡ slice_set self.old.others.items (poller - 1) self.old.own.free)) }
-        ensures none { slice_get self.old.others.items (poller - 1) ≡ None
-            → (self.new.own.free ≡ self.old.own.free) × (self.new.others.items ≡ self.old.others.items) }
-    {
-        if poller == 0 {
-            return;
-        }
-        if let Some(other) = self.others.get_mut(poller - 1) {
-            mem::swap(&mut self.own.free, other);
-        }
-    }
-
-    /// Gives back all slots in hand. A queue has room for each slot that can be in it, so this waits for nobody.
-    fn give_all(&mut self, rt: &impl Wait)
-        ensures seat { self.new.own.seat ≡ self.old.own.seat }
-        ensures given { self.new.own.hand.slots ≡ [] }
-        ensures slots { slots_out self.new.own ≡ slots_out self.old.own }
-        ensures took { self.new.own.free.history.taken ≡ self.old.own.free.history.taken }
-        ensures tickets { self.new.own.hand.tickets ≡ self.old.own.hand.tickets }
-        ensures ready { self.new.own.ready ≡ self.old.own.ready }
-        ensures shared { self.new.shared ≡ self.old.shared }
-        ensures others { self.new.others.items ≡ self.old.others.items }
-    {
-        give_until_empty(rt, &mut self.own.free, &mut self.own.hand);
     }
 }
 
-/// Gives back slots until none is in hand.
+/// Swaps a worker's end of the first poller's queue with that of this poller, if it has one. A second call swaps them
+/// back.
+fn change_end(used: &mut FreeQueue, others: &mut Vec<FreeQueue>, poller: usize)
+    ensures { Changes poller used.old used.new others.old.items others.new.items }
+{
+    if poller == 0 {
+        return;
+    }
+    if let Some(other) = others.get_mut(poller - 1) {
+        mem::swap(used, other);
+    }
+}
+
+/// Gives back slots until none is in hand. A queue has room for each slot that can be in it, so this waits for nobody.
 fn give_until_empty(rt: &impl Wait, free: &mut FreeQueue, hand: &mut Hand)
     ensures given { hand.new.slots ≡ [] }
     ensures slots { outgoing free.new.history hand.new.slots ≡ outgoing free.old.history hand.old.slots }

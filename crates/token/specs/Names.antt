@@ -1,5 +1,5 @@
--- The name of an end. Part of the promises. It says which end of which connection this is; the slot's generation
--- distinguishes the connection from every earlier one in the same slot.
+-- The name of an end of a connection. Part of the promises. The slot's generation distinguishes the connection from
+-- every earlier one in the same slot.
 use Rattle.std.specs.Prelude.{ℕ, ◌+◌, ◌*◌, ◌≤◌}
 use Rattle.token.specs.{declared.side.Side.Side, Sides.side_number}
 
@@ -20,7 +20,6 @@ last_generation = 140737488355327
 abbrev pub IsGeneration : ℕ → Type 0
 IsGeneration generation = (1 ≤ generation) × (generation ≤ last_generation)
 
--- the names that there are
 abbrev pub IsEndName : EndName → Type 0
 IsEndName name = IsSlot name.slot × IsGeneration name.generation
 

@@ -1,9 +1,7 @@
--- What the numbers of a readiness queue stand for. Part of the promises. A number names the listener, the waker, or one
--- end of one connection.
+-- What the numbers of a readiness queue stand for. Part of the promises.
 use Rattle.std.specs.Prelude.{ℕ, ◌+◌, ◌/◌, ◌%◌, ◌==◌, nat_le, ◌&&◌, if◌then◌else◌, ⊤, Option, Some, None}
 use Rattle.token.specs.{declared.{side.Side.{Side, TheVariants.{Client, Target}}, name.Name.{Name, TheVariants.{Listener, Waker, End}}}, Names.{EndName, IsEndName, end_number, last_generation}}
 
--- the number of a name
 abbrev pub name_number : Name → ℕ
 name_number Listener = 0
 name_number Waker = 1
@@ -15,11 +13,9 @@ IsName Listener = ⊤
 IsName Waker = ⊤
 IsName (End name) = IsEndName name
 
--- the side of a bit
 abbrev pub side_of : ℕ → Side
 side_of bit = if bit == 0 then Client else Target
 
--- the parts of an end's number
 abbrev pub end_of : ℕ → EndName
 end_of number = record { slot = number % 65536 / 2; side = side_of (number % 2); generation = number / 65536 }
 

@@ -2,12 +2,10 @@
 use Rattle.std.specs.{Prelude.{ℕ, if◌then◌else◌, List, codes, Option, Some, None}, Str.bytes_eq}
 use Rattle.token.specs.declared.{side.Side.{Side, TheVariants.{Client, Target}}, direction.Direction.{Direction, TheVariants.{Up, Down}}}
 
--- the other side
 abbrev pub other_side : Side → Side
 other_side Client = Target
 other_side Target = Client
 
--- the word for a side
 abbrev pub side_name : Side → List ℕ
 side_name Client = codes "client"
 side_name Target = codes "target"
@@ -19,12 +17,10 @@ side_named word =
     else if bytes_eq word (side_name Target) then Some Target
     else None
 
--- the bit that stands for a side in a number
 abbrev pub side_number : Side → ℕ
 side_number Client = 0
 side_number Target = 1
 
--- the way back
 abbrev pub opposite : Direction → Direction
 opposite Up = Down
 opposite Down = Up

@@ -5,8 +5,7 @@ ghost use Rattle.token.specs.{Kinds.{kind_name, kind_named}, declared.kind.Kind.
 pub const KIND_WANTED: &str =
     "one of aborted, notconnected, other, pipe, refused, reset, timedout and zero is wanted";
 
-/// How a call on a socket failed: the errors of read(2), write(2), connect(2) and shutdown(2) that the relay
-/// distinguishes.
+/// How a call on a socket failed, as far as the relay distinguishes it.
 #[derive(Clone, Copy, PartialEq, Eq)]
 pub enum Kind {
     /// The peer reset the connection (ECONNRESET).
@@ -28,7 +27,7 @@ pub enum Kind {
 }
 
 impl Kind {
-    /// The word for this kind in scripts, reports and log messages.
+    /// The word for this kind.
     pub fn name(self) -> &'static str
         ensures { result.now ≡ kind_name self }
     {
@@ -74,7 +73,6 @@ impl Kind {
     }
 }
 
-/// Whether a word is the name of a kind.
 fn names(kind: Kind, word: &[u8]) -> bool
     ensures { result ≡ bytes_eq word.now (kind_name kind) }
 {

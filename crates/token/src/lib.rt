@@ -3,9 +3,8 @@
 //!
 //! A connection has two [`Side`]s and two [`Direction`]s, and a call on one of its sockets fails with a [`Kind`]. An
 //! end of a connection is named by a [`Token`]: the slot of the connection, the side, and the slot's generation,
-//! which distinguishes a report for this connection from a late one for an earlier connection in the same slot. A
-//! token travels through epoll(7) as one number ([`Token::value`], [`Name::number`]), and [`unpack`] turns a number
-//! back into a name.
+//! which distinguishes a report for this connection from a late one for an earlier connection in the same slot.
+//! epoll(7) knows a name by its number ([`Name::number`], [`unpack`]).
 #![tactic(auto)]
 
 mod direction;

@@ -1,9 +1,7 @@
-//! The limits of a token's parts, and its layout as one number.
-
 /// The highest slot number.
 pub const MAX_SLOT: usize = 32_767;
 
-/// The highest generation of a slot, 2^47 - 1. A slot that has reached it is not opened again.
+/// The highest generation of a slot, 2^47 - 1.
 pub const MAX_GENERATION: u64 = 140_737_488_355_327;
 
 /// How many numbers one generation has: two for each slot, one for each side.

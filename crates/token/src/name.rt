@@ -17,7 +17,7 @@ pub enum Name {
 }
 
 impl Name {
-    /// The name as one number: 0 for the listener, 1 for the waker, and [`Token::value`] for an end.
+    /// The name as one number.
     pub fn number(self) -> u64
         ensures number { result ≡ name_number self }
         ensures unpacks { name_of result ≡ Some self }
@@ -42,7 +42,6 @@ pub fn unpack(number: u64) -> Option<Name>
     }
 }
 
-/// The end that a number stands for, if any. The number is not that of the listener or the waker.
 fn end_of(number: u64) -> Option<Name>
     requires { 2 ≤ number }
     ensures { result ≡ name_of number }

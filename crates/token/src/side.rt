@@ -21,7 +21,7 @@ impl Side {
         }
     }
 
-    /// The word for the side in scripts, reports and log messages.
+    /// The word for the side.
     pub fn name(self) -> &'static str
         ensures { result.now ≡ side_name self }
     {

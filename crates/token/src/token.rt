@@ -17,8 +17,7 @@ pub enum TokenFault {
     GenRange,
 }
 
-/// The name of one end of one connection, by which a readiness queue reports on it: the slot, the side and the slot's
-/// generation.
+/// The name of one end of one connection: the slot, the side and the slot's generation.
 #[derive(Clone, Copy, PartialEq, Eq)]
 pub struct Token {
     slot: usize,
@@ -42,8 +41,8 @@ impl Model for Token {
 impl Token {
     /// The token of an end.
     ///
-    /// Refuses with `SlotRange` if the slot is over 32,767, which is checked first, and with `GenRange` if the
-    /// generation is 0 or over 140,737,488,355,327, which is 2^47 - 1.
+    /// Refuses with `SlotRange` if the slot is over [`MAX_SLOT`], which is checked first, and with `GenRange` if the
+    /// generation is 0 or over [`MAX_GENERATION`].
     pub fn pack(slot: usize, side: Side, generation: u64) -> Result<Token, TokenFault>
         ensures packed { IsSlot slot → IsGeneration generation
             → result ≡ Ok (record { slot = slot; side = side; generation = generation }) }
@@ -95,9 +94,8 @@ impl Token {
     }
 }
 
-/// The generation that a slot of generation `generation` gets when it is opened again: one more, or none after
-/// [`MAX_GENERATION`]. The caller may pass 0, the generation of a slot that was never opened, but none over
-/// [`MAX_GENERATION`].
+/// The generation that a slot gets when it is opened again, or none after [`MAX_GENERATION`]. That of a slot that was
+/// never opened is 0.
 pub fn next_gen(generation: u64) -> Option<u64>
     requires { generation ≤ last_generation }
     ensures { result ≡ generation_after generation }

@@ -1,5 +1,4 @@
--- Which of the tickets in hand a poller's thread keeps for turns of its own, and which it puts for the workers. Part of
--- the promises.
+-- Which tickets a poller's thread keeps for turns of its own, and which it puts for the workers. Part of the promises.
 use Rattle.std.specs.Prelude.{◌≡◌, ◌⊎◌, ℕ, suc, ◌<◌, List, [], ◌∷◌, ◌++◌, slice_index}
 use Rattle.ready.specs.{declared.ticket.Ticket.Ticket, Steps.{EndState, PutOne, HeldOnce}}
 use Rattle.dispatch.specs.{Heavy.looked_at, Limits.first_light, declared.shared.Own.Own}
@@ -32,8 +31,8 @@ OneShared stayed heavy ticket queue then behind next =
     ⊎ ((Stays stayed heavy ticket → ⊥) × (then ≡ stayed)
     × ((Puts ticket queue next × (behind ≡ [])) ⊎ (Refuses queue next × (behind ≡ ticket ∷ []))))
 
--- What becomes of these tickets in hand, in order, after this many that stayed. Each that was looked at takes one of
--- its slot's marks away. Then these are in hand, in order, these marks are left, and the queue's end has come to this
+-- The same of these tickets, in order. Each that was looked at takes one of its slot's marks away. Then these are in
+-- hand, these marks are left, and the queue's end has come to this
 abbrev pub AreShared : ℕ → List ℕ → List Ticket → EndState Ticket → List Ticket → List ℕ → EndState Ticket → Type 0
 AreShared stayed heavy [] queue kept left end = (kept ≡ []) × (left ≡ heavy) × (end ≡ queue)
 AreShared stayed heavy (t ∷ ts) queue kept left end =
@@ -41,13 +40,13 @@ AreShared stayed heavy (t ∷ ts) queue kept left end =
     × OneShared stayed heavy t queue then behind next × (kept ≡ behind ++ rest)
     × AreShared then (looked_at t.slot heavy) ts next rest left end
 
--- A ticket that was in nobody's hand was put, or is the last in hand if the queue was full at one moment
+-- a ticket that was in no hand was put, or is the last in hand if the queue was full at one moment
 abbrev pub Passed : Ticket → Own → Own → Type 0
 Passed ticket old new =
     (Puts ticket old.ready new.ready × (new.hand ≡ old.hand))
     ⊎ (Refuses old.ready new.ready × (new.hand ≡ record old.hand { tickets = old.hand.tickets ++ ticket ∷ [] }))
 
--- what a poller's thread owns once its tickets in hand were shared, by the heavy marks before and after
+-- the tickets in hand were shared, by the heavy marks before and after, and nothing else changed
 pub record TicketsShared (heavy left : List ℕ) (old new : Own) : Type 0 where
   pub tickets : AreShared 0 heavy old.hand.tickets old.ready new.hand.tickets left new.ready
   pub took : new.ready.history.taken ≡ old.ready.history.taken

@@ -7,21 +7,17 @@ use Rattle.berths.specs.declared.berths.Berth.{Berth}
 use Rattle.engine.specs.Turns.{IsTurn}
 use Rattle.turns.specs.declared.{terms.Terms.Terms, worker.Worked.Worked}
 use Rattle.relay_log.specs.declared.faults.ServerFault.{ServerFault}
-use Rattle.dispatch.specs.{declared.shared.Own.Own, Acts.{Act, AreMade, busy_turn, gone_turn, quiet_turn, again_turn, ended_turn}, Hands.HasRoom, Limits.heavy_marks, Posts.HoldsOnly, Outgoing.{Inserted, KeepsTicket, KeepsSlot, TookNothing, tickets_out, slots_out, without_first}}
+use Rattle.dispatch.specs.{declared.shared.Own.Own, Acts.{Act, AreMade, busy_turn, gone_turn, quiet_turn, again_turn, ended_turn, leaving}, Hands.HasRoom, Limits.heavy_marks, Posts.HoldsOnly, Outgoing.{Inserted, KeepsTicket, KeepsSlot, TookNothing, tickets_out, slots_out, without_first}}
 use Rattle.token.specs.Names.{last_generation}
 use Rattle.turns.specs.declared.worker.Worked.TheVariants as worked
 
 -- the slot was held
 abbrev pub WasHeld : Result Worked ServerFault → Type 0
 WasHeld (Ok worked.Busy) = ⊥
-WasHeld (Ok worked.Gone) = Unit {0}
-WasHeld (Ok worked.Ended) = Unit {0}
-WasHeld (Ok worked.Again) = Unit {0}
-WasHeld (Ok worked.Quiet) = Unit {0}
-WasHeld (Err fault) = Unit {0}
+WasHeld result = Unit {0}
 
--- The exchanges of a turn at its ticket's slot, by its answer, if its claim found this many notes, its take this many,
--- and its release answered Wake or not. A post that finds the seat worn makes none
+-- The exchanges of a turn at its slot, by its answer, if its claim found this many notes, its take this many, and its
+-- release answered Wake or not. A post that finds the seat worn makes none
 abbrev pub program : Result Worked ServerFault → ℕ → ℕ → Bool → List Exchange
 program (Ok worked.Busy) found noted woke = Busy ∷ []
 program (Ok worked.Gone) found noted woke = Held found ∷ Take noted ∷ Release woke ∷ []
@@ -69,39 +65,32 @@ pub record SlotGiven (ticket : Ticket) (old new : Own) : Type 0 where
 
 -- only a connection that has ended gives its slot
 abbrev pub SlotsKept : Ticket → Result Worked ServerFault → Own → Own → Type 0
-SlotsKept ticket (Ok worked.Busy) old new = slots_out new ≡ slots_out old
-SlotsKept ticket (Ok worked.Gone) old new = slots_out new ≡ slots_out old
 SlotsKept ticket (Ok worked.Ended) old new = SlotGiven ticket old new
-SlotsKept ticket (Ok worked.Again) old new = slots_out new ≡ slots_out old
-SlotsKept ticket (Ok worked.Quiet) old new = slots_out new ≡ slots_out old
-SlotsKept ticket (Err fault) old new = slots_out new ≡ slots_out old
+SlotsKept ticket result old new = slots_out new ≡ slots_out old
 
--- What the exchanges of a turn do, with all that its thread owns: they are all that the seat made, for each that
--- answered Wake the ticket was put, and the slot is given if the connection ended
+-- What the exchanges of a turn do to what its thread owns: they are all that the seat made, for each that answered Wake
+-- the ticket was put, and the slot is given if the connection ended
 pub record TurnDone (ticket : Ticket) (exchanges : List Exchange) (result : Result Worked ServerFault) (old new : Own) : Type 0 where
   pub seat : Adds ticket.slot exchanges old.seat new.seat
   pub tickets : TicketsKept ticket (minted_by exchanges) old new
   pub slots : SlotsKept ticket result old new
   pub took : TookNothing old new
 
--- a turn once its slot is claimed
-pub record ClaimedTurn (ticket : Ticket) (result : Result Worked ServerFault) (old new : Own) : Type 0 where
+-- the rest of a turn after so many of its exchanges and acts, if another connection was in the place or not
+pub record TurnRest {S : Type 0} (made : Act → ℕ → S → S → Type 0) (ticket : Ticket) (result : Result Worked ServerFault)
+    (other : Bool) (exchanged acted : ℕ) (old new : Own) (from to : S) : Type 0 where
   pub noted : ℕ
   pub woke : Bool
   pub held : WasHeld result
-  pub done : TurnDone ticket (drop 1 (program result 0 noted woke)) result old new
-
--- once its notes are taken, too
-pub record TurnEnd (ticket : Ticket) (result : Result Worked ServerFault) (old new : Own) : Type 0 where
-  pub woke : Bool
-  pub held : WasHeld result
-  pub done : TurnDone ticket (drop 2 (program result 0 0 woke)) result old new
+  pub done : TurnDone ticket (drop exchanged (program result 0 noted woke)) result old new
+  pub acts : ActsLeft made ticket result acted other woke from to
 
 -- a release alone, which answers Quiet only if the seat knew of no note
-pub record LeftSlot (ticket : Ticket) (old new : Own) : Type 0 where
+pub record LeftSlot {S : Type 0} (made : Act → ℕ → S → S → Type 0) (ticket : Ticket) (old new : Own) (from to : S) : Type 0 where
   pub woke : Bool
   pub quiet : woke ≡ false → (account_at old.seat ticket.slot).known ≡ 0
   pub done : TurnDone ticket (Release woke ∷ []) (Ok worked.Quiet) old new
+  pub acts : AreMade made ticket.slot (leaving woke) from to
 
 -- the exchanges of a turn with a ticket of this slot. Claim words that lack the slot are not touched, and the answer is
 -- Gone then
@@ -119,16 +108,14 @@ pub record TurnMade (words : ℕ) (ticket : Ticket) (result : Result Worked Serv
   pub done : TurnDone ticket exchanges result old new
   pub outside : words ≤ ticket.slot → new.seat ≡ old.seat
 
--- All the acts of a turn, but its calls: what they make of the slot's word and of what the thread owns, and their
--- order. If the claim words lack the slot, none is made
+-- the same, with the order of all acts of the turn but its calls. If the claim words lack the slot, none is made
 abbrev pub TurnInOrder : {S : Type 0} → (Act → ℕ → S → S → Type 0) → ℕ → Ticket → Result Worked ServerFault → Own → Own → S → S → Type 0
 TurnInOrder made words ticket result old new from to =
     (turn : TurnMade words ticket result old new)
     × (ticket.slot < words → (other : Bool) × ActsLeft made ticket result 0 other turn.are.woke from to)
     × (words ≤ ticket.slot → to ≡ from)
 
--- A poller's own turn with the oldest ticket in hand, by its answer: after None nothing changed, else it was a turn
--- with that ticket, which is no longer in hand
+-- a poller's own turn with the oldest ticket in hand, which is no longer there; after None nothing changed
 abbrev pub OwnTurn : ℕ → Ticket → Result (Option Worked) ServerFault → Own → Own → Type 0
 OwnTurn words ticket (Ok None) old new = new ≡ old
 OwnTurn words ticket (Ok (Some worked)) old new = TurnMade words ticket (Ok worked) (without_first old) new
@@ -141,16 +128,10 @@ OwnTurnInOrder made words ticket (Ok (Some worked)) old new from to =
     TurnInOrder made words ticket (Ok worked) (without_first old) new from to
 OwnTurnInOrder made words ticket (Err fault) old new from to = TurnInOrder made words ticket (Err fault) (without_first old) new from to
 
--- the heavy marks after an own turn: a connection that spent its budget has all of them, and the others have what they had
+-- the heavy marks after an own turn: a connection that spent its budget has all of them
 abbrev pub marks_after : Option Ticket → Result (Option Worked) ServerFault → List ℕ → List ℕ
 marks_after (Some ticket) (Ok (Some worked.Again)) heavy = slice_set heavy ticket.slot heavy_marks
-marks_after (Some ticket) (Ok (Some worked.Busy)) heavy = heavy
-marks_after (Some ticket) (Ok (Some worked.Gone)) heavy = heavy
-marks_after (Some ticket) (Ok (Some worked.Ended)) heavy = heavy
-marks_after (Some ticket) (Ok (Some worked.Quiet)) heavy = heavy
-marks_after (Some ticket) (Ok None) heavy = heavy
-marks_after (Some ticket) (Err fault) heavy = heavy
-marks_after None result heavy = heavy
+marks_after ticket result heavy = heavy
 
 -- why a poller's thread runs no turn: no ticket is in hand, or no slot more fits there
 abbrev pub NoOwnTurn : Own → Type 0
@@ -164,7 +145,7 @@ noted_by notes pair = if nat_lt 0 notes then noted pair else pair
 abbrev pub Serves : Type 0 → Type 1
 Serves S = ℕ → S → S → Side → PairState → List AnswerValue → Type 0
 
--- A connection, to which this many notes were given, had one turn on its two wires, as its terms allow
+-- a connection, to which this many notes were given, had one turn on its two wires, as its terms allow
 abbrev pub Plays : {C T : Type 0} → Serves C → Serves T → Terms → ℕ → Berth C T → Berth C T → Type 0
 Plays client target terms notes old new =
     IsTurn terms.budget terms.moment.second terms.moment.limit (noted_by notes old.pair) new.pair

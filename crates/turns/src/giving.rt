@@ -12,8 +12,7 @@ use ready::{Full, Ticket};
 use std::sync::Wait;
 use token::MAX_GENERATION;
 
-/// Puts the ticket of a slot that was released. If the queue is full, it stays in hand. A ticket that is put before
-/// the release could be taken at once, find its slot held, and be lost.
+/// Puts the ticket of a slot that was released: put before, it could be taken at once, find its slot held, and be lost.
 pub(crate) fn put_ticket<A: Acts, R: Wait>(rt: &R, acts: &mut A, own: &mut Own, ticket: Ticket)
     requires released { HoldsNot own.old.seat ticket.slot }
     requires room { length own.old.hand.tickets < own.old.hand.capacity }
@@ -31,8 +30,7 @@ pub(crate) fn put_ticket<A: Acts, R: Wait>(rt: &R, acts: &mut A, own: &mut Own, 
     }
 }
 
-/// Gives back the slot of a ticket whose connection has ended, unless its generation is the last: no connection can
-/// be opened there any more.
+/// Gives back the slot of a connection that has ended, unless its generation is the last.
 pub(crate) fn give_back<A: Acts, R: Wait>(
     rt: &R,
     acts: &mut A,
@@ -56,8 +54,7 @@ pub(crate) fn give_back<A: Acts, R: Wait>(
     closed.spend();
 }
 
-/// Gives back a slot that was retired. If the queue is full, it stays in hand. If it were given back before it is free,
-/// the poller could find it held, and would use it no longer.
+/// Gives back a slot that was retired: given back before, it could be found held, and be used no longer.
 fn give_slot<A: Acts, R: Wait>(rt: &R, acts: &mut A, own: &mut Own, slot: usize)
     requires retired { HoldsNot own.old.seat slot }
     requires room { length own.old.hand.slots < own.old.hand.capacity }

@@ -7,8 +7,8 @@ use relay_core::{Fault, Verdict};
 use relay_log::{Gone, Known, Why, logs_gone};
 use token::Side;
 
-/// Logs whose connection has ended by this second, how far it got, and why. Nothing is looked up if the log does not
-/// take that. Of a connection that is done this is logged only if the log has all clients.
+/// Logs whose connection has ended by this second, how far it got, and why. A connection that is done is logged only if
+/// the log has all clients.
 pub(crate) fn log_gone<F: Front, R: Log>(
     rt: &R,
     clients: ClientsAt,
@@ -57,7 +57,6 @@ fn connected<F: Front>(visit: &Visit<F>) -> Option<bool> {
     }
 }
 
-/// Why a connection failed.
 fn why<F: Front>(visit: &Visit<F>, fault: Fault) -> Why {
     match fault {
         Fault::Idle => said("idle"),
@@ -68,7 +67,6 @@ fn why<F: Front>(visit: &Visit<F>, fault: Fault) -> Why {
     }
 }
 
-/// What the relay itself says of a cause, in a word.
 fn said(word: &'static str) -> Why {
     Why { error: None, word }
 }

@@ -2,9 +2,9 @@
 //! wires. A worker does so with a ticket of the queue ([`worker_turn`]). A poller's thread runs the light tickets of
 //! its rounds itself ([`own_turn`]), and puts the others into the queue ([`share_tickets`]).
 //!
-//! A slot is held by one thread at a time, by the rule of the claim words (`claims`), so a connection's two sockets and
-//! its pair are never touched by two threads, and no note is lost between them. What a thread is lent for its turns is
-//! in `dispatch`; `rounds` makes the tickets.
+//! A slot is held by one thread at a time (`claims`), so a connection's two sockets and its pair are never touched by
+//! two threads, and no note is lost between them. What a thread is lent for its turns is in `dispatch`; `rounds` makes
+//! the tickets.
 //!
 //! # Inside
 //!

@@ -1,4 +1,4 @@
-//! The turns that the poller's thread runs by itself, so that no worker has to be woken for them.
+//! The turns that a poller's thread runs by itself, so that no worker has to be woken for them.
 ghost use Rattle.std.specs.Prelude.{◌≡◌, ◌↔◌, ◌<◌, ◌≤◌, ◌∷◌, ◌++◌, [], length, slice_get, Ok, Some, None, IfErr, IfSome, IsSome, false, true};
 ghost use Rattle.claims.specs.Seats.{HoldsNothing, OnlyAt};
 ghost use Rattle.dispatch.specs.{Outgoing.TookNothing, Heavy.looked_at, Limits.first_light, Posts.{AtRest, OnlyWorn}};
@@ -24,11 +24,10 @@ enum Stay {
     Busy(AllBusy),
 }
 
-/// Puts the tickets in hand that the poller's thread does not run itself, so that the workers begin with them: those of
-/// connections that spent all of its budget a short while ago, and, if workers run light tickets, too, every ticket after
-/// the first 16 that stay, from the point where a worker's end of the ready queue is found asleep. The others stay in
-/// hand, in order, since workers that are all awake may all be at work on much larger turns. So do those that the queue
-/// refuses.
+/// Puts the tickets in hand that the poller's thread leaves to the workers: those of connections that spent all of its
+/// budget a short while ago, and, if workers run light tickets, too, every ticket after the first 16 that stay, from
+/// the point where a worker's end of the ready queue is found asleep. The others stay in hand, in order, since workers
+/// that are all awake may all be at work on much larger turns. So do those that the queue refuses.
 pub fn share_tickets<R: Wait>(rt: &R, shares_light: bool, own: &mut Own, heavy: &mut HeavyMarks)
     requires idle { HoldsNothing own.old.seat }
     ensures shared { TicketsShared heavy.old heavy.new own.old own.new }
@@ -48,9 +47,8 @@ pub fn share_tickets<R: Wait>(rt: &R, shares_light: bool, own: &mut Own, heavy: 
     }
 }
 
-/// Why a ticket stays in hand, or None if it does not. `kept` have stayed before it, and `asleep` says whether an end
-/// of the queue was found asleep; a look may set it. An end that is woken for one ticket runs the next ones, too: one
-/// wake for each would cost more than their turns.
+/// Why a ticket stays in hand, or None. `kept` have stayed before it, and `asleep` says whether an end of the queue was
+/// found asleep. That end runs the next tickets, too: one wake for each would cost more than their turns.
 fn stays(
     ready: &ReadyQueue,
     shares_light: bool,
@@ -84,8 +82,7 @@ fn stays(
     busy.map(Stay::Busy)
 }
 
-/// Keeps a ticket in hand, after this many that stayed: after the first 16, if workers run light tickets, too, only by
-/// a look for this ticket alone.
+/// Keeps a ticket in hand, after this many that stayed.
 fn keep(hand: &mut Hand, ticket: Ticket, _kept: usize, _shares_light: bool, _stay: Stay)
     requires room { length hand.old.tickets < hand.old.capacity }
     requires early { _stay ≡ Stay.Early → _kept < first_light }
@@ -99,9 +96,9 @@ fn keep(hand: &mut Hand, ticket: Ticket, _kept: usize, _shares_light: bool, _sta
 /// are for the workers. None if there is no ticket, or no room in hand for a slot: then nothing changes. The only
 /// refusal is `Worn`, as for a worker's turn.
 ///
-/// Nothing else that is in hand is put. If a connection ends, nobody has to be woken: the next round looks for a free
-/// slot before it waits, if a client may be waiting. With `is_closing`, which says that the poller may open no more
-/// connections, that round does not wait, so that the poller's end is found at once.
+/// If a connection ends, nobody has to be woken: the next round looks for a free slot before it waits, if a client may
+/// be waiting. With `is_closing`, which says that the poller may open no more connections, that round does not wait, so
+/// that the poller's end is found at once.
 pub fn own_turn<F: Front, G: Gate, C: Clock, R: Wait + Log>(
     rt: &R,
     shared: &Shared<F>,
@@ -162,8 +159,6 @@ pub fn own_turn_with<F: Front, A: Moves<F>, G: Gate, C: Clock, R: Wait + Log>(
     Ok(Some(worked))
 }
 
-/// What the answer of an own turn means to its poller: a connection that spent the budget is heavy from now on, and if
-/// one ended while no more may be opened, the poller's next wait ends at once.
 fn follow_up<F: Front>(
     shared: &Shared<F>,
     heavy: &mut HeavyMarks,

@@ -1,4 +1,4 @@
-//! What one turn is held to.
+//! The terms of a turn.
 ghost use Rattle.std.specs.Prelude.{◌≡◌, min};
 ghost use Rattle.dispatch.specs.Limits.{own_budget};
 
@@ -13,8 +13,7 @@ pub(crate) struct Terms {
 }
 
 impl Terms {
-    /// What a turn of a poller's own is held to: 8 calls at most, so that the reports of other connections wait no
-    /// longer.
+    /// Those of a poller's own turn: 8 calls at most, so that the reports of other connections wait no longer.
     pub(crate) fn own(budget: usize, moment: Moment) -> Terms
         ensures { result ≡ record { budget = min budget own_budget; moment = moment } }
     {

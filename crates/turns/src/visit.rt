@@ -1,4 +1,4 @@
-//! The connection of a held slot, out of its place and back.
+//! The connection of a held slot, out of its place.
 ghost use Rattle.std.specs.Prelude.{◌≡◌, ◌<◌, ◌≤◌, IfOk, IfErr};
 ghost use Rattle.engine.specs.Turns.{outcome_of, IsServed};
 ghost use Rattle.dispatch.specs.Posts.{HoldsOnly};
@@ -16,26 +16,22 @@ use std::net::SocketAddr;
 use std::sync::Wait;
 use token::Side;
 
-/// A connection that its thread has taken out of the place of a slot which it holds. Only [`take_out`] makes a visit,
-/// and only [`put_in`] and [`Visit::close`] end it, since it cannot be dropped: what is put back is what was taken out.
+/// A connection that was taken out of the place of a slot that is held. Only [`take_out`] makes a visit, and only
+/// [`put_in`] and [`Visit::close`] end it, since it cannot be dropped: what is put back is what was taken out.
 pub(crate) struct Visit<F: Front> {
-    ticket: Ticket,
+    pub(crate) ticket: Ticket,
     berth: Box<Berth<F::Client, F::Target>>,
 }
 
-/// No connection of this slot is out of its place. Only then may the slot be released: otherwise the next holder would
-/// find the place empty, and the connection would never be run again. This value cannot be dropped, so after each visit
-/// there is one release.
-///
-/// In a clause it is the slot.
+/// No connection of this slot is out of its place. Only then may the slot be released: else the next holder would find
+/// the place empty, and the connection would never be run again. This value cannot be dropped, so each visit has one
+/// release. In a clause it is the slot.
 pub(crate) struct Back {
     slot: usize,
 }
 
 /// The connection of this slot is closed. This value cannot be dropped, so after each closing the slot is given back,
-/// unless it had its last generation.
-///
-/// In a clause it is the slot.
+/// unless it had its last generation. In a clause it is the slot.
 pub(crate) struct Closed {
     slot: usize,
 }
@@ -79,7 +75,6 @@ pub(crate) fn take_out<F: Front, A: Moves<F>, R: Wait>(
     }
 }
 
-/// Notes at a pair that something was reported, if notes waited.
 fn tell_notes(pair: &mut Pair, notes: u64)
     ensures { pair.new ≡ noted_by notes pair.old }
 {
@@ -112,13 +107,6 @@ pub(crate) fn put_in<F: Front, A: Moves<F>, R: Wait>(
 }
 
 impl<F: Front> Visit<F> {
-    /// The ticket for whose slot it was taken out.
-    pub(crate) fn ticket(&self) -> Ticket
-        ensures { result ≡ self.now.ticket }
-    {
-        self.ticket
-    }
-
     /// The connection's pair.
     pub(crate) fn pair(&self) -> &Pair
         ensures { result.now ≡ self.now.berth.value.pair }
@@ -126,8 +114,7 @@ impl<F: Front> Visit<F> {
         &self.berth.pair
     }
 
-    /// Gives the connection a report if notes waited, and makes its calls on its two wires, which read into the
-    /// buffer: at most as many as the budget, and all at the moment. It allocates no memory and waits for no lock.
+    /// Gives the connection a report if notes waited, and makes its calls on its two wires.
     pub(crate) fn play(&mut self, notes: u64, terms: Terms, buffer: &mut [u8; MAX_READ]) -> Turn
         requires least { 1 ≤ terms.budget }
         requires most { terms.budget ≤ 1024 }
@@ -169,7 +156,7 @@ impl<F: Front> Visit<F> {
         self.berth.target.is_connected()
     }
 
-    /// The system's error of the last call that failed on a side's socket, by its number, if it is known.
+    /// The system's error of the last call that failed on a side's socket.
     pub(crate) fn error(&self, side: Side) -> Option<i32> {
         match side {
             Side::Client => self.berth.client.error(),

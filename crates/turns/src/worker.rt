@@ -1,11 +1,10 @@
-//! One turn of a worker: it claims a ticket's slot, takes its connection out, gives it the notes, runs it, and puts
-//! it back.
-ghost use Rattle.std.specs.Prelude.{◌≡◌, ◌≢◌, ◌⊎◌, ℕ, ◌<◌, ◌≤◌, [], ◌∷◌, Bool, false, length, Ok, IfOk, IfErr};
+//! One turn of a worker.
+ghost use Rattle.std.specs.Prelude.{◌≡◌, ◌⊎◌, ℕ, ◌<◌, ◌≤◌, [], ◌∷◌, Bool, false, Ok, IfOk, IfErr};
 ghost use Rattle.claims.specs.Seats.{Adds, HoldsNothing, OnlyAt};
 ghost use Rattle.engine.specs.Turns.{outcome_of, IsServed};
-ghost use Rattle.dispatch.specs.{Acts.{AreMade, leaving}, Hands.HasRoom, Outgoing.{KeepsSlot, TookNothing}, Posts.{HoldsOnly, OnlyWorn}};
+ghost use Rattle.dispatch.specs.{Hands.HasRoom, Outgoing.{KeepsSlot, TookNothing}, Posts.{HoldsOnly, OnlyWorn}};
 ghost use Rattle.token.specs.Names.{last_generation};
-ghost use Rattle.turns.specs.Turns.{ActsLeft, AtWork, ClaimedTurn, TurnEnd, TurnInOrder, LeftSlot, TurnMade, Plays};
+ghost use Rattle.turns.specs.Turns.{AtWork, TurnRest, TurnInOrder, LeftSlot, TurnMade, Plays};
 ghost use Rattle.claims.specs.declared.view.Exchange.TheVariants as exchange;
 ghost use Rattle.dispatch.specs.Acts as act;
 
@@ -45,10 +44,7 @@ pub enum Worked {
 /// one, and the poller is woken. Any other connection is put back before the slot is released. If the release finds
 /// notes, a ticket is put for them. What a queue refuses stays in hand.
 ///
-/// Beside that ticket and that slot, all that was to be put is put or in hand, in order.
-///
-/// The turn is made at one second of the clock, and a connection that is left without a call then, and has moved
-/// nothing for the idle limit, fails.
+/// A connection that is left without a call at the turn's second, and has moved nothing for the idle limit, fails.
 ///
 /// The only refusal is `Worn`: the seat has posted 2^56 times. The slot is released then, too.
 pub fn worker_turn<F: Front, G: Gate, C: Clock, R: Wait + Log>(
@@ -98,11 +94,11 @@ pub fn worker_turn_with<F: Front, A: Moves<F>, G: Gate, C: Clock, R: Wait + Log>
         budget: shared.budget,
         moment: timing.moment(),
     };
-    let worked = turn_of(rt, acts, shared, own, gate, ticket, terms)?;
-    if let Worked::Ended = worked {
+    let worked = turn_of(rt, acts, shared, own, gate, ticket, terms);
+    if let Ok(Worked::Ended) = worked {
         wake_poller(shared, own, ticket);
     }
-    Ok(worked)
+    worked
 }
 
 /// A turn alone: nothing in hand is put before it, and nobody is woken after it.
@@ -134,7 +130,6 @@ pub(crate) fn turn_of<F: Front, A: Moves<F>, G: Gate, R: Wait + Log>(
     }
 }
 
-/// The rest of a turn, once the slot is held.
 fn claimed<F: Front, A: Moves<F>, G: Gate, R: Wait + Log>(
     rt: &R,
     acts: &mut A,
@@ -146,8 +141,7 @@ fn claimed<F: Front, A: Moves<F>, G: Gate, R: Wait + Log>(
 ) -> Result<Worked, ServerFault>
     requires work { AtWork shared.now.claims ticket.slot own.old }
     requires budget { (1 ≤ terms.budget) × (terms.budget ≤ 1024) }
-    ensures done { (turn : ClaimedTurn ticket result own.old own.new)
-        × (other : Bool) × ActsLeft A.made ticket result 1 other turn.woke acts.old acts.new }
+    ensures done { (other : Bool) × TurnRest A.made ticket result other 1 1 own.old own.new acts.old acts.new }
     ensures worn { IfErr result (λ fault. OnlyWorn fault own.new.seat) }
 {
     match take_out(rt, acts, shared, own, ticket) {
@@ -166,7 +160,7 @@ fn claimed<F: Front, A: Moves<F>, G: Gate, R: Wait + Log>(
     }
 }
 
-/// Takes the notes of a slot whose connection is missing, and releases the slot.
+/// Leaves a slot whose connection is missing.
 fn give_up<F: Front, A: Acts, R: Wait>(
     rt: &R,
     acts: &mut A,
@@ -177,14 +171,13 @@ fn give_up<F: Front, A: Acts, R: Wait>(
 )
     requires work { AtWork shared.now.claims ticket.slot own.old }
     requires back { back ≡ ticket.slot }
-    ensures done { (turn : ClaimedTurn ticket (Ok Worked.Gone) own.old own.new)
-        × AreMade A.made ticket.slot (act.Discard ∷ leaving turn.woke) acts.old acts.new }
+    ensures done { TurnRest A.made ticket (Ok Worked.Gone) false 1 2 own.old own.new acts.old acts.new }
 {
     acts.discard(&shared.claims, &mut own.seat, ticket.slot);
     leave(rt, acts, shared, own, ticket, back);
 }
 
-/// Runs the connection of a slot that is held, which is the ticket's own, and then ends it or puts it back.
+/// Runs the ticket's own connection, and then ends it or puts it back.
 fn run<F: Front, A: Moves<F>, G: Gate, R: Wait + Log>(
     rt: &R,
     acts: &mut A,
@@ -197,8 +190,7 @@ fn run<F: Front, A: Moves<F>, G: Gate, R: Wait + Log>(
     requires work { AtWork shared.now.claims visit.ticket.slot own.old }
     requires own { visit.berth.value.pair.generation ≡ visit.ticket.generation }
     requires budget { (1 ≤ terms.budget) × (terms.budget ≤ 1024) }
-    ensures done { (turn : ClaimedTurn visit.ticket result own.old own.new)
-        × ActsLeft A.made visit.ticket result 2 false turn.woke acts.old acts.new }
+    ensures done { TurnRest A.made visit.ticket result false 1 2 own.old own.new acts.old acts.new }
     ensures worn { IfErr result (λ fault. OnlyWorn fault own.new.seat) }
 {
     match play(
@@ -246,7 +238,7 @@ fn play<F: Front, A: Acts, G: Gate>(
         × Plays (IsServed F.Client.told F.Client.does) (IsServed F.Target.told F.Target.does) terms notes
         visit.old.berth.value visit.new.berth.value }
 {
-    let slot = visit.ticket().slot;
+    let slot = visit.ticket.slot;
     let notes = acts.take(&shared.claims, seat, slot);
     gate.before_turn(slot);
     let outcome = visit.play(notes, terms, buffer);
@@ -264,17 +256,15 @@ fn again<F: Front, A: Moves<F>, R: Wait>(
 ) -> Result<Worked, ServerFault>
     requires work { AtWork shared.now.claims visit.ticket.slot own.old }
     requires due { outcome_of visit.berth.value.pair ≡ Turn.Again }
-    ensures done { (turn : TurnEnd visit.ticket result own.old own.new)
-        × ActsLeft A.made visit.ticket result 3 false turn.woke acts.old acts.new }
+    ensures done { TurnRest A.made visit.ticket result false 2 3 own.old own.new acts.old acts.new }
     ensures answer { IfOk result (λ worked. worked ≡ Worked.Again) }
     ensures worn { IfErr result (λ fault. OnlyWorn fault own.new.seat) }
 {
-    let ticket = visit.ticket();
+    let ticket = visit.ticket;
     let back = put_in(rt, acts, shared, own, visit);
     stay_due(rt, acts, shared, own, ticket, back)
 }
 
-/// Posts the note that keeps a connection due, which is back in its place, and releases its slot.
 fn stay_due<F: Front, A: Acts, R: Wait>(
     rt: &R,
     acts: &mut A,
@@ -285,8 +275,7 @@ fn stay_due<F: Front, A: Acts, R: Wait>(
 ) -> Result<Worked, ServerFault>
     requires work { AtWork shared.now.claims ticket.slot own.old }
     requires back { back ≡ ticket.slot }
-    ensures done { (turn : TurnEnd ticket result own.old own.new)
-        × ActsLeft A.made ticket result 4 false turn.woke acts.old acts.new }
+    ensures done { TurnRest A.made ticket result false 2 4 own.old own.new acts.old acts.new }
     ensures answer { IfOk result (λ worked. worked ≡ Worked.Again) }
     ensures worn { IfErr result (λ fault. OnlyWorn fault own.new.seat) }
 {
@@ -299,7 +288,7 @@ fn stay_due<F: Front, A: Acts, R: Wait>(
     }
 }
 
-/// Puts a connection back that has no call worth trying, and releases its slot. What its sockets held back is sent.
+/// Puts a connection back that has no call worth trying. What its sockets held back is sent.
 fn rest<F: Front, A: Moves<F>, R: Wait>(
     rt: &R,
     acts: &mut A,
@@ -309,14 +298,12 @@ fn rest<F: Front, A: Moves<F>, R: Wait>(
 )
     requires work { AtWork shared.now.claims visit.ticket.slot own.old }
     requires quiet { outcome_of visit.berth.value.pair ≡ Turn.Quiet }
-    ensures done { (turn : TurnEnd visit.ticket (Ok Worked.Quiet) own.old own.new)
-        × ActsLeft A.made visit.ticket (Ok Worked.Quiet) 3 false turn.woke acts.old acts.new }
+    ensures done { TurnRest A.made visit.ticket (Ok Worked.Quiet) false 2 3 own.old own.new acts.old acts.new }
 {
     visit.settle(acts);
     leave_settled(rt, acts, shared, own, visit);
 }
 
-/// Puts a connection back that holds nothing back, and releases its slot.
 fn leave_settled<F: Front, A: Moves<F>, R: Wait>(
     rt: &R,
     acts: &mut A,
@@ -327,15 +314,14 @@ fn leave_settled<F: Front, A: Moves<F>, R: Wait>(
     requires work { AtWork shared.now.claims visit.ticket.slot own.old }
     requires client { F.Client.settled visit.berth.value.client }
     requires target { F.Target.settled visit.berth.value.target }
-    ensures done { (turn : TurnEnd visit.ticket (Ok Worked.Quiet) own.old own.new)
-        × ActsLeft A.made visit.ticket (Ok Worked.Quiet) 4 false turn.woke acts.old acts.new }
+    ensures done { TurnRest A.made visit.ticket (Ok Worked.Quiet) false 2 4 own.old own.new acts.old acts.new }
 {
-    let ticket = visit.ticket();
+    let ticket = visit.ticket;
     let back = put_in(rt, acts, shared, own, visit);
     leave(rt, acts, shared, own, ticket, back);
 }
 
-/// Releases a slot whose connection is back in its place, and puts a ticket if notes wait.
+/// Releases a slot, and puts a ticket if notes wait.
 fn leave<F: Front, A: Acts, R: Wait>(
     rt: &R,
     acts: &mut A,
@@ -346,8 +332,7 @@ fn leave<F: Front, A: Acts, R: Wait>(
 )
     requires work { AtWork shared.now.claims ticket.slot own.old }
     requires back { back ≡ ticket.slot }
-    ensures left { (left : LeftSlot ticket own.old own.new)
-        × AreMade A.made ticket.slot (leaving left.woke) acts.old acts.new }
+    ensures left { LeftSlot A.made ticket own.old own.new acts.old acts.new }
 {
     match acts.release(&shared.claims, &mut own.seat, ticket.slot) {
         Released::Wake => put_ticket(rt, acts, own, ticket),
@@ -356,7 +341,6 @@ fn leave<F: Front, A: Acts, R: Wait>(
     back.spend();
 }
 
-/// Logs and closes a connection that is done or failed, and gives its slot back.
 fn end<F: Front, A: Moves<F>, R: Wait + Log>(
     rt: &R,
     acts: &mut A,
@@ -366,18 +350,16 @@ fn end<F: Front, A: Moves<F>, R: Wait + Log>(
 )
     requires work { AtWork shared.now.claims visit.ticket.slot own.old }
     requires over { (outcome_of visit.berth.value.pair ≡ Turn.Done) ⊎ (outcome_of visit.berth.value.pair ≡ Turn.Failed) }
-    ensures done { (turn : TurnEnd visit.ticket (Ok Worked.Ended) own.old own.new)
-        × ActsLeft A.made visit.ticket (Ok Worked.Ended) 3 false turn.woke acts.old acts.new }
+    ensures done { TurnRest A.made visit.ticket (Ok Worked.Ended) false 2 3 own.old own.new acts.old acts.new }
 {
-    let ticket = visit.ticket();
+    let ticket = visit.ticket;
     log_end(rt, visit.pair());
     let closed = visit.close(acts, shared);
     acts.retire(&shared.claims, &mut own.seat, ticket.slot);
     give_back(rt, acts, own, ticket, closed);
 }
 
-/// Wakes the poller, which may be waiting for the slot. If it were woken before the slot is given back, it could look
-/// and keep waiting.
+/// Wakes the poller, which may be waiting for the slot. Woken before the slot is given back, it could keep waiting.
 fn wake_poller<F: Front>(shared: &Shared<F>, _own: &Own, ended: Ticket)
     requires given { ended.generation < last_generation → KeepsSlot ended.slot _own.now.free.history _own.now.hand }
     ensures woken { F.woke shared.now.waker ended.slot }

@@ -11,12 +11,10 @@ use Rattle.relay_core.specs.Replies as answer
 abbrev pub when : {X : Type 0} → Bool → Option X → Option X
 when allowed o = if allowed then o else None
 
--- a connection, and the kernel that has its ends
 pub record OpenConnection : Type 0 where
   pub kernel : KernelState
   pub connection : Connection
 
--- the descriptor of one side
 abbrev pub descriptor : Descriptors → Side → ℕ
 descriptor ends Client = ends.client
 descriptor ends Target = ends.target

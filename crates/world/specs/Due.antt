@@ -44,7 +44,6 @@ abbrev pub tries : ℕ → ℕ → Doing → Bool
 tries s g (Tries t) = is_ticket s g t
 tries s g d = false
 
--- a worker has a ticket for it
 abbrev pub has_ticket : ℕ → ℕ → WorkerState → Bool
 has_ticket s g k = tries s g k.doing || list_any (is_ticket s g) k.hand
 

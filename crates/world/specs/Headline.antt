@@ -12,13 +12,11 @@ use Rattle.world.specs.declared.event.Event.TheVariants as event
 use Rattle.world.specs.declared.event.Act.TheVariants as act
 use Rattle.world.specs.declared.event.Polling.TheVariants as polling
 
--- the open end of one side of a connection
 abbrev pub end_of : State → Connection → Side → Option Registered
 end_of st c side = end_at st.kernel.ends (descriptor c.ends side)
 
 -- The bytes that the network gave to an end: a filter of the events
 
--- the slot has this generation
 abbrev pub has_generation : Option SlotState → ℕ → Bool
 has_generation None g = false
 has_generation (Some p) g = p.generation == g
@@ -55,7 +53,6 @@ pub record EndCameLast (before gave : List ℕ) (stream : Stream) (x y : EndStat
   pub empty : stream.ring ≡ []
   pub sent : before ++ gave ≡ y.taken
 
--- both clauses of one direction
 pub record DirectionHolds (before gave : List ℕ) (stream : Stream) (x y : EndState) : Type 0 where
   pub bytes : KeepsBytes before gave stream x y
   pub last : stream.shut ≡ true → EndCameLast before gave stream x y
@@ -88,8 +85,6 @@ pub record ClosedHolds (first : State) (events : List Event) (p : Past) : Type 0
 abbrev pub ClosedHold : State → State → List Event → Type 0
 ClosedHold first st events = (i : ℕ) (p : Past) → slice_get st.past i ≡ Some p → ClosedHolds first events p
 
--- Each event, in the state before it
-
 abbrev pub Throughout : (State → Event → Type 0) → State → List Event → Type 0
 Throughout Each st [] = Unit {0}
 Throughout Each st (e ∷ es) = Each st e × ((q : State) → step st e ≡ Some q → Throughout Each q es)
@@ -114,7 +109,6 @@ TriedOnOwn st e = Unit {0}
 
 -- Failures
 
--- the slot that a worker holds, if it holds one
 abbrev pub slot_held : Doing → Option ℕ
 slot_held (Holds s left) = Some s
 slot_held d = None
@@ -122,7 +116,6 @@ slot_held d = None
 abbrev pub held_by : State → ℕ → Option ℕ
 held_by st w = option_and_then (λ (k : WorkerState). slot_held k.doing) (slice_get st.workers w)
 
--- the fault that names this call, and that it failed with this kind
 abbrev pub fault_of : Kind → Call → Fault
 fault_of kind call = Broken (side_of call) (kind_of call) kind
 
@@ -167,8 +160,7 @@ abbrev pub held_connection : State → ℕ → Option Named
 held_connection st w =
     option_and_then (λ (s : ℕ). option_map (λ (c : Connection). named s c.pair.generation) (connection_at st s)) (held_by st w)
 
--- a reply by which something moves: bytes or an end came in, bytes went out, the socket is connected, or an end
--- was passed on
+-- bytes or an end came in, bytes went out, the socket is connected, or an end was passed on
 abbrev pub is_movement : Reply → Bool
 is_movement (reply.Bytes n) = true
 is_movement reply.End = true
@@ -213,7 +205,6 @@ pub record FailuresHold (first st : State) (events : List Event) : Type 0 where
 
 -- No lost edge
 
--- whatever could move is due to be tried
 abbrev pub DueHolds : State → Type 0
 DueHolds st = (s : ℕ) → movable st s ≡ true → due st s ≡ true
 

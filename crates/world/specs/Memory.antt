@@ -54,8 +54,6 @@ act_allocates st w act.Close = true
 act_allocates st w act.Free = grows free_length st (worked st w act.Free)
 act_allocates st w a = false
 
--- the network brings bytes; a report is queued, of what the network or a client did or without cause; or one of those
--- above
 abbrev pub may_allocate : State → Event → Bool
 may_allocate st (event.Tick n) = false
 may_allocate st (event.Network s side change) = network_allocates st s side change

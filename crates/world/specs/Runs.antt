@@ -24,9 +24,6 @@ pub record FailsAt (first st : State) (events : List Event) (i : ℕ) (cause : R
 abbrev pub Fails : Limits → List Event → ℕ → Refusal → Type 0
 Fails l events i cause = ((st : State) × FailsAt (opening l) st events i cause) ⊎ ((i ≡ 0) × (cause ≡ NoMemory))
 
--- What is kept of a slot that is played
-
--- the limits of a world, the events that happened in it, in order, and the world after them
 pub record TapeState : Type 0 where
   pub limits : Limits
   pub events : List Event

@@ -21,7 +21,6 @@ is_held Nobody = false
 is_held (By worker) = true
 is_held Free = true
 
--- a worker holds it
 abbrev pub is_by_worker : Holder → Bool
 is_by_worker Nobody = false
 is_by_worker (By worker) = true

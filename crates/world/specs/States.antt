@@ -23,7 +23,6 @@ pub record State : Type 0 where
   pub workers : List WorkerState
   pub past : List Past
 
--- the sizes that a world may have
 pub record IsWithinLimits (l : Limits) : Type 0 where
   pub slots : (1 ≤ l.slots) × (l.slots ≤ 64)
   pub workers : (1 ≤ l.workers) × (l.workers ≤ 16)
@@ -31,25 +30,20 @@ pub record IsWithinLimits (l : Limits) : Type 0 where
   pub budget : (1 ≤ l.budget) × (l.budget ≤ 1024)
   pub generation : l.generation < last_generation
 
--- the numbers below n, in order
 abbrev pub numbers_below : ℕ → List ℕ
 numbers_below zero = []
 numbers_below (suc n) = numbers_below n ++ n ∷ []
 
--- the entry of a table is this generation
 abbrev pub is_entry : Option ℕ → ℕ → Bool
 is_entry None g = false
 is_entry (Some entry) g = entry == g
 
--- a slot without a connection
 abbrev pub unused : ℕ → SlotState
 unused generation = record { generation = generation; connection = None; holder = Free; notes = [] }
 
--- a worker with nothing to do
 abbrev pub resting : WorkerState
 resting = record { doing = Idle; hand = [] }
 
--- the world as it begins
 abbrev pub opening : Limits → State
 opening l = record {
   limits = l;

@@ -14,11 +14,9 @@ use Rattle.world.specs.declared.event.Listening.TheVariants as listening
 use Rattle.world.specs.declared.event.Polling.TheVariants as polling
 use Rattle.world.specs.declared.event.Act.TheVariants as act
 
--- the connection in a slot
 abbrev pub connection_at : State → ℕ → Option Connection
 connection_at st s = option_and_then (λ (p : SlotState). p.connection) (slice_get st.slots s)
 
--- the same state over another kernel
 abbrev pub over_kernel : State → Option KernelState → Option State
 over_kernel st k = option_map (λ (q : KernelState). record st { kernel = q }) k
 
@@ -92,7 +90,6 @@ opened_place s g l now ends = record {
   notes = g ∷ [];
 }
 
--- the world once both ends are open
 abbrev pub opened_world : State → ℕ → ℕ → Told KernelState Descriptors → State
 opened_world st s g t = record st {
   kernel = t.value;
@@ -115,7 +112,6 @@ opening_of st s = option_and_then
     (slice_get st.table s))
     (slice_get st.slots s)
 
--- a note is added
 abbrev pub with_note : SlotState → ℕ → SlotState
 with_note p g = record p { notes = p.notes ++ g ∷ [] }
 
@@ -128,7 +124,6 @@ abbrev pub with_ticket : Bool → ℕ → ℕ → List Ticket → List Ticket
 with_ticket true s g hand = hand ++ record { slot = s; generation = g } ∷ []
 with_ticket false s g hand = hand
 
--- the poller posts to a slot
 abbrev pub posted : State → ℕ → ℕ → SlotState → State
 posted st s g p = record st {
   slots = slice_set st.slots s (with_note p g);
@@ -163,7 +158,6 @@ abbrev pub put_by_poller : State → List Ticket → Option State
 put_by_poller st [] = None
 put_by_poller st (t ∷ rest) = Some (record st { hand = rest; ready = st.ready ++ t ∷ [] })
 
--- these names become the batch
 abbrev pub batched : State → List Name → Option State
 batched st names = when (length st.batch == 0) (over_kernel (record st { batch = names }) (kernel.poll st.kernel names))
 
@@ -176,7 +170,6 @@ polled st polling.Put = put_by_poller st st.hand
 
 -- A worker, by its number w and as it is, k
 
--- what becomes of the world where the worker is there
 abbrev pub of_worker : State → ℕ → (WorkerState → Option State) → Option State
 of_worker st w f = option_and_then f (slice_get st.workers w)
 
@@ -186,7 +179,6 @@ with_worker st w k = record st { workers = slice_set st.workers w k }
 abbrev pub with_place : State → ℕ → SlotState → State
 with_place st s p = record st { slots = slice_set st.slots s p }
 
--- it does something else
 abbrev pub doing : State → ℕ → WorkerState → Doing → State
 doing st w k d = with_worker st w (record k { doing = d })
 
@@ -272,7 +264,6 @@ release st w k (Holds s left) = option_and_then
     (slice_get st.slots s)
 release st w k d = None
 
--- a connection that is overdue fails
 abbrev pub expired : ℕ → ℕ → Connection → Option Connection
 expired now limit c = guard (is_overdue now limit c.pair) (record c { pair = timed_out c.pair })
 
@@ -305,7 +296,6 @@ close st w k (Holds s left) = option_and_then
     (slice_get st.slots s)
 close st w k d = None
 
--- the slot is free
 abbrev pub retire : State → ℕ → WorkerState → Doing → Option State
 retire st w k (Closed s) = option_map
     (λ (p : SlotState). doing (with_place st s (record p { holder = IsFree })) w k (Retired s))
@@ -341,7 +331,6 @@ acted st w k act.Free = free st w k k.doing
 abbrev pub worked : State → ℕ → Act → Option State
 worked st w a = of_worker st w (λ (k : WorkerState). acted st w k a)
 
--- One event
 abbrev pub step : State → Event → Option State
 step st (event.Tick n) = tick st n
 step st (event.Network s side change) = network st s side change

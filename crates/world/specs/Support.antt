@@ -11,7 +11,6 @@ abbrev pub one : Bool → ℕ
 one true = 1
 one false = 0
 
--- f of each, summed
 abbrev pub total : {X : Type 0} → (X → ℕ) → List X → ℕ
 total f [] = 0
 total f (x ∷ xs) = f x + total f xs
@@ -41,7 +40,6 @@ abbrev pub RestHolds : State → Type 0
 RestHolds st = (s : ℕ) (p : SlotState) (c : Connection) → slice_get st.slots s ≡ Some p → p.connection ≡ Some c
     → p.holder ≡ Nobody → p.notes ≡ [] → next_call c.pair ≡ None
 
--- the poller's table has each slot's generation
 abbrev pub TableHolds : State → Type 0
 TableHolds st = (s : ℕ) (p : SlotState) → slice_get st.slots s ≡ Some p → slice_get st.table s ≡ Some p.generation
 
@@ -54,7 +52,6 @@ is_covered flag armed ready reported = flag || ((armed && not ready) || (ready &
 abbrev pub has_report : State → EndName → List ℕ → Bool
 has_report st token notes = (has (name.End token) st.kernel.queue || has (name.End token) st.batch) || is_nonempty notes
 
--- both flags of one end
 pub record EndCovered (flags : Flags) (x : EndState) (reported : Bool) : Type 0 where
   pub read : is_covered flags.read x.read_armed (is_readable x) reported ≡ true
   pub write : is_covered flags.write x.write_armed (is_writable x) reported ≡ true
@@ -65,7 +62,6 @@ EdgesHold st = (s : ℕ) (p : SlotState) (c : Connection) (side : Side) (x : Reg
     → slice_get st.slots s ≡ Some p → p.connection ≡ Some c → end_of st c side ≡ Some x
     → EndCovered (flags_of c.pair side) x.socket (has_report st (record { slot = s; side = side; generation = c.pair.generation }) p.notes)
 
--- all of it, of one state
 pub record SupportHolds (st : State) : Type 0 where
   pub tickets : TicketsHold st
   pub rest : RestHolds st

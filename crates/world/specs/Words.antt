@@ -18,7 +18,6 @@ is_free Free = true
 abbrev pub word_at : SlotState → WordState
 word_at p = record { pending = length p.notes; free = is_free p.holder; held = is_held p.holder }
 
--- some steps, one after the other
 abbrev pub after_all : List StepKind → WordState → WordState
 after_all [] w = w
 after_all (k ∷ ks) w = after_all ks (word_after k w)
@@ -47,8 +46,7 @@ claims (k ∷ ks) = one (is_claim k) + claims ks
 abbrev pub at_slot : ℕ → ℕ → List StepKind → List StepKind
 at_slot s t steps = if t == s then steps else []
 
--- a slot is opened: it is adopted, its old notes are thrown away, the note of the opening is posted, and it is
--- released
+-- it is adopted, its old notes are thrown away, the note of the opening is posted, and it is released
 abbrev pub opening_steps : Option ℕ → ℕ → List StepKind
 opening_steps None s = []
 opening_steps (Some t) s = at_slot s t (adopt ∷ take ∷ post ∷ release ∷ [])
@@ -87,10 +85,8 @@ pub record WordMoves (st next : State) (e : Event) (s : ℕ) (p : SlotState) : T
   pub word : word_of (word_at place) ≡ word_of (after_all (steps st e s) (word_at p))
   pub tickets : tickets next s + claims (steps st e s) ≡ tickets st s + count_wakes (steps st e s) (word_at p)
 
--- in every slot
 abbrev pub WordsMove : State → Event → State → Type 0
 WordsMove st e next = (s : ℕ) (p : SlotState) → slice_get st.slots s ≡ Some p → WordMoves st next e s p
 
--- in every world that a run reaches
 abbrev pub WordsMoveInRuns : State → Event → State → Type 0
 WordsMoveInRuns st e next = (l : Limits) (events : List Event) → run (opening l) events ≡ Some st → WordsMove st e next

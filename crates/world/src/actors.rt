@@ -11,7 +11,7 @@ pub enum Holder {
     Nobody,
     /// The worker with this number.
     By(usize),
-    /// Nobody may hold it, since there is no connection in it. It counts as held.
+    /// Nobody may hold it, since it has no connection. It counts as held.
     Free,
 }
 
@@ -19,7 +19,7 @@ pub enum Holder {
 #[derive(Clone, Copy)]
 pub enum Doing {
     Idle,
-    /// It has taken this ticket from the ready queue.
+    /// It took this ticket from the ready queue.
     Tries(Ticket),
     /// It holds a slot, with this many calls left in its turn.
     Holds(usize, usize),

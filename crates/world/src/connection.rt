@@ -7,14 +7,13 @@ use kernel_model::{Descriptors, Kernel, Refusal, Reply};
 use relay_core::{Answer, Call, Pair};
 use token::Side;
 
-/// A connection as a slot keeps it: the pair, and the descriptors of its two ends.
+/// A connection: the pair, and the descriptors of its two ends.
 #[derive(Drop)]
 pub struct Connection {
     pub pair: Pair,
     pub ends: Descriptors,
 }
 
-#[tactic(auto, using(std::proofs::lemmas::Option::gets, std::proofs::lemmas::Grind::common_steps))]
 impl Connection {
     ghost use Rattle.std.specs.Prelude.{◌≡◌, if◌then◌else◌, IsErrOf, IsTrue};
     ghost use Rattle.relay_core.specs.{Pairs.noted, Replies.reply_of};
@@ -40,8 +39,7 @@ impl Connection {
         }
     }
 
-    /// Whether a worker may release it: it is live, and there is no call to try, or there is a note, so that it is
-    /// tried again.
+    /// Whether a worker may release it: it is live, and has no call to try, or a note, so that it is tried again.
     #[tactic(auto, unfolding(crate::specs::Steps::may_release))]
     pub fn may_release(&self, noted: bool) -> bool
         ensures { result ≡ may_release self.now noted }
@@ -49,9 +47,8 @@ impl Connection {
         is_live(self.pair.verdict()) && (self.pair.next().is_none() || noted)
     }
 
-    /// Fails it, if it is live, has no call to make, and moved nothing for `limit` seconds at the second `now`.
-    ///
-    /// Refuses with `NotAllowed`, and changes nothing, otherwise. A limit of 0 is none.
+    /// Fails it, if it is live, has no call to make, and moved nothing for `limit` seconds at the second `now`; a limit
+    /// of 0 is none. Otherwise it refuses with `NotAllowed`, and changes nothing.
     pub fn expire(&mut self, now: u64, limit: u64) -> Result<(), Refusal>
         ensures { MeetsAlways (expired now limit self.old) self.old self.new result }
     {
@@ -64,8 +61,8 @@ impl Connection {
 
     /// Makes the next call on the kernel's end, which gets this reply at the second `now`.
     ///
-    /// Refuses with `NotAllowed` if there is no next call, or if it may not be answered so, and with `NoMemory` if
-    /// there is no memory for the bytes that a write takes. A refusal changes nothing.
+    /// Refuses with `NotAllowed` if there is no next call, or it may not be answered so, and with `NoMemory` if there is
+    /// none for the bytes that a write takes. A refusal changes nothing.
     #[tactic(auto, unfolding(crate::specs::Calls::called))]
     pub fn call(&mut self, kernel: &mut Kernel, reply: Reply, now: u64) -> Result<(), Refusal>
         ensures outcome { Meets (called now (record { kernel = kernel.old; connection = self.old }) reply)
@@ -85,7 +82,6 @@ impl Connection {
     }
 
     /// A read that brings bytes, if a read is the next call.
-    #[tactic(auto, using(std::proofs::lemmas::Option::gets, std::proofs::lemmas::Grind::common_steps))]
     fn read(
         &mut self,
         kernel: &mut Kernel,

@@ -12,11 +12,9 @@ use kernel_model::{Kernel, Open};
 use relay_core::Pair;
 use token::{Direction, Name};
 
-#[tactic(auto, using(std::proofs::lemmas::Option::gets, std::proofs::lemmas::Grind::common_steps))]
 impl World {
-    /// Whether the connection in a slot could move: it is done or failed and not closed yet; or it is live, and in
-    /// some direction bytes or an end of input could come in, bytes could go out, or the end could be passed on.
-    /// `false` if there is no connection.
+    /// Whether the connection in a slot could move: it is done or failed and not closed yet; or in some direction bytes
+    /// or an end of input could come in, bytes could go out, or the end could be passed on. `false` without one.
     pub fn movable(&self, slot: usize) -> bool
         ensures { result ≡ movable self.now slot }
     {
@@ -27,8 +25,7 @@ impl World {
     }
 
     /// Whether the connection in a slot is due to be tried: a report about it is queued or in the batch, a ticket for
-    /// it is in the ready queue or with the poller or a worker, or a worker holds the slot. `false` if there is no
-    /// connection.
+    /// it is in the ready queue or with the poller or a worker, or a worker holds the slot. `false` without one.
     pub fn due(&self, slot: usize) -> bool
         ensures { result ≡ due self.now slot }
     {
@@ -57,7 +54,6 @@ impl World {
     }
 }
 
-/// Whether a read from an open end would not block.
 fn gives(registered: Option<&Open>) -> bool
     ensures { result ≡ gives (option_copied registered.entry) }
 {
@@ -67,7 +63,6 @@ fn gives(registered: Option<&Open>) -> bool
     }
 }
 
-/// Whether a write to an open end would not block.
 fn takes(registered: Option<&Open>) -> bool
     ensures { result ≡ takes (option_copied registered.entry) }
 {
@@ -77,7 +72,6 @@ fn takes(registered: Option<&Open>) -> bool
     }
 }
 
-/// Whether one direction could move, with a ring of at most `ring` bytes.
 fn flows(ring: usize, kernel: &Kernel, connection: &Connection, direction: Direction) -> bool
     ensures { result ≡ flows ring kernel.now connection.now direction }
 {
@@ -90,7 +84,6 @@ fn flows(ring: usize, kernel: &Kernel, connection: &Connection, direction: Direc
         || (is_drained(pair, direction) && (pair.joined(destination) || taking))
 }
 
-/// Whether a connection could move.
 fn moves(ring: usize, kernel: &Kernel, connection: &Connection) -> bool
     ensures { result ≡ moves ring kernel.now connection.now }
 {
@@ -99,21 +92,18 @@ fn moves(ring: usize, kernel: &Kernel, connection: &Connection) -> bool
         || flows(ring, kernel, connection, Direction::Down)
 }
 
-/// Whether more bytes may come in one direction, and its ring is shorter than `ring` bytes.
 fn has_place(ring: usize, pair: &Pair, direction: Direction) -> bool
     ensures { result ≡ has_place ring (stream_of pair.now direction) }
 {
     !pair.end_seen(direction) && pair.ring_len(direction) < ring
 }
 
-/// Whether bytes wait in one direction, of the lead or in the ring.
 fn is_waiting(pair: &Pair, direction: Direction) -> bool
     ensures { result ≡ is_waiting (stream_of pair.now direction) }
 {
     pair.lead_len(direction) > 0 || pair.ring_len(direction) > 0
 }
 
-/// Whether the end of one direction is still to be passed on, and every byte before it has left.
 fn is_drained(pair: &Pair, direction: Direction) -> bool
     ensures { result ≡ is_drained (stream_of pair.now direction) }
 {

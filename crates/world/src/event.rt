@@ -62,7 +62,7 @@ pub enum Polling {
     Poll(Vec<Name>),
     /// It delivers the first name of its batch.
     Deliver,
-    /// It posts to this slot, so that a worker looks whether its connection is past the idle limit.
+    /// It posts to this slot, so that a worker looks whether the connection is past the idle limit.
     Sweep(usize),
     /// It puts the first ticket in its hand into the ready queue.
     Put,

@@ -8,8 +8,7 @@ use std::marker::Model;
 /// The most bytes that a lead has.
 const MAX: usize = Flow::MAX_LEAD;
 
-/// The bytes that the target of each connection is sent before the client's own: 0 to 107. Contracts see a lead as
-/// the list of its bytes.
+/// The bytes that the target of each connection is sent before the client's own: 0 to 107. Contracts see their list.
 #[derive(Clone, Copy)]
 pub struct Lead {
     bytes: [u8; MAX],
@@ -64,7 +63,6 @@ impl Lead {
     }
 }
 
-/// The bytes, and then zeros up to the length of the array.
 #[tactic(auto, using(crate::specs::LeadLaws::written_over))]
 fn padded(bytes: &[u8]) -> [u8; MAX]
     requires { length bytes.now ≤ 107 }

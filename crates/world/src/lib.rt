@@ -15,23 +15,13 @@
 //! ever opened may be swept, which posts to it as a report does, and the worker that holds a connection without a
 //! call to make fails it, if it has moved nothing for the limit.
 //!
-//! A world may have a [`Lead`]: bytes that the target of each connection is sent before the client's own.
+//! Each event does exactly what its definition says ([`World::step`]), and [`replay`] promises more about the world
+//! after every list of events. Events have no textual form here, and a slot's claim word is not one atomic number: a
+//! slot has its holder and its notes.
 //!
-//! Each event does exactly what its definition says ([`World::step`]), and changes the claim word of its slot as the
-//! table of the words' steps says. [`replay`] promises more about the world after every list of events: the bytes of
-//! each connection keep their order and none is lost, an end is passed on after every byte, no connection is tried on
-//! a report for another generation, a connection fails only after a failed call, or after moving nothing for the idle
-//! limit, and whatever could move is due to be tried. Events have no textual form here, and a slot's word is not one
-//! atomic number: a slot has its holder and its notes.
-//!
-//! The definitions are in `specs/`: a lead in `Leads.antt`, slots and workers in `Slots.antt`, the whole state in
-//! `States.antt`, a connection's calls in `Calls.antt`, one event in `Steps.antt`, for which events memory may run
-//! out in `Memory.antt`, lists of events in `Runs.antt`, what could move and what is due in `Due.antt`, the bytes that
-//! arrived and what holds after every list of events in `Headline.antt`, what that depends on in `Support.antt`, and
-//! the claim words in `Words.antt`. Only private functions use those of
-//! `Acts.antt`. The lemmas are in `proofs/`: `Turns*.antt` about who has a slot, its notes and its tickets, and
-//! `Ends*.antt` about the bytes, the ends and the flags.
-#![tactic(auto)]
+//! The definitions are in `specs/`: one event in `Steps.antt`, on the state in `States.antt`; what holds after every
+//! list of events in `Headline.antt`, and what that depends on in `Support.antt`.
+#![tactic(auto, using(std::proofs::lemmas::Option::gets, std::proofs::lemmas::Grind::common_steps))]
 
 mod actors;
 mod connection;

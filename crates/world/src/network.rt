@@ -10,7 +10,6 @@ use crate::world::World;
 use kernel_model::{Accepting, Kernel, Refusal, Watched};
 use token::Side;
 
-#[tactic(auto, using(std::proofs::lemmas::Option::gets, std::proofs::lemmas::Grind::common_steps))]
 impl World {
     ghost use Rattle.std.specs.{Prelude.{◌≡◌, IsErrOf, IsTrue}, Option.option_copied};
     ghost use Rattle.kernel_model.specs.Outcome.{Meets, MeetsAlways};
@@ -112,15 +111,12 @@ impl World {
         Ok(())
     }
 
-    /// Whether the poller may call accept(2): the flag is up, no accepted connection is in hand, and there
-    /// is a slot to open.
     fn may_accept(&self) -> bool
         ensures { result ≡ may_accept self.now }
     {
         self.flag && !self.accepted && !self.free.is_empty()
     }
 
-    /// What a report is about, as the kernel knows it.
     fn watched(&self, who: Reported) -> Option<Watched>
         ensures { result ≡ watched_of self.now who }
     {
@@ -135,7 +131,6 @@ impl World {
     }
 }
 
-/// The network changes something at the end of a descriptor.
 fn change_at(kernel: &mut Kernel, descriptor: usize, change: &Change) -> Result<(), Refusal>
     ensures event { Meets (change_at kernel.old descriptor change.now) kernel.old kernel.new result }
     ensures memory { IsErrOf result Refusal.NoMemory

@@ -1,7 +1,7 @@
 use kernel_model::Sockets;
 use relay_core::Verdict;
 
-/// A connection that was closed: its slot and generation, how it ended, and its two ends as they were.
+/// A closed connection: its slot and generation, how it ended, and its two ends as they were.
 #[derive(Drop)]
 pub struct Past {
     pub slot: usize,

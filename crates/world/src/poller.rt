@@ -12,7 +12,6 @@ use relay_core::Pair;
 use std::alloc::AllocError;
 use token::{MAX_GENERATION, Name, Side, Token};
 
-#[tactic(auto, using(std::proofs::lemmas::Option::gets, std::proofs::lemmas::Grind::common_steps))]
 impl World {
     ghost use Rattle.std.specs.Prelude.{◌≡◌, ◌<◌, length, slice_get, Some, IfOk, IsErrOf, IsTrue};
     ghost use Rattle.kernel_model.specs.{Outcome.Meets, Kernel.open_both};
@@ -33,7 +32,6 @@ impl World {
         }
     }
 
-    /// It opens the first free slot for the connection that it accepted.
     fn open(&mut self) -> Result<(), Refusal>
         ensures { Meets (polled self.old Polling.Open) self.old self.new result }
     {
@@ -46,7 +44,6 @@ impl World {
         }
     }
 
-    /// It opens this slot, the first free one, for the generation after that of its table.
     fn open_slot(&mut self, slot: usize) -> Result<(), Refusal>
         requires { slice_get self.old.free 0 ≡ Some slot }
         ensures { Meets (opening_of self.old slot) self.old self.new result }
@@ -60,7 +57,6 @@ impl World {
         }
     }
 
-    /// It opens this slot for the generation after `old`.
     fn open_at(&mut self, slot: usize, old: u64) -> Result<(), Refusal>
         requires first { slice_get self.old.free 0 ≡ Some slot }
         requires inside { slot < length self.old.slots }
@@ -78,7 +74,6 @@ impl World {
         self.open_with(slot, generation, client, target)
     }
 
-    /// It opens this slot, for this generation, under these tokens.
     fn open_with(
         &mut self,
         slot: usize,
@@ -103,7 +98,6 @@ impl World {
         Ok(())
     }
 
-    /// A new pair for this slot and generation, made as the limits say.
     fn fresh_pair(&self, slot: usize, generation: u64) -> Result<Pair, AllocError>
         ensures { IfOk result (λ pair. pair ≡ fresh slot generation self.now.limits.ring self.now.second self.now.limits.lead) }
     {
@@ -117,7 +111,6 @@ impl World {
         )
     }
 
-    /// It takes these names from the queue as its batch.
     fn take_batch(&mut self, names: &[Name]) -> Result<(), Refusal>
         ensures event { Meets (batched self.old names.now) self.old self.new result }
         ensures memory { IsErrOf result Refusal.NoMemory → IsTrue (grows batch_length self.old (batched self.old names.now)) }
@@ -129,8 +122,6 @@ impl World {
         self.kernel.poll(names)
     }
 
-    /// It delivers the first name of its batch.
-    #[tactic(auto, using(std::proofs::lemmas::Option::gets, std::proofs::lemmas::Grind::common_steps))]
     fn deliver(&mut self) -> Result<(), Refusal>
         ensures event { Meets (deliver self.old) self.old self.new result }
         ensures memory { IsErrOf result Refusal.NoMemory → IsTrue (becomes_note self.old (slice_get self.old.batch 0)) }
@@ -144,7 +135,6 @@ impl World {
         Ok(())
     }
 
-    /// It delivers this name.
     fn deliver_name(&mut self, name: Name) -> Result<(), Refusal>
         ensures event { Meets (delivered self.old name) self.old self.new result }
         ensures batch { self.new.batch ≡ self.old.batch }
@@ -160,7 +150,6 @@ impl World {
         }
     }
 
-    /// It posts to the slot of a token, unless the token's generation differs from the table's.
     fn deliver_end(&mut self, token: Token) -> Result<(), Refusal>
         ensures event { Meets (delivered_at self.old token (slice_get self.old.table token.slot)) self.old self.new result }
         ensures batch { self.new.batch ≡ self.old.batch }
@@ -174,15 +163,13 @@ impl World {
         }
     }
 
-    /// The generation that its table has for a slot.
+    /// The generation that the poller's table has for a slot.
     pub fn table_entry(&self, slot: usize) -> Option<u64>
         ensures { result ≡ slice_get self.now.table slot }
     {
         self.table.get(slot).copied()
     }
 
-    /// It posts to a slot, and takes in hand the ticket that this may create.
-    #[tactic(auto, using(std::proofs::lemmas::Option::gets, std::proofs::lemmas::Grind::common_steps))]
     fn post_at(&mut self, slot: usize, generation: u64) -> Result<(), Refusal>
         ensures event { Meets (post_at self.old slot generation) self.old self.new result }
         ensures batch { self.new.batch ≡ self.old.batch }
@@ -197,7 +184,6 @@ impl World {
         Ok(())
     }
 
-    /// It posts to a slot that was ever opened, if there is an idle limit.
     fn sweep(&mut self, slot: usize) -> Result<(), Refusal>
         ensures { Meets (sweep self.old slot) self.old self.new result }
     {
@@ -210,8 +196,6 @@ impl World {
         }
     }
 
-    /// It puts the first ticket in its hand into the ready queue.
-    #[tactic(auto, using(std::proofs::lemmas::Option::gets, std::proofs::lemmas::Grind::common_steps))]
     fn put_by_poller(&mut self) -> Result<(), Refusal>
         ensures { Meets (put_by_poller self.old self.old.hand) self.old self.new result }
     {
@@ -225,7 +209,6 @@ impl World {
     }
 }
 
-/// The token of one end in a slot, if slot and generation have one.
 fn token_of(slot: usize, side: Side, generation: u64) -> Option<Token>
     ensures { result ≡ token_of slot side generation }
 {

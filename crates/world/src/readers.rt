@@ -11,7 +11,7 @@ use token::Name;
 impl World {
     ghost use Rattle.std.specs.Prelude.{◌≡◌};
 
-    /// The sizes of the world, and its idle limit.
+    /// The sizes of the world.
     pub fn limits(&self) -> Limits
         ensures { result ≡ self.now.limits }
     {
@@ -39,21 +39,21 @@ impl World {
         self.flag
     }
 
-    /// Whether the poller has an accepted connection that it has not opened yet.
+    /// Whether the poller has an accepted connection to open.
     pub fn has_accepted(&self) -> bool
         ensures { result ≡ self.now.accepted }
     {
         self.accepted
     }
 
-    /// The names that the poller has taken from the queue and not delivered yet, in order.
+    /// The names that the poller has still to deliver, in order.
     pub fn batch(&self) -> &[Name]
         ensures { result.now ≡ self.now.batch }
     {
         self.batch.as_slice()
     }
 
-    /// The tickets that the poller still has to put, in order.
+    /// The tickets that the poller has still to put, in order.
     pub fn poller_hand(&self) -> &[Ticket]
         ensures { result.now ≡ self.now.hand }
     {

@@ -11,9 +11,9 @@ use std::alloc::Global;
 
 /// The world after these events, starting with the opening world.
 ///
-/// If not all of them can happen, the answer is the index of the first that fails, and why: `NotAllowed` if the
-/// events before it can happen and it cannot happen after them; `NoMemory` if it can happen, too, and needs memory. At
-/// index 0, `NoMemory` may also mean the world itself.
+/// If not all of them can happen, the answer is the index of the first that fails, and why: `NotAllowed` if it cannot
+/// happen after those before it; `NoMemory` if it can, and needs memory. At index 0, `NoMemory` may also mean the world
+/// itself.
 ///
 /// About the world after every list of events:
 ///
@@ -26,13 +26,10 @@ use std::alloc::Global;
 /// - A connection failed only after a failed call, or after moving nothing for the idle limit (`failures`).
 /// - A connection that could move is due to be tried (`due`). While the accept flag is down, nobody waits at the
 ///   listener, or its name is queued or in the batch (`listener`).
-///
-/// And what this depends on, the four parts of `support`: a slot with notes that is neither held nor free has one
-/// ticket, and every other slot none (`tickets`); a connection that nobody holds and that has no notes has no call to
-/// make (`rest`); the poller's table has each slot's generation (`table`); and if a pair's flag says that a call is not
-/// worth trying, its end is armed for it and not ready, or it is ready and a report of it is queued, in the batch or
-/// noted (`edges`).
-#[tactic(auto, using(std::proofs::lemmas::Grind::common_steps))]
+/// - What this depends on (`support`): a slot with notes that is neither held nor free has one ticket, and every other
+///   none; a connection that nobody holds and that has no notes has no call to make; the poller's table has each slot's
+///   generation; and if a flag of a pair is down, its end is armed for it and not ready, or ready and a report of it is
+///   queued, in the batch or noted.
 pub fn replay(alloc: Global, limits: Limits, events: &[Event]) -> Result<World, (usize, Refusal)>
     requires { IsWithinLimits limits }
     ensures world { IfOk result (λ world. run (opening limits) events.now ≡ Some world) }

@@ -1,4 +1,3 @@
-// A slot: a place for one connection.
 use crate::actors::Holder;
 use crate::connection::Connection;
 use kernel_model::{Kernel, Refusal, Reply};
@@ -22,7 +21,6 @@ impl Model for Slot {
     ghost view = { λ p. record { generation = p.generation; connection = p.connection; holder = p.holder; notes = p.notes.items } };
 }
 
-#[tactic(auto, using(std::proofs::lemmas::Option::gets, std::proofs::lemmas::Grind::common_steps))]
 impl Slot {
     ghost use Rattle.std.specs.{Prelude.{◌≡◌, OnOk, OnErr, IsErrOf, IsTrue, Some, None}, Option.option_copied};
     ghost use Rattle.kernel_model.specs.{Ends.is_nonempty, Outcome.{Meets, MeetsAlways, Tells}, Replies.needs_memory};
@@ -94,9 +92,8 @@ impl Slot {
         Ok(())
     }
 
-    /// Adds a note. Returns whether that makes a ticket: it is the first, and nobody holds the slot.
-    ///
-    /// Fails with `NoMemory` if the list of notes cannot grow, and then changes nothing.
+    /// Adds a note. Returns whether that makes a ticket: it is the first, and nobody holds the slot. An error changes
+    /// nothing.
     pub(crate) fn post(&mut self, generation: u64) -> Result<bool, Refusal>
         ensures { Tells (Some (record { value = with_note self.old generation; told = brings_ticket self.old })) self.old self.new result }
     {
@@ -122,9 +119,8 @@ impl Slot {
         self.connection = None;
     }
 
-    /// Removes all notes. If there was one, every call is worth trying again.
-    ///
-    /// Refuses with `NotAllowed`, and changes nothing, if there is no connection.
+    /// Removes all notes. If there was one, every call is worth trying again. Without a connection it refuses with
+    /// `NotAllowed`, and changes nothing.
     pub fn take_notes(&mut self) -> Result<(), Refusal>
         ensures { MeetsAlways (noted_slot self.old) self.old self.new result }
     {
@@ -137,10 +133,7 @@ impl Slot {
         Ok(())
     }
 
-    /// Fails its connection, which has no call to make, if that moved nothing for `limit` seconds at the second
-    /// `now`.
-    ///
-    /// Refuses with `NotAllowed` otherwise, or if there is no connection, and changes nothing.
+    /// Fails its connection ([`Connection::expire`]), and refuses so without one.
     pub fn expire(&mut self, now: u64, limit: u64) -> Result<(), Refusal>
         ensures { MeetsAlways (expired_place now limit self.old) self.old self.new result }
     {
@@ -150,9 +143,7 @@ impl Slot {
         }
     }
 
-    /// Makes the connection's next call, which gets this reply at the second `now` ([`Connection::call`]).
-    ///
-    /// Also refuses with `NotAllowed`, and changes nothing, if there is no connection.
+    /// Makes the connection's next call ([`Connection::call`]). Without a connection it refuses with `NotAllowed`.
     #[tactic(auto, unfolding(crate::specs::Steps::slot_call))]
     pub fn call(&mut self, kernel: &mut Kernel, reply: Reply, now: u64) -> Result<(), Refusal>
         ensures outcome { Meets (slot_call now (record { kernel = kernel.old; place = self.old }) reply)

@@ -1,4 +1,3 @@
-// One event, and a list of them.
 use crate::event::Event;
 use crate::laws::rests_on_core;
 use crate::world::World;
@@ -14,9 +13,9 @@ impl World {
     /// Refuses with `NotAllowed` if it cannot happen now, and with `NoMemory` if it can, but a list cannot grow for
     /// it. A refusal changes nothing. Only events that may make a list longer are refused with `NoMemory` (`memory`).
     ///
-    /// In a world that a run reaches, the event changes the claim word of its slot by the steps of the event's kinds
-    /// in order, and no other slot's, and a ticket is made exactly when a step says so (`words`).
-    #[tactic(auto, using(crate::proofs::TurnsWords::words_met))]
+    /// In a world that a run reaches, the event changes the claim word of its slot, and no other, by the steps of the
+    /// event's kinds in order, and a ticket is made exactly when a step says so (`words`).
+    #[tactic(auto, using(crate::proofs::Headline::words_met))]
     pub fn step(&mut self, event: &Event) -> Result<(), Refusal>
         ensures event { Meets (step self.old event.now) self.old self.new result }
         ensures memory { IsErrOf result Refusal.NoMemory → IsTrue (may_allocate self.old event.now) }
@@ -28,10 +27,9 @@ impl World {
 
     /// These events happen, one after the other.
     ///
-    /// If not all of them can happen, the answer is the index of the first that fails, and why: `NotAllowed` if it
-    /// cannot happen after those before it; `NoMemory` if it can, but a list could not grow for it. The world is then
-    /// the one after the events before it.
-    #[tactic(auto, using(crate::proofs::Runs::run_more, std::proofs::lemmas::Option::gets, std::proofs::lemmas::Grind::common_steps))]
+    /// If not all of them can happen, the answer is the index of the first that fails, and why, as of [`World::step`].
+    /// The world is then the one after the events before it.
+    #[tactic(auto, using(crate::proofs::Headline::run_more, std::proofs::lemmas::Option::gets, std::proofs::lemmas::Grind::common_steps))]
     pub fn play(&mut self, events: &[Event]) -> Result<(), (usize, Refusal)>
         ensures world { OnOk result (run self.old events.now ≡ Some self.new) }
         ensures fails { IfErr result (λ e. FailsAt self.old self.new events.now e.0 e.1) }

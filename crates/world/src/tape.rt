@@ -1,4 +1,3 @@
-// A world, and the events that led to it.
 use crate::event::Event;
 use crate::limits::Limits;
 use crate::world::World;
@@ -6,8 +5,7 @@ use kernel_model::Refusal;
 use std::alloc::{AllocError, Global};
 use std::marker::Model;
 
-/// A world from its opening on, with each event that has happened in it. Nothing else makes one or changes it, so its
-/// world is the one after its events.
+/// A world from its opening on, with each event that has happened in it.
 #[derive(Drop)]
 pub struct Tape {
     limits: Limits,
@@ -25,7 +23,7 @@ impl Model for Tape {
     ghost invariant = { λ t. IsRun (record { limits = t.limits; events = t.events.items; world = t.world }) };
 }
 
-#[tactic(auto, using(crate::proofs::Runs::run_and))]
+#[tactic(auto, using(crate::proofs::Headline::run_and))]
 impl Tape {
     ghost use Rattle.std.specs.Prelude.{◌≡◌, [], ◌∷◌, ◌++◌, IfOk, OnOk, OnErr};
     ghost use Rattle.world.specs.States.{IsWithinLimits};

@@ -1,4 +1,3 @@
-// A worker.
 use crate::actors::{Doing, Ticket};
 use std::marker::Model;
 
@@ -23,7 +22,6 @@ impl Model for Worker {
     ghost invariant = { λ w. (w.doing ≡ Idle) ⊎ (w.hand ≡ None) };
 }
 
-#[tactic(auto, using(std::proofs::lemmas::Option::gets, std::proofs::lemmas::Grind::common_steps))]
 impl Worker {
     ghost use Rattle.std.specs.{Prelude.{◌≡◌, ◌==◌, ◌⊎◌, [], length}, Option.option_to_list};
     ghost use Rattle.world.specs.{States.resting, Steps.with_ticket};

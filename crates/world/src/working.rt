@@ -20,14 +20,12 @@ pub fn is_live(verdict: Verdict) -> bool
     }
 }
 
-#[tactic(auto, using(std::proofs::lemmas::Option::gets, std::proofs::lemmas::Grind::common_steps))]
 impl World {
     ghost use Rattle.std.specs.Prelude.{◌≡◌, ◌<◌, length, slice_get, option_map, Some, IsErrOf, IsTrue};
     ghost use Rattle.kernel_model.specs.{Outcome.{Meets, MeetsAlways}, Replies.needs_memory};
     ghost use Rattle.world.specs.{Acts.{busy, MeetsIn}, Memory.{act_allocates, grows, free_length}, Slots.WorkerState, Steps.{of_worker, claim, take, call, post, release, expire, close, retire, free, pop, worked}};
 
     /// A worker does something.
-    #[tactic(auto, using(std::proofs::lemmas::Option::gets, std::proofs::lemmas::Grind::common_steps))]
     pub(crate) fn work(&mut self, worker: usize, act: Act) -> Result<(), Refusal>
         ensures { MeetsIn (act_allocates self.old worker act) (worked self.old worker act) self.old self.new result }
     {
@@ -43,7 +41,6 @@ impl World {
         }
     }
 
-    /// A worker that is idle does something.
     fn act_idle(&mut self, worker: usize, act: Act) -> Result<(), Refusal>
         requires { option_map (λ (k : WorkerState). k.doing) (slice_get self.old.workers worker) ≡ Some Doing.Idle }
         ensures { MeetsIn (act_allocates self.old worker act) (worked self.old worker act) self.old self.new result }
@@ -55,7 +52,6 @@ impl World {
         }
     }
 
-    /// A worker that has a ticket to try does something.
     fn act_trying(&mut self, worker: usize, ticket: Ticket, act: Act) -> Result<(), Refusal>
         requires { slice_get self.old.workers worker ≡ Some (busy (Doing.Tries ticket)) }
         ensures { MeetsIn (act_allocates self.old worker act) (worked self.old worker act) self.old self.new result }
@@ -66,7 +62,6 @@ impl World {
         }
     }
 
-    /// A worker that holds a slot does something.
     fn act_holding(
         &mut self,
         worker: usize,
@@ -88,7 +83,6 @@ impl World {
         }
     }
 
-    /// A worker that closed the connection of its slot does something.
     fn act_closed(&mut self, worker: usize, slot: usize, act: Act) -> Result<(), Refusal>
         requires { slice_get self.old.workers worker ≡ Some (busy (Doing.Closed slot)) }
         ensures { MeetsIn (act_allocates self.old worker act) (worked self.old worker act) self.old self.new result }
@@ -99,7 +93,6 @@ impl World {
         }
     }
 
-    /// A worker that retired its slot does something.
     fn act_retired(&mut self, worker: usize, slot: usize, act: Act) -> Result<(), Refusal>
         requires { slice_get self.old.workers worker ≡ Some (busy (Doing.Retired slot)) }
         ensures { MeetsIn (act_allocates self.old worker act) (worked self.old worker act) self.old self.new result }
@@ -110,8 +103,6 @@ impl World {
         }
     }
 
-    /// It puts the first ticket in its hand into the ready queue.
-    #[tactic(auto, using(std::proofs::lemmas::Option::gets, std::proofs::lemmas::Grind::common_steps))]
     fn put_by_worker(&mut self, worker: usize) -> Result<(), Refusal>
         requires { worker < length self.old.workers }
         ensures { Meets (worked self.old worker Act.Put) self.old self.new result }
@@ -125,8 +116,6 @@ impl World {
         Ok(())
     }
 
-    /// With nothing to put, it takes the first ticket from the ready queue.
-    #[tactic(auto, using(std::proofs::lemmas::Option::gets, std::proofs::lemmas::Grind::common_steps))]
     fn pop(&mut self, worker: usize) -> Result<(), Refusal>
         requires { worker < length self.old.workers }
         ensures { MeetsAlways (of_worker self.old worker (λ (k : WorkerState). pop self.old worker k Doing.Idle)) self.old self.new result }
@@ -139,8 +128,6 @@ impl World {
         Ok(())
     }
 
-    /// It takes hold of its ticket's slot, or drops the ticket if the slot is held.
-    #[tactic(auto, using(std::proofs::lemmas::Option::gets, std::proofs::lemmas::Grind::common_steps))]
     fn claim(&mut self, worker: usize, ticket: Ticket) -> Result<(), Refusal>
         requires { slice_get self.old.workers worker ≡ Some (busy (Doing.Tries ticket)) }
         ensures { MeetsAlways (claim self.old worker (busy (Doing.Tries ticket)) (Doing.Tries ticket)) self.old self.new result }
@@ -157,8 +144,6 @@ impl World {
         Ok(())
     }
 
-    /// It takes the notes of its slot.
-    #[tactic(auto, using(std::proofs::lemmas::Option::gets, std::proofs::lemmas::Grind::common_steps))]
     fn take(&mut self, slot: usize, left: usize) -> Result<(), Refusal>
         ensures { MeetsAlways (take self.old (Doing.Holds slot left)) self.old self.new result }
     {
@@ -169,8 +154,6 @@ impl World {
         Ok(())
     }
 
-    /// It makes the connection's next call, and gets this reply.
-    #[tactic(auto, using(std::proofs::lemmas::Option::gets, std::proofs::lemmas::Grind::common_steps))]
     fn call(&mut self, worker: usize, slot: usize, left: usize, reply: Reply) -> Result<(), Refusal>
         requires { slice_get self.old.workers worker ≡ Some (busy (Doing.Holds slot left)) }
         ensures { MeetsIn (needs_memory reply) (call self.old worker (busy (Doing.Holds slot left)) (Doing.Holds slot left)
@@ -189,8 +172,6 @@ impl World {
         }
     }
 
-    /// It posts a note to its own slot.
-    #[tactic(auto, using(std::proofs::lemmas::Option::gets, std::proofs::lemmas::Grind::common_steps))]
     fn post(&mut self, slot: usize, left: usize) -> Result<(), Refusal>
         ensures { Meets (post self.old (Doing.Holds slot left)) self.old self.new result }
     {
@@ -205,8 +186,6 @@ impl World {
         Ok(())
     }
 
-    /// It releases its slot, and takes in hand the ticket that the notes create.
-    #[tactic(auto, using(std::proofs::lemmas::Option::gets))]
     fn release(&mut self, worker: usize, slot: usize, left: usize) -> Result<(), Refusal>
         requires { slice_get self.old.workers worker ≡ Some (busy (Doing.Holds slot left)) }
         ensures { MeetsAlways (release self.old worker (busy (Doing.Holds slot left)) (Doing.Holds slot left)) self.old self.new result }
@@ -224,8 +203,6 @@ impl World {
         Ok(())
     }
 
-    /// It fails the connection of its slot, which moved nothing for the idle limit.
-    #[tactic(auto, using(std::proofs::lemmas::Option::gets, std::proofs::lemmas::Grind::common_steps))]
     fn expire(&mut self, slot: usize, left: usize) -> Result<(), Refusal>
         ensures { MeetsAlways (expire self.old (Doing.Holds slot left)) self.old self.new result }
     {
@@ -236,8 +213,6 @@ impl World {
         Ok(())
     }
 
-    /// It closes the connection of its slot, which is done or failed.
-    #[tactic(auto, using(std::proofs::lemmas::Option::gets))]
     fn close(&mut self, worker: usize, slot: usize, left: usize) -> Result<(), Refusal>
         requires { slice_get self.old.workers worker ≡ Some (busy (Doing.Holds slot left)) }
         ensures { Meets (close self.old worker (busy (Doing.Holds slot left)) (Doing.Holds slot left)) self.old self.new result }
@@ -265,8 +240,6 @@ impl World {
         Ok(())
     }
 
-    /// It retires its slot, which is free from then on.
-    #[tactic(auto, using(std::proofs::lemmas::Option::gets, std::proofs::lemmas::Grind::common_steps))]
     fn retire(&mut self, worker: usize, slot: usize) -> Result<(), Refusal>
         requires { slice_get self.old.workers worker ≡ Some (busy (Doing.Closed slot)) }
         ensures { MeetsAlways (retire self.old worker (busy (Doing.Closed slot)) (Doing.Closed slot)) self.old self.new result }
@@ -279,8 +252,6 @@ impl World {
         Ok(())
     }
 
-    /// It puts the slot that it retired into the free queue, unless the slot's last generation was used.
-    #[tactic(auto, using(std::proofs::lemmas::Option::gets))]
     fn free(&mut self, worker: usize, slot: usize) -> Result<(), Refusal>
         requires { slice_get self.old.workers worker ≡ Some (busy (Doing.Retired slot)) }
         ensures event { Meets (free self.old worker (busy (Doing.Retired slot)) (Doing.Retired slot)) self.old self.new result }

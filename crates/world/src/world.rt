@@ -60,9 +60,8 @@ impl World {
     ghost use Rattle.std.specs.Prelude.{◌≡◌, IfOk, replicate};
     ghost use Rattle.world.specs.States.{IsWithinLimits, opening};
 
-    /// A world as it starts, at second 0: every slot is free and has the generation of the limits.
-    ///
-    /// Fails only if there is no memory for its slots, workers and queues; then no world is made.
+    /// A world as it starts, at second 0: every slot is free and has the generation of the limits. Fails only for want
+    /// of memory.
     pub fn new(alloc: Global, limits: Limits) -> Result<World, AllocError>
         requires { IsWithinLimits limits }
         ensures { IfOk result (λ world. world ≡ opening limits) }
@@ -86,7 +85,6 @@ impl World {
     }
 }
 
-#[tactic(auto, using(std::proofs::lemmas::Grind::common_steps))]
 fn numbers_below(alloc: Global, count: usize) -> Result<Vec<usize>, AllocError>
     ensures { IfOk result (λ numbers. numbers.items ≡ numbers_below count) }
 {
@@ -97,7 +95,6 @@ fn numbers_below(alloc: Global, count: usize) -> Result<Vec<usize>, AllocError>
     Ok(numbers)
 }
 
-#[tactic(auto, using(std::proofs::lemmas::Grind::common_steps))]
 fn unused_slots(alloc: Global, count: usize, generation: u64) -> Result<Vec<Slot>, AllocError>
     ensures { IfOk result (λ slots. slots.items ≡ replicate count (unused generation)) }
 {
@@ -108,7 +105,6 @@ fn unused_slots(alloc: Global, count: usize, generation: u64) -> Result<Vec<Slot
     Ok(slots)
 }
 
-#[tactic(auto, using(std::proofs::lemmas::Grind::common_steps))]
 fn resting_workers(alloc: Global, count: usize) -> Result<Vec<Worker>, AllocError>
     ensures { IfOk result (λ workers. workers.items ≡ replicate count resting) }
 {

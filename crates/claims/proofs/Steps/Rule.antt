@@ -8,12 +8,22 @@ spare_of v = v.spare
 abbrev pub holds_of : Account → Bool
 holds_of a = a.holds
 
+abbrev pub Sized : ℕ → View → Type 0
+Sized slots v = length v.traces ≡ slots
+
+abbrev pub Unworn : View → Type 0
+Unworn v = sum_by posted_of (accounts_of v) ≤ 2 ^ 56
+
 -- the account of this slot
 abbrev pub account_in : ℕ → View → Account
 account_in slot v = account_of (trace_in slot v)
 
-slot_rule : {m n : ℕ} {ts us : List (List Exchange)} → m ≡ n → ts ≡ us → SlotRule n us → SlotRule m ts
-slot_rule {m} {n} {ts} {us} word traces rule = subst (λ a. SlotRule a ts) (sym word) (subst (λ l. SlotRule n l) (sym traces) rule)
+-- the account of the seat k
+pub at_column : (slot : ℕ) (views : List View) (k : ℕ) (v : View) → get_elem? views k ≡ some v → get_elem? (column slot views) k ≡ some (account_in slot v)
+at_column slot views k v at = at_map account_of (traces_at slot views) k (trace_in slot v) (at_map (trace_in slot) views k v at)
+
+pub account_there : (v : View) (slot : ℕ) → get_or (accounts_of v) slot blank ≡ account_in slot v
+account_there v slot = get_or-map account_of v.traces slot []
 
 -- One step keeps it: at another slot nothing changes
 
@@ -28,54 +38,44 @@ module _ (slots : ℕ) (words : List ℕ) (views : List View) (rule : ClaimRule 
       let most : All (λ v. posted_of (account_in slot v) ≤ 2 ^ 56) views =
       λ k d in_views. (
       let v = get_or views k d in
-      let wide : slot < length (accounts_of v) = subst (λ n. slot < n) (sym (length-map v.traces account_of ∙ rule.one_trace_each k d in_views)) lt in
-      let term = get_or-le-sum_by posted_of (accounts_of v) slot blank wide in
-      let this : posted_of (get_or (accounts_of v) slot blank) ≡ posted_of (account_in slot v) = ap posted_of (get_or-map account_of v.traces slot []) in
+      let term = rw (account_there v slot) at (get_or-le-sum_by posted_of (accounts_of v) slot blank (rw (length-map, rule.one_trace_each k d in_views) lt)) in
       let total = rule.unworn k d in_views in omega arith) in
       let bound = sum_by-le (λ v. posted_of (account_in slot v)) (2 ^ 56) views most in
       let seats = rule.few_seats in
-      let same = sum_by-map posted_of account_of (traces_at slot views) in
-      let again = sum_by-map (λ t. posted_of (account_of t)) (trace_in slot) views in
-      omega arith
+      rw (sum_by-map, sum_by-map) (omega arith)
 
   pub few_pending : (slot : ℕ) (lt : slot < slots) → (rule.slot_rules slot lt).state.pending ≤ 2 ^ 61
   few_pending slot lt = let posts = few_posts slot lt in let notes = (counts_of _ _ (rule.slot_rules slot lt)).notes in omega arith
 
   module _ (k : ℕ) (v : View) (at : get_elem? views k ≡ some v) (slot : ℕ) (lt : slot < slots) where
+    sized : length v.traces ≡ slots
+    sized = each_at (Sized slots) _ _ at rule.one_trace_each
+
     pub wide : slot < length v.traces
-    wide = subst (λ n. slot < n) (sym (each_at (λ u. length u.traces ≡ slots) _ _ at rule.one_trace_each)) lt
+    wide = rw sized lt
 
     -- the seat k has the trace t of this slot, and the word became n
     pub kept : (n : ℕ) (t : List Exchange) → SlotRule n (set (traces_at slot views) k t) → sum_by posted_of (map account_of (set v.traces slot t)) ≤ 2 ^ 56
         → ClaimRule slots (set words slot n) (set views k (with_trace v slot t))
     kept n t here few =
         let w : View = with_trace v slot t in
-        let sized = each_at (λ u. length u.traces ≡ slots) _ _ at rule.one_trace_each in
         let spares = sum_by-put spare_of views k v w at in
         let seats = rule.few_seats in
         let many = length-set views k w in
         record {
-          one_word_each = length-set words slot n ∙ rule.one_word_each;
-          one_trace_each = All-set (λ u. length u.traces ≡ slots) views k w (length-set v.traces slot t ∙ sized) rule.one_trace_each;
-          slot_rules = λ j j_lt. dite (ℕ_discrete j slot) (λ same. subst (λ (i : ℕ). SlotRule (get_or (set words slot n) i 0) (traces_at i (set views k w))) (sym same)
-              (at_slot n t here)) (λ other. elsewhere n t j j_lt other);
-          unworn = All-set (λ u. sum_by posted_of (accounts_of u) ≤ 2 ^ 56) views k w few rule.unworn;
+          one_word_each = rw length-set rule.one_word_each;
+          one_trace_each = All-set (Sized slots) views k w (rw length-set sized) rule.one_trace_each;
+          slot_rules = λ j j_lt. dite (ℕ_discrete j slot)
+              (λ same. rw (same, get_or-set_same words slot n 0 (rw rule.one_word_each lt), map-set, get_or-set_same v.traces slot t [] wide) here)
+              (λ other. rw (
+                get_or-set_other words slot j n 0 other,
+                map-set,
+                get_or-set_other v.traces slot j t [] other,
+                set_again (traces_at j views) k (trace_in j v) (at_map (trace_in j) views k v at),
+              ) (rule.slot_rules j j_lt));
+          unworn = All-set Unworn views k w few rule.unworn;
           few_seats = omega arith;
         }
-      where
-        at_slot : (n : ℕ) (t : List Exchange) → SlotRule n (set (traces_at slot views) k t)
-            → SlotRule (get_or (set words slot n) slot 0) (traces_at slot (set views k (with_trace v slot t)))
-        at_slot n t here =
-            let mine : trace_in slot (with_trace v slot t) ≡ t = get_or-set_same v.traces slot t [] wide in
-            slot_rule (get_or-set_same words slot n 0 (subst (λ (m : ℕ). slot < m) (sym rule.one_word_each) lt))
-            (map-set (trace_in slot) views k (with_trace v slot t) ∙ ap (λ (u : List Exchange). set (traces_at slot views) k u) mine) here
-
-        elsewhere : (n : ℕ) (t : List Exchange) (j : ℕ) → j < slots → j ≢ slot → SlotRule (get_or (set words slot n) j 0) (traces_at j (set views k (with_trace v slot t)))
-        elsewhere n t j j_lt other =
-            let mine : trace_in j (with_trace v slot t) ≡ trace_in j v = get_or-set_other v.traces slot j t [] other in
-            slot_rule (get_or-set_other words slot j n 0 other)
-            (map-set (trace_in j) views k (with_trace v slot t) ∙ ap (λ (u : List Exchange). set (traces_at j views) k u) mine
-            ∙ set_again (traces_at j views) k (trace_in j v) (at_map (trace_in j) views k v at)) (rule.slot_rules j j_lt)
 
 -- The laws of every state that meets it
 
@@ -89,9 +89,9 @@ pub one_holder_each : OneHolderEach
 one_holder_each slots words views rule slot within seat other seat_holds other_holds =
     let here = rule.slot_rules slot within in
     let accounts = column slot views in
-    dite (ℕ_discrete other seat) sym (λ ne. absurd (
-    let no : true ≡ false = sym other_holds ∙ alone accounts seat (get_or accounts seat blank) (at_inside accounts seat blank (holds_inside accounts seat seat_holds))
-    here.state seat_holds (counts_of _ _ here).holders other blank ne (holds_inside accounts other other_holds) in cc))
+    dite (ℕ_discrete other seat) sym (λ ne. cc (
+    alone accounts seat (get_or accounts seat blank) (at_inside accounts seat blank (holds_inside accounts seat seat_holds))
+    here.state seat_holds (counts_of _ _ here).holders other blank ne (holds_inside accounts other other_holds)))
 
 -- a word says one thing
 same_word : (w v : WordState) → word_of w ≡ word_of v → w ≡ v
@@ -104,20 +104,13 @@ same_word w v is =
   where
     same_bit : (a b : Bool) → one a ≡ one b → a ≡ b
     same_bit true true e = refl
-    same_bit true false e = absurd (omega arith)
-    same_bit false true e = absurd (omega arith)
     same_bit false false e = refl
+    same_bit a b e = absurd (omega arith)
 
 pub histories_count : HistoriesCount
 histories_count slots words views rule slot within state is =
     let here = rule.slot_rules slot within in
-    subst (λ (w : WordState). Counts w (column slot views)) (same_word here.state state (sym here.reads ∙ is)) (counts_of _ _ here)
-
-pub notes_are_kept : NotesAreKept
-notes_are_kept slots words views rule slot within state is = (histories_count slots words views rule slot within state is).notes
-
-pub tickets_are_needed : TicketsAreNeeded
-tickets_are_needed slots words views rule slot within state is = sym (histories_count slots words views rule slot within state is).tickets
+    rw (same_word here.state state (sym here.reads ∙ is)) at (counts_of _ _ here)
 
 -- It holds at the start, and a seat that makes another keeps it
 
@@ -147,11 +140,10 @@ map-replicate f zero a = refl
 map-replicate f (suc n) a = ap (λ l. f a ∷ l) (map-replicate f n a)
 
 nothing_posted : (n : ℕ) → sum_by posted_of (map account_of (replicate n [])) ≡ 0
-nothing_posted n = ap (λ (l : List Account). sum_by posted_of l) (map-replicate account_of n []) ∙ sum_by-replicate posted_of n blank ∙ omega arith
+nothing_posted n = rw (map-replicate account_of n [], sum_by-replicate posted_of n blank) (omega arith)
 
 unused_traces : (slots spare seats slot : ℕ) → traces_at slot (replicate seats (unused_view slots spare)) ≡ replicate seats []
-unused_traces slots spare seats slot =
-    map-replicate (trace_in slot) seats (unused_view slots spare) ∙ ap (λ (t : List Exchange). replicate seats t) (same_at slots slot [])
+unused_traces slots spare seats slot = rw (map-replicate, same_at)
 
 module _ (slots : ℕ) (spare : ℕ) where
   -- this many seats that have done nothing and have this spare each
@@ -163,9 +155,9 @@ module _ (slots : ℕ) (spare : ℕ) where
       let many = length-replicate seats v in
       record {
         one_word_each = length-replicate slots 3;
-        one_trace_each = All-replicate (λ u. length u.traces ≡ slots) seats v (length-replicate slots []);
-        slot_rules = λ slot lt. slot_rule (get_or-replicate slots slot 3 0 lt) (unused_traces slots spare seats slot) (unused_slot seats);
-        unworn = All-replicate (λ u. sum_by posted_of (accounts_of u) ≤ 2 ^ 56) seats v (omega arith);
+        one_trace_each = All-replicate (Sized slots) seats v (length-replicate slots []);
+        slot_rules = λ slot lt. rw (get_or-replicate {A = ℕ} slots slot 3 0 lt, unused_traces slots spare seats slot) (unused_slot seats);
+        unworn = All-replicate Unworn seats v (omega arith);
         few_seats = omega arith;
       }
 
@@ -185,8 +177,8 @@ may_split slots id v some_spare table rule at =
     let views = table.views in
     let left = one_spare_less v in
     let right = newcomer v in
-    let sized = each_at (λ (u : View). length u.traces ≡ slots) _ _ at rule.one_trace_each in
-    let posts = each_at (λ (u : View). sum_by posted_of (accounts_of u) ≤ 2 ^ 56) _ _ at rule.unworn in
+    let sized = each_at (Sized slots) _ _ at rule.one_trace_each in
+    let posts = each_at Unworn _ _ at rule.unworn in
     let none : sum_by posted_of (accounts_of right) ≡ 0 = nothing_posted (length v.traces) in
     let spares = sum_by-put spare_of views id v left at in
     let spares' = sum_by_push spare_of (set views id left) right in
@@ -195,73 +187,59 @@ may_split slots id v some_spare table rule at =
     let many' = length-set views id left in
     record {
       one_word_each = rule.one_word_each;
-      one_trace_each = All-push (λ u. length u.traces ≡ slots) (set views id left) right (All-set (λ u. length u.traces ≡ slots) views id left sized rule.one_trace_each)
+      one_trace_each = All-push (Sized slots) (set views id left) right (All-set (Sized slots) views id left sized rule.one_trace_each)
           (length-replicate (length v.traces) [] ∙ sized);
-      slot_rules = λ slot lt. (
-          let here : traces_at slot (set views id left ++ right ∷ []) ≡ traces_at slot views ++ [] ∷ [] =
-          map-append (trace_in slot) (set views id left) (right ∷ [])
-          ∙ ap (λ (l : List (List Exchange)). l ++ trace_in slot right ∷ []) (map-set (trace_in slot) views id left
-          ∙ set_again (traces_at slot views) id (trace_in slot v) (at_map (trace_in slot) views id v at))
-          ∙ ap (λ (t : List Exchange). traces_at slot views ++ t ∷ []) (same_at (length v.traces) slot []) in
-          slot_rule refl here (one_more (get_or table.words slot 0) (traces_at slot views) (rule.slot_rules slot lt)));
-      unworn = All-push (λ u. sum_by posted_of (accounts_of u) ≤ 2 ^ 56) (set views id left) right
-          (All-set (λ u. sum_by posted_of (accounts_of u) ≤ 2 ^ 56) views id left posts rule.unworn) (omega arith);
+      slot_rules = λ slot lt. rw (map-append, map-set, set_again (traces_at slot views) id (trace_in slot v) (at_map (trace_in slot) views id v at), same_at)
+          (one_more (get_or table.words slot 0) (traces_at slot views) (rule.slot_rules slot lt));
+      unworn = All-push Unworn (set views id left) right
+          (All-set Unworn views id left posts rule.unworn) (omega arith);
       few_seats = omega arith;
     }
 
 -- the first seat and the words at the start
 pub opening_rule : (slots seats : ℕ) (words : List ℕ) → words ≡ replicate slots 3 → 1 ≤ seats → seats ≤ 32 → ClaimRule slots words (first_view slots seats ∷ [])
-opening_rule slots seats words is some_seat few =
-    subst (λ (ws : List ℕ). ClaimRule slots ws (first_view slots seats ∷ [])) (sym is) (unused_rule slots (seats - 1) 1 (omega arith))
+opening_rule slots seats words is some_seat few = rw is (unused_rule slots (seats - 1) 1 (omega arith))
 
 -- what an unused seat keeps beside its view
 pub unused_ok : (slots : ℕ) (held : List Bool) (table : TableId) (v : View) → held ≡ replicate slots false → table.words ≡ slots → v ≡ unused_view slots 0 → SeatOk 0 held table v
-unused_ok slots held table v marks words is = subst (λ (u : View). SeatOk 0 held table u) (sym is) (record {
+unused_ok slots held table v marks words is = rw is (record {
   counted = sym (nothing_posted slots);
   unworn = omega arith;
-  marked = marks ∙ sym (ap (λ (l : List Account). map holds_of l) (map-replicate account_of slots []) ∙ map-replicate holds_of slots blank);
+  marked = rw (map-replicate, map-replicate) marks;
   splits_no_more = refl;
-  sized = length-replicate slots [] ∙ sym words;
+  sized = rw length-replicate (sym words);
 })
 
 -- a history with no exchange of any seat is empty, and leads nowhere
 no_history : (h : History) (w : WordState) → ((seat : ℕ) → by_seat seat h ≡ []) → Leads unused h w → w ≡ unused
 no_history [] w none leads = sym leads
 no_history (s ∷ rest) w none leads =
-    absurd (let some : s.1 ∷ by_seat s.0 rest ≡ [] = sym (ap (λ (b : Bool). if b then s.1 ∷ by_seat s.0 rest else by_seat s.0 rest) (eq-eqb s.0 s.0 refl)) ∙ none s.0 in cc)
-
--- the word that unused seats leave
-word_is_3 : (n word : ℕ) → SlotRule word (replicate n []) → word ≡ 3
-word_is_3 n word rule = rule.reads ∙ ap word_of (no_history rule.history rule.state (λ seat. rule.mine seat ∙ same_at n seat []) rule.folds)
+    let some : s.1 ∷ by_seat s.0 rest ≡ [] = rw (eq-eqb s.0 s.0 refl) at (none s.0) in cc
 
 -- the words that unused seats leave
 words_are_3 : (slots seats : ℕ) (words : List ℕ) → ClaimRule slots words (replicate seats (unused_view slots 0)) → words ≡ replicate slots 3
 words_are_3 slots seats words rule =
     ext_get_or 0 words (replicate slots 3) (rule.one_word_each ∙ sym (length-replicate slots 3)) (λ slot lt. (
-    let inside : slot < slots = subst (λ n. slot < n) rule.one_word_each lt in
-    word_is_3 seats (get_or words slot 0) (slot_rule refl (sym (unused_traces slots 0 seats slot)) (rule.slot_rules slot inside))
-    ∙ sym (get_or-replicate slots slot 3 0 inside)))
+    let inside : slot < slots = rw rule.one_word_each at lt in
+    let here = rule.slot_rules slot inside in
+    let none = λ (seat : ℕ). rw (unused_traces slots 0 seats slot, same_at) at (here.mine seat) in
+    rw (get_or-replicate {A = ℕ} slots slot 3 0 inside) (here.reads ∙ ap word_of (no_history here.history here.state none here.folds))))
 
 -- the rule holds of words that are all 3 and of unused seats, and of no other words
 pub opens_lawful : (slots seats : ℕ) (table : TableId) (all : List SeatState) → table.words ≡ slots → all ≡ replicate seats (fresh_seat table) → seats ≤ 32 → OpensLawful slots all
 opens_lawful slots seats table all sized is few words =
-    let views : map view_of all ≡ replicate seats (unused_view slots 0) =
-    ap (λ (l : List SeatState). map view_of l) is ∙ map-replicate view_of seats (fresh_seat table) ∙ ap (λ (n : ℕ). replicate seats (unused_view n 0)) sized in (
-      (λ rule. words_are_3 slots seats words (subst (λ (vs : List View). ClaimRule slots words vs) views rule)),
-      (λ all_3. subst (λ (vs : List View). ClaimRule slots words vs) (sym views) (subst (λ (ws : List ℕ). ClaimRule slots ws (replicate seats (unused_view slots 0))) (sym all_3)
-          (unused_rule slots 0 seats (omega arith)))),
-    )
+    let views : map view_of all ≡ replicate seats (unused_view slots 0) = rw (is, map-replicate, sized) in
+    ((λ rule. words_are_3 slots seats words (rw views at rule)), (λ all_3. rw (views, all_3) (unused_rule slots 0 seats (omega arith))))
 
 -- the first seat after one split more
 pub spare_used : (slots seats made : ℕ) (v w : View) → w ≡ one_spare_less v → v ≡ unused_view slots (seats - made) → w ≡ unused_view slots (seats - (made + 1))
 spare_used slots seats made v w split was =
     let less : seats - made - 1 ≡ seats - (made + 1) = omega arith in
-    split ∙ ap one_spare_less was ∙ ap (λ (n : ℕ). unused_view slots n) less
+    rw (split, was, less)
 
 pub one_seat_more : (table next : TableId) (made : ℕ) (all all' : List SeatState) (s : SeatState) → 1 ≤ made → all ≡ replicate (made - 1) (fresh_seat table) → s ≡ fresh_seat next
     → next ≡ table
     → all' ≡ all ++ s ∷ [] → all' ≡ replicate (made + 1 - 1) (fresh_seat table)
 one_seat_more table next made all all' s some_made was new same pushed =
     let count : made - 1 + 1 ≡ made + 1 - 1 = omega arith in
-    pushed ∙ ap (λ (l : List SeatState). l ++ s ∷ []) was ∙ ap (λ (x : SeatState). replicate (made - 1) (fresh_seat table) ++ x ∷ []) (new ∙ ap fresh_seat same)
-    ∙ replicate_more (made - 1) (fresh_seat table) ∙ ap (λ (n : ℕ). replicate n (fresh_seat table)) count
+    rw (pushed, was, new, same, replicate_more, count)

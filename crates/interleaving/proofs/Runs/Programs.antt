@@ -1,69 +1,314 @@
--- What a thread does, act by act, where no opening is half way: a turn, the first act of an opening, and how both go on.
-pub mod Frames
-pub use Rattle.std.proofs.{Common.{◌-◌, append_assoc, eq-eqb, leb-true, unwrap_or}, lemmas.List.set-set}
-pub use Rattle.token.specs.declared.side.Side.TheVariants.{Client, Target}
-pub use Rattle.kernel_model.specs.Outcome.{Told}
-pub use Rattle.relay_core.specs.{Pairs.{fresh, noted}, Replies.fits, Idle.{is_overdue, expired}}
-pub use Rattle.world.{specs.{declared.actors.Holder.Holder, Calls.{OpenConnection, called, told_of, made}, Steps.{is_worn, may_release, token_of}, Support.worker_tickets}, proofs.{TurnsFacts.{Facts, is_shaped}, TurnsRun.names_it, TurnsTotals.total_at}}
-pub use Rattle.interleaving.specs.Threads.{Post, PutIn, Retire, Give, TakeNotes, after_call, calls, claimed, closed, begins, given, heard, notes_taken, planned, put_in, registered, registering, taken_out}
-pub use Frames.*
+-- What a step is for the machine: what the network, the kernel, the clock and the poller do between the programs, and what a
+-- thread does, act by act, where no opening is half way. What this file imports is passed on to the one above it.
+pub use Rattle.std.{proofs.{Common.{Bool, List, None, Option, Some, [], ap, append-nil, arith, drop, false, if◌then◌else◌, inl, inr, is_some, length, lt-ltb, map, nat_le, nat_lt, not, option_map, refl, replicate, slice_get, slice_set, subst, suc, sym, true, zero, ℕ, ◌&&◌, ◌++◌, ◌+◌, ◌==◌, ◌∙◌, ◌∷◌, ◌≡◌, ◌≢◌, ◌≤◌, ◌⊎◌, ◌||◌, length-append, eqb-true, ne_eqb, ◌-◌, append_assoc, eq-eqb, leb-true}, lemmas.{Bool.{or_right, and_parts, cases_eq}, Option.get_or_from_slice_get, List.{map-append, length-replicate, set-get_or, set-set}}}, specs.{Option.is_none, Cmp.second_so}}
+pub use Rattle.claims.specs.{Words.{WordState, made as exchange_made, some_wait, wakes, word_after}, declared.view.Exchange.Exchange}
+pub use Rattle.interleaving.specs.{Likeness.{OthersRest, exchange, exchanges_in, first_kind, kind_in, left_of, Adopted, Emptied, Entered, Goes, HalfOpen, HasClosed, HasOut, HasRetired, Held, HolderLike, Holds, IsHalfOpen, IsHolder, IsSettled, Leaves, Like, Opens, Placed, Posted, Registered, Rests, Settled, Stage, Stays, ThreadLike, Tries, WorkerFor, WorkersFor, ahead, call_of, calls_in, ends_of, machine_of, opened_slot, outside_among, outside_of, ticket, posts, here, Finds}, Threads.{Act, Call, Release, TakeOut, again, ended, open_slot, plan, quiet, turn, Accept, Acts, Begin, Calls, Connect, Deliver, Drop, Network, Open, Poll, Spurious, Step, Sweep, System, Thread, Tick, Vanish, acts, begun, goes_on, is_over, poller_rests, posted, released, rests, step, with_thread, watched_of, is_limited, delivered, delivers, Post, Retire, Give, calls, closed, begins, given, heard, taking, planned, put_in, registered, registering}}
+pub use Rattle.kernel_model.specs.{Ends.is_nonempty, Kernel.KernelState, declared.{both.Descriptors.Descriptors, reply.Reply.Reply, accepting.Accepting.TheVariants.{Accepted, Blocked, Again, Starved}}}
+pub use Rattle.relay_core.specs.{Order.next_call, Pairs.{PairState, is_live, verdict, fresh, noted}, Replies.fits, Idle.{is_overdue, expired}}
+pub use Rattle.token.specs.{Names.EndName, declared.{name.Name.Name, side.Side.{Side, TheVariants.{Client, Target}}}}
+pub use Rattle.world.{proofs.Headline.Ends.Pairs.Holders.{Events.Lists.{Kept, get-set_other, get-set_same, kept_at, kept_bind, kept_guard, kept_map, kept_none, kept_some, kept_when, total_at}, Turns, facts, first_free, is_number, is_shaped, names_it, own_generation, some_more, waiting, worker_retires}, specs.{Acts.busy, Slots.{SlotState, WorkerState, is_by_worker, is_held}, States.{State, resting as idle_worker}, Steps.{with_note, brings_ticket, may_release, is_worn, token_of}, Support.{of_slot, one, tickets, total, worker_tickets}, Words.{is_free, word_at}, declared.{actors.Holder.{Holder, TheVariants.{By, Free, Nobody}}, connection.Connection.Connection, event.{Event.Event, Change.Change, Reported.Reported}}, Calls.{descriptor, OpenConnection, called, told_of, made}}}
+pub use Rattle.claims.specs.Words as word
+pub use Rattle.kernel_model.specs.Kernel as kernel
+pub use Rattle.world.specs.Runs as machine_runs
+pub use Rattle.world.specs.Steps as machine
+pub use Rattle.world.specs.declared.actors.Doing.TheVariants as doing
+pub use Rattle.world.specs.declared.event.Act.TheVariants as act
+pub use Rattle.world.specs.declared.event.Event.TheVariants as event
+pub use Rattle.world.specs.declared.event.Polling.TheVariants as polling
+pub use Rattle.kernel_model.specs.declared.watched.Watched.TheVariants as watched
+pub use Rattle.world.specs.declared.event.Reported.TheVariants as reported
+pub use Rattle.world.specs.declared.event.Listening.TheVariants as listening
+pub use Rattle.token.specs.declared.name.Name.TheVariants as name
 
--- what is true of each list that a plan may be is true of a plan
-pub by_plan : (f : List Act → Bool) (b : Bool) (left : ℕ) (p : PairState) → f quiet ≡ b → f again ≡ b → f (Call ∷ []) ≡ b → f ended ≡ b → f (plan left p) ≡ b
-by_plan f b left p rests spends calls ends = go (is_live (verdict p)) (is_none (next_call p)) (left == 0)
+-- What a list of events leads to and shows, after these exchanges
+abbrev pub Shown : Type 0
+Shown = Option State × List (ℕ × Reply) × List Event × List Exchange
+
+abbrev pub shown : List Exchange → State → List Event → Shown
+shown before w events = (machine_runs.run w events, calls_in events, outside_among events, before ++ exchanges_in w events)
+
+-- with a step of the threads first, which makes these exchanges
+abbrev pub after_step : Step → List Exchange → Shown → Shown
+after_step s own x = (x.0, call_of s ++ x.1, outside_of s ++ x.2, own ++ x.3)
+
+-- One step of the threads, which makes these exchanges, and what the machine makes of it, which was ahead by those before;
+-- whatever comes next
+pub record Follows (before own : List Exchange) (w : State) (s : Step) (next : System) : Type 0 where
+  pub events : List Event
+  pub world : State
+  pub like : Like next world
+  pub shows : (more : List Event) → shown before w (events ++ more) ≡ after_step s own (shown (ahead next world like) world more)
+
+-- by these events, where no opening is half way before or after
+follow : {own : List Exchange} {w : State} {s : Step} {next : System} (events : List Event) (q : SlotState) (workers : List WorkerState) → Settled next q workers
+    → ((more : List Event) → shown [] w (events ++ more) ≡ after_step s own (shown [] (machine_of next q next.entry next.tickets workers) more)) → Follows [] own w s next
+follow {next = next} events q workers settled shows =
+    record { events = events; world = machine_of next q next.entry next.tickets workers; like = IsSettled q workers refl settled; shows = shows }
+
+-- What the network, the kernel, the clock and the poller's own values do concerns no thread
+
+pub record Beside : Type 0 where
+  pub second : ℕ
+  pub kernel : KernelState
+  pub flag : Bool
+  pub accepted : Bool
+  pub batch : List Name
+
+abbrev pub beside : System → Beside → System
+beside st b = record st { second = b.second; kernel = b.kernel; flag = b.flag; accepted = b.accepted; batch = b.batch }
+
+-- in both kinds of likeness
+pub record Frame (st : System) (before : List Exchange) (p : SlotState) (entry : ℕ) (tickets : List ℕ) (workers : List WorkerState) : Type 0 where
+  pub ends : st.ends ≡ ends_of p
+  pub like : (b : Beside) → Like (beside st b) (machine_of (beside st b) p entry tickets workers)
+  pub ahead_is : (b : Beside) → ahead (beside st b) (machine_of (beside st b) p entry tickets workers) (like b) ≡ before
+
+pub settled_frame : {st : System} {p : SlotState} {workers : List WorkerState} → Settled st p workers → Frame st [] p st.entry st.tickets workers
+settled_frame {p = p} {workers} s = record { ends = s.ends; like = λ b. IsSettled p workers refl (assumption s); ahead_is = λ b. refl }
+
+pub half_frame : {st : System} {t : Thread} {c : Connection} {workers : List WorkerState} → HalfOpen st t c workers
+    → Frame st (left_of t.todo st.word) (opened_slot t.generation c) t.generation (t.generation ∷ []) workers
+half_frame {t = t} {c} {workers} s = record { ends = s.ends; like = λ b. IsHalfOpen t c workers refl (assumption s); ahead_is = λ b. refl }
+
+same_watched : (st : System) (p : SlotState) (entry : ℕ) (tickets : List ℕ) (workers : List WorkerState) → st.ends ≡ ends_of p
+    → (who : Reported) → machine.watched_of (machine_of st p entry tickets workers) (here who) ≡ watched_of st who
+same_watched st p entry tickets workers ends reported.Listener = refl
+same_watched st p entry tickets workers ends reported.Waker = refl
+same_watched st p entry tickets workers ends (reported.End s side) = rw ends (joined p.connection)
   where
-    go : (live none spent : Bool) → f (if live then (if none then quiet else (if spent then again else Call ∷ [])) else ended) ≡ b
-    go true true spent = rests
-    go true false true = spends
-    go true false false = calls
-    go false none spent = ends
+    joined : (o : Option Connection) → option_map (λ (c : Connection). watched.End (descriptor c.ends side)) o
+        ≡ option_map (λ (ends : Descriptors). watched.End (descriptor ends side)) (option_map (λ (c : Connection). c.ends) o)
+    joined None = refl
+    joined (Some c) = refl
 
--- a thread without a program is like a worker with nothing to do
+-- the steps that no thread and no post makes
+abbrev pub is_beyond : Step → Bool
+is_beyond Deliver = false
+is_beyond Sweep = false
+is_beyond Open = false
+is_beyond (Begin i most) = false
+is_beyond (Acts i) = false
+is_beyond (Calls i r) = false
+is_beyond s = true
 
-acting : {X : Type 0} {todo at : List Act} → at ≡ todo → is_over todo ≡ false → is_over at ≡ true → X
-acting {todo = todo} is has over = absurd (let no : is_over todo ≡ true = ap is_over (sym is) ∙ over in cc)
+module _ {st : System} {before : List Exchange} {p : SlotState} {entry : ℕ} {tickets : List ℕ} {workers : List WorkerState} (fr : Frame st before p entry tickets workers) where
+  abbrev frame_world : State
+  frame_world = machine_of st p entry tickets workers
 
-rests_like : {budget : ℕ} {place : Option Connection} {p : SlotState} {i : ℕ} {t : Thread} {k : WorkerState} → ThreadLike budget place p i t k → rests t ≡ true
-    → k ≡ machine_states.resting
-rests_like (Rests todo is) r = is
-rests_like (Opens first todo is) r = is
-rests_like (Tries todo least is) r = acting todo refl r
-rests_like (Holds c held at todo least is) r = acting todo refl r
-rests_like (HasOut c held at out todo least is) r = acting todo refl r
-rests_like {t = t} (Goes c more held at out todo least is) r = acting todo (by_plan is_over false t.left c.pair refl refl refl refl) r
-rests_like (Stays c more held at live todo is) r = acting todo refl r
-rests_like (Leaves c more held at may todo is) r = acting todo refl r
-rests_like (HasClosed held at todo is) r = acting todo refl r
-rests_like (HasRetired generation todo is) r = acting todo refl r
+  -- one event that changes nothing but these
+  pub alone : {s : Step} {b : Beside} (e : Event)
+      → ((more : List Event) → shown before frame_world (e ∷ more) ≡ after_step s [] (shown before (machine_of (beside st b) p entry tickets workers) more))
+      → Follows before [] frame_world s (beside st b)
+  alone {s} {b} e shows = record {
+    events = e ∷ [];
+    world = machine_of (beside st b) p entry tickets workers;
+    like = fr.like b;
+    shows = λ more. rw (fr.ahead_is b) (shows more);
+  }
 
--- a thread that does not hold the slot is where it was, whatever becomes of place and slot but its generation
-apart : {budget : ℕ} {place next : Option Connection} {p q : SlotState} {j : ℕ} {u : Thread} {k : WorkerState} → p.holder ≢ By j → q.generation ≡ p.generation
-    → ThreadLike budget place p j u k → ThreadLike budget next q j u k
-apart other same (Rests todo is) = Rests todo is
-apart other same (Opens first todo is) = Opens first todo is
-apart other same (Tries todo least is) = Tries todo least is
-apart other same (Holds c held at todo least is) = absurd (other held.holder)
-apart other same (HasOut c held at out todo least is) = absurd (other held.holder)
-apart other same (Goes c more held at out todo least is) = absurd (other held.holder)
-apart other same (Stays c more held at live todo is) = absurd (other held.holder)
-apart other same (Leaves c more held at may todo is) = absurd (other held.holder)
-apart other same (HasClosed held at todo is) = absurd (other held.holder)
-apart other same (HasRetired generation todo is) = HasRetired (same ∙ generation) todo is
+  network_at : (side : Side) (change : Change) (ends : Descriptors) (q : KernelState) → machine.change_at st.kernel (descriptor ends side) change ≡ Some q
+      → (o : Option Connection) → p.connection ≡ o → option_map (λ (c : Connection). c.ends) o ≡ Some ends
+      → Follows before [] frame_world (Network side change) (record st { kernel = q })
+  network_at side change ends q may None is there = cc
+  network_at side change ends q may (Some c) is there =
+      let same : c.ends ≡ ends = cc in
+      alone (event.Network 0 side change) (λ more. rw (is, same, may))
 
-set_again : {X : Type 0} (xs : List X) (i : ℕ) (x : X) → slice_get xs i ≡ Some x → slice_set xs i x ≡ xs
-set_again [] i x there = refl
-set_again {X = X} (y ∷ ys) zero x there = let same : y ≡ x = cc in ap (λ (z : X). z ∷ ys) (sym same)
-set_again {X = X} (y ∷ ys) (suc i) x there = ap (λ (zs : List X). y ∷ zs) (set_again ys i x there)
+  may : (poller_rests st && (st.flag && (not st.accepted && nat_lt 0 st.free))) ≡ true → machine.may_accept frame_world ≡ true
+  may h =
+      let some : is_nonempty (replicate st.free 0) ≡ nat_lt 0 st.free = rw (length-replicate {A = ℕ} st.free 0) refl in
+      rw some (second_so (poller_rests st) _ h)
 
-some_there : (o : Option Connection) → is_some o ≡ true → (c : Connection) × (o ≡ Some c)
-some_there None h = absurd (cc)
-some_there (Some c) h = (c, refl)
+  pub beyond : (s : Step) → is_beyond s ≡ true → Kept (Follows before [] frame_world s) (step st s)
+  beyond (Tick n) is = kept_guard _ _ (λ may. alone (event.Tick n) (λ more. rw may))
+  beyond (Network side change) is = kept_bind _ st.ends (λ ends is. kept_map _ (machine.change_at st.kernel (descriptor ends side) change) (λ q may.
+      network_at side change ends q may p.connection refl (sym fr.ends ∙ is)))
+  beyond Connect is = kept_map _ (kernel.connect_in st.kernel) (λ q may. alone (event.Listen listening.Connect) (λ more. rw may))
+  beyond (Spurious who) is = kept_bind _ (watched_of st who) (λ what is. kept_map _ (kernel.spurious st.kernel what) (λ q may.
+      alone (event.Spurious (here who)) (λ more. rw (same_watched st p entry tickets workers fr.ends who, is, may))))
+  beyond (Vanish who) is = kept_bind _ (watched_of st who) (λ what is. kept_map _ (kernel.vanish st.kernel what) (λ q may.
+      alone (event.Vanish (here who)) (λ more. rw (same_watched st p entry tickets workers fr.ends who, is, may))))
+  beyond (Accept Accepted) is = kept_when _ _ (λ b. kept_map _ (kernel.accept st.kernel Accepted) (λ q can.
+      alone (event.Listen (listening.Accept Accepted)) (λ more. rw (may b, can))))
+  beyond (Accept Blocked) is = kept_when _ _ (λ b. kept_map _ (kernel.accept st.kernel Blocked) (λ q can.
+      alone (event.Listen (listening.Accept Blocked)) (λ more. rw (may b, can))))
+  beyond (Accept Again) is = kept_when _ _ (λ b. kept_some (alone (event.Listen (listening.Accept Again)) (λ more. rw (may b))))
+  beyond (Accept Starved) is = kept_when _ _ (λ b. kept_some (alone (event.Listen (listening.Accept Starved)) (λ more. rw (may b))))
+  beyond Drop is = kept_guard _ _ (λ b. alone (event.Listen listening.Drop) (λ more. rw (second_so (poller_rests st) st.accepted b)))
+  beyond (Poll names) is = kept_when _ _ (λ b. kept_map _ (kernel.poll st.kernel names.items) (λ q can.
+      alone (event.Poll (polling.Poll names)) (λ more. rw (second_so (poller_rests st) (length st.batch == 0) b, can))))
+  beyond s is = cc
+
+-- What the word says, and what the place does
+
+some_notes : (notes : List ℕ) → some_wait (length notes) ≡ is_nonempty notes
+some_notes [] = refl
+some_notes (n ∷ ns) = sym (lt-ltb 0 (length (n ∷ ns)) (omega arith))
+
+wakes_as : (p : SlotState) → wakes (word_at p) ≡ brings_ticket p
+wakes_as p = rw (some_notes p.notes) (by_bits (is_held p.holder) (is_nonempty p.notes))
+  where
+    by_bits : (held some : Bool) → (if held then false else (if some then false else true)) ≡ not (held || some)
+    by_bits true some = refl
+    by_bits false true = refl
+    by_bits false false = refl
+
+post_word : (p : SlotState) (g : ℕ) → word_after word.post (word_at p) ≡ word_at (with_note p g)
+post_word p g =
+    let longer : length (p.notes ++ g ∷ []) ≡ suc (length p.notes) = length-append p.notes (g ∷ []) ∙ omega arith in
+    rw longer refl
+
+-- a slot that may be released may be so with one note more
+
+due_now : (c : Connection) → is_live (verdict c.pair) ≡ true → may_release c true ≡ true
+unfolding may_release
+due_now c live = rw live (or_right _ true refl)
+
+may_still : (c : Connection) (some : Bool) → may_release c some ≡ true → may_release c true ≡ true
+unfolding may_release
+may_still c some may = due_now c (and_parts (is_live (verdict c.pair)) (is_none (next_call c.pair) || some) may).0
+
+still : {p : SlotState} {i g : ℕ} {has : Option Connection} (note : ℕ) → Held p i g has → Held (with_note p note) i g has
+still note held = assumption held
+
+-- what is so of each list that a plan may be, for the pair for which it is one, is so of the plan
+by_plan : (P : List Act → Type 0) (left : ℕ) (p : PairState) → (is_live (verdict p) ≡ true → is_none (next_call p) ≡ true → P quiet) → (is_live (verdict p) ≡ true → P again)
+    → ((left == 0) ≡ false → P (Call ∷ [])) → (is_live (verdict p) ≡ false → P ended) → P (plan left p)
+by_plan P left p rests spends calls ends = go (is_live (verdict p)) (is_none (next_call p)) (left == 0) refl refl refl
+  where
+    go : (live none spent : Bool) → is_live (verdict p) ≡ live → is_none (next_call p) ≡ none → (left == 0) ≡ spent
+        → P (if live then (if none then quiet else (if spent then again else Call ∷ [])) else ended)
+    go true true spent lives rest over = rests lives rest
+    go true false true lives rest over = spends lives
+    go true false false lives rest over = calls over
+    go false none spent lives rest over = ends lives
+
+pub plan_finds : (word : WordState) (place : Option Connection) (g left : ℕ) (p : PairState) → place ≡ None → Finds word place g (plan left p)
+plan_finds word place g left p at = by_plan (Finds word place g) left p (λ live none. at) (λ live. at) (λ some. tt) (λ over. tt)
 
 held_by : {X : Type 0} {h : Holder} {i : ℕ} → h ≡ By i → is_by_worker h ≡ false → X
-held_by {h = h} by nobody = absurd (let yes : is_by_worker h ≡ true = rw by refl in cc)
+held_by by nobody = cc
 
 held_free : {X : Type 0} {h : Holder} {i : ℕ} → h ≡ Free → h ≡ By i → X
-held_free {i = i} free by = absurd (let no : Free ≡ By i = sym free ∙ by in cc)
+held_free free by = cc
+
+-- with one note more the holder is where it was
+noted_holder : {budget : ℕ} {place : Option Connection} {p : SlotState} {t : Thread} {c : Connection} {more : ℕ} {todo : List Act} (g : ℕ)
+    → HolderLike budget place p t c more todo → HolderLike budget place (with_note p g) t c more todo
+noted_holder g (Holds at least all) = Holds at least all
+noted_holder g (HasOut at out least all) = HasOut at out least all
+noted_holder g (Goes at out least) = Goes at out least
+noted_holder g (Stays at live) = Stays at live
+noted_holder {p = p} {c = c} g (Leaves at may) = Leaves at (rw (some_more p.notes g) (may_still c (is_nonempty p.notes) may))
+
+module _ {budget : ℕ} {place : Option Connection} {p : SlotState} {i : ℕ} {t : Thread} {k : WorkerState} where
+  -- a thread without a program is like a worker with nothing to do
+  rests_like : {todo : List Act} → ThreadLike budget place p i t k todo → is_over todo ≡ true → k ≡ idle_worker
+  rests_like (Rests is) over = is
+  rests_like (Opens first is) over = is
+  rests_like (IsHolder c more held is (Goes at out least)) over =
+      let no = by_plan (λ acts. is_over acts ≡ false) t.left c.pair (λ live none. refl) (λ live. refl) (λ some. refl) (λ over. refl) in cc
+  rests_like like over = cc
+
+  -- a thread that does not hold the slot is where it was, whatever becomes of place and slot but its generation
+  apart : {next : Option Connection} {q : SlotState} {todo : List Act} → p.holder ≢ By i → q.generation ≡ p.generation → ThreadLike budget place p i t k todo
+      → ThreadLike budget next q i t k todo
+  apart other same (Rests is) = Rests is
+  apart other same (Opens first is) = Opens first is
+  apart other same (Tries least is) = Tries least is
+  apart other same (IsHolder c more held is at) = absurd (other held.holder)
+  apart other same (HasClosed held at is) = absurd (other held.holder)
+  apart other same (HasRetired own is) = HasRetired (same ∙ own) is
+
+  -- and so is each thread
+  noted_like : {todo : List Act} (g : ℕ) → ThreadLike budget place p i t k todo → ThreadLike budget place (with_note p g) i t k todo
+  noted_like g (Rests is) = Rests is
+  noted_like g (Opens first is) = Opens first is
+  noted_like g (Tries least is) = Tries least is
+  noted_like g (IsHolder c more held is at) = IsHolder c more (still g held) is (noted_holder g at)
+  noted_like g (HasClosed held at is) = HasClosed (still g held) at is
+  noted_like g (HasRetired own is) = HasRetired own is
+
+  -- a worker that has something to do counts
+  none_here : {todo : List Act} (workers : List WorkerState) → slice_get workers i ≡ Some k → i ≢ 0 → p.holder ≡ Free → total (worker_tickets 0) workers ≡ 0
+      → total (worker_retires 0) workers ≡ 0 → ThreadLike budget place p i t k todo → (todo ≡ []) × (slice_get workers i ≡ Some idle_worker)
+  none_here workers there other free none gone (Rests is) = (refl, there ∙ ap Some is)
+  none_here workers there other free none gone (Opens first is) = absurd (other first)
+  none_here workers there other free none gone (Tries least is) = absurd (
+      let least = total_at (worker_tickets 0) workers i k there in
+      let some : worker_tickets 0 k ≡ 1 = rw is refl in omega arith)
+  none_here workers there other free none gone (IsHolder c more held is at) = held_free free held.holder
+  none_here workers there other free none gone (HasClosed held at is) = held_free free held.holder
+  none_here workers there other free none gone (HasRetired own is) = absurd (
+      let least = total_at (worker_retires 0) workers i k there in
+      let some : worker_retires 0 k ≡ 1 = rw is refl in omega arith)
+
+-- A post by the poller. A post that wakes makes a ticket, which the machine's poller puts at once
+
+-- the state here, with this batch
+abbrev with_batch : System → List Name → System
+with_batch st batch = record st { batch = batch }
+
+past_one : (x k : ℕ) → k ≢ 0 → slice_get (x ∷ []) k ≡ None
+past_one x zero not = absurd (not refl)
+past_one x (suc k) not = refl
+
+module _ {st : System} {p : SlotState} {workers : List WorkerState} (set : Settled st p workers) where
+  abbrev world : State
+  world = machine_of st p st.entry st.tickets workers
+
+  settled_post : (g : ℕ) (batch : List Name) → Settled (with_batch (posted st g) batch) (with_note p g) workers
+  settled_post g batch = record {
+    ends = set.ends;
+    word = ap (word_after word.post) set.word ∙ post_word p g;
+    place = set.place;
+    threads = λ i t there.
+        let it = set.threads i t there in
+        record { worker = it.worker; there = it.there; like = noted_like g it.like };
+  }
+
+  -- the machine's posts, by an event that does this
+  posts_by : (s : Step) (e : Event) (g : ℕ) (batch : List Name) (b : Bool) → brings_ticket p ≡ b
+      → ((more : List Event) → shown [] world (e ∷ more) ≡ after_step s (exchange_made word.post (word_at p) ∷ []) (shown [] (record (machine.posted world 0 g p) { batch = batch }) more))
+      → Follows [] (exchange_made word.post st.word ∷ []) world s (with_batch (posted st g) batch)
+  posts_by s e g batch true brings shows =
+      let longer : map ticket (st.tickets ++ g ∷ []) ≡ map ticket st.tickets ++ ticket g ∷ [] = map-append ticket st.tickets (g ∷ []) in
+      follow (e ∷ event.Poll polling.Put ∷ []) (with_note p g) workers (settled_post g batch)
+      (λ more. shows (event.Poll polling.Put ∷ more) ∙ rw (set.word, wakes_as p, brings, longer))
+  posts_by s e g batch false brings shows =
+      follow (e ∷ []) (with_note p g) workers (settled_post g batch) (λ more. shows more ∙ rw (set.word, wakes_as p, brings))
+
+  -- a report of an end
+
+  abbrev Delivers : Name → List Name → Type 0
+  Delivers n rest = Follows [] (exchange st.word (posts st (n ∷ rest))) world Deliver (record (delivered st n) { batch = rest })
+
+  delivers_end : (n : EndName) (rest : List Name) → st.batch ≡ name.End n ∷ rest → (n.slot ≡ 0) ⊎ (n.slot ≢ 0) → (b : Bool) → (st.entry == n.generation) ≡ b → Delivers (name.End n) rest
+  delivers_end n rest is (inl first) true own =
+      rw (first, own, sym (eqb-true st.entry n.generation own)) (posts_by Deliver (event.Poll polling.Deliver) st.entry rest (brings_ticket p) refl (λ more. rw (is, first, own)))
+  delivers_end n rest is (inl first) false own = rw (first, own) (alone (settled_frame set) (event.Poll polling.Deliver) (λ more. rw (is, first, own)))
+  delivers_end n rest is (inr other) b own = rw (ne_eqb n.slot 0 other) (alone (settled_frame set) (event.Poll polling.Deliver) (λ more. rw (is, past_one st.entry n.slot other)))
+
+  delivers_all : (batch : List Name) → st.batch ≡ batch → Kept (Follows [] (exchange st.word (posts st batch)) world Deliver) (delivers st batch)
+  delivers_all [] is = kept_none
+  delivers_all (name.Listener ∷ rest) is = kept_some (alone (settled_frame set) (event.Poll polling.Deliver) (λ more. rw is))
+  delivers_all (name.Waker ∷ rest) is = kept_some (alone (settled_frame set) (event.Poll polling.Deliver) (λ more. rw is))
+  delivers_all (name.End n ∷ rest) is = kept_some (delivers_end n rest is (cases_eq n.slot 0) (st.entry == n.generation) refl)
+
+  pub reports : Kept (Follows [] (exchange st.word (kind_in st Deliver)) world Deliver) (step st Deliver)
+  reports = kept_when (poller_rests st) _ (λ b. delivers_all st.batch refl)
+
+  pub sweeps : Kept (Follows [] (exchange st.word (kind_in st Sweep)) world Sweep) (step st Sweep)
+  sweeps = kept_guard _ _ (λ b.
+      let parts = and_parts (is_limited st) (nat_lt 0 st.entry) (second_so (poller_rests st) _ b) in
+      posts_by Sweep (event.Poll (polling.Sweep 0)) st.entry st.batch (brings_ticket p) refl (λ more. rw (parts.0, parts.1)))
+
+set_again : {X : Type 0} (xs : List X) (i : ℕ) (x : X) → slice_get xs i ≡ Some x → slice_set xs i x ≡ xs
+set_again xs i x there = rw (get_or_from_slice_get xs i x x there) at (set-get_or xs i x)
+
+some_there : (o : Option Connection) → is_some o ≡ true → (c : Connection) × (o ≡ Some c)
+some_there None h = cc
+some_there (Some c) h = (c, refl)
 
 rests_now : (c : Connection) (some : Bool) → is_live (verdict c.pair) ≡ true → is_none (next_call c.pair) ≡ true → may_release c some ≡ true
 unfolding may_release
@@ -74,7 +319,7 @@ one_more zero = refl
 one_more (suc n) = ap (λ (xs : List ℕ). 0 ∷ xs) (one_more n)
 
 some_more_left : (n more : ℕ) → (n == 0) ≡ false → n ≤ more → nat_lt 0 more ≡ true
-some_more_left zero more h least = absurd (cc)
+some_more_left zero more h least = cc
 some_more_left (suc n) more h least = lt-ltb 0 more (omega arith)
 
 -- A worker holds the slot, and its connection fails where the idle limit has passed: by one event more, or none
@@ -82,27 +327,19 @@ some_more_left (suc n) more h least = lt-ltb 0 more (omega arith)
 abbrev with_connection : SlotState → Connection → SlotState
 with_connection p c = record p { connection = Some c }
 
-abbrev held_to_limit : ℕ → ℕ → Connection → Connection
-held_to_limit now limit c = record c { pair = expired now limit c.pair }
+abbrev held_to_limit : System → Connection → Connection
+held_to_limit st c = record c { pair = expired st.second st.limits.idle c.pair }
 
-record Limited (st : System) (p : SlotState) (c : Connection) (workers : List WorkerState) : Type 0 where
-  pub events : List Event
-  pub allowed : machine_runs.run (machine_of st (with_connection p c) st.entry st.tickets workers) events
-      ≡ Some (machine_of st (with_connection p (held_to_limit st.second st.limits.idle c)) st.entry st.tickets workers)
-  pub calls : calls_in events ≡ []
-  pub outside : outside_among events ≡ []
-  pub words : exchanges_in (machine_of st (with_connection p c) st.entry st.tickets workers) events ≡ []
+abbrev expires : ℕ → Bool → List Event
+expires i true = event.Work i act.Expire ∷ []
+expires i false = []
 
 limited : (st : System) (p : SlotState) (c : Connection) (workers : List WorkerState) (i left : ℕ) → slice_get workers i ≡ Some (busy (doing.Holds 0 left))
-    → (b : Bool) → is_overdue st.second st.limits.idle c.pair ≡ b → Limited st p c workers
-limited st p c workers i left had true over = record {
-  events = event.Work i act.Expire ∷ [];
-  allowed = rw (had, over) refl;
-  calls = refl;
-  outside = refl;
-  words = rw (had, over) refl;
-}
-limited st p c workers i left had false over = record { events = []; allowed = rw over refl; calls = refl; outside = refl; words = refl }
+    → (b : Bool) → is_overdue st.second st.limits.idle c.pair ≡ b → (more : List Event)
+    → shown [] (machine_of st (with_connection p c) st.entry st.tickets workers) (expires i b ++ more)
+    ≡ shown [] (machine_of st (with_connection p (held_to_limit st c)) st.entry st.tickets workers) more
+limited st p c workers i left had true over more = rw (had, over)
+limited st p c workers i left had false over more = rw over
 
 heard_as : (c : Connection) (notes : List ℕ) → machine.heard c notes ≡ heard (length notes) c
 heard_as c notes = rw (some_notes notes) refl
@@ -129,48 +366,16 @@ slot_calls now p k c r line is made = rw (is, made) refl
 
 -- Before a slot is opened it is free: nobody has anything to do with it
 
-record Unused (st : System) (p : SlotState) (workers : List WorkerState) : Type 0 where
-  pub holder : p.holder ≡ Free
-  pub connection : p.connection ≡ None
-  pub tickets : st.tickets ≡ []
-  pub others : (i : ℕ) (u : Thread) → slice_get st.threads i ≡ Some u → i ≢ 0 → (u.todo ≡ []) × (slice_get workers i ≡ Some machine_states.resting)
-
-free_by : (h : Holder) → 1 ≤ one (is_free h) → h ≡ Free
-free_by Nobody n = absurd (omega arith)
-free_by (By w) n = absurd (omega arith)
-free_by Free n = refl
-
 none_by : (h : Holder) (o : Option Connection) → h ≡ Free → is_shaped h (is_some o) ≡ true → o ≡ None
 none_by h None is shape = refl
-none_by h (Some c) is shape = absurd (let no : is_shaped h true ≡ false = rw is refl in cc)
+none_by h (Some c) is shape = cc
 
 no_tickets : (xs : List ℕ) → total (of_slot 0) (map ticket xs) ≡ 0 → xs ≡ []
 no_tickets [] none = refl
 no_tickets (x ∷ xs) none = absurd (omega arith)
 
--- a worker that has something to do counts
-none_here : {budget : ℕ} {place : Option Connection} {p : SlotState} {i : ℕ} {u : Thread} {k : WorkerState} (workers : List WorkerState) → slice_get workers i ≡ Some k → i ≢ 0
-    → p.holder ≡ Free → total (worker_tickets 0) workers ≡ 0 → total (worker_retires 0) workers ≡ 0
-    → ThreadLike budget place p i u k → (u.todo ≡ []) × (slice_get workers i ≡ Some machine_states.resting)
-none_here workers there other free none gone (Rests todo is) = (todo, there ∙ ap Some is)
-none_here workers there other free none gone (Opens first todo is) = absurd (other first)
-none_here {i = i} {k = k} workers there other free none gone (Tries todo least is) = absurd (
-    let least : worker_tickets 0 k ≤ total (worker_tickets 0) workers = total_at (worker_tickets 0) workers i k there in
-    let some : worker_tickets 0 k ≡ 1 = rw is refl in omega arith)
-none_here workers there other free none gone (Holds c held at todo least is) = held_free free held.holder
-none_here workers there other free none gone (HasOut c held at out todo least is) = held_free free held.holder
-none_here workers there other free none gone (Goes c more held at out todo least is) = held_free free held.holder
-none_here workers there other free none gone (Stays c more held at live todo is) = held_free free held.holder
-none_here workers there other free none gone (Leaves c more held at may todo is) = held_free free held.holder
-none_here workers there other free none gone (HasClosed held at todo is) = held_free free held.holder
-none_here {i = i} {k = k} workers there other free none gone (HasRetired own todo is) = absurd (
-    let least : worker_retires 0 k ≤ total (worker_retires 0) workers = total_at (worker_retires 0) workers i k there in
-    let some : worker_retires 0 k ≡ 1 = rw is refl in omega arith)
-
-pub after_set : (st : System) (new : Thread) (workers : List WorkerState)
-    → ((i : ℕ) (u : Thread) → slice_get st.threads i ≡ Some u → i ≢ 0 → (u.todo ≡ []) × (slice_get workers i ≡ Some machine_states.resting))
-    → (i : ℕ) (u : Thread) → i ≢ 0 → slice_get (slice_set st.threads 0 new) i ≡ Some u → (u.todo ≡ []) × (slice_get workers i ≡ Some machine_states.resting)
-after_set st new workers old i u other at = old i u (sym (get-set_other st.threads 0 i new (λ same. other (sym same))) ∙ at) other
+pub after_set : (threads : List Thread) (workers : List WorkerState) (new : Thread) → OthersRest threads workers → OthersRest (slice_set threads 0 new) workers
+after_set threads workers new rest i t other at = rest i t other (sym (get-set_other threads 0 i new (λ same. other (sym same))) ∙ at)
 
 module _ (st : System) (p : SlotState) (workers : List WorkerState) (set : Settled st p workers) (i : ℕ) (t : Thread) (there : slice_get st.threads i ≡ Some t)
     (k : WorkerState) (had : slice_get workers i ≡ Some k) where
@@ -183,315 +388,238 @@ module _ (st : System) (p : SlotState) (workers : List WorkerState) (set : Settl
 
   -- with this place and this slot each other thread is where it was
   abbrev Others : Option Connection → SlotState → Type 0
-  Others place q = (j : ℕ) (u : Thread) (v : WorkerState) → i ≢ j → ThreadLike st.limits.budget st.place p j u v → ThreadLike st.limits.budget place q j u v
+  Others place q = (j : ℕ) (u : Thread) (v : WorkerState) → i ≢ j → ThreadLike st.limits.budget st.place p j u v u.todo → ThreadLike st.limits.budget place q j u v u.todo
 
   -- who holds the slot is one thread
   others : {place : Option Connection} {q : SlotState} → p.holder ≡ By i → q.generation ≡ p.generation → Others place q
-  others by same j u v other like = apart (λ also. other (let both : By i ≡ By j = sym by ∙ also in cc)) same like
+  others by same j u v other like = apart (λ also. other (cc)) same like
 
   -- the thread and its worker go on
-  both_go : {place : Option Connection} {q : SlotState} {new : Thread} {busier : WorkerState} → Others place q → ThreadLike st.limits.budget place q i new busier
+  both_go : {place : Option Connection} {q : SlotState} {new : Thread} {busier : WorkerState} → Others place q → ThreadLike st.limits.budget place q i new busier new.todo
       → WorkersFor st.limits.budget place q (slice_set workers i busier) (slice_set st.threads i new)
   both_go {place} {q} {new} {busier} others like j u at = go (cases_eq j i)
     where
       go : (j ≡ i) ⊎ (j ≢ i) → WorkerFor st.limits.budget place q (slice_set workers i busier) j u
       go (inl same) =
-          let now : Some new ≡ Some u = sym (get-set_same st.threads i t new there) ∙ (rw same at at) in
-          let it : u ≡ new = cc in
+          let it : u ≡ new = cc (get-set_same st.threads i t new there) in
           record { worker = busier; there = rw same (get-set_same workers i k busier had); like = rw (same, it) like }
       go (inr other) =
           let apart : i ≢ j = λ same. other (sym same) in
-          let it : WorkerFor st.limits.budget st.place p workers j u = set.threads j u (sym (get-set_other st.threads i j new apart) ∙ at) in
+          let it = set.threads j u (sym (get-set_other st.threads i j new apart) ∙ at) in
           record { worker = it.worker; there = get-set_other workers i j busier apart ∙ it.there; like = others j u it.worker apart it.like }
 
   -- the thread goes on alone
-  goes : {place : Option Connection} {q : SlotState} {new : Thread} → Others place q → ThreadLike st.limits.budget place q i new k
+  goes : {place : Option Connection} {q : SlotState} {new : Thread} → Others place q → ThreadLike st.limits.budget place q i new k new.todo
       → WorkersFor st.limits.budget place q workers (slice_set st.threads i new)
   goes {place} {q} {new} others like =
       subst (λ (ks : List WorkerState). WorkersFor st.limits.budget place q ks (slice_set st.threads i new)) (set_again workers i k had) (both_go others like)
 
   -- it begins a turn with the oldest ticket, or an opening
 
-  begins_with : k ≡ machine_states.resting → (most : ℕ) → most ≤ st.limits.budget → (tickets : List ℕ) → st.tickets ≡ tickets
+  begins_with : k ≡ idle_worker → (most : ℕ) → most ≤ st.limits.budget → (tickets : List ℕ) → st.tickets ≡ tickets
       → Kept (Follows [] [] w (Begin i most)) (begun st i most tickets)
   begins_with is most within [] tickets = kept_none
   begins_with is most within (g ∷ rest) tickets = kept_some
       (follow (event.Work i act.Pop ∷ []) p (slice_set workers i (busy (doing.Tries (ticket g))))
-      (record { ends = set.ends; word = set.word; place = set.place; threads = both_go (λ j u v other like. like) (Tries refl within refl) })
-      (rw (had, is, tickets) refl) (rw (had, is, tickets) refl) refl refl)
+      (record { ends = set.ends; word = set.word; place = set.place; threads = both_go (λ j u v other like. like) (Tries within refl) })
+      (λ more. rw (had, is, tickets)))
 
-  pub begins_turn : ThreadLike st.limits.budget st.place p i t k → (most : ℕ) → Kept (Follows [] [] w (Begin i most)) (begins st i most t)
+  pub begins_turn : ThreadLike st.limits.budget st.place p i t k t.todo → (most : ℕ) → Kept (Follows [] [] w (Begin i most)) (begins st i most t)
   begins_turn like most = kept_when (rests t && nat_le most st.limits.budget) _ (λ r.
-      let parts : (rests t ≡ true) × (nat_le most st.limits.budget ≡ true) = and_parts (rests t) (nat_le most st.limits.budget) r in
+      let parts = and_parts (rests t) (nat_le most st.limits.budget) r in
       begins_with (rests_like like parts.0) most (leb-true most st.limits.budget parts.1) st.tickets refl)
 
-  pub begins_opening : i ≡ 0 → ThreadLike st.limits.budget st.place p i t k → rests t ≡ true → Follows [] [] w Open (with_thread st i (goes_on t open_slot))
+  pub begins_opening : i ≡ 0 → ThreadLike st.limits.budget st.place p i t k t.todo → rests t ≡ true → Follows [] [] w Open (with_thread st i (goes_on t open_slot))
   begins_opening first like r = follow [] p workers
-      (record { ends = set.ends; word = set.word; place = set.place; threads = goes (λ j u v other like. like) (Opens first refl (rests_like like r)) })
-      refl refl refl refl
+      (record { ends = set.ends; word = set.word; place = set.place; threads = goes (λ j u v other like. like) (Opens first (rests_like like r)) })
+      (λ more. refl)
 
-  -- it takes the notes
+  -- while it holds the slot with its connection
 
-  module _ (c : Connection) (held : Held p i t.generation c) (at : st.place ≡ None) where
-    takes : t.left ≤ st.limits.budget → k ≡ busy (doing.Holds 0 st.limits.budget) → Limited (notes_taken st i t c) (record p { notes = [] }) (heard st.word.pending c) workers
-        → Acted (exchange_made word.take st.word ∷ []) (notes_taken st i t c)
-    takes least is l =
-        let e : Connection = held_to_limit st.second st.limits.idle (heard st.word.pending c) in
-        let count : length p.notes ≡ st.word.pending = rw set.word refl in
-        let same : machine.heard c p.notes ≡ heard st.word.pending c = heard_as c p.notes ∙ rw count refl in
-        let words : exchanges_in w (event.Work i act.Take ∷ l.events) ≡ exchange_made word.take st.word ∷ [] =
-        subst (λ (v : WordState). exchanges_in w (event.Work i act.Take ∷ l.events) ≡ exchange_made word.take v ∷ []) (sym set.word)
-        (rw (had, is, held.connection, same) (ap (λ (xs : List Exchange). exchange_made word.take (word_at p) ∷ xs) l.words)) in
-        follow (event.Work i act.Take ∷ l.events) (record p { notes = []; connection = Some e }) workers (record {
-          ends = set.ends ∙ rw (held.connection, same_ends st.word.pending c) refl;
-          word = rw set.word refl;
-          place = λ no. held_by held.holder no;
-          threads = goes (others held.holder refl)
-              (Goes e st.limits.budget (record { holder = held.holder; connection = refl; generation = held.generation }) at refl refl least is);
-        }) (rw (had, is, held.connection, same) l.allowed) words l.calls l.outside
+  module _ (c : Connection) (more : ℕ) (held : Held p i t.generation (Some c)) (is : k ≡ busy (doing.Holds 0 more)) where
+    -- another connection in the slot, or none, or other notes
+    holds_on : {notes : List ℕ} {has : Option Connection} → Held (record p { notes = notes; connection = has }) i t.generation has
+    holds_on = record { holder = held.holder; there = refl; generation = held.generation }
 
-    takes_notes : t.left ≤ st.limits.budget → k ≡ busy (doing.Holds 0 st.limits.budget) → Acted (exchange_made word.take st.word ∷ []) (notes_taken st i t c)
-    takes_notes least is =
-        takes least is (limited (notes_taken st i t c) (record p { notes = [] }) (heard st.word.pending c) workers i st.limits.budget (had ∙ ap Some is) _ refl)
+    not_nobody : {X : Type 0} → is_by_worker p.holder ≡ false → X
+    not_nobody nobody = held_by held.holder nobody
 
-    -- it makes a call
+    -- the connection is back in its place
+    put_back : t.out ≡ Some c → (rest : List Act) → HolderLike st.limits.budget (Some c) p (record t { out = None; todo = rest }) c more rest → Acted [] (put_in st i t rest)
+    put_back out rest at = rw out (follow [] p workers
+        (record { ends = set.ends; word = set.word; place = not_nobody; threads = goes (others held.holder refl) (IsHolder c more held is at) }) (λ es. refl))
 
-    makes_call : (more : ℕ) → t.left ≤ more → k ≡ busy (doing.Holds 0 more) → nat_lt 0 more ≡ true
-        → (r : Reply) (line : OpenConnection) → called st.second (record { kernel = st.kernel; connection = c }) r ≡ Some line
-        → Limited (with_thread (record st { kernel = line.kernel }) i (planned st t (t.left - 1) line.connection)) p line.connection
-        (slice_set workers i (busy (doing.Holds 0 (more - 1))))
-        → Follows [] [] w (Calls i r) (with_thread (record st { kernel = line.kernel }) i (planned st t (t.left - 1) line.connection))
-    makes_call more least is some r line replied l =
-        let d : Connection = held_to_limit st.second st.limits.idle line.connection in
-        let busier : WorkerState = busy (doing.Holds 0 (more - 1)) in
-        let made : machine.slot_call st.second (record { kernel = st.kernel; place = p }) r
-        ≡ Some (record { kernel = line.kernel; place = record p { connection = Some line.connection } }) =
-        slot_calls st.second p st.kernel c r line held.connection replied in
-        let from : OpenConnection = record { kernel = st.kernel; connection = c } in
-        let ends : line.connection.ends ≡ c.ends = kept_at (called st.second from r) line replied (all_keep_ends st.second from r) in
-        follow (event.Work i (act.Call r) ∷ l.events) (record p { connection = Some d }) (slice_set workers i busier) (record {
-          ends = set.ends ∙ rw (held.connection, ends) refl;
+    -- a release
+
+    released_like : st.place ≡ Some c → (tickets : List ℕ)
+        → Settled (with_thread (record st { word = word_after word.release st.word; tickets = tickets }) i (goes_on t [])) (record p { holder = Nobody })
+        (slice_set workers i idle_worker)
+    released_like at tickets = record {
+      ends = set.ends;
+      word = rw (set.word, held.holder) refl;
+      place = λ yes. at ∙ sym held.there;
+      threads = both_go (others held.holder refl) (Rests refl);
+    }
+
+    releases : st.place ≡ Some c → (b : Bool) → is_nonempty p.notes ≡ b → may_release c b ≡ true
+        → Acted (exchange_made word.release st.word ∷ []) (with_thread (released st t.generation) i (goes_on t []))
+    releases at true some may =
+        let wait : some_wait st.word.pending ≡ true = rw set.word (some_notes p.notes ∙ some) in
+        let tickets : List ℕ = st.tickets ++ t.generation ∷ [] in
+        let between : WorkerState = record { doing = doing.Idle; hand = ticket t.generation ∷ [] } in
+        let longer : map ticket tickets ≡ map ticket st.tickets ++ ticket t.generation ∷ [] = map-append ticket st.tickets (t.generation ∷ []) in
+        rw wait (follow (event.Work i act.Release ∷ event.Work i act.Put ∷ []) (record p { holder = Nobody }) (slice_set workers i idle_worker) (released_like at tickets)
+        (λ es. rw (had, is, held.there, some, may, held.generation, get-set_same workers i k between had, set-set workers i between idle_worker, longer, some_notes p.notes ∙ some)))
+    releases at false some may =
+        let wait : some_wait st.word.pending ≡ false = rw set.word (some_notes p.notes ∙ some) in
+        rw wait (follow (event.Work i act.Release ∷ []) (record p { holder = Nobody }) (slice_set workers i idle_worker) (released_like at st.tickets)
+        (λ es. rw (had, is, held.there, some, may, some_notes p.notes ∙ some)))
+
+    -- the connection is closed
+    closes : st.place ≡ None → is_live (verdict c.pair) ≡ false → Kept (Acted []) (closed st i t (Retire ∷ Give ∷ []) c)
+    closes at over = kept_map _ (kernel.close_both st.kernel c.ends) (λ told may.
+        follow (event.Work i act.Close ∷ []) (record p { connection = None }) (slice_set workers i (busy (doing.Closed 0))) (record {
+          ends = refl;
           word = set.word;
-          place = λ no. held_by held.holder no;
-          threads = both_go (others held.holder refl)
-              (Goes d (more - 1) (record { holder = held.holder; connection = refl; generation = held.generation }) at refl refl (omega arith) refl);
-        }) (rw (had, is, some, made) l.allowed) (rw (had, is, some, made) l.words) (ap (λ (xs : List (ℕ × Reply)). (i, r) ∷ xs) l.calls) l.outside
+          place = not_nobody;
+          threads = both_go (others held.holder refl) (HasClosed holds_on at refl);
+        }) (λ es. rw (had, is, held.there, over, may)))
 
-    makes_calls : t.out ≡ Some c → (more : ℕ) → t.left ≤ more → k ≡ busy (doing.Holds 0 more) → nat_lt 0 more ≡ true
-        → (r : Reply) → Kept (Follows [] [] w (Calls i r)) (after_call st i t r Call)
-    makes_calls out more least is some r =
-        let still : slice_get workers i ≡ Some (busy (doing.Holds 0 more)) = had ∙ ap Some is in
-        kept_bind _ t.out (λ d has.
-        let same : d ≡ c = (let both : Some d ≡ Some c = sym has ∙ out in cc) in
-        rw same (kept_map _ (called st.second (record { kernel = st.kernel; connection = c }) r) (λ line made.
-        makes_call more least is some r line made
-        (limited (with_thread (record st { kernel = line.kernel }) i (planned st t (t.left - 1) line.connection)) p line.connection
-        (slice_set workers i (busy (doing.Holds 0 (more - 1)))) i (more - 1)
-        (get-set_same workers i (busy (doing.Holds 0 more)) (busy (doing.Holds 0 (more - 1))) still) _ refl))))
+    -- the next act
+    holder_acts : {todo : List Act} → Turns w → HolderLike st.limits.budget st.place p t c more todo → Kept (Acted (exchange st.word (first_kind todo))) (acts st i t todo)
+    -- it takes the connection out, which is its ticket's own
+    holder_acts turns (Holds at least all) =
+        let own = own_generation (facts w 0 p.generation) p c ((turns.each 0 p refl).connection c held.there).stands ∙ held.generation in
+        kept_some (rw (at, eq-eqb c.pair.generation t.generation own) (follow [] p workers (record {
+          ends = set.ends;
+          word = set.word;
+          place = not_nobody;
+          threads = goes (others held.holder refl) (IsHolder c more held is (HasOut refl refl least all));
+        }) (λ es. refl)))
+    -- it takes the notes
+    holder_acts turns (HasOut at out least all) = rw out (
+        let heard_now = heard st.word.pending c in
+        let e = held_to_limit st heard_now in
+        let b = is_overdue st.second st.limits.idle heard_now.pair in
+        let count : length p.notes ≡ st.word.pending = rw set.word refl in
+        let same : machine.heard c p.notes ≡ heard_now = heard_as c p.notes ∙ rw count refl in
+        kept_some (follow (event.Work i act.Take ∷ expires i b) (record p { notes = []; connection = Some e }) workers (record {
+          ends = set.ends ∙ rw (held.there, same_ends st.word.pending c) refl;
+          word = rw set.word refl;
+          place = not_nobody;
+          threads = goes (others held.holder refl) (IsHolder e more holds_on is (Goes at refl (omega arith)));
+        }) (λ es. rw (had, is, held.there, same, count) (ap (λ (x : Shown). (x.0, x.1, x.2, exchange_made word.take st.word ∷ x.3))
+        (limited (taking st i t [] (Some c)) (record p { notes = [] }) heard_now workers i more (had ∙ ap Some is) b refl es)))))
+    holder_acts turns (Goes at out least) = by_plan (λ todo. Kept (Acted (exchange st.word (first_kind todo))) (acts st i t todo)) t.left c.pair
+        (λ live none. kept_some (put_back out (Release ∷ []) (Leaves refl (rests_now c (is_nonempty p.notes) live none))))
+        (λ live. kept_some (put_back out (Post ∷ Release ∷ []) (Stays refl live)))
+        (λ some. kept_none)
+        (λ over. rw out (closes at over))
+    -- it posts, which wakes nobody
+    holder_acts turns (Stays at live) =
+        let g = c.pair.generation in
+        let held_word : st.word.held ≡ true = rw (set.word, held.holder) refl in
+        let woke : wakes st.word ≡ false = rw held_word refl in
+        kept_some (rw woke (follow (event.Work i act.Post ∷ []) (with_note p g) workers (record {
+          ends = set.ends;
+          word = ap (word_after word.post) set.word ∙ post_word p g;
+          place = not_nobody;
+          threads = goes (others held.holder refl) (IsHolder c more (still g held) is (Leaves at (rw (some_more p.notes g) (due_now c live))));
+        }) (λ es. rw (had, is, held.there, live, held.holder))))
+    holder_acts turns (Leaves at may) = kept_some (releases at (is_nonempty p.notes) refl may)
 
-  -- the connection is back in its place
-
-  put_back : (c : Connection) → Held p i t.generation c → t.out ≡ Some c → (rest : List Act) → ThreadLike st.limits.budget (Some c) p i (record t { out = None; todo = rest }) k
-      → Acted [] (put_in st i t rest)
-  put_back c held out rest here = rw out (follow [] p workers
-      (record { ends = set.ends; word = set.word; place = λ no. held_by held.holder no; threads = goes (others held.holder refl) here }) refl refl refl refl)
-
-  -- a post by the holder, which wakes nobody
-  posts_due : (c : Connection) (more : ℕ) → Held p i t.generation c → st.place ≡ Some c → is_live (verdict c.pair) ≡ true → k ≡ busy (doing.Holds 0 more)
-      → Acted (exchange_made word.post st.word ∷ []) (with_thread (posted st t.generation) i (goes_on t (Release ∷ [])))
-  posts_due c more held at live is =
-      let g : ℕ = c.pair.generation in
-      let held_word : st.word.held ≡ true = rw (set.word, held.holder) refl in
-      let woke : wakes st.word ≡ false = rw held_word refl in
-      rw woke (follow (event.Work i act.Post ∷ []) (with_note p g) workers (record {
-        ends = set.ends;
-        word = ap (word_after word.post) set.word ∙ post_word p g;
-        place = λ no. held_by held.holder no;
-        threads = goes (others held.holder refl) (Leaves c more (still g held) at (rw (some_more p.notes g) (due_now c live)) refl is);
-      }) (rw (had, is, held.connection, live) refl) (rw (had, is, held.connection, live, held.holder) refl) refl refl)
-
-  -- a release
-
-  released_like : (c : Connection) → Held p i t.generation c → st.place ≡ Some c → (tickets : List ℕ)
-      → Settled (with_thread (record st { word = word_after word.release st.word; tickets = tickets }) i (goes_on t [])) (record p { holder = Nobody })
-      (slice_set workers i machine_states.resting)
-  released_like c held at tickets = record {
-    ends = set.ends;
-    word = rw (set.word, held.holder) refl;
-    place = λ yes. at ∙ sym held.connection;
-    threads = both_go (others held.holder refl) (Rests refl refl);
-  }
-
-  releases : (c : Connection) (more : ℕ) → Held p i t.generation c → st.place ≡ Some c → (b : Bool) → is_nonempty p.notes ≡ b → may_release c b ≡ true → k ≡ busy (doing.Holds 0 more)
-      → Acted (exchange_made word.release st.word ∷ []) (with_thread (released st t.generation) i (goes_on t []))
-  releases c more held at true some may is =
-      let wait : some_wait st.word.pending ≡ true = rw set.word (some_notes p.notes ∙ some) in
-      let tickets : List ℕ = st.tickets ++ t.generation ∷ [] in
-      let between : WorkerState = record { doing = doing.Idle; hand = ticket t.generation ∷ [] } in
-      let longer : map ticket tickets ≡ map ticket st.tickets ++ ticket t.generation ∷ [] = map-append ticket st.tickets (t.generation ∷ []) in
-      rw wait (follow (event.Work i act.Release ∷ event.Work i act.Put ∷ []) (record p { holder = Nobody }) (slice_set workers i machine_states.resting) (released_like c held at tickets)
-      (rw (had, is, held.connection, some, may, held.generation, get-set_same workers i k between had, set-set workers i between machine_states.resting, longer) refl)
-      (rw (had, is, held.connection, some, may, held.generation, get-set_same workers i k between had, some_notes p.notes ∙ some) refl) refl refl)
-  releases c more held at false some may is =
-      let wait : some_wait st.word.pending ≡ false = rw set.word (some_notes p.notes ∙ some) in
-      rw wait (follow (event.Work i act.Release ∷ []) (record p { holder = Nobody }) (slice_set workers i machine_states.resting) (released_like c held at st.tickets)
-      (rw (had, is, held.connection, some, may) refl) (rw (had, is, held.connection, some, may, some_notes p.notes ∙ some) refl) refl refl)
-
-  -- the connection is closed
-  closes : (c : Connection) (more : ℕ) → Held p i t.generation c → st.place ≡ None → k ≡ busy (doing.Holds 0 more) → is_live (verdict c.pair) ≡ false
-      → Kept (Acted []) (closed st i t (Retire ∷ Give ∷ []) c)
-  closes c more held at is over = kept_map _ (kernel.close_both st.kernel c.ends) (λ told may.
-      follow (event.Work i act.Close ∷ []) (record p { connection = None }) (slice_set workers i (busy (doing.Closed 0))) (record {
-        ends = refl;
-        word = set.word;
-        place = λ no. held_by held.holder no;
-        threads = both_go (others held.holder refl) (HasClosed (record { holder = held.holder; connection = refl; generation = held.generation }) at refl refl);
-      }) (rw (had, is, held.connection, over, may) refl) (rw (had, is, held.connection, over, may) refl) refl refl)
+    -- and the next call
+    plan_calls : st.place ≡ None → t.out ≡ Some c → t.left ≤ more → (r : Reply) → Kept (Follows [] [] w (Calls i r)) (calls st i t r (plan t.left c.pair))
+    plan_calls at out least r = by_plan (λ todo. Kept (Follows [] [] w (Calls i r)) (calls st i t r todo)) t.left c.pair (λ live none. kept_none) (λ live. kept_none)
+        (λ some. rw out (kept_map _ (called st.second (record { kernel = st.kernel; connection = c }) r) (λ line replied. (
+        let some_left = some_more_left t.left more some least in
+        let d = held_to_limit st line.connection in
+        let b = is_overdue st.second st.limits.idle line.connection.pair in
+        let busier = busy (doing.Holds 0 (more - 1)) in
+        let made = slot_calls st.second p st.kernel c r line held.there replied in
+        let ends = kept_at (called st.second (record { kernel = st.kernel; connection = c }) r) line replied (all_keep_ends st.second (record { kernel = st.kernel; connection = c }) r) in
+        follow (event.Work i (act.Call r) ∷ expires i b) (record p { connection = Some d }) (slice_set workers i busier) (record {
+          ends = set.ends ∙ rw (held.there, ends) refl;
+          word = set.word;
+          place = not_nobody;
+          threads = both_go (others held.holder refl) (IsHolder d (more - 1) holds_on refl (Goes at refl (omega arith)));
+        }) (λ es. rw (had, is, some_left, made) (ap (λ (x : Shown). (x.0, (i, r) ∷ x.1, x.2, x.3))
+        (limited (with_thread (record st { kernel = line.kernel }) i (planned st t (t.left - 1) line.connection)) p line.connection (slice_set workers i busier) i (more - 1)
+        (get-set_same workers i k busier had) b refl es)))))))
+        (λ over. kept_none)
 
   -- the slot is given, or lost where its generations are used up
-  gives_to : p.generation ≡ t.generation → k ≡ busy (doing.Retired 0) → (free : ℕ) → machine_runs.run w (event.Work i act.Free ∷ [])
-      ≡ Some (machine_of (with_thread (record st { free = free }) i (goes_on t [])) p st.entry st.tickets (slice_set workers i machine_states.resting))
+  gives_to : p.generation ≡ t.generation → k ≡ busy (doing.Retired 0) → (free : ℕ) → machine.step w (event.Work i act.Free)
+      ≡ Some (machine_of (with_thread (record st { free = free }) i (goes_on t [])) p st.entry st.tickets (slice_set workers i idle_worker))
       → Acted [] (with_thread (record st { free = free }) i (goes_on t []))
-  gives_to own is free can = follow (event.Work i act.Free ∷ []) p (slice_set workers i machine_states.resting)
-      (record { ends = set.ends; word = set.word; place = set.place; threads = both_go (λ j u v other like. like) (Rests refl refl) }) can (rw (had, is) refl) refl refl
+  gives_to own is free can = follow (event.Work i act.Free ∷ []) p (slice_set workers i idle_worker)
+      (record { ends = set.ends; word = set.word; place = set.place; threads = both_go (λ j u v other like. like) (Rests refl) }) (λ more. rw (can, had))
 
   gives : p.generation ≡ t.generation → k ≡ busy (doing.Retired 0) → (b : Bool) → is_worn t.generation ≡ b → Acted [] (with_thread (given st t.generation) i (goes_on t []))
-  gives own is true worn = rw worn (gives_to own is st.free (rw (had, is, own, worn) refl))
-  gives own is false worn = rw worn (gives_to own is (suc st.free) (rw (had, is, own, worn, one_more st.free) refl))
-
-  -- by the plan
-  module _ (c : Connection) (more : ℕ) (held : Held p i t.generation c) (at : st.place ≡ None) (out : t.out ≡ Some c) (least : t.left ≤ more) (is : k ≡ busy (doing.Holds 0 more)) where
-    plan_acts : (live none spent : Bool) → is_live (verdict c.pair) ≡ live → is_none (next_call c.pair) ≡ none → (t.left == 0) ≡ spent
-        → Kept (Acted (exchange st.word (first_kind (plan t.left c.pair)))) (acts st i t (plan t.left c.pair))
-    plan_acts true true spent lives rest over = rw (rest, lives)
-        (kept_some (put_back c held out (Release ∷ []) (Leaves c more held refl (rests_now c (is_nonempty p.notes) lives rest) refl is)))
-    plan_acts true false true lives rest over = rw (rest, lives, over) (kept_some (put_back c held out (Post ∷ Release ∷ []) (Stays c more held refl lives refl is)))
-    plan_acts true false false lives rest over = rw (rest, lives, over) kept_none
-    plan_acts false none spent lives rest over = rw lives (kept_bind _ t.out (λ d has.
-        let same : d ≡ c = (let both : Some d ≡ Some c = sym has ∙ out in cc) in
-        rw same (closes c more held at is lives)))
-
-    plan_calls : (r : Reply) (live none spent : Bool) → is_live (verdict c.pair) ≡ live → is_none (next_call c.pair) ≡ none → (t.left == 0) ≡ spent
-        → Kept (Follows [] [] w (Calls i r)) (calls st i t r (plan t.left c.pair))
-    plan_calls r true true spent lives rest over = rw (rest, lives) kept_none
-    plan_calls r true false true lives rest over = rw (rest, lives, over) kept_none
-    plan_calls r true false false lives rest over = rw (rest, lives, over) (makes_calls c held at out more least is (some_more_left t.left more over least) r)
-    plan_calls r false none spent lives rest over = rw lives kept_none
+  gives own is true worn = rw worn (gives_to own is st.free (rw (had, is, own, worn)))
+  gives own is false worn = rw worn (gives_to own is (suc st.free) (rw (had, is, own, worn, one_more st.free)))
 
   module _ (turns : Turns w) where
-    -- it claims the slot, which nobody holds
-    claims : t.todo ≡ turn → t.left ≤ st.limits.budget → k ≡ busy (doing.Tries (ticket t.generation))
-        → Acted (exchange_made word.claim st.word ∷ []) (claimed st i t (TakeOut ∷ TakeNotes ∷ []))
-    claims todo least is =
-        let wait : Waiting p = waiting w i k (ticket t.generation) p had (rw is refl) refl turns in
-        let own : t.generation ≡ p.generation = names_it w i k (ticket t.generation) p had (rw is refl) refl turns in
-        let c : (c : Connection) × (p.connection ≡ Some c) = some_there p.connection wait.lies in
-        let free : st.word.held ≡ false = rw (set.word, wait.holder) refl in
-        let at : st.place ≡ Some c.0 = set.place (rw wait.holder refl) ∙ c.1 in
-        let q : SlotState = record p { holder = By i } in
-        rw free (follow (event.Work i act.Claim ∷ []) q (slice_set workers i (busy (doing.Holds 0 st.limits.budget))) (record {
-          ends = set.ends;
-          word = rw (set.word, wait.holder) refl;
-          place = λ no. absurd (cc);
-          threads = both_go (λ j u v other like. apart (λ by. absurd (let no : Nobody ≡ By j = sym wait.holder ∙ by in cc)) refl like)
-              (Holds c.0 (record { holder = refl; connection = c.1; generation = sym own }) at refl least refl);
-        }) (rw (had, is, wait.holder) refl) (rw (had, is, set.word, wait.holder) refl) refl refl)
-
-    -- it takes the connection out, which is its ticket's own
-    takes_out : (c : Connection) → Held p i t.generation c → st.place ≡ Some c → t.left ≤ st.limits.budget → k ≡ busy (doing.Holds 0 st.limits.budget)
-        → Acted [] (taken_out st i t (TakeNotes ∷ []) st.place)
-    takes_out c held at least is =
-        let sv : SlotOk (facts w 0 p.generation) p = turns.each 0 p refl in
-        let own : c.pair.generation ≡ t.generation = own_generation (facts w 0 p.generation) p c (sv.connection c held.connection).stands ∙ held.generation in
-        rw (at, eq-eqb c.pair.generation t.generation own) (follow [] p workers (record {
-          ends = set.ends;
-          word = set.word;
-          place = λ no. held_by held.holder no;
-          threads = goes (others held.holder refl) (HasOut c held refl refl refl least is);
-        }) refl refl refl refl)
-
     -- The machine makes an opening as soon as both sockets are registered
 
-    unused : (free : ℕ) → st.free ≡ suc free → Unused st p workers
-    unused free some =
-        let sv : SlotOk (facts w 0 p.generation) p = turns.each 0 p refl in
-        let gone : total (worker_retires 0) workers + total (is_number 0) (replicate st.free 0) ≤ one (is_free p.holder) = sv.gone in
-        let places : total (is_number 0) (replicate st.free 0) ≡ 1 + total (is_number 0) (replicate free 0) = rw some refl in
-        let holder : p.holder ≡ Free = free_by p.holder (omega arith) in
-        let most : one (is_free p.holder) ≡ 1 = rw holder refl in
-        let none : tickets w 0 ≡ 0 = sv.tickets ∙ rw holder refl in
-        let workers_none : total (worker_tickets 0) workers ≡ 0 = omega arith in
-        let retired : total (worker_retires 0) workers ≡ 0 = omega arith in
-        record {
-          holder = holder;
-          connection = none_by p.holder p.connection holder sv.shape;
-          tickets = no_tickets st.tickets (omega arith);
-          others = λ j u there other.
-              let it : WorkerFor st.limits.budget st.place p workers j u = set.threads j u there in
-              none_here workers it.there other holder workers_none retired it.like;
-        }
-
-    module _ (first : i ≡ 0) (is : k ≡ machine_states.resting) where
-      registers_by : Unused st p workers → (free : ℕ) → st.free ≡ suc free → st.accepted ≡ true
-          → (client target : EndName) → token_of 0 Client (st.entry + 1) ≡ Some client → token_of 0 Target (st.entry + 1) ≡ Some target
-          → Acted [] (registered st i t (drop 1 open_slot) free (st.entry + 1) (kernel.open_both st.kernel client target))
-      registers_by un free some accepted client target one two =
-          let g : ℕ = st.entry + 1 in
-          let told : Told KernelState Descriptors = kernel.open_both st.kernel client target in
+    module _ (first : i ≡ 0) (is : k ≡ idle_worker) where
+      registers : (free : ℕ) → st.free ≡ free → Kept (Acted []) (registering st i t (drop 1 open_slot) free)
+      registers zero some = kept_none
+      registers (suc free) some =
+          let g = st.entry + 1 in
+          let unused = first_free w 0 p refl (rw some refl) turns in
+          let none = unused.tickets in
+          let gone = unused.gone in
+          let empty : p.connection ≡ None = none_by p.holder p.connection unused.holder (turns.each 0 p refl).shape in
+          let no_ticket : st.tickets ≡ [] = no_tickets st.tickets (omega arith) in
+          let rest : OthersRest st.threads workers =
+          λ j u other there. (let it = set.threads j u there in none_here workers it.there other unused.holder (omega arith) (omega arith) it.like) in
+          kept_when st.accepted _ (λ accepted. kept_bind _ (token_of 0 Client g) (λ client one. kept_map _ (token_of 0 Target g) (λ target two. (
+          let told = kernel.open_both st.kernel client target in
           let c : Connection = record { pair = fresh 0 g st.limits.ring st.second st.limits.lead; ends = told.told } in
           let new : Thread = record t { generation = g; out = Some c; todo = drop 1 open_slot } in
-          let next : System = registered st 0 t (drop 1 open_slot) free g told in
           rw first (record {
             events = event.Poll polling.Open ∷ event.Poll polling.Put ∷ [];
-            world = machine_of next (opened_slot g c) g (g ∷ []) workers;
-            allowed = rw (accepted, some, one, two, un.tickets) refl;
+            world = machine_of (registered st 0 t (drop 1 open_slot) free g told) (opened_slot g c) g (g ∷ []) workers;
             like = IsHalfOpen new c workers refl (record {
               first = get-set_same st.threads 0 t new (rw first at there);
               worker = (rw first at had) ∙ ap Some is;
-              others = after_set st new workers un.others;
-              tickets = un.tickets;
+              others = after_set st.threads workers new rest;
+              tickets = no_ticket;
               ends = refl;
-              stage = Registered (length p.notes) refl (rw (set.word, un.holder) refl) (set.place (rw un.holder refl) ∙ un.connection) refl;
+              stage = Registered (length p.notes) (rw (set.word, unused.holder) refl) (set.place (rw unused.holder refl) ∙ empty) refl;
             });
-            calls = refl;
-            outside = refl;
-            words = rw (accepted, some, one, two, set.word) refl;
-          })
+            shows = λ more. rw (accepted, some, one, two, no_ticket, set.word);
+          })))))
 
-      registers : (free : ℕ) → st.free ≡ free → Kept (Acted []) (registering st i t (drop 1 open_slot) free)
-      registers zero some = kept_none
-      registers (suc free) some = kept_when st.accepted _ (λ accepted. kept_bind _ (token_of 0 Client (st.entry + 1)) (λ client one.
-          kept_map _ (token_of 0 Target (st.entry + 1)) (λ target two. registers_by (unused free some) free some accepted client target one two)))
-
-    pub thread_acts : ThreadLike st.limits.budget st.place p i t k → Kept (Acted (exchange st.word (first_kind t.todo))) (acts st i t t.todo)
-    thread_acts (Rests todo is) = rw todo kept_none
-    thread_acts (Opens first todo is) = rw todo (registers first is st.free refl)
-    thread_acts (Tries todo least is) = rw todo (kept_some (claims todo least is))
-    thread_acts (Holds c held at todo least is) = rw todo (kept_some (takes_out c held at least is))
-    thread_acts (HasOut c held at out todo least is) = rw (todo, out) (kept_some (takes_notes c held at least is))
-    thread_acts (Goes c more held at out todo least is) = rw todo
-        (plan_acts c more held at out least is (is_live (verdict c.pair)) (is_none (next_call c.pair)) (t.left == 0) refl refl refl)
-    thread_acts (Stays c more held at live todo is) = rw todo (kept_some (posts_due c more held at live is))
-    thread_acts (Leaves c more held at may todo is) = rw todo (kept_some (releases c more held at (is_nonempty p.notes) refl may is))
+    pub thread_acts : {todo : List Act} → ThreadLike st.limits.budget st.place p i t k todo → Kept (Acted (exchange st.word (first_kind todo))) (acts st i t todo)
+    thread_acts (Rests is) = kept_none
+    thread_acts (Opens first is) = registers first is st.free refl
+    -- it claims the slot, which nobody holds
+    thread_acts (Tries least is) =
+        let does : k.doing ≡ doing.Tries (ticket t.generation) = rw is refl in
+        let wait = waiting w i k (ticket t.generation) p had does refl turns in
+        let own = names_it w i k (ticket t.generation) p had does refl turns in
+        let c = some_there p.connection wait.lies in
+        let free : st.word.held ≡ false = rw (set.word, wait.holder) refl in
+        kept_some (rw free (follow (event.Work i act.Claim ∷ []) (record p { holder = By i }) (slice_set workers i (busy (doing.Holds 0 st.limits.budget))) (record {
+          ends = set.ends;
+          word = rw (set.word, wait.holder) refl;
+          place = λ nobody. cc;
+          threads = both_go (λ j u v other like. apart (λ by. cc wait.holder) refl like)
+              (IsHolder c.0 st.limits.budget (record { holder = refl; there = c.1; generation = sym own }) refl (Holds (set.place (rw wait.holder refl) ∙ c.1) least refl));
+        }) (λ more. rw (had, is, wait.holder, set.word))))
+    thread_acts (IsHolder c more held is at) = holder_acts c more held is turns at
     -- the slot is retired
-    thread_acts (HasClosed held at todo is) = rw todo (kept_some
+    thread_acts (HasClosed held at is) = kept_some
         (follow (event.Work i act.Retire ∷ []) (record p { holder = Free }) (slice_set workers i (busy (doing.Retired 0))) (record {
           ends = set.ends;
           word = rw (set.word, held.holder) refl;
-          place = λ yes. at ∙ sym held.connection;
-          threads = both_go (others held.holder refl) (HasRetired held.generation refl refl);
-        }) (rw (had, is) refl) (rw (had, is) refl) refl refl))
-    thread_acts (HasRetired own todo is) = rw todo (kept_some (gives own is (is_worn t.generation) refl))
+          place = λ yes. at ∙ sym held.there;
+          threads = both_go (others held.holder refl) (HasRetired held.generation refl);
+        }) (λ more. rw (had, is)))
+    thread_acts (HasRetired own is) = kept_some (gives own is (is_worn t.generation) refl)
 
-  pub thread_calls : ThreadLike st.limits.budget st.place p i t k → (r : Reply) → Kept (Follows [] [] w (Calls i r)) (calls st i t r t.todo)
-  thread_calls (Rests todo is) r = rw todo kept_none
-  thread_calls (Opens first todo is) r = rw todo kept_none
-  thread_calls (Tries todo least is) r = rw todo kept_none
-  thread_calls (Holds c held at todo least is) r = rw todo kept_none
-  thread_calls (HasOut c held at out todo least is) r = rw todo kept_none
-  thread_calls (Goes c more held at out todo least is) r = rw todo
-      (plan_calls c more held at out least is r (is_live (verdict c.pair)) (is_none (next_call c.pair)) (t.left == 0) refl refl refl)
-  thread_calls (Stays c more held at live todo is) r = rw todo kept_none
-  thread_calls (Leaves c more held at may todo is) r = rw todo kept_none
-  thread_calls (HasClosed held at todo is) r = rw todo kept_none
-  thread_calls (HasRetired own todo is) r = rw todo kept_none
+  pub thread_calls : {todo : List Act} → ThreadLike st.limits.budget st.place p i t k todo → (r : Reply) → Kept (Follows [] [] w (Calls i r)) (calls st i t r todo)
+  thread_calls (IsHolder c more held is (Goes at out least)) r = plan_calls c more held is at out least r
+  thread_calls like r = kept_none

@@ -1,5 +1,5 @@
-use Rattle.claims.proofs.Steps.Rule.{notes_are_kept}
+use Rattle.claims.proofs.Steps.Rule.{histories_count}
 use Rattle.claims.proofs.laws.notes_are_kept.Goals as goal
 
 pub returns : goal.returns
-returns c = notes_are_kept
+returns c = λ slots words views rule slot within state is. (histories_count slots words views rule slot within state is).notes

@@ -6,7 +6,7 @@ use Rattle.engine.proofs.step.join.Goals as goal
 pub returns-in-Ok : goal.returns-in-Ok
 returns-in-Ok g c =
     let e = c.in-Ok.ensures in
-    unmoved Joined refl c.answer.ensures.value refl refl e.left e.kept (stays_at e.counts.0) (stays_at e.counts.1) (record { given = Done; told = refl; did = e.did })
+    unmoved Done Joined refl e.did refl c.answer.ensures.value refl refl e.left e.kept (stays_at e.counts.0) (stays_at e.counts.1)
 
 pub returns-in-Err : goal.returns-in-Err
 returns-in-Err g c =

@@ -8,9 +8,8 @@ returns-in_err-checked_mul c =
 
 pub returns-in_err-value : goal.returns-in_err-value
 returns-in_err-value c =
-    c.from_residual-in_err-value.ensures ∙ sym (too_large_at _ _ _ c.loop-byte.invariant.1 c.loop-byte-test.true
-    (omega (arith, c.in_err-value.ensures, c.in_ok-checked_mul.ensures, c.from.ensures)))
+    c.from_residual-in_err-value.ensures
+    ∙ sym (too_large_at _ _ _ c.loop-byte.invariant.1 c.loop-byte-test.true (omega (arith, c.in_err-value.ensures, c.in_ok-checked_mul.ensures, c.from.ensures)))
 
 pub returns : goal.returns
-returns c =
-    whole_number _ _ _ c.loop-byte-test.false (sym c.if-not-is_plain.ensures) c.loop-byte.invariant.0 c.loop-byte.invariant.1 c.loop-byte.invariant.2
+returns c = whole_number _ _ _ c.loop-byte.invariant.1 c.loop-byte-test.false (sym c.if-not-is_plain.ensures) c.loop-byte.invariant.0 c.loop-byte.invariant.2

@@ -1,9 +1,9 @@
-use Rattle.std.proofs.Common.{refl, ap, ◌∙◌, arith}
-use Rattle.ready.{specs.Steps.opener, proofs.Moves.{in_order-none, next_slot, has_room}}
+use Rattle.std.proofs.Common.{refl, ◌∙◌, arith}
+use Rattle.ready.proofs.Moves.{next_slot, has_room}
 use Rattle.ready.proofs.free.fill.Goals as goal
 
 pub loop-index-init : goal.loop-index-init
-loop-index-init g c = ((refl, refl, refl), c.requires.alone ∙ ap (λ l. record opener { put = l }) (in_order-none _))
+loop-index-init g c = ((refl, refl, refl), c.requires.alone)
 
 pub unreachable-requires : goal.unreachable-requires
 unreachable-requires g c =

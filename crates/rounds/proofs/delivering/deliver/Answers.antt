@@ -1,9 +1,10 @@
-use Rattle.std.proofs.{Common.{take, arith}, lemmas.List.{length-take, take_more}}
-use Rattle.rounds.proofs.Acts.{delivered_both, few_tickets, capacity_kept, holds_nothing_still, reported_le}
+use Rattle.std.proofs.{Common.{take, arith}, lemmas.List.{length-take, take_more, Elements.filter_map-append}}
+use Rattle.rounds.specs.Acts.{reported}
+use Rattle.rounds.proofs.Acts.{few_tickets, posted_both, capacity_kept, holds_nothing_still, reported_le}
 use Rattle.rounds.proofs.delivering.deliver.Goals as goal
 
-pub report-requires-clause-room : goal.report-requires-clause-room
-report-requires-clause-room c =
+pub post_note-requires-clause-room : goal.post_note-requires-clause-room
+post_note-requires-clause-room c =
     omega (
       arith,
       few_tickets c.loop-number.invariant,
@@ -13,14 +14,15 @@ report-requires-clause-room c =
     )
 
 pub loop-number-preserved : goal.loop-number-preserved
-loop-number-preserved c = rw (take_more c.args.batch.now c.loop-number.number-index 0 c.loop-number-test.true)
-    (delivered_both c.args.table.now (take c.loop-number.number-index c.args.batch.now) _ c.loop-number.invariant c.in_ok-report.ensures.delivered)
+loop-number-preserved c =
+    rw (take_more c.args.batch.now c.loop-number.number-index 0 c.loop-number-test.true, filter_map-append (reported c.args.table.now))
+    (posted_both c.loop-number.invariant (rw c.connection.ensures.value at c.in_ok-post_note.ensures.posted))
 
-pub report-requires-clause-idle : goal.report-requires-clause-idle
-report-requires-clause-idle c = holds_nothing_still c.loop-number.invariant c.requires.idle
+pub post_note-requires-clause-idle : goal.post_note-requires-clause-idle
+post_note-requires-clause-idle c = holds_nothing_still c.loop-number.invariant c.requires.idle
 
-pub returns-in_err-report-clause-idle : goal.returns-in_err-report-clause-idle
-returns-in_err-report-clause-idle c = rw c.in_err-report.ensures.seat (holds_nothing_still c.loop-number.invariant c.requires.idle)
+pub returns-in_err-post_note-clause-idle : goal.returns-in_err-post_note-clause-idle
+returns-in_err-post_note-clause-idle c = rw c.in_err-post_note.ensures.seat (holds_nothing_still c.loop-number.invariant c.requires.idle)
 
 pub returns-clause-idle : goal.returns-clause-idle
 returns-clause-idle c = holds_nothing_still c.loop-number.invariant c.requires.idle

@@ -50,17 +50,17 @@ pub returns-in-Ok : goal.returns-in-Ok
 returns-in-Ok g c =
     let first = sym c.take_slot.ensures.value ∙ c.in-Some.is in
     let hand = c.in-Ok.ensures.prepared ∙ c.take_slot.ensures.left in
-    let named = c.in-Some-next_names.ensures.client in
-    let here : c.in-Ok.berth.value.pair.slot ≡ c.in-Some.slot = rw (c.in-Ok.ensures.slot, named) in
-    let registered = rw (← c.in-Ok.ensures.slot, here) at c.in-Ok.ensures.acts in
+    let named : c.in-Some-next_names.names.client.slot ≡ c.in-Some.slot = rw c.in-Some-next_names.ensures.client in
+    let registered = rw named at c.in-Ok.ensures.acts in
     record {
       between = c.place.ensures.between;
       worn = c.place.ensures.worn;
       counted = rw first (on_ok_weaker c.place.result
-          (placed_fate c.in-Ok.ensures.same (rw (here, c.in-Ok.ensures.generation, named, c.table.ensures.table)) (λ acts made. (c.prepare.new.acts, registered, rw here at made))) c.place.ensures.placed);
-      in_order = rw first (on_err_weaker c.place.result (λ made. (c.prepare.new.acts, registered, rw here at made)) c.place.ensures.in_order);
+          (placed_fate c.in-Ok.ensures.same (rw (c.generation-generation.ensures.value, c.in-Some-next_names.ensures.client, c.table.ensures.table))
+          (λ acts made. (c.prepare.new.acts, registered, made))) c.place.ensures.placed);
+      in_order = rw first (on_err_weaker c.place.result (λ made. (c.prepare.new.acts, registered, made)) c.place.ensures.in_order);
       done = on_ok_weaker c.place.result
-          (λ x. record { done = opened_there hand (rw here first) (rw c.in-Ok.ensures.same at x.done) x.free x.slots; room = rw hand at x.room })
+          (λ x. record { done = opened_there hand first (rw c.in-Ok.ensures.same at x.done) x.free x.slots; room = rw hand at x.room })
           c.place.ensures.placed;
       ready = c.place.ensures.ready;
       poller = rw (c.place.ensures.poller, c.in-Ok.ensures.same);
@@ -70,12 +70,9 @@ pub place-requires-clause-between : goal.place-requires-clause-between
 place-requires-clause-between g c = between_still c.requires.between refl (rw c.in-Ok.ensures.same)
 
 pub place-requires-clause-next : goal.place-requires-clause-next
-place-requires-clause-next g c =
-    let named = c.in-Some-next_names.ensures.client in
-    let here : c.in-Ok.berth.value.pair.slot ≡ c.in-Some.slot = rw (c.in-Ok.ensures.slot, named) in
-    record {
-      inside = rw (c.in-Ok.ensures.same, ← c.table.ensures.table, here) c.in-Some-next_names.ensures.inside;
-      own = search rules;
-      generation = rw (c.in-Ok.ensures.same, ← c.table.ensures.table, here, c.in-Ok.ensures.generation, named);
-      most = search rules;
-    }
+place-requires-clause-next g c = record {
+  inside = rw (c.in-Ok.ensures.same, ← c.table.ensures.table) c.in-Some-next_names.ensures.inside;
+  own = search rules;
+  generation = rw (c.in-Ok.ensures.same, ← c.table.ensures.table, c.generation-generation.ensures.value, c.in-Some-next_names.ensures.client);
+  most = search rules;
+}

@@ -1,34 +1,70 @@
-use Rattle.std.proofs.Common.{◌∙◌, refl}
-use Rattle.rounds.proofs.Rounds.{accept_both, accept_none, accept_took, between_still, between_took, not_ok, passed_up, room_same, still}
+use Rattle.std.proofs.Common.{inl, inr, refl, ◌∙◌, arith}
+use Rattle.rounds.proofs.Rounds.{accept_and_took, accept_both, accept_took, between_took, ended_by, not_ok, passed_up, room_same, still}
 use Rattle.rounds.proofs.round.accept.Goals as goal
 
-pub accept_all-requires : goal.accept_all-requires
-accept_all-requires g c = record {
-  between = between_took c.requires.between c.log_if_full.ensures.took (rw c.log_if_full.ensures.poller);
-  room = rw (room_same c.log_if_full.ensures.took) c.requires.room;
-}
-
-pub returns-in_err-accept_all : goal.returns-in_err-accept_all
-returns-in_err-accept_all g c =
-    let failed = c.from_residual.ensures.0 in
+pub loop-try-init : goal.loop-try-init
+loop-try-init g c =
+    let full = c.log_if_full.ensures in
     record {
-      between = c.accept_all.ensures.between;
-      worn = passed_up _ _ _ c.from_residual.ensures.1 c.in_err-accept_all.ensures.worn;
-      done = not_ok _ _ failed;
-      ended = not_ok _ _ failed;
-      ready = c.accept_all.ensures.ready ∙ c.log_if_full.ensures.took.ready;
-      poller = rw (c.accept_all.ensures.poller, c.log_if_full.ensures.poller);
-      logged = not_ok _ _ failed;
+      between = between_took c.requires.between full.took (rw (c.reset_tries.ensures, full.poller));
+      room = omega (arith, room_same full.took);
+      tries = rw c.reset_tries.ensures;
+      done = accept_took (rw (c.reset_tries.ensures, full.poller) (still c.args.poller.now)) full.took;
+      poller = rw (c.reset_tries.ensures, full.poller);
     }
 
-pub returns : goal.returns
-returns g c = record {
-  between = between_still c.accept_all.ensures.between refl (rw c.log_counted.ensures.logged);
-  worn = tt;
-  done = accept_both (accept_took (rw c.log_if_full.ensures.poller (still c.args.poller.now)) c.log_if_full.ensures.took)
-      (accept_both c.in_ok-accept_all.ensures.done (accept_none (rw c.log_counted.ensures.logged (still c.accept_all.new.poller))));
-  ended = rw c.log_counted.ensures.logged c.in_ok-accept_all.ensures.ended;
-  ready = c.accept_all.ensures.ready ∙ c.log_if_full.ensures.took.ready;
-  poller = rw (c.log_counted.ensures.logged, c.accept_all.ensures.poller, c.log_if_full.ensures.poller);
-  logged = c.log_counted.ensures.all;
+pub accept_next-requires : goal.accept_next-requires
+accept_next-requires g c =
+    let room = c.loop-try.invariant.room in
+    let same = room_same c.may_accept.ensures.took in
+    let more = c.loop-try-test.true in
+    record {
+      between = between_took c.loop-try.invariant.between c.may_accept.ensures.took refl;
+      room = omega arith;
+      may = c.may_accept.ensures.may c.if-not-may_accept.false;
+    }
+
+pub returns-then-not-may_accept : goal.returns-then-not-may_accept
+returns-then-not-may_accept g c =
+    let before = c.loop-try.invariant in
+    let took = c.may_accept.ensures.took in
+    record {
+      between = between_took before.between took refl;
+      worn = tt;
+      done = accept_and_took before.done took;
+      ended = inl (inr (c.may_accept.ensures.ended c.if-not-may_accept.true));
+      ready = took.ready ∙ before.done.connected.ready;
+      poller = before.poller;
+    }
+
+pub returns-in_err-accept_next : goal.returns-in_err-accept_next
+returns-in_err-accept_next g c = record {
+  between = c.accept_next.ensures.between;
+  worn = passed_up _ _ _ c.from_residual.ensures.1 c.in_err-accept_next.ensures.worn;
+  done = not_ok _ _ c.from_residual.ensures.0;
+  ended = not_ok _ _ c.from_residual.ensures.0;
+  ready = c.accept_next.ensures.ready ∙ c.may_accept.ensures.took.ready ∙ c.loop-try.invariant.done.connected.ready;
+  poller = rw (c.accept_next.ensures.poller, c.loop-try.invariant.poller);
 }
+
+pub returns-then-not-branch : goal.returns-then-not-branch
+returns-then-not-branch g c = record {
+  between = c.accept_next.ensures.between;
+  worn = tt;
+  done = accept_both (accept_and_took c.loop-try.invariant.done c.may_accept.ensures.took) c.in_ok-accept_next.ensures.done.done;
+  ended = ended_by c.accept_next.new.poller _ (c.in_ok-accept_next.ensures.ended c.if-not-branch.true);
+  ready = c.accept_next.ensures.ready ∙ c.may_accept.ensures.took.ready ∙ c.loop-try.invariant.done.connected.ready;
+  poller = rw (c.accept_next.ensures.poller, c.loop-try.invariant.poller);
+}
+
+pub loop-try-preserved : goal.loop-try-preserved
+loop-try-preserved g c =
+    let before = c.loop-try.invariant in
+    let tried = c.in_ok-accept_next.ensures in
+    record {
+      between = tried.between;
+      room = omega (arith, room_same c.may_accept.ensures.took, tried.done.room, before.room);
+      tries = omega (arith, tried.tries c.if-not-branch.false, before.tries, c.loop-try-test.true);
+      done = accept_both (accept_and_took before.done c.may_accept.ensures.took) tried.done.done;
+      poller = rw (c.accept_next.ensures.poller, before.poller);
+    }

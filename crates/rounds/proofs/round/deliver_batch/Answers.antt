@@ -1,5 +1,5 @@
-use Rattle.std.proofs.Common.{◌∙◌, inr, refl}
-use Rattle.rounds.proofs.{Rounds.{not_ok, passed_up}, Acts.{flag_still, own_reports}}
+use Rattle.std.proofs.Common.{◌∙◌, refl}
+use Rattle.rounds.proofs.{Rounds.{not_ok, passed_up}, Acts.{flag_raised, own_reports}}
 use Rattle.rounds.proofs.round.deliver_batch.Goals as goal
 
 pub deliver-requires : goal.deliver-requires
@@ -22,31 +22,17 @@ returns-in_err-listener g c = record {
   free = refl;
 }
 
-pub returns-then-listener : goal.returns-then-listener
-returns-then-listener g c =
-    let has = rw c.batch.ensures.batch at c.in_ok-listener.ensures.listener in
-    record {
-      between = record {
-        same = c.deliver.ensures.same ∙ c.requires.between.same;
-        idle = c.deliver.ensures.idle;
-        sized = rw c.raise_accept_flag.ensures c.requires.between.sized;
-      };
-      poller = rw c.raise_accept_flag.ensures;
-      worn = tt;
-      delivered = rw (c.table.ensures.table, c.batch.ensures.batch) at c.in_ok-listener.ensures.delivered;
-      flag = (λ _. inr (has.0 c.if-listener.true), λ _. rw c.raise_accept_flag.ensures);
-      own = own_reports _ _ c.args.poller.now.batch (rw c.table.ensures.table at c.table.ensures.own);
-      ready = refl;
-      free = refl;
-    }
-
-pub returns-else-listener : goal.returns-else-listener
-returns-else-listener g c = record {
-  between = record { same = c.deliver.ensures.same ∙ c.requires.between.same; idle = c.deliver.ensures.idle; sized = c.requires.between.sized };
-  poller = refl;
+pub returns : goal.returns
+returns g c = record {
+  between = record {
+    same = c.deliver.ensures.same ∙ c.requires.between.same;
+    idle = c.deliver.ensures.idle;
+    sized = rw c.raise_accept_flag.ensures c.requires.between.sized;
+  };
+  poller = rw c.raise_accept_flag.ensures;
   worn = tt;
   delivered = rw (c.table.ensures.table, c.batch.ensures.batch) at c.in_ok-listener.ensures.delivered;
-  flag = flag_still _ _ _ (rw c.batch.ensures.batch at c.in_ok-listener.ensures.listener) c.if-listener.false;
+  flag = rw c.raise_accept_flag.ensures (flag_raised _ _ _ (rw c.batch.ensures.batch at c.in_ok-listener.ensures.listener));
   own = own_reports _ _ c.args.poller.now.batch (rw c.table.ensures.table at c.table.ensures.own);
   ready = refl;
   free = refl;

@@ -1,11 +1,11 @@
-use Rattle.std.proofs.Common.{◌<◌, ◌+◌, refl, inl, inr, arith}
-use Rattle.dispatch.specs.Hands.{ticket_room}
-use Rattle.rounds.proofs.{Rounds.{accept_both, accept_took, between_took, not_ok, passed_up, room_same, still, took_none, Lasting, Looked, begun_not_early, but_worn, ended_early, ended_still, keeps, listens_still, looked_lasts, over_before, round_ended, round_of}, Acts.{few_tickets, capacity_kept, reported_le, few_sweep}}
+use Rattle.std.proofs.Common.{refl, inl, inr, arith}
+use Rattle.rounds.proofs.{Rounds.{accept_both, accept_took, between_took, not_ok, passed_up, room_same, still, took_none, Lasting, begun_not_early, but_worn, ended_still, keeps, listens_still, looked_lasts, over_before, round_ended, round_of}, Acts.{few_tickets, capacity_kept, reported_le, few_sweep}}
+use Rattle.rounds.specs.Rounds.{Looked}
 use Rattle.rounds.proofs.round.poller_round.Goals as goal
 
 pub returns-then-not-begin : goal.returns-then-not-begin
 returns-then-not-begin g c =
-    let early : ticket_room c.args.own.now.hand < 512 + c.args.shared.now.claims.words = ended_early _ _ _ _ c.begin.ensures.room c.if-not-begin.true c.slots.ensures in
+    let early = c.begin.ensures.early c.if-not-begin.true in
     let begun = c.begin.ensures.poller in
     record {
       between = record { same = c.requires.same; idle = c.requires.idle; sized = rw begun c.requires.sized };
@@ -20,11 +20,11 @@ returns-then-not-begin g c =
 pub returns-in_err-look : goal.returns-in_err-look
 returns-in_err-look g c =
     let looked = c.look.ensures in
-    let same = looked_lasts c.args.timing.now.limit c.args.own.now c.args.poller.now _ _ c.begin.ensures.poller looked.poller looked.listens looked.waits in
+    let same = looked_lasts c.args.timing.now.limit c.args.own.now c.args.poller.now c.begin.ensures.poller looked.poller looked.listens looked.waits in
     let failed = c.in_err-look.ensures.failed in
     record {
       between = between_took {p = c.args.poller.now} (record { same = c.requires.same; idle = c.requires.idle; sized = c.requires.sized }) looked.took (rw (looked.poller, c.begin.ensures.poller));
-      early = begun_not_early _ _ _ (c.begin.ensures.room.0 c.if-not-begin.false) c.slots.ensures;
+      early = begun_not_early _ _ (c.begin.ensures.room c.if-not-begin.false);
       waits = inr same.waits;
       round = λ _. round_ended (rw (looked.poller, c.begin.ensures.poller)) failed.2 looked.took;
       ended = not_ok _ _ c.from_residual.ensures.0;
@@ -36,11 +36,11 @@ pub returns-in_err-deliver_batch : goal.returns-in_err-deliver_batch
 returns-in_err-deliver_batch g c =
     let looked = c.look.ensures in
     let delivered = c.deliver_batch.ensures in
-    let same = looked_lasts c.args.timing.now.limit c.args.own.now c.args.poller.now _ _ c.begin.ensures.poller looked.poller looked.listens looked.waits in
+    let same = looked_lasts c.args.timing.now.limit c.args.own.now c.args.poller.now c.begin.ensures.poller looked.poller looked.listens looked.waits in
     let failed = c.from_residual-in_err-deliver_batch.ensures in
     record {
       between = delivered.between;
-      early = begun_not_early _ _ _ (c.begin.ensures.room.0 c.if-not-begin.false) c.slots.ensures;
+      early = begun_not_early _ _ (c.begin.ensures.room c.if-not-begin.false);
       waits = inr (rw delivered.poller same.waits);
       round = but_worn _ _ failed.1 c.in_err-deliver_batch.ensures.worn.0;
       ended = not_ok _ _ failed.0;
@@ -57,7 +57,7 @@ keep_time-requires-clause-room g c =
       capacity_kept c.in_ok-deliver_batch.ensures.delivered,
       reported_le c.look.new.poller.table c.look.new.poller.batch,
       c.look.ensures.few,
-      c.begin.ensures.room.0 c.if-not-begin.false,
+      c.begin.ensures.room c.if-not-begin.false,
       room_same c.look.ensures.took,
       c.deliver_batch.ensures.between.sized,
     )
@@ -67,11 +67,11 @@ returns-in_err-keep_time g c =
     let looked = c.look.ensures in
     let delivered = c.deliver_batch.ensures in
     let timed = c.keep_time.ensures in
-    let same = looked_lasts c.args.timing.now.limit c.args.own.now c.args.poller.now _ _ c.begin.ensures.poller looked.poller looked.listens looked.waits in
+    let same = looked_lasts c.args.timing.now.limit c.args.own.now c.args.poller.now c.begin.ensures.poller looked.poller looked.listens looked.waits in
     let failed = c.from_residual-in_err-keep_time.ensures in
     record {
       between = timed.between;
-      early = begun_not_early _ _ _ (c.begin.ensures.room.0 c.if-not-begin.false) c.slots.ensures;
+      early = begun_not_early _ _ (c.begin.ensures.room c.if-not-begin.false);
       waits = inr (rw (timed.poller, delivered.poller) same.waits);
       round = but_worn _ _ failed.1 c.in_err-keep_time.ensures.worn.0;
       ended = not_ok _ _ failed.0;
@@ -89,7 +89,7 @@ accept-requires-clause-room g c =
       capacity_kept c.in_ok-deliver_batch.ensures.delivered,
       reported_le c.look.new.poller.table c.look.new.poller.batch,
       c.look.ensures.few,
-      c.begin.ensures.room.0 c.if-not-begin.false,
+      c.begin.ensures.room c.if-not-begin.false,
       room_same c.look.ensures.took,
       c.deliver_batch.ensures.between.sized,
       few_tickets c.in_ok-keep_time.ensures.swept.posted,
@@ -103,12 +103,12 @@ returns-in_err-accept g c =
     let delivered = c.deliver_batch.ensures in
     let timed = c.keep_time.ensures in
     let accepted = c.accept.ensures in
-    let same = looked_lasts c.args.timing.now.limit c.args.own.now c.args.poller.now _ _ c.begin.ensures.poller looked.poller looked.listens looked.waits in
+    let same = looked_lasts c.args.timing.now.limit c.args.own.now c.args.poller.now c.begin.ensures.poller looked.poller looked.listens looked.waits in
     let swept = rw (delivered.poller, looked.poller, c.begin.ensures.poller) at c.in_ok-keep_time.ensures.swept.swept in
     let failed = c.from_residual-in_err-accept.ensures in
     record {
       between = accepted.between;
-      early = begun_not_early _ _ _ (c.begin.ensures.room.0 c.if-not-begin.false) c.slots.ensures;
+      early = begun_not_early _ _ (c.begin.ensures.room c.if-not-begin.false);
       waits = inr (rw (accepted.poller, timed.poller, delivered.poller) same.waits);
       round = but_worn _ _ failed.1 c.in_err-accept.ensures.worn.0;
       ended = not_ok _ _ failed.0;
@@ -124,34 +124,34 @@ returns g c =
     let timed = c.keep_time.ensures in
     let accepted = c.accept.ensures in
     let back = c.take_back.ensures in
+    let told = c.log_counted.ensures.logged in
     let begun : Looked c.args.poller.now c.look.new.poller = rw (looked.poller, c.begin.ensures.poller) in
-    let same : Lasting c.args.timing.now.limit c.args.own.now c.args.poller.now c.accept.new.poller =
-    rw (accepted.poller, timed.poller, delivered.poller)
-    (looked_lasts _ _ c.args.poller.now _ _ c.begin.ensures.poller looked.poller looked.listens looked.waits) in
+    let same : Lasting c.args.timing.now.limit c.args.own.now c.args.poller.now c.log_counted.new.self =
+    rw (told, accepted.poller, timed.poller, delivered.poller) (looked_lasts _ _ c.args.poller.now c.begin.ensures.poller looked.poller looked.listens looked.waits) in
     let end = back.poller in
     let swept = rw (delivered.poller, looked.poller, c.begin.ensures.poller) at c.in_ok-keep_time.ensures.swept.swept in
     record {
-      between = between_took accepted.between back.took (rw end);
-      early = begun_not_early _ _ _ (c.begin.ensures.room.0 c.if-not-begin.false) c.slots.ensures;
+      between = between_took accepted.between back.took (rw (end, told));
+      early = begun_not_early _ _ (c.begin.ensures.room c.if-not-begin.false);
       waits = inr (rw end same.waits);
       round = λ _. round_of c.deliver_batch.new.own begun looked.took
           c.in_ok-deliver_batch.ensures.delivered delivered.ready delivered.free delivered.own delivered.poller
           c.in_ok-keep_time.ensures.swept.posted timed.queues.ready timed.queues.free timed.own timed.poller
-          (accept_both c.in_ok-accept.ensures.done (accept_took (rw end (still c.accept.new.poller)) back.took)) (rw (end, accepted.poller));
+          (accept_both c.in_ok-accept.ensures.done (accept_took (rw (end, told) (still c.accept.new.poller)) back.took)) (rw (end, told, accepted.poller));
       ended = inr (record {
-        read = rw (end, accepted.poller, timed.poller, delivered.poller) looked.batch;
-        second = rw (end, accepted.poller) c.in_ok-keep_time.ensures.told;
-        swept = rw (end, accepted.poller) swept;
-        accepted = ended_still c.in_ok-accept.ensures.ended end back.unlimited;
+        read = rw (end, told, accepted.poller, timed.poller, delivered.poller) looked.batch;
+        second = rw (end, told, accepted.poller) c.in_ok-keep_time.ensures.told;
+        swept = rw (end, told, accepted.poller) swept;
+        accepted = ended_still (rw told c.in_ok-accept.ensures.ended) end back.unlimited;
         closed = back.closed;
         back = back.all;
-        drops = rw end c.in_ok-accept.ensures.logged;
+        drops = rw end c.log_counted.ensures.all;
       });
       keeps = record {
         opening = rw end same.opening;
         most = rw end same.most;
         heavy = rw end same.heavy;
-        swept = inr (rw (end, accepted.poller) swept);
+        swept = inr (rw (end, told, accepted.poller) swept);
         listens = listens_still c.args.poller.now same.listening end back.unlimited back.closed;
         over = λ over. over_before same.over (back.over over);
         took = rw (back.took.ready, accepted.ready, timed.queues.ready, delivered.ready, looked.took.ready);
@@ -162,7 +162,7 @@ returns g c =
 pub deliver_batch-requires : goal.deliver_batch-requires
 deliver_batch-requires g c =
     let most = c.look.ensures.few in
-    let room = c.begin.ensures.room.0 c.if-not-begin.false in
+    let room = c.begin.ensures.room c.if-not-begin.false in
     let same = room_same c.look.ensures.took in
     record {
       between = between_took {p = c.args.poller.now} (record { same = c.requires.same; idle = c.requires.idle; sized = c.requires.sized }) c.look.ensures.took

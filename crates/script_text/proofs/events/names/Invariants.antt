@@ -1,4 +1,5 @@
-use Rattle.script_text.proofs.Prelude.{◌≡◌, ◌+◌, ◌≤◌, ◌++◌, length, option_map, all_names}
+use Rattle.std.{proofs.Common.{◌≡◌, ◌+◌, ◌≤◌, ◌++◌, length}, specs.Prelude.option_map}
+use Rattle.script_text.specs.Events.{all_names}
 use Rattle.script_text.proofs.events.names.Given as goal
 
 -- the names so far, and those of the words that are left, are the names of all words

@@ -8,8 +8,8 @@ invariant-loop-thread g l = record {
   fresh : AreFresh (arc_value l.shared).claims l.rest.parts.seats.items;
   left : length l.pollers.items + l._thread ≡ l.count;
   numbered : map (λ thread. (thread.number, thread.poller)) l.threads.items ++ numbered l.pollers.items ≡ numbered l.fn.pollers.items;
-  slots : All (λ thread. IsEndOf (map (λ ends. ends.items) l.fn.rest.free.items) thread.number thread.own.free) l.threads.items;
-  ends : AreLeft (map (λ ends. ends.items) l.fn.rest.free.items) (map (λ ends. ends.items) l.rest.free.items);
+  slots : All (λ thread. IsEndOf l.fn.rest.free thread.number thread.own.free) l.threads.items;
+  ends : AreLeft l.fn.rest.free l.rest.free;
   len : vec_len l.threads ≡ l._thread;
   room : l.count ≤ vec_capacity l.threads;
 }

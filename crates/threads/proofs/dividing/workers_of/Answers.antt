@@ -1,15 +1,25 @@
-use Rattle.std.proofs.Common.{ap, ◌∙◌, ◌∷◌, ◌+◌, ℕ, map, arith}
-use Rattle.threads.{specs.Divided.HasOneOfEach, proofs.Divided.{all_pushed, left_of_left, numbers_more, one_of_all}}
+use Rattle.std.proofs.Common.{ap, refl, ◌∙◌, ◌∷◌, ◌+◌, ℕ, arith}
+use Rattle.claims.proofs.Seats.{fresh_holds_nothing}
+use Rattle.threads.{specs.Divided.HasOneOfEach, proofs.Divided.{all_pushed, left_of_left, numbers_more, one_of_all, one_of_each}}
 use Rattle.threads.proofs.dividing.workers_of.Goals as goal
 
+pub invariant_of-worker : goal.invariant_of-worker
+invariant_of-worker g c =
+    let owned = c.in_ok-shared.ensures in record { same = rw (owned.own, owned.shared); idle = fresh_holds_nothing _ _ owned.own }
+
 pub loop-index-preserved : goal.loop-index-preserved
-loop-index-preserved g c = record {
-  fresh = c.next_worker.ensures.fresh;
-  numbers = numbers_more _ _ _ _ _ _ c.push_reserved.ensures.items c.in_ok-next_worker.ensures.number c.loop-index.invariant.numbers;
-  slots = all_pushed (λ worker. HasOneOfEach (map (λ ends. ends.items) c.args.rest.now.free.items) (worker.own.free ∷ worker.others.items)) _ c.push_reserved.ensures.items
-      c.loop-index.invariant.slots (one_of_all (c.in_ok-next_worker.field-0.own.free ∷ c.in_ok-next_worker.field-0.others.items) c.loop-index.invariant.ends
-      c.in_ok-next_worker.ensures.slots);
-  ends = left_of_left c.loop-index.invariant.ends c.next_worker.ensures.left;
-  len = c.push_reserved.ensures.len ∙ ap (λ (n : ℕ). n + 1) c.loop-index.invariant.len;
-  room = omega (arith, c.push_reserved.ensures.capacity, c.loop-index.invariant.room);
-}
+loop-index-preserved g c =
+    let was = c.loop-index.invariant in
+    let pushed = c.push_reserved.ensures in
+    let others = c.in_ok-others.ensures in
+    let owned = c.in_ok-shared.ensures in
+    let ends = left_of_left was.ends others.left in
+    record {
+      fresh = owned.fresh;
+      numbers = numbers_more _ _ _ _ _ _ pushed.items refl was.numbers;
+      slots = all_pushed (λ worker. HasOneOfEach c.args.rest.now.free (worker.own.free ∷ worker.others.items)) _ pushed.items was.slots
+          (one_of_all was.ends (c.in_ok-shared.own.free ∷ c.in_ok-others.others.items) (one_of_each _ _ others.ends others.all others.left owned.slots));
+      ends = left_of_left ends owned.left;
+      len = pushed.len ∙ ap (λ (n : ℕ). n + 1) was.len;
+      room = omega (arith, pushed.capacity, was.room);
+    }

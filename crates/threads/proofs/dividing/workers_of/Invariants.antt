@@ -7,8 +7,8 @@ abbrev pub invariant-loop-index : goal.invariant-loop-index
 invariant-loop-index g l = record {
   fresh : AreFresh (arc_value l.shared).claims l.rest.parts.seats.items;
   numbers : map (λ worker. worker.number) l.made.items ≡ range_with_len l.first l.index;
-  slots : All (λ worker. HasOneOfEach (map (λ ends. ends.items) l.fn.rest.free.items) (worker.own.free ∷ worker.others.items)) l.made.items;
-  ends : AreLeft (map (λ ends. ends.items) l.fn.rest.free.items) (map (λ ends. ends.items) l.rest.free.items);
+  slots : All (λ worker. HasOneOfEach l.fn.rest.free (worker.own.free ∷ worker.others.items)) l.made.items;
+  ends : AreLeft l.fn.rest.free l.rest.free;
   len : vec_len l.made ≡ l.index;
   room : l.workers ≤ vec_capacity l.made;
 }

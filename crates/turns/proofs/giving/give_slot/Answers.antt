@@ -3,7 +3,7 @@ use Rattle.turns.proofs.giving.give_slot.Goals as goal
 
 pub returns-in-Err-clause-slots : goal.returns-in-Err-clause-slots
 returns-in-Err-clause-slots g c =
-    refused_slot c.args.own.now c.give.new.free c.keep_slot.new.self c.in-Err.field-0.0 c.args.slot c.in-Err.ensures.unchanged c.in-Err.ensures.given_back c.keep_slot.ensures
+    refused_slot c.args.own.now _ _ _ _ c.in-Err.ensures.unchanged c.in-Err.ensures.given_back c.keep_slot.ensures
 
 pub returns-in_default-clause-slots : goal.returns-in_default-clause-slots
-returns-in_default-clause-slots g c = put_inserts c.args.own.now.free.history c.give.new.free.history c.args.slot c.args.own.now.hand.slots c.in_default.ensures.put
+returns-in_default-clause-slots g c = put_inserts _ _ _ _ c.in_default.ensures.put

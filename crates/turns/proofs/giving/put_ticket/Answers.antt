@@ -3,8 +3,7 @@ use Rattle.turns.proofs.giving.put_ticket.Goals as goal
 
 pub returns-in-Err-clause-tickets : goal.returns-in-Err-clause-tickets
 returns-in-Err-clause-tickets g c =
-    refused_ticket c.args.own.now c.put_ticket.new.ready c.keep_ticket.new.self c.in-Err.field-0.0 c.args.ticket c.in-Err.ensures.unchanged c.in-Err.ensures.given_back
-    c.keep_ticket.ensures
+    refused_ticket c.args.own.now _ _ _ _ c.in-Err.ensures.unchanged c.in-Err.ensures.given_back c.keep_ticket.ensures
 
 pub returns-in_default-clause-tickets : goal.returns-in_default-clause-tickets
-returns-in_default-clause-tickets g c = put_inserts c.args.own.now.ready.history c.put_ticket.new.ready.history c.args.ticket c.args.own.now.hand.tickets c.in_default.ensures.put
+returns-in_default-clause-tickets g c = put_inserts _ _ _ _ c.in_default.ensures.put

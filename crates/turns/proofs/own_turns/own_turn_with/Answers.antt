@@ -1,6 +1,5 @@
-use Rattle.std.proofs.Common.{rules, ◌≡◌, ◌∙◌, Some, None, Ok, Err, slice_get, refl, sym, ap, inl, inr, length}
-use Rattle.dispatch.specs.Hands.{HandState}
-use Rattle.turns.proofs.Turns.{empty_is, err_is, err_not_ok, marks_none, no_room, none_taken, of_any, own_made, ran, same_answer, some_not_none}
+use Rattle.std.proofs.Common.{rules, ◌≡◌, ◌∙◌, Some, None, slice_get, refl, sym, inl, inr}
+use Rattle.turns.proofs.Turns.{empty_is, err_is, err_not_ok, marks_none, no_room, none_taken, of_any, ran, same_answer, some_not_none}
 use Rattle.turns.specs.declared.worker.Worked.TheVariants as worked
 use Rattle.turns.proofs.own_turns.own_turn_with.Goals as goal
 
@@ -13,30 +12,29 @@ returns-then-not-has_slot_room g c =
       only = of_any oldest _ (λ t. record { table = refl; others = λ other ne. refl });
       turn = of_any oldest _ (λ t. (refl, refl));
       none = (
-        λ is. inr (no_room c.has_slot_room.result (length c.args.own.now.hand.slots) c.args.own.now.hand.capacity c.has_slot_room.ensures c.if-not-has_slot_room.true),
+        λ is. inr (no_room c.has_slot_room.result _ _ c.has_slot_room.ensures c.if-not-has_slot_room.true),
         λ no. refl,
       );
       unchanged = λ is. (refl, refl);
       took = record { tickets = refl; slots = refl };
       worn = tt;
-      woken = λ is. absurd (some_not_none worked.Ended (sym is));
+      woken = λ is. some_not_none worked.Ended (sym is);
     }
 
 pub returns-in_default : goal.returns-in_default
 returns-in_default g c =
     let oldest = slice_get c.args.own.now.hand.tickets 0 in
     let none : oldest ≡ None = sym c.take_ticket.ensures.value ∙ c.in_default.is in
-    let still = ap (λ (h : HandState). record c.args.own.now { hand = h }) (none_taken c.args.own.now.hand c.take_ticket.new.self none c.take_ticket.ensures.left) in
     record {
       rest = record { same = c.requires.rest.same; idle = c.requires.rest.idle };
       marks = marks_none oldest c.args.heavy.now;
       only = rw none tt;
       turn = rw none tt;
       none = (λ is. inl (empty_is c.args.own.now.hand.tickets none), λ no. refl);
-      unchanged = λ is. (still, refl);
+      unchanged = λ is. (rw (none_taken _ _ none c.take_ticket.ensures.left), refl);
       took = record { tickets = refl; slots = refl };
       worn = tt;
-      woken = λ is. absurd (some_not_none worked.Ended (sym is));
+      woken = λ is. some_not_none worked.Ended (sym is);
     }
 
 pub returns-in_err-worked : goal.returns-in_err-worked
@@ -47,15 +45,15 @@ returns-in_err-worked g c =
       rest = record { same = c.turn_of.ensures.only.table ∙ c.requires.rest.same; idle = c.turn_of.ensures.idle };
       marks = rw (first, failed);
       only = rw first c.turn_of.ensures.only;
-      turn = rw (first, failed) (own_made g.A.Acts.made _ _ _ _ (Err c.in_err-worked.field-0.0) c.args.own.now _ _ c.take_ticket.ensures.left c.in_err-worked.ensures.made);
+      turn = rw (first, failed) (rw c.take_ticket.ensures.left at c.in_err-worked.ensures.made);
       none = (
-        λ is. absurd (err_not_ok failed is),
+        λ is. err_not_ok failed is,
         λ no. absurd (ran c.args.own.now first c.has_slot_room.ensures c.if-not-has_slot_room.false no),
       );
-      unchanged = λ is. absurd (err_not_ok failed is);
+      unchanged = λ is. err_not_ok failed is;
       took = record { tickets = c.turn_of.ensures.took.tickets; slots = c.turn_of.ensures.took.slots };
       worn = rw failed c.in_err-worked.ensures.worn;
-      woken = λ is. absurd (err_not_ok failed is);
+      woken = λ is. err_not_ok failed is;
     }
 
 pub returns : goal.returns
@@ -65,12 +63,12 @@ returns g c =
       rest = record { same = c.turn_of.ensures.only.table ∙ c.requires.rest.same; idle = c.turn_of.ensures.idle };
       marks = rw first c.follow_up.ensures.marks;
       only = rw first c.turn_of.ensures.only;
-      turn = rw first (own_made g.A.Acts.made _ _ _ _ (Ok c.in_ok-worked.worked) c.args.own.now _ _ c.take_ticket.ensures.left c.in_ok-worked.ensures.made);
+      turn = rw first (rw c.take_ticket.ensures.left at c.in_ok-worked.ensures.made);
       none = (
-        λ is. absurd (some_not_none c.in_ok-worked.worked is),
+        λ is. some_not_none c.in_ok-worked.worked is,
         λ no. absurd (ran c.args.own.now first c.has_slot_room.ensures c.if-not-has_slot_room.false no),
       );
-      unchanged = λ is. absurd (some_not_none c.in_ok-worked.worked is);
+      unchanged = λ is. some_not_none c.in_ok-worked.worked is;
       took = record { tickets = c.turn_of.ensures.took.tickets; slots = c.turn_of.ensures.took.slots };
       worn = tt;
       woken = λ is all. rw first (c.follow_up.ensures.woken (same_answer c.in_ok-worked.worked worked.Ended is) all);

@@ -1,8 +1,5 @@
-use Rattle.std.proofs.Common.{Ok, false, refl, subst}
-use Rattle.ready.specs.declared.ticket.Ticket.{Ticket}
-use Rattle.turns.{specs.Turns.{ActsLeft, TurnEnd}, proofs.Turns.end_of}
+use Rattle.std.proofs.Common.{false, refl}
 use Rattle.dispatch.proofs.Holding.{let_go}
-use Rattle.turns.specs.declared.worker.Worked.TheVariants as worked
 use Rattle.turns.proofs.worker.end.Goals as goal
 
 pub give_back-requires-clause-retired : goal.give_back-requires-clause-retired
@@ -12,9 +9,16 @@ pub returns : goal.returns
 returns g c =
     let given = c.give_back.ensures in
     record {
-      done = subst (λ (t : Ticket). (turn : TurnEnd t (Ok worked.Ended) c.args.own.now c.give_back.new.own)
-          × ActsLeft g.A.Acts.made t (Ok worked.Ended) 3 false turn.woke c.args.acts.now c.give_back.new.acts) c.ticket-ticket.ensures
-          (end_of g.A.Acts.made c.args.acts.now c.close-closed.new.acts c.retire.new.self c.give_back.new.acts c.ticket-ticket.result c.args.own.now c.give_back.new.own (rw c.ticket-ticket.ensures c.close-closed.ensures.made)
-          c.retire.ensures.made given.made (rw given.seat c.retire.ensures.change)
-          (record { kept = given.given.kept; slots = given.given.slots; last = given.given.last }) given.took given.ready given.tickets);
+      done = record {
+        noted = 0;
+        woke = false;
+        held = tt;
+        done = record {
+          seat = rw given.seat c.retire.ensures.change;
+          tickets = rw (given.ready, given.tickets);
+          slots = record { kept = given.given.kept; slots = given.given.slots; last = given.given.last };
+          took = record { tickets = rw given.ready; slots = given.took };
+        };
+        acts = (_, c.close-closed.ensures.made, (_, c.retire.ensures.made, given.made));
+      };
     }

@@ -1,6 +1,6 @@
-use Rattle.std.proofs.Common.{refl}
+use Rattle.std.proofs.{Common.{false, refl, sym, true}, lemmas.Bool.false≢true}
 use Rattle.dispatch.proofs.Holding.{let_go}
-use Rattle.turns.proofs.{Turns.{left_put, left_quiet}, worker.leave.Goals.{in-Wake, in-Quiet}}
+use Rattle.turns.proofs.worker.leave.Goals.{in-Wake, in-Quiet}
 use Rattle.turns.proofs.worker.leave.Goals as goal
 
 pub put_ticket-requires-clause-released : goal.put_ticket-requires-clause-released
@@ -9,8 +9,23 @@ put_ticket-requires-clause-released g c = let_go _ _ c.args.own.now.seat c.relea
 pub returns : goal.returns
 returns g c = record {
   left = elim c.match-release.branch [
-    | in-Wake w ↦ (let put = w.put_ticket.ensures in left_put g.A.Acts.made c.args.ticket _ _ _ _ w.own-is w.acts-is w.in-Wake.ensures.change put.seat put.kept put.tickets
-        put.took put.free put.slots w.in-Wake.ensures.made put.made)
-    | in-Quiet w ↦ left_quiet g.A.Acts.made c.args.ticket _ _ _ w.own-is w.acts-is w.in-Quiet.ensures.change.0 w.in-Quiet.ensures.change.1 w.in-Quiet.ensures.made
+    | in-Wake w ↦ (let put = w.put_ticket.ensures in
+        rw (w.own-is, w.acts-is) (record {
+          woke = true;
+          quiet = λ is. absurd (false≢true (sym is));
+          done = record {
+            seat = rw put.seat w.in-Wake.ensures.change;
+            tickets = record { kept = put.kept; tickets = put.tickets };
+            slots = rw (put.free, put.slots);
+            took = record { tickets = put.took; slots = rw put.free };
+          };
+          acts = (_, w.in-Wake.ensures.made, (_, put.made, refl));
+        }))
+    | in-Quiet w ↦ rw (w.own-is, w.acts-is) (record {
+      woke = false;
+      quiet = λ is. w.in-Quiet.ensures.change.1;
+      done = record { seat = w.in-Quiet.ensures.change.0; tickets = refl; slots = refl; took = record { tickets = refl; slots = refl } };
+      acts = (_, w.in-Quiet.ensures.made, refl);
+    })
   ];
 }

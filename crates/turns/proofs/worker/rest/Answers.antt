@@ -1,5 +1,6 @@
-use Rattle.turns.proofs.Turns.{settled_first}
+use Rattle.std.proofs.Common.{refl}
+use Rattle.turns.proofs.Turns.{act_first}
 use Rattle.turns.proofs.worker.rest.Goals as goal
 
 pub returns : goal.returns
-returns g c = record { done = settled_first g.A.Acts.made _ _ _ c.settle.ensures.ticket c.settle.ensures.made c.leave_settled.ensures.done }
+returns g c = record { done = act_first (λ woke. refl) c.settle.ensures.made (rw c.settle.ensures.ticket at c.leave_settled.ensures.done) }

@@ -1,4 +1,4 @@
-use Rattle.world.proofs.{Prelude.{◌≡◌, Some, arith, common_steps, opening, run, HeadlineHolds, CoreLaws}, Headline.{headline, support}}
+use Rattle.world.proofs.Headline.{◌≡◌, Some, arith, common_steps, opening, run, HeadlineHolds, CoreLaws, headline, support}
 use Rattle.world.proofs.replaying.replay.Goals as goal
 
 pub returns : goal.returns

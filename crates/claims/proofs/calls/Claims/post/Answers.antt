@@ -1,15 +1,15 @@
-use Rattle.std.proofs.Common.{◌+◌, ◌%◌, ◌^◌, rules, arith, refl, ap}
-use Rattle.claims.proofs.Steps.{one, wakes, post, post_adds, post_change, wakes_no_holder, may_step, state, reads, adds, stepped, held_by_none, mark_kept, kept_beside, within}
+use Rattle.std.proofs.Common.{rules, arith, refl, ap}
+use Rattle.claims.proofs.Steps.{one, wakes, post_adds, post_change, wakes_no_holder, may_step, state, reads, adds, stepped, held_by_none, mark_kept, kept_beside, within}
 use Rattle.claims.proofs.calls.Claims.post.Goals as goal
 
 pub fetch_add-found-requires : goal.fetch_add-found-requires
 fetch_add-found-requires c =
-    (search rules, search rules, may_step post (λ n. (n + 4) % 2 ^ 64) post_adds _ _ _ _ _ (within c.self.invariant c.self.view_is c.requires.inside) (omega arith))
+    (search rules, search rules, may_step post_adds _ _ _ _ _ (within c.self.invariant c.self.view_is c.requires.inside) tt (omega arith))
 
 pub invariant_of-seat : goal.invariant_of-seat
 invariant_of-seat c =
     let e = c.fetch_add-found.ensures in
-    kept_beside e c.seat.invariant (omega arith) (omega arith) (mark_kept e c.seat.invariant refl)
+    kept_beside e c.seat.invariant refl (omega arith) (omega arith) (mark_kept e c.seat.invariant)
 
 pub returns-clause-change : goal.returns-clause-change
 returns-clause-change c =

@@ -1,17 +1,17 @@
-use Rattle.std.proofs.Common.{rules, bit_and, refl}
-use Rattle.claims.proofs.Steps.{some_wait, release, release_clears, release_change, none_wait, may_step, state, reads, adds, stepped, knew_none, kept_beside, within, holds_now}
+use Rattle.std.proofs.Common.{rules, arith, refl}
+use Rattle.claims.proofs.Steps.{some_wait, release_clears, release_change, none_wait, may_step, state, reads, adds, stepped, knew_none, kept_beside, within, holds_now}
 use Rattle.claims.proofs.calls.Claims.release.Goals as goal
 
 pub fetch_and-found-requires : goal.fetch_and-found-requires
 fetch_and-found-requires c = (
   search rules,
   search rules,
-  may_step release (λ n. bit_and n 18446744073709551614) release_clears _ _ _ _ _ (within c.self.invariant c.self.view_is c.requires.inside)
-      (holds_now _ c.seat.inside.seat.me.0 c.seat.view_is c.requires.holder),
+  may_step release_clears _ _ _ _ _ (within c.self.invariant c.self.view_is c.requires.inside)
+      (holds_now _ c.seat.inside.seat.me.0 c.seat.view_is c.requires.holder) (omega arith),
 )
 
 pub invariant_of-seat : goal.invariant_of-seat
-invariant_of-seat c = kept_beside c.fetch_and-found.ensures c.seat.invariant refl c.seat.invariant.unworn refl
+invariant_of-seat c = kept_beside c.fetch_and-found.ensures c.seat.invariant refl refl c.seat.invariant.unworn refl
 
 pub returns-clause-change : goal.returns-clause-change
 returns-clause-change c =

@@ -1,4 +1,5 @@
-use Rattle.script.proofs.Prelude.{◌≡◌, take, Ok, played, line_stepped}
+use Rattle.std.proofs.Common.{◌≡◌, take, Ok}
+use Rattle.script.specs.{Faults.played, Transfers.line_stepped}
 use Rattle.script.proofs.flow_script.FlowScript.play.Given as goal
 
 -- so far the state is that of the steps up to here

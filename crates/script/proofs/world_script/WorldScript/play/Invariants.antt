@@ -1,4 +1,5 @@
-use Rattle.script.proofs.Prelude.{◌≡◌, take, Ok, played, line_happened}
+use Rattle.std.proofs.Common.{◌≡◌, take, Ok}
+use Rattle.script.specs.{Faults.played, Runs.line_happened}
 use Rattle.script.proofs.world_script.WorldScript.play.Given as goal
 
 -- so far the world is that of the events up to here

@@ -1,4 +1,4 @@
-use Rattle.script_text.proofs.Prelude.{arith, ap, length, ◌==◌, length-slice_split, count_by-le-length}
+use Rattle.std.proofs.{Common.{arith, ap, length, ◌==◌}, lemmas.List.{Splits.length-slice_split, Sums.count_by-le-length}}
 use Rattle.script_text.proofs.lines.Lines.new.Goals as goal
 
 pub invariant_of-result : goal.invariant_of-result

@@ -1,6 +1,7 @@
-use Rattle.script_text.proofs.Prelude.{◌≡◌, false, ℕ, ◌<◌, get_or, [], bytes_eq, word_text, Accept}
+use Rattle.std.proofs.Common.{◌≡◌, drop}
+use Rattle.script_text.{specs.Events.word_named, proofs.FirstWords.word_in}
 use Rattle.script_text.proofs.word.Word.named.Given as goal
 
--- the text is none of the words so far
+-- the text is what it is among the rows that are left
 abbrev pub invariant-loop-word : goal.invariant-loop-word
-invariant-loop-word l = (k : ℕ) → k < l.word-index → bytes_eq l.text (word_text (get_or l.word-items k (Accept, record { ref_ptr = (0, 0); now = [] })).0) ≡ false
+invariant-loop-word l = word_named l.text ≡ word_in (drop l.word-index l.word-items) l.text

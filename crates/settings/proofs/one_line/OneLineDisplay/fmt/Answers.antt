@@ -1,5 +1,5 @@
-use Rattle.std.{proofs.{Common.{rules, ◌≡◌, ℕ, ◌+◌, ◌<◌, ◌≤◌, length, take, get_or, chars, IsUtf8, arith, ◌++◌, ◌∷◌, [], List, true, false, codes, nat_lt, if◌then◌else◌, refl, sym, ap, ◌∙◌, append-nil, take_all}, Output.{has_written_append, has_written_of_eq}, lemmas.{Bool.Decides.nat_tests, Iterator.{YieldsList-from_chars, Consumers.{YieldsList-turn, YieldsList-end}}, List.{take_more, flat_map_more, length_push}}}, specs.List.flat_map}
-use Rattle.settings.specs.Faults.{shown_character}
+use Rattle.std.{proofs.{Common.{rules, ◌≡◌, ℕ, ◌+◌, ◌<◌, ◌≤◌, length, take, get_or, chars, IsUtf8, arith, ◌++◌, ◌∷◌, [], List, codes, refl, sym, ap, ◌∙◌, append-nil, take_all}, Output.{has_written_append, has_written_of_eq}, lemmas.{Bool.{le-ltb, lt-ltb}, Iterator.{YieldsList-from_chars, Consumers.{YieldsList-turn, YieldsList-end}}, List.{take_more, flat_map_more, length_push}}}, specs.List.flat_map}
+use Rattle.settings.specs.Faults.{dots, shown_character}
 use Rattle.settings.proofs.one_line.OneLineDisplay.fmt.Goals as goal
 
 -- the shown text of a character more
@@ -10,23 +10,13 @@ one_more cs n c h =
     ∙ ap (flat_map shown_character) (sym (take_more cs n c h.0))
 
 -- more than 64 characters end in `..`, and fewer in nothing
-is_cut : (cs : List ℕ) → 64 < length cs → nat_lt 64 (length cs) ≡ true
-is_cut cs h = grind (arith, nat_tests)
+cut_short : (cs : List ℕ) (n : ℕ) → n ≡ 64 → 64 < length cs → flat_map shown_character (take n cs) ++ codes ".." ≡ flat_map shown_character (take 64 cs) ++ dots (length cs)
+cut_short cs n full more = rw (lt-ltb 64 (length cs) more, full) refl
 
-is_whole : (cs : List ℕ) → length cs ≤ 64 → nat_lt 64 (length cs) ≡ false
-is_whole cs h = grind (arith, nat_tests)
-
-cut_short : (cs : List ℕ) (n : ℕ) → n ≡ 64 → 64 < length cs → flat_map shown_character (take n cs) ++ codes ".." ≡ flat_map shown_character (take 64 cs)
-    ++ (if nat_lt 64 (length cs) then codes ".." else [])
-cut_short cs n full more =
-    let cut : nat_lt 64 (length cs) ≡ true = is_cut cs more in
-    rw (cut, full) refl
-
-all_shown : (cs : List ℕ) (n : ℕ) → n ≡ length cs → n ≤ 64 → flat_map shown_character (take n cs) ≡ flat_map shown_character (take 64 cs)
-    ++ (if nat_lt 64 (length cs) then codes ".." else [])
+all_shown : (cs : List ℕ) (n : ℕ) → n ≡ length cs → n ≤ 64 → flat_map shown_character (take n cs) ≡ flat_map shown_character (take 64 cs) ++ dots (length cs)
 all_shown cs n all few =
-    let whole : nat_lt 64 (length cs) ≡ false = is_whole cs (omega (arith, all, few)) in
-    rw whole (ap (flat_map shown_character) (take_all n cs (omega (arith, all)) ∙ sym (take_all 64 cs (omega (arith, all, few)))) ∙ sym (append-nil _))
+    rw (le-ltb 64 (length cs) (omega (arith, all, few)))
+    (ap (flat_map shown_character) (take_all n cs (omega (arith, all)) ∙ sym (take_all 64 cs (omega (arith, all, few)))) ∙ sym (append-nil _))
 
 pub returns-then-shown-eq-MAX_SHOWN-clause-writes : goal.returns-then-shown-eq-MAX_SHOWN-clause-writes
 returns-then-shown-eq-MAX_SHOWN-clause-writes g c = λ plain is_ok.

@@ -1,4 +1,4 @@
-use Rattle.std.proofs.{Common.{◌≡◌, ℕ, suc, ◌+◌, ◌<◌, List, [], ◌∷◌, ◌++◌, length, take, get_or, sym, subst, ap, ◌∙◌, arith}, Math.Seq.take-suc}
+use Rattle.std.proofs.{Common.{◌≡◌, ℕ, ◌+◌, ◌<◌, List, [], ◌∷◌, ◌++◌, length, take, get_or, ap, ◌∙◌, arith}, lemmas.List.take_more}
 use Rattle.statistics.specs.{Counts.{Step, Loaded, AreSums, added}, declared.{counts.Counts.Counts, totals.Totals.Totals}}
 use Rattle.statistics.proofs.statistics.Statistics.totals.Goals as goal
 
@@ -13,12 +13,7 @@ module _ {M : Type 0} (did : Step → M → Type 0) where
   sums_next : (places seen : List M) (i : ℕ) (place : M) (before sums now : Totals) (counts : Counts) → seen ≡ places → i < length seen → place ≡ get_or seen i place
       → AreSums did (take i places) before sums → did (Loaded counts) place → now ≡ added counts sums → AreSums did (take (i + 1) places) before now
   sums_next places seen i place before sums now counts same inside is rest read next =
-      let one : i + 1 ≡ suc i = omega arith in
-      let inside_too = subst (λ (ps : List M). i < length ps) same inside in
-      let taken : take (i + 1) places ≡ take i places ++ place ∷ [] = ap (λ (n : ℕ). take n places) one ∙ take-suc places i place inside_too
-      ∙ ap (λ (p : M). take i places ++ p ∷ []) (sym (is ∙ ap (λ (ps : List M). get_or ps i place) same)) in
-      subst (λ (ps : List M). AreSums did ps before now) (sym taken)
-      (subst (λ (t : Totals). AreSums did (take i places ++ place ∷ []) before t) (sym next) (sums_more (take i places) place before sums counts rest read))
+      rw (next, ← same, take_more seen i place inside, ← is) (sums_more (take i seen) place before sums counts (rw same rest) read)
 
 pub loop-place-preserved : goal.loop-place-preserved
 loop-place-preserved g c = let same : c.deref-place-items.result.now ≡ c.args.self.now = cc in record {

@@ -3,6 +3,6 @@ use Rattle.threads.proofs.polling.PollerThread.poll.Goals as goal
 
 pub returns-in-Err-clause-cut : goal.returns-in-Err-clause-cut
 returns-in-Err-clause-cut g c =
-    let keeps = c.poller_round-polled.ensures.keeps in
-    round_cut c.in-Err.ensures.met c.poller_round-polled.ensures.refused c.poller_round-polled.ensures.round c.stop_if_asked.ensures.asked keeps.most keeps.listens keeps.took
-    c.stop_if_asked.ensures.own
+    let asked = c.stop_if_asked.ensures in
+    let polled = c.poller_round-polled.ensures in
+    rw asked.own at (round_cut c.in-Err.ensures.met polled.refused polled.round asked.asked polled.keeps.most polled.keeps.listens polled.keeps.took)

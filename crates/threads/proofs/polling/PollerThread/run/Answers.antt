@@ -1,6 +1,7 @@
-use Rattle.threads.proofs.Loops.{run_made}
 use Rattle.threads.proofs.polling.PollerThread.run.Goals as goal
 
 pub returns-clause-made : goal.returns-clause-made
-returns-clause-made g c = run_made _ _ _ c.args.self.now.poller _ _ c.args.self.now.own _ _ _ c.begin.ensures.own c.begin.ensures.begun c.run_rounds-ended.ensures.made
-    c.finish.ensures.own
+returns-clause-made g c =
+    let (second, told, begun) = c.begin.ensures.begun in
+    let ended = c.run_rounds-ended in
+    (ended.result.why, second, ended.new.self.poller, told, rw c.finish.ensures.own (rw (begun, c.begin.ensures.own) at ended.ensures.made))

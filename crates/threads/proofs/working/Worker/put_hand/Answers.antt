@@ -3,4 +3,4 @@ use Rattle.threads.proofs.Loops.{worker_none}
 use Rattle.threads.proofs.working.Worker.put_hand.Goals as goal
 
 pub returns-clause-ran : goal.returns-clause-ran
-returns-clause-ran g c = worker_none refl c.put_tickets.ensures.tickets c.put_tickets.ensures.took refl (rw c.put_tickets.ensures.slots) refl
+returns-clause-ran g c = worker_none c.put_tickets.ensures.tickets c.put_tickets.ensures.took (rw c.put_tickets.ensures.slots) refl refl

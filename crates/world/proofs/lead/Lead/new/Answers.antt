@@ -1,4 +1,4 @@
-use Rattle.world.proofs.Prelude.{◌-◌, Some, length, ap, arith, replicate, take-append_seam, is_padded}
+use Rattle.world.proofs.Headline.{◌-◌, Some, length, ap, arith, replicate, take-append_seam, is_padded}
 use Rattle.world.proofs.lead.Lead.new.Goals as goal
 
 pub invariant_of-result : goal.invariant_of-result

@@ -1,4 +1,4 @@
-use Rattle.world.proofs.Prelude.{◌≡◌, ◌<◌, ℕ, true, [], ◌∷◌, ◌++◌, length, lt-ltb, length-append, lt-leb, Some, slice_get, arith, gets, Retired, busy, SlotState, WorkerState, State, free, grows, free_length}
+use Rattle.world.proofs.Headline.{◌≡◌, ◌<◌, ℕ, true, [], ◌∷◌, ◌++◌, length, lt-ltb, length-append, lt-leb, Some, slice_get, arith, gets, Retired, busy, SlotState, WorkerState, State, free, grows, free_length}
 use Rattle.world.proofs.world.World.free.Goals as goal
 
 -- a slot that is not worn goes to the free queue

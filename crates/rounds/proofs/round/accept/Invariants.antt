@@ -1,0 +1,14 @@
+use Rattle.std.proofs.Common.{◌≡◌, ◌+◌, ◌≤◌}
+use Rattle.dispatch.specs.Hands.{ticket_room}
+use Rattle.rounds.specs.Openings.{Between, AcceptDone, OnlyAccepted}
+use Rattle.rounds.proofs.round.accept.Given as goal
+
+-- each try takes at most one ticket in hand
+abbrev pub invariant-loop-try : goal.invariant-loop-try
+invariant-loop-try g l = record {
+  between : Between l.shared.claims l.own l.poller;
+  room : 4 ≤ l._try + ticket_room l.own.hand;
+  tries : l._try + l.poller.tries ≡ 4;
+  done : AcceptDone l.fn.poller l.poller l.fn.own l.own;
+  poller : OnlyAccepted l.fn.poller l.poller;
+}
