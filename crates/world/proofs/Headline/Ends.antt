@@ -61,7 +61,8 @@ pub lies_in : (o : Option SlotState) (c : Connection) → option_and_then (λ (p
 lies_in o c e = grind arith
 
 -- the pair changed, or the notes
-renewed : {past : History} {st q : State} {s g : ℕ} {notes more : List ℕ} {c d : Connection} (ok : EndsOk past st s g notes c) → q.kernel.ends ≡ st.kernel.ends → d.ends ≡ c.ends → d.pair.generation ≡ c.pair.generation
+renewed : {past : History} {st q : State} {s g : ℕ} {notes more : List ℕ} {c d : Connection} (ok : EndsOk past st s g notes c) → q.kernel.ends ≡ st.kernel.ends → d.ends ≡ c.ends
+    → d.pair.generation ≡ c.pair.generation
     → PairOk (past s g) (λ side. is_pending q (token_at s side g) || is_nonempty more) d.pair ok.ends → EndsOk past q s g more d
 renewed ok kernel ends generation pair = grind arith
 
@@ -181,7 +182,8 @@ module _ {past : History} {st : State} (all : AllOk past st) where
       (ok _ (better (λ g side. refl) (names_on refl refl refl (λ side g entry h. h)) (all.each s old was)))
 
 -- one slot gets a note more, which covers all flags
-noted_ok : {past : History} {st q : State} {s : ℕ} {p : SlotState} (g : ℕ) → q.table ≡ st.table → q.limits ≡ st.limits → q.kernel.ends ≡ st.kernel.ends → PlaceOk past st s p → PlaceOk past q s (with_note p g)
+noted_ok : {past : History} {st q : State} {s : ℕ} {p : SlotState} (g : ℕ) → q.table ≡ st.table → q.limits ≡ st.limits → q.kernel.ends ≡ st.kernel.ends → PlaceOk past st s p
+    → PlaceOk past q s (with_note p g)
 noted_ok {q} {s} {p} g table limits ends ok = record {
   entry = rw table ok.entry;
   later = λ g side younger. ok.later g side younger ∙ same_before side limits;
@@ -380,7 +382,8 @@ module _ {st : State} {e : Event} {s : ℕ} where
       → Was st e s (record old { connection = Some c; notes = notes })
   goes_on_in lies is goes = grind (arith, goes)
 
-one_was : {st : State} {e : Event} {s : ℕ} {old new : SlotState} (i : ℕ) (p : SlotState) → slice_get st.slots s ≡ Some old → Was st e s new → slice_get (slice_set st.slots s new) i ≡ Some p → Was st e i p
+one_was : {st : State} {e : Event} {s : ℕ} {old new : SlotState} (i : ℕ) (p : SlotState) → slice_get st.slots s ≡ Some old → Was st e s new → slice_get (slice_set st.slots s new) i ≡ Some p
+    → Was st e i p
 one_was {st} i p lies was here = grind (arith, at_one st.slots i lies refl here, keeps_connection)
 
 heard_continues : {st : State} {e : Event} {s : ℕ} (c : Connection) (b : Bool) → Continues st e s c (if b then record c { pair = noted c.pair } else c)

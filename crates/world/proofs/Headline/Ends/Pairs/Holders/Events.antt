@@ -289,7 +289,8 @@ goes_on : {st next : State} → next.flag ≡ st.flag → next.kernel.armed ≡ 
 goes_on {st} {next} flag armed backlog queue batch l = grind arith
 
 -- another queue has it where this one has
-queues_on : {st : State} {ends : List (Option Registered)} {queue : List Name} {slots : List SlotState} {workers : List WorkerState} {past : List Past} → (hears st.kernel.queue ≡ true → hears queue ≡ true)
+queues_on : {st : State} {ends : List (Option Registered)} {queue : List Name} {slots : List SlotState} {workers : List WorkerState} {past : List Past}
+    → (hears st.kernel.queue ≡ true → hears queue ≡ true)
     → Listens st → Listens (record st { kernel = record st.kernel { ends = ends; queue = queue }; slots = slots; workers = workers; past = past })
 queues_on {st} {queue = queue} more l = grind arith
 
