@@ -24,21 +24,6 @@ pub struct ThreadCell<T> {
     pub has_ended: Cell<bool>,
 }
 
-impl<T: Drop> ThreadCell<T> {
-    /// Makes a step, which returns whether the thread ends with it, unless that has ended.
-    fn make<F: FnOnce(&mut T) -> bool + Drop>(&self, step: F)
-        requires { F.IsAlwaysCallable step }
-    {
-        if self.has_ended.get() {
-            return;
-        }
-        if let Ok(mut thread) = self.thread.try_borrow_mut() {
-            let has_ended = step(&mut thread);
-            self.has_ended.set(has_ended);
-        }
-    }
-}
-
 /// The server's threads, and what is outside of them.
 #[derive(Drop)]
 pub struct Driver {
@@ -90,8 +75,15 @@ impl Driver {
 
     /// Makes a step of a poller's thread, unless it has ended.
     pub fn round<R: Wait + Log>(&self, rt: &R, poller: usize) {
-        if let Some(cell) = self.pollers.get(poller) {
-            cell.make(|thread| self.round_of(rt, poller, thread));
+        let Some(cell) = self.pollers.get(poller) else {
+            return;
+        };
+        if cell.has_ended.get() {
+            return;
+        }
+        if let Ok(mut thread) = cell.thread.try_borrow_mut() {
+            let has_ended = self.round_of(rt, poller, &mut thread);
+            cell.has_ended.set(has_ended);
         }
     }
 
@@ -114,8 +106,15 @@ impl Driver {
 
     /// Makes a step of a worker's thread, unless it would wait or has ended.
     pub fn turn<R: Wait + Log>(&self, rt: &R, number: usize) {
-        if let Some(cell) = self.workers.get(number) {
-            cell.make(|worker| self.turn_of(rt, worker));
+        let Some(cell) = self.workers.get(number) else {
+            return;
+        };
+        if cell.has_ended.get() {
+            return;
+        }
+        if let Ok(mut worker) = cell.thread.try_borrow_mut() {
+            let has_ended = self.turn_of(rt, &mut worker);
+            cell.has_ended.set(has_ended);
         }
     }
 

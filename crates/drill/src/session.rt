@@ -7,7 +7,7 @@ use crate::making::driver_of;
 use crate::outside::Outside;
 use crate::reading::read_step;
 use crate::sizes::read_sizes;
-use crate::step::Step;
+use crate::step::{Planned, Point, Step};
 use log::{Level, Log, Logged};
 use script_text::{Counts, Page};
 use std::io::{self, ErrorKind};
@@ -133,18 +133,26 @@ fn run<R: Wait + Log + Print>(rt: &R, driver: &Driver, step: Step) -> io::Result
             .outside
             .with((), |outside| outside.record(slot, event)),
         Step::Stop => driver.stop(),
-        Step::Show => {
-            return driver
-                .outside
-                .with(Ok(Outcome::Nothing), |outside| show(rt, outside));
-        }
-        Step::Later(point, planned) => {
-            driver
-                .outside
-                .with(Ok(()), |outside| outside.plan.add(point, planned))?;
-            return Ok(Outcome::Nothing);
-        }
+        Step::Show => return show_all(rt, driver),
+        Step::Later(point, planned) => return plan(driver, point, planned),
     }
+    compare_all(rt, driver)
+}
+
+fn show_all<R: Print>(rt: &R, driver: &Driver) -> io::Result<Outcome> {
+    driver
+        .outside
+        .with(Ok(Outcome::Nothing), |outside| show(rt, outside))
+}
+
+fn plan(driver: &Driver, point: Point, planned: Planned) -> io::Result<Outcome> {
+    driver
+        .outside
+        .with(Ok(()), |outside| outside.plan.add(point, planned))?;
+    Ok(Outcome::Nothing)
+}
+
+fn compare_all<R: Wait + Print>(rt: &R, driver: &Driver) -> io::Result<Outcome> {
     driver
         .outside
         .with(Ok(Outcome::Nothing), |outside| agree(rt, outside))

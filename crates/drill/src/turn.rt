@@ -47,9 +47,11 @@ impl Outside {
         if self.state.is_faulty {
             self.checks.fail("a turn after a fault");
         }
-        let machine = self.machines.get_mut(slot);
-        let is_begun = machine.is_some_and(|machine| machine.begin());
-        self.must(is_begun);
+        let begun = match self.machines.get_mut(slot) {
+            Some(machine) => machine.begin(),
+            None => false,
+        };
+        self.must(begun);
         self.turn = Some(Turn::at(slot));
     }
 
