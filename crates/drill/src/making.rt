@@ -17,7 +17,7 @@ use std::cell::{Cell, RefCell};
 use std::rc::Rc;
 use std::sync::atomic::AtomicBool;
 use std::sync::{Arc, Wait};
-use threads::{Ending, Rest, Server, ServerThreads, divide};
+use threads::{Ending, PollerThread, Rest, Server, ServerThreads, Worker, divide};
 
 /// Makes the driver of a server of these sizes.
 pub fn driver_of<R: Wait>(rt: &R, alloc: Global, sizes: Sizes) -> Result<Driver, ServerFault>
@@ -28,11 +28,7 @@ pub fn driver_of<R: Wait>(rt: &R, alloc: Global, sizes: Sizes) -> Result<Driver,
     let settings = settings_of(alloc, sizes)?;
     let cast = cast_of(rt, alloc, &outside, &settings, sizes)?;
     let ending = Ending::new(cast.pollers.len());
-    let ServerThreads {
-        pollers,
-        mut workers,
-    } = cast;
-    workers.reverse();
+    let (pollers, workers) = cells_of(alloc, cast)?;
     Ok(Driver {
         alloc,
         sizes,
@@ -40,9 +36,24 @@ pub fn driver_of<R: Wait>(rt: &R, alloc: Global, sizes: Sizes) -> Result<Driver,
         clock,
         ending,
         is_stopped: AtomicBool::new(false),
-        pollers: cells(alloc, pollers)?,
-        workers: cells(alloc, workers)?,
+        pollers,
+        workers,
     })
+}
+
+/// The threads of a server that has not begun.
+type ThreadCells = (
+    Vec<ThreadCell<PollerThread<KernelFront>>>,
+    Vec<ThreadCell<Worker<KernelFront>>>,
+);
+
+fn cells_of(alloc: Global, cast: ServerThreads<KernelFront>) -> Result<ThreadCells, AllocError> {
+    let ServerThreads {
+        pollers,
+        mut workers,
+    } = cast;
+    workers.reverse();
+    Ok((cells(alloc, pollers)?, cells(alloc, workers)?))
 }
 
 /// Puts each thread in a cell, the last one first.
