@@ -1,5 +1,6 @@
-//! Tests of the crates below `dispatch`, and of `world` and its kernel: what threads do, what a log is handed, calls that
-//! the programs do not make, and mutants that no row shows.
+//! Tests of the crates below `dispatch`, and of `world` and its kernel: what threads do, what a log is handed, what a
+//! wire in memory plays, of which nothing is promised, calls that the programs do not make, and mutants that no row
+//! shows.
 //!
 //! They are a crate of their own since the tests of a crate are proved together with all of its functions again.
 #![tactic(auto)]

@@ -1,72 +1,137 @@
-// What no program does with a pair.
-ghost use Rattle.std.specs.Prelude.{◌≡◌};
-ghost use Rattle.engine.specs.Classes.{class_by, counted};
-
-use crate::all_well;
-use engine::{Class, Tally, Turn, Wire, class_of, pending, turn};
-use relay_core::{Answer, Call, CallKind, Kind, Pair, Side};
+// What a wire in memory plays, of which nothing is promised, over a session in which each side gives some bytes and then
+// its end, and takes what the other side gave; and what no program does with a pair.
+use crate::{all_well, no_row};
+use engine::{Class, Play, PlayList, ScriptWire, Turn, Wire, class_of, pending, turn};
+use relay_core::{Answer, Call, CallKind, Fault, Kind, Pair, Side, Verdict};
 use std::alloc::{AllocError, Global};
-use std::io::{self, ErrorKind};
+use std::io::ErrorKind;
 use std::test::Fail;
 
-/// A wire each of whose calls has to wait.
-#[derive(Drop)]
-struct Silent {
-    tally: Tally,
-}
+/// What is seen of a session after a turn: what the pair reports, how many bytes the client and the target took, and
+/// how many plays are left to the target and how many faults it counted.
+type Seen = (Verdict, usize, usize, usize, u64);
 
-impl Silent {
-    fn refuse(&mut self, call: CallKind, kind: ErrorKind) -> io::Error
-        ensures { self.new.tally ≡ counted (class_by call self.old.tally.joined kind) self.old.tally }
-    {
-        self.tally.refuse(call, kind);
-        io::Error::from(kind)
+/// It failed since a write took nothing.
+const TOOK_NONE: Verdict = Verdict::Failed(Fault::Broken {
+    side: Side::Target,
+    call: CallKind::Write,
+    kind: Kind::Zero,
+});
+
+/// The number of the play that comes before the first write to the target, and what is seen then. The turn has as many
+/// calls as are needed with one play more.
+static ROWS: [(u8, Seen); 4] = [
+    (0, (Verdict::Done, 2, 3, 0, 0)),
+    (1, (Verdict::Done, 2, 3, 0, 0)),
+    (2, (Verdict::Live, 2, 0, 2, 0)),
+    (3, (TOOK_NONE, 0, 0, 3, 1)),
+];
+
+/// The play of a number.
+fn play(number: u8) -> Play {
+    match number {
+        0 => Play::Interrupted,
+        1 => Play::Take(1),
+        2 => Play::Blocked,
+        _ => Play::Zero,
     }
 }
 
-impl Wire for Silent {
-    ghost use Rattle.engine.specs.Wires.{counts_alone};
+/// A list of these plays.
+fn plays<const N: usize>(alloc: Global, plays: [Play; N]) -> Result<Vec<Play>, AllocError> {
+    Ok(Vec::from_array(alloc, plays)?)
+}
 
-    ghost told = { λ w. counts_alone w.tally.faults w.tally.blocks };
+/// One side of the session: it gives these bytes and its end, and takes this many.
+fn wire(alloc: Global, joined: bool, gives: &[u8], takes: usize) -> Result<ScriptWire, AllocError> {
+    let reads = plays(alloc, [Play::Bytes(gives.to_vec(alloc)?), Play::End])?;
+    let writes = plays(alloc, [Play::Take(takes)])?;
+    ScriptWire::new(alloc, joined, reads, writes, plays(alloc, [Play::Shut])?)
+}
 
-    fn read(&mut self, _buffer: &mut [u8]) -> io::Result<usize> {
-        Err(self.refuse(CallKind::Read, ErrorKind::WouldBlock))
+/// What is seen of a session over these wires.
+fn seen(alloc: Global, mut client: ScriptWire, mut target: ScriptWire) -> Result<Seen, AllocError> {
+    let mut pair = Pair::new(alloc, 0, 1, 4, 0, b"")?;
+    let _outcome = turn(&mut pair, &mut client, &mut target, 9, 0, 0);
+    let (down, up) = (client.written().len(), target.written().len());
+    Ok((pair.verdict(), down, up, target.left(), target.faults()))
+}
+
+/// The first row that goes otherwise.
+fn first_wrong(alloc: Global) -> Result<Option<usize>, AllocError> {
+    for (row, (number, wanted)) in ROWS.iter().enumerate() {
+        let client = wire(alloc, true, b"abc", 2)?;
+        let mut target = wire(alloc, false, b"xy", 3)?;
+        target.disturb(PlayList::Writes, 0, play(*number))?;
+        if seen(alloc, client, target)? != *wanted {
+            return Ok(Some(row));
+        }
     }
+    Ok(None)
+}
 
-    fn write(&mut self, _offer: &[u8]) -> io::Result<usize> {
-        Err(self.refuse(CallKind::Write, ErrorKind::WouldBlock))
-    }
+#[test]
+fn goes_on_waits_or_fails_before_a_write(rt: HostRuntime) -> Result<(), Fail> {
+    no_row(&rt, first_wrong(rt.alloc()))
+}
 
-    fn shut_write(&mut self) -> io::Result<()> {
-        Ok(())
-    }
+/// A wire of which the first play for each call does not fit it.
+fn unfit(alloc: Global) -> Result<ScriptWire, AllocError> {
+    let unconnected = Play::Fault(Kind::NotConnected);
+    let reads = plays(alloc, [Play::Take(1), Play::Blocked, unconnected])?;
+    let writes = plays(alloc, [Play::End])?;
+    let closings = [Play::Take(1), Play::Joined, Play::Blocked, Play::Shut];
+    ScriptWire::new(alloc, false, reads, writes, plays(alloc, closings)?)
+}
 
-    fn joined(&mut self) -> io::Result<()> {
-        Err(self.refuse(CallKind::Join, ErrorKind::WouldBlock))
-    }
+/// Why each call fails: a read, a write, a join, and a shutdown.
+fn errors(wire: &mut ScriptWire) -> [Option<ErrorKind>; 4] {
+    [
+        wire.read(&mut [0]).map_err(|error| error.kind()).err(),
+        wire.write(b"a").map_err(|error| error.kind()).err(),
+        wire.joined().map_err(|error| error.kind()).err(),
+        wire.shut_write().map_err(|error| error.kind()).err(),
+    ]
+}
 
-    fn faults(&self) -> u64 {
-        self.tally.faults()
-    }
+/// Whether a play that does not fit is a fault, and connects nothing. Without a play a call would block, but a
+/// shutdown succeeds. Until the wire is connected, the error that it is not counts as "would block".
+fn answers(wire: &mut ScriptWire) -> bool {
+    let (other, blocked) = (Some(ErrorKind::Other), Some(ErrorKind::WouldBlock));
+    let unconnected = Some(ErrorKind::NotConnected);
+    errors(wire) == [other; 4]
+        && errors(wire) == [blocked, blocked, blocked, None]
+        && errors(wire) == [unconnected, blocked, blocked, None]
+        && (wire.faults(), wire.blocks(), wire.left()) == (4, 6, 0)
+}
 
-    fn blocks(&self) -> u64 {
-        self.tally.blocks()
-    }
+#[test]
+fn answers_without_a_play_that_fits(rt: HostRuntime) -> Result<(), Fail> {
+    let mut wire = unfit(rt.alloc())?;
+    all_well(Ok(answers(&mut wire)))
 }
 
 /// Whether a pair that moved at second 9, nine seconds before its limit, stays live at second 0, where its wires have
 /// nothing, and a write of it that is offered nothing takes nothing.
-fn is_patient(alloc: Global) -> Result<bool, AllocError> {
-    let (mut client, mut target) = (wire(true), wire(false));
+fn is_patient(
+    alloc: Global,
+    mut client: ScriptWire,
+    mut target: ScriptWire,
+) -> Result<bool, AllocError> {
     let mut pair = Pair::new(alloc, 0, 1, 4, 9, b"")?;
     let outcome = turn(&mut pair, &mut client, &mut target, 64, 0, 9);
     Ok(outcome == Turn::Quiet && !pair.fits(Call::Write(Side::Target), Answer::Wrote(1)))
 }
 
-fn wire(joined: bool) -> Silent {
-    Silent {
-        tally: Tally::new(joined),
-    }
+/// A wire without plays.
+fn silent(alloc: Global, joined: bool) -> Result<ScriptWire, AllocError> {
+    ScriptWire::new(
+        alloc,
+        joined,
+        Vec::new(alloc),
+        Vec::new(alloc),
+        Vec::new(alloc),
+    )
 }
 
 /// Whether a broken pipe is a failure of that kind, and a pending error is one of any kind.
@@ -82,5 +147,7 @@ fn are_failures() -> bool {
 // refuses pending_may_be_not_connected: a pending error may be reported as not connected, which is no failure
 #[test]
 fn what_no_program_does(rt: HostRuntime) -> Result<(), Fail> {
-    all_well(Ok(is_patient(rt.alloc())? && are_failures()))
+    let (client, target) = (silent(rt.alloc(), true)?, silent(rt.alloc(), false)?);
+    let is_well = is_patient(rt.alloc(), client, target)? && are_failures();
+    all_well(Ok(is_well))
 }
