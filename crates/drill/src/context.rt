@@ -42,7 +42,7 @@ impl Clock for ScriptClock {
     }
 }
 
-/// Notes each turn, as it begins and behind its last call.
+/// Notes each turn, as it begins and after its last call.
 #[derive(Drop)]
 pub struct TurnGate<'a> {
     pub outside: &'a OutsideCell,

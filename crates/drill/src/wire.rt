@@ -162,7 +162,7 @@ pub struct Asked<'a> {
 }
 
 impl Outside {
-    /// Makes a call, behind the events that are planned before it. It must be the one that the connection in the slot's
+    /// Makes a call, after the events that are planned before it. It must be the one that the connection in the slot's
     /// machine makes next, with the same bytes, in the slot's turn. Returns how many bytes it moved.
     pub fn call(&mut self, asked: Asked<'_>, buffer: &mut [u8]) -> Result<usize, ErrorKind> {
         let wanted = self.next_wanted();

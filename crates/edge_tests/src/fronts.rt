@@ -170,7 +170,7 @@ fn wires_answer_as_their_sockets(rt: HostRuntime) -> Result<(), Fail> {
 /// Clients, and what fronts have of them.
 type Clients = Vec<(TcpStream, SocketWire)>;
 
-/// Has a front accept so many clients more. Answers whether it leaves the next one then.
+/// Has a front accept this many clients more. Answers whether it leaves the next one then.
 fn leaves_after(
     rt: &HostRuntime,
     address: SocketAddr,

@@ -12,7 +12,7 @@ use std::fmt;
 /// What a relay does beside what its settings say.
 #[derive(Clone, Copy)]
 pub struct Extras {
-    /// A line of statistics is logged each time so many seconds have passed, 1 to 86,400; none: nothing is counted.
+    /// How many seconds apart lines of statistics are logged, 1 to 86,400; none: nothing is counted.
     pub stats: Option<u32>,
     /// It opens no more connections once standard input has ended.
     pub until_eof: bool,

@@ -60,7 +60,7 @@ impl RecordQueue {
         })
     }
 
-    /// The first of so many next values of the count. No two calls give the same before it has gone round.
+    /// The first of this many next values of the count. No two calls give the same before it has gone round.
     pub(crate) fn next(&self, count: u64) -> u64 {
         self.count.fetch_add(count, Ordering::SeqCst)
     }

@@ -57,7 +57,7 @@ pub fn log_peer<L: Logs, D: Display>(
     rt.message(clients.level(), &peer);
 }
 
-/// A connection is done: both its ends were passed on, with so many bytes to the target (`up`) and to the client.
+/// A connection is done: both its ends were passed on, with this many bytes to the target (`up`) and to the client.
 #[derive(Clone, Copy)]
 pub struct Done {
     pub slot: usize,

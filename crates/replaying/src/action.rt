@@ -17,7 +17,7 @@ pub(crate) enum Action {
     Opened(u64),
     /// A turn began.
     Began,
-    /// This call offered so many bytes, and got this answer.
+    /// This call offered this many bytes, and got this answer.
     Called(u64, Call, usize, Answer),
     /// A turn ended, and left no call to make.
     Quiet(u64),

@@ -330,8 +330,7 @@ fn place<F: Front + Counting, A: Moves<F>, R: Wait + Logs>(
 ) -> Result<(), ServerFault>
     requires between { Between shared.now.claims own.old poller.old }
     requires next { IsNext poller.old ticket }
-    requires slot { berth.value.pair.slot ≡ ticket.slot }
-    requires generation { berth.value.pair.generation ≡ ticket.generation }
+    requires berth { (berth.value.pair.slot ≡ ticket.slot) × (berth.value.pair.generation ≡ ticket.generation) }
     requires room { 1 ≤ ticket_room own.old.hand }
     ensures between { Between shared.now.claims own.new poller.new }
     ensures worn { IfErr result (λ fault. OnlyWorn fault own.new.seat) }

@@ -8,7 +8,7 @@ use Rattle.settings.specs.{Table.key_name, declared.faults.SettingsFault.{Settin
 abbrev pub shown_character : ℕ → List ℕ
 shown_character c = if is_control c then codes "\\u{" ++ (digits 16 false c ++ codes "}") else encode_utf8 c
 
--- what stands for those of so many characters that are not shown
+-- what stands for those of this many characters that are not shown
 abbrev pub dots : ℕ → List ℕ
 dots count = if nat_lt 64 count then codes ".." else []
 

@@ -175,7 +175,8 @@ impl<S: Stream> SocketWire<S> {
         self.error = error.raw_os_error();
     }
 
-    /// Whether the wire reads its socket. If it does not, it looks, and reads from now on if it was told to.
+    /// Whether the wire reads its socket. If it does not, it looks, and reads from now on if there was a report
+    /// of something to read.
     fn looks(&mut self) -> bool
         ensures kept { self.old.socket.reads ≡ true → (result ≡ true) × (self.new.stream ≡ self.old.stream) }
         ensures look { self.old.socket.reads ≡ false → S.did (Looked result) self.old.stream self.new.stream }
