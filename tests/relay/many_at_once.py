@@ -253,7 +253,7 @@ def rings_are_as_large_as_is_set():
     assert 0 <= grown(1) < 500_000 and most - 500_000 < grown(65536) < most + 500_000
 
 
-# refuses waits_with_work_in_hand: a poller that may accept more clients waits 100 ms for a report
+# refuses waits_with_work_in_hand: a poller that may accept more clients waits 200 ms for a report
 def accepts_without_waiting():
     # Nothing is reported of clients who are closed at once, and four are accepted in a round.
     relay = Relay(target="255.255.255.255:1", workers=1, log="off")

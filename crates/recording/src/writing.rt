@@ -78,7 +78,7 @@ impl<R: Wait, W: Write> Drain for Writer<'_, R, W> {
     }
 }
 
-/// Writes records of one queue, and answers whether there was one: so many at most, since threads may put them there as
+/// Writes records of one queue, and answers whether there was one: up to a limit, since threads may put them there as
 /// fast as they are written, and the others fill meanwhile.
 fn write_run<R: Wait, W: Write>(
     rt: &R,

@@ -148,7 +148,7 @@ Registered made slot (Ok opened) from to = made act.Register slot from to
 Registered made slot (Err cause) from to = (to ≡ from) ⊎ made act.Register slot from to
 
 -- What became of an accepted connection that was for this slot, what is logged and counted of it, and the acts that
--- were made there: it was opened; it was dropped; no connection can be opened in the slot; or one exchange found it held
+-- were made there: it was opened; it was dropped; no connection can be opened in the slot; or one exchange found it not free
 pub data Fate (slot : ℕ) (opened dropped : Type 0) (made : List act.Act → Type 0)
     (old new : PollerState) (had has : SeatState) : Type 0 where
   Opened : IsOpened old new → opened → made act.open_slot → Fate slot opened dropped made old new had has

@@ -23,14 +23,15 @@ use std::sync::Wait;
 ///
 /// If the hand has no room for a ticket of each slot and 512 more, only the batch is emptied. Else the tickets in hand
 /// stay there, in front of those of the round. The round asks once for reports and delivers them ([`deliver`]). It
-/// waits for them only if no sweep is due, no ticket is in hand, and either no connection can be accepted or accept(2)
-/// was starved; if the round before left a client to other pollers, for a millisecond at most. A sweep is due if at the
-/// second of the round before the idle limit, if there is one, had passed since the last sweep, or since the poller
-/// began: the round then posts a note at each slot in which the poller has opened a connection, in rising order. Then
-/// it reads its second. While connections may be waiting and a slot is free, it accepts and opens them, with at most 4
-/// calls of accept(2), until its front leaves one to other pollers.
+/// waits for them only if no sweep is due and no ticket is in hand: if no connection can be accepted, or accept(2) was
+/// starved, for as long as its front waits; else, if the round before left a client to other pollers, for a millisecond
+/// at most. A sweep is due if at the second of the round before the idle limit, if there is one, had passed since the
+/// last sweep, or since the poller began: the round then posts a note at each slot in which the poller has opened a
+/// connection, in rising order. Then it reads its second. While connections may be waiting and a slot is free, it
+/// accepts and opens them, with at most 4 calls of accept(2), until its front leaves one to other pollers.
 ///
-/// Once all connections that the poller may open were opened, its front no longer listens.
+/// Once all connections that the poller may open were opened, its front no longer listens: neither at the round's end,
+/// nor while it asks for reports, if they were opened before.
 ///
 /// An opened connection has the slot's next generation, one note and one ticket, and is logged. One whose opening fails
 /// is closed and logged or counted, and its slot is in hand. At its end the round logs what is counted, once a second.

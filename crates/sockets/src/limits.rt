@@ -1,5 +1,5 @@
-/// The longest wait for reports of one poller or of two, in milliseconds for each. More pollers wait so much longer
-/// that all together wake as often as two.
+/// For each poller, of two at least, the longest wait for reports is this many milliseconds longer: so all together wake
+/// ten times a second.
 pub(crate) const WAIT_MILLIS: u64 = 100;
 
 /// The most pollers that the settings can ask for.
@@ -11,10 +11,10 @@ pub(crate) const BULK: u8 = 4;
 /// This many probes without an answer end a connection.
 pub(crate) const PROBES: u32 = 5;
 
-/// A poller leaves no client to another that has fewer by this many or less, nor by this part of that one's number.
+/// A poller leaves no client to another that has fewer by this many or less.
 pub(crate) const LEAST_MARGIN: usize = 2;
 
-/// Nor to one that has fewer by this part of its own number or less.
+/// Nor to one that has fewer by this part of that other's number or less.
 pub(crate) const MARGIN_PART: usize = 8;
 
 /// A poller that has left a client this many times in a row takes the next one.

@@ -35,8 +35,8 @@ pub struct Server<F: Front> {
 /// last has ended. Once `is_stopped` is set, no more connections are opened, and it ends once all are closed.
 ///
 /// Refuses with `NoMemory` if there is none for what the threads own, before any has started; else with the fault
-/// that a thread met, or `Threads` for one that could not be started. Of several it is that of the first poller, or
-/// else of the first worker.
+/// that a thread met, or `Threads` for one that could not be started. Of several it is that of the first poller or
+/// `Threads`, whichever came first, or else that of the first of the other threads: pollers, and then workers.
 pub fn run_threads<F, G: Gate + Sync, C: Clock + Sync, R: Wait + Threads + Log + Sync>(
     rt: &R,
     alloc: Global,

@@ -11,7 +11,7 @@ use Rattle.dispatch.specs.{declared.shared.Own.Own, Acts.{Act, AreMade, busy_tur
 use Rattle.token.specs.Names.{last_generation}
 use Rattle.turns.specs.declared.worker.Worked.TheVariants as worked
 
--- the slot was held
+-- the claim got the slot: the answer is not Busy
 abbrev pub WasHeld : Result Worked ServerFault → Type 0
 WasHeld (Ok worked.Busy) = ⊥
 WasHeld result = Unit {0}

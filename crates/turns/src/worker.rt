@@ -39,7 +39,7 @@ pub enum Worked {
 /// Runs one turn of the connection that a ticket names.
 ///
 /// Whatever is in hand is put first, until an item is refused. Then the slot is claimed, the connection is taken out of
-/// its place, its pair is given a report if notes wait, and it is run on its two wires, between the gate's two calls. A
+/// its place, its flags are raised if notes wait, and it is run on its two wires, between the gate's two calls. A
 /// connection that is done or failed is logged and closed, its slot is given back unless its generation is the last
 /// one, and the poller is woken. Any other connection is put back before the slot is released. If the release finds
 /// notes, a ticket is put for them. What a queue refuses stays in hand.
@@ -359,7 +359,7 @@ fn end<F: Front, A: Moves<F>, R: Wait + Log>(
     give_back(rt, acts, own, ticket, closed);
 }
 
-/// Wakes the poller, which may be waiting for the slot. Woken before the slot is given back, it could keep waiting.
+/// Wakes the poller, which may be waiting for the slot: not before the slot is given back, or it could keep waiting.
 fn wake_poller<F: Front>(shared: &Shared<F>, _own: &Own, ended: Ticket)
     requires given { ended.generation < last_generation → KeepsSlot ended.slot _own.now.free.history _own.now.hand }
     ensures woken { F.woke shared.now.waker ended.slot }
