@@ -1,7 +1,6 @@
 -- A run with one event more, and the connections of records with one more.
 use Rattle.std.{proofs.{Common.{◌≡◌, ℕ, List, [], ◌∷◌, ◌++◌, drop, take, Option, Some, None, refl, sym, ◌∙◌, ap, arith, option_and_then, ◌-◌, ◌<◌, length, get_or, subst}, lemmas.{List.{append-nil, append_assoc, take-append-drop, Elements.{All-append, All-cons}}, Option.{get_or_from_slice_get, slice_get_read}}}, specs.Prelude.All}
-use Rattle.world.proofs.Runs.{run_and}
-use Rattle.world.specs.{declared.{event.Event.Event, limits.Limits.Limits}, States.{State, opening}, Steps.step, Runs.run}
+use Rattle.world.{proofs.Headline.run_and, specs.{declared.{event.Event.Event, limits.Limits.Limits}, States.{State, opening}, Steps.step, Runs.run}}
 use Rattle.replaying.specs.{declared.{action.Action.Action, recording.Numbered.Numbered}, Traces.{IsHistory, action_in, and_then, joined, trace_next, trace_of_run}, Sequences.{Follows, FollowsAt}}
 
 nothing_more : (o : Option State) → trace_next o (λ (q : State). []) ≡ []
