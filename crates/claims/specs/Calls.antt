@@ -3,7 +3,7 @@ use Rattle.std.specs.Prelude.{◌≡◌, ℕ, ◌^◌, true, false, [], ◌∷�
 use Rattle.claims.specs.{declared.answers.{Posted.{Posted, TheVariants.{Wake, Quiet, Worn}}, Claimed.{Claimed, TheVariants.{Held, Busy}}, Released.{Released, TheVariants.{Wake as ReleaseWakes, Quiet as ReleaseQuiet}}, Adopted.{Adopted as AdoptAnswer, TheVariants.{Adopted, NotFree}}}, Seats.{SeatState, account_at, posts_of, HoldsNot, Adds}}
 use Rattle.claims.specs.declared.view.Exchange.TheVariants as exchange
 
--- Wake only where the caller does not hold the slot. Worn makes no exchange, and comes only once the seat has posted 2 ^ 56 times
+-- Wake only where the caller does not hold the slot. Worn makes no exchange, and comes only after the seat's 2 ^ 56 posts
 abbrev pub PostChange : ℕ → SeatState → Posted → SeatState → Type 0
 PostChange slot old Wake new = Adds slot (exchange.Post true ∷ []) old new × HoldsNot old slot
 PostChange slot old Quiet new = Adds slot (exchange.Post false ∷ []) old new

@@ -1,5 +1,5 @@
--- What `open` refuses, and what it leaves; and what follows from the claim rule for all seats together, in plain terms. Part
--- of the promises.
+-- What `open` refuses, and what it leaves; and what follows from the claim rule for all seats together, in plain
+-- terms. Part of the promises.
 use Rattle.std.specs.Prelude.{◌≡◌, ◌↔◌, ℕ, ◌+◌, ◌<◌, ◌≤◌, ◌⊎◌, true, false, List, map, replicate, All, sum_by, if◌then◌else◌, slice_index, slice_index_or}
 use Rattle.claims.specs.{declared.view.{Account.Account, View.View}, Words.{one, some_wait, word_of, WordState}, Views.{blank, column}, Rule.ClaimRule, Seats.{SeatState, view_of}}
 
@@ -56,8 +56,8 @@ abbrev pub NotesAreKept : Type 0
 NotesAreKept = OfEachSlot (λ word accounts. (state : WordState) → word ≡ word_of state →
     state.pending + sum_by (λ a. a.taken) accounts ≡ sum_by (λ a. a.posted) accounts)
 
--- of the tickets that were made for a slot those that are still out are as many as it needs by its word: one while notes
--- wait and nobody holds it, otherwise none
+-- of the tickets that were made for a slot those that are still out are as many as it needs by its word: one while
+-- notes wait and nobody holds it, otherwise none
 abbrev pub TicketsAreNeeded : Type 0
 TicketsAreNeeded = OfEachSlot (λ word accounts. (state : WordState) → word ≡ word_of state →
     sum_by (λ a. a.redeemed) accounts + due state ≡ sum_by (λ a. a.minted) accounts)

@@ -1,5 +1,5 @@
--- The claim rule, and what one step does. Part of the promises. The rule is true of all words and of the views of all seats
--- between any two steps, in every schedule.
+-- The claim rule, and what one step does. Part of the promises. The rule is true of all words and of the views of all
+-- seats between any two steps, in every schedule.
 use Rattle.std.specs.Prelude.{◌≡◌, ℕ, ◌+◌, ◌^◌, ◌<◌, ◌≤◌, ◌==◌, true, List, [], ◌∷◌, ◌++◌, length, All, sum_by, if◌then◌else◌, slice_index, slice_index_or, slice_set}
 use Rattle.claims.specs.{declared.view.{Account.Account, Exchange.Exchange, View.View}, Words.{WordState, StepKind, post, claim, adopt, word_of, word_after, made, kind_of}, Views.{blank, after, accounts_of, trace_in, traces_at}}
 use mathlib.Core.Option.{some}
@@ -53,9 +53,9 @@ pub record ClaimRule (slots : ℕ) (words : List ℕ) (views : List View) : Type
   pub unworn : All (λ v. sum_by (λ a. a.posted) (accounts_of v) ≤ 2 ^ 56) views
   pub few_seats : length views + sum_by (λ v. v.spare) views ≤ 32
 
--- In a state that met the rule the seat did one step of this kind at the slot's word, which it found so. Its trace of the
--- slot got the exchange that the kind makes by what the word said, and the rule was kept. The state is some state, since no
--- clause can name what other threads do, but the seat's own view stands in it, before and after
+-- In a state that met the rule the seat did one step of this kind at the slot's word, which it found so. Its trace of
+-- the slot got the exchange that the kind makes by what the word said, and the rule was kept. The state is some state,
+-- since no clause can name what other threads do, but the seat's own view stands in it, before and after
 pub record KeepsRule (kind : StepKind) (slots slot found : ℕ) (old new : View) : Type 0 where
   pub words : List ℕ
   pub views : List View

@@ -51,7 +51,7 @@ pub record Adds (slot : ℕ) (exchanges : List Exchange) (old new : SeatState) :
   pub here : trace_at new slot ≡ trace_at old slot ++ exchanges
   pub only : OnlyAt slot old new
 
--- The seat did one step of this kind, by which the rule was kept. It is closed: a caller's proof does not open it unasked
+-- The seat did one step of this kind, by which the rule was kept. It is closed: proofs open it only if asked
 unfoldable pub Stepped : StepKind → ℕ → SeatState → SeatState → Type 0
 Stepped kind slot old new = (found : ℕ) × KeepsRule kind old.table.words slot found (view_of old) (view_of new)
 

@@ -1,5 +1,5 @@
--- The claim word of a slot, how a step of each kind changes it, and which exchange that is. Part of the promises. This file
--- stands alone, so that a model of the server can describe its own steps with the same words.
+-- The claim word of a slot, how a step of each kind changes it, and which exchange that is. Part of the promises. This
+-- file stands alone, so that a model of the server can describe its own steps with the same words.
 use Rattle.std.specs.Prelude.{ℕ, zero, suc, ◌+◌, ◌*◌, Bool, true, false, if◌then◌else◌}
 use Rattle.claims.specs.declared.view.Exchange.{Exchange, TheVariants.{Post, Busy, Held, Take, Release, Retire, Adopted, NotFree}}
 
@@ -46,8 +46,8 @@ word_after release w = record w { held = false }
 word_after retire w = record w { free = true }
 word_after adopt w = record w { free = false }
 
--- The exchange that a step of this kind makes, by what the word says. A claim of a free slot is answered Busy, since a free
--- slot is marked as held
+-- The exchange that a step of this kind makes, by what the word says. A claim of a free slot is answered Busy, since a
+-- free slot is marked as held
 abbrev pub made : StepKind → WordState → Exchange
 made post w = Post (wakes w)
 made claim w = if w.held then Busy else Held w.pending

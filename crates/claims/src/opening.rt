@@ -1,5 +1,5 @@
 // `Claims::open`: the words as they start, and a seat for each thread.
-ghost use Rattle.std.specs.Prelude.{◌≡◌, ◌+◌, ◌-◌, ◌<◌, ◌≤◌, ◌↔◌, IfOk, OnOk, IsErrOf, false, replicate};
+ghost use Rattle.std.specs.Prelude.{◌≡◌, ◌-◌, ◌<◌, ◌↔◌, IfOk, OnOk, IsErrOf, false, replicate};
 ghost use Rattle.claims.specs.{Views.unused_view, Seats.fresh_seat, Laws.{IsWithin, IsOutside, OpensLawful}};
 
 use crate::calls::{Claims, Words};

@@ -61,8 +61,8 @@ fn goes(alloc: Global, wrong: usize) -> Result<bool, (usize, Refusal)> {
 }
 
 // refuses replay_blames_index_0: the first event is blamed for any event that fails
-// Where memory runs out, the index of the event that lacked it is reported: `tests/growths` looks that it rises with the
-// growth that is refused.
+// Where memory runs out, the index of the event that lacked it is reported: `tests/growths` looks that it rises with
+// the growth that is refused.
 #[test]
 fn a_replay_leads_to_its_world_or_tells_where_it_ends(rt: HostRuntime) -> Result<(), Fail> {
     for wrong in [100, 0, 49, 99] {

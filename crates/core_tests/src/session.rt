@@ -1,5 +1,5 @@
-// What a wire in memory plays, of which nothing is promised, over a session in which each side gives some bytes and then
-// its end, and takes what the other side gave; and what no program does with a pair.
+// What a wire in memory plays, of which nothing is promised, over a session in which each side gives some bytes and
+// then its end, and takes what the other side gave; and what no program does with a pair.
 use crate::{all_well, no_row};
 use engine::{Class, Play, PlayList, ScriptWire, Turn, Wire, class_of, pending, turn};
 use relay_core::{Answer, Call, CallKind, Fault, Kind, Pair, Side, Verdict};

@@ -4,7 +4,8 @@ use Rattle.std.specs.Prelude.{◌≡◌, ℕ, Bool, if◌then◌else◌, List, [
 -- `Claim`, `TakeNotes`, `Post`, `Release`, `Retire`, `Adopt` and `Discard` are exchanges of the slot's word; `Discard`
 -- is a take whose notes are thrown away. `TakeOut` and `PutIn` move the connection out of its place and back, `Call` is
 -- its next call on a socket, and `Close` closes both sockets. `Give` puts the slot into the queue of free slots.
--- `Register` opens both sockets and registers them for reports. `Enter` writes the generation into the poller's table.
+-- `Register` starts the connection to the target, and registers both sockets for reports. `Enter` writes the generation
+-- into the poller's table.
 -- `Settle` has both sockets send what they held back, and `PutTicket` puts the slot's ticket into the ready queue
 pub data Act : Type 0 where
   Claim : Act

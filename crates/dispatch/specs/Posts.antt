@@ -1,4 +1,4 @@
--- A thread's seat: fresh at the start; turns and openings hold one slot, post there, and release it. Part of the promises.
+-- A thread's seat: fresh at first; turns and openings hold one slot, post there, and release it. Part of the promises.
 use Rattle.std.specs.Prelude.{◌≡◌, ◌≢◌, ℕ, ◌^◌, List, length, replicate}
 use Rattle.claims.specs.Seats.{SeatState, TableId, fresh_seat, posts_of, Holds, HoldsNot, HoldsNothing}
 use Rattle.relay_log.specs.declared.faults.ServerFault.{ServerFault}

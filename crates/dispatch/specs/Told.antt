@@ -1,4 +1,4 @@
--- What the statistics count of a connection, and what the log says of one that could not be opened. Part of the promises.
+-- What the statistics count of a connection, and what is logged of one that could not be opened. Part of the promises.
 use Rattle.relay_core.specs.Pairs.{PairState, verdict}
 use Rattle.statistics.specs.declared.event.Event.{Event, TheVariants.{Moved, Ended}}
 use Rattle.relay_log.specs.declared.cause.Cause.{Cause}

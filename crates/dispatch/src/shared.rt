@@ -31,7 +31,8 @@ pub struct Shared<F: Front> {
     pub statistics: Option<Arc<Statistics>>,
     /// How many pollers found all their slots taken.
     pub full: Fullness,
-    /// Whether workers that sleep run light tickets, too: not where several threads poll, as many as work.
+    /// Whether workers that sleep run light tickets, too: not where at least two threads poll, and
+    /// no fewer than work.
     pub shares_light: bool,
     /// Which lines the log gets about clients, and at which level.
     pub clients: ClientsAt,

@@ -8,8 +8,8 @@ use std::alloc::{AllocError, Global};
 use token::Side;
 use world::{Act, Event, Lead, Limits, Polling, Reported, World};
 
-/// The machine beside one slot or one listener: the events to which the server's steps amount, each of which it makes at
-/// once. Its kernel gives the replies to the server's calls there.
+/// The machine beside one slot or one listener: the events to which the server's steps amount, each of which it makes
+/// at once. Its kernel gives the replies to the server's calls there.
 #[derive(Drop)]
 pub struct Machine {
     pub alloc: Global,
@@ -70,8 +70,8 @@ impl Machine {
         }
     }
 
-    /// Begins a turn: the ticket is put, unless it is in the ready queue, and taken. Returns false if the machine refuses
-    /// that, as where no ticket was made.
+    /// Begins a turn: the ticket is put, unless it is in the ready queue, and taken. Returns false if the machine
+    /// refuses that, as where no ticket was made.
     pub fn begin(&mut self) -> bool {
         let put = if !self.world().poller_hand().is_empty() {
             self.put(Event::Poll(Polling::Put))

@@ -5,8 +5,8 @@
 //!
 //! `outside.rt` has what the server's calls reach in place of a system: a `machine.rt` for each slot, a
 //! `poller_model.rt` for each poller, and what later calls get. `front.rt` is a poller's front, `wire.rt` one end of a
-//! connection with the calls of a turn, and `context.rt` has the gate of turns, the clock and the log. `round.rt` says to
-//! which events a poller's round amounts, `turn.rt` what must hold of turns, and `checks.rt` what must be logged.
+//! connection with the calls of a turn, and `context.rt` has the gate of turns, the clock and the log. `round.rt` says
+//! to which events a poller's round amounts, `turn.rt` what must hold of turns, and `checks.rt` what must be logged.
 #![tactic(auto)]
 
 mod checks;

@@ -1,5 +1,5 @@
 // Makes the server of a script and its threads from settings, as the product makes them.
-ghost use Rattle.std.specs.Prelude.{◌≤◌, ◌≡◌, length};
+ghost use Rattle.std.specs.Prelude.{◌≤◌};
 ghost use Rattle.token.specs.Names.{last_generation};
 ghost use Rattle.drill.specs.Sizes.{IsServerSize};
 

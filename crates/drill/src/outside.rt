@@ -157,8 +157,8 @@ impl Outside {
         self.checks.check();
     }
 
-    /// Makes an event outside of the server, if its machine allows that. While a client waits, no report of the listener
-    /// vanishes.
+    /// Makes an event outside of the server, if its machine allows that. While a client waits, no report of the
+    /// listener vanishes.
     pub fn happen(&mut self, outer: Outer) {
         let Outer { poller, event } = outer;
         match &event {
@@ -205,7 +205,7 @@ impl Outside {
         self.pollers.iter().any(|model| model.listens)
     }
 
-    /// A client connects: it waits outside of the machines, and is reported to the pollers. If none listens, it is refused.
+    /// A client connects: it waits outside of the machines, and pollers get a report. If none listens, it is refused.
     fn connect(&mut self) {
         if self.state.waiting >= MAX_BACKLOG || !self.is_listening() {
             return;

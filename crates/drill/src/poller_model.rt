@@ -138,8 +138,8 @@ impl PollerModel {
         self.left = 0;
     }
 
-    /// Reads the clock in a round. Returns whether a sweep is due: if there is a limit, and it had passed at the second of
-    /// the round before, which becomes that of the last sweep.
+    /// Reads the clock in a round. Returns whether a sweep is due: if there is a limit, and it had passed at the
+    /// second of the round before, which becomes that of the last sweep.
     pub fn falls_due(&mut self, second: u64, limit: u64) -> bool {
         let is_due = limit > 0 && self.second.saturating_sub(self.swept) >= limit;
         if is_due {

@@ -1,5 +1,5 @@
-// Runs the scripts of the input, one after the other: makes the server's step of each line, compares the server with the
-// machines after it, and counts what was run.
+// Runs the scripts of the input, one after the other: makes the server's step of each line, compares the server with
+// the machines after it, and counts what was run.
 use crate::context::Logger;
 use crate::driver::Driver;
 use crate::machine::Machine;

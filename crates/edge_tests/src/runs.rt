@@ -66,8 +66,8 @@ impl IsTerminal for Source<'_> {
     }
 }
 
-/// A writer into memory, which it has from the start, that fails once it took this many bytes: at its flush, or where it
-/// is to take more.
+/// A writer into memory, which it has from the start, that fails once it took this many bytes: at its flush, or where
+/// it is to take more.
 #[derive(Drop)]
 struct Sink {
     taken: Vec<u8>,

@@ -1,4 +1,4 @@
-ghost use Rattle.std.specs.{Prelude.{◌≡◌, ◌≤◌, ℕ, Some, length}, Io.{WritesAtMost, KnownBytes.{Keeps, WriteAppends}}, IoError.error_kind};
+ghost use Rattle.std.specs.{Prelude.{◌≡◌, Some}, Io.{WritesAtMost, KnownBytes.{Keeps, WriteAppends}}, IoError.error_kind};
 ghost use Rattle.relay_core.specs.{Order.{next_call, offer}, Replies.reply_of, Laws.IsPossible};
 ghost use Rattle.engine.specs.{Classes.kind_of_error, Wires.{CountsError, CountsWrite, write_gave}, Steps.{IsStep, IsError}};
 ghost use Rattle.relay_core.specs.declared.call.Call.TheVariants as call;

@@ -1,6 +1,6 @@
--- The exchanges of the slot's word with their answers, when a state of the threads and one of the machine are alike, and the
--- law. Part of the promises. The machine has one slot. It makes an opening in one event where the threads make seven acts: it
--- is ahead of them until the last of these.
+-- The exchanges of the slot's word with their answers, when a state of the threads and one of the machine are alike,
+-- and the law. Part of the promises. The machine has one slot. It makes an opening in one event where the threads make
+-- seven acts: it is ahead of them until the last of these.
 use Rattle.std.specs.{Prelude.{◌≡◌, ◌≢◌, ℕ, ◌≤◌, ◌==◌, ◌&&◌, true, false, if◌then◌else◌, List, [], ◌∷◌, ◌++◌, map, replicate, slice_get, drop, Option, Some, None, option_map, option_and_then, unwrap_or, length}, List.flat_map}
 use Rattle.token.specs.declared.name.Name.{Name}
 use Rattle.kernel_model.specs.{declared.{reply.Reply.Reply, both.Descriptors.Descriptors}, Ends.is_nonempty}
@@ -88,16 +88,16 @@ left_of (act ∷ rest) w = exchange w (kind_of act) ++ left_of rest (word_then w
 abbrev pub ticket : ℕ → Ticket
 ticket g = record { slot = 0; generation = g }
 
--- The thread i, whose ticket is of the generation g, holds the slot, of which the machine has p there, with this connection,
--- or with none once it has closed it
+-- The thread i, whose ticket is of the generation g, holds the slot, of which the machine has p there, with this
+-- connection, or with none once it has closed it
 pub record Held (p : SlotState) (i g : ℕ) (connection : Option Connection) : Type 0 where
   pub holder : p.holder ≡ By i
   pub there : p.connection ≡ connection
   pub generation : p.generation ≡ g
 
 -- A thread t that holds the slot p, with this rest of its program, is where the machine's worker is, which has `more`
--- calls left, if `place` is what the threads have in the slot's place. Its connection c is in its place; it has c out; has
--- taken the notes too, and goes by its plan; has c back in its place, and is to post, or to release the slot
+-- calls left, if `place` is what the threads have in the slot's place. Its connection c is in its place; it has c out;
+-- has taken the notes too, and goes by its plan; has c back in its place, and is to post, or to release the slot
 pub data HolderLike (budget : ℕ) (place : Option Connection) (p : SlotState) (t : Thread) (c : Connection) (more : ℕ)
     : List Act → Type 0 where
   Holds : place ≡ Some c → t.left ≤ budget → more ≡ budget → HolderLike budget place p t c more (drop 1 turn)
@@ -133,8 +133,8 @@ WorkersFor budget place p workers threads =
 abbrev pub ends_of : SlotState → Option Descriptors
 ends_of p = option_map (λ (c : Connection). c.ends) p.connection
 
--- The machine that has what the threads have, with the slot p, this entry in its table, the tickets of these generations,
--- and these workers
+-- The machine that has what the threads have, with the slot p, this entry in its table, the tickets of these
+-- generations, and these workers
 abbrev pub machine_of : System → SlotState → ℕ → List ℕ → List WorkerState → State
 machine_of st p entry tickets workers = record {
   limits = st.limits;
@@ -152,8 +152,8 @@ machine_of st p entry tickets workers = record {
   past = st.past;
 }
 
--- No opening is half way: the word and the place are those of the slot p, and each thread is where its worker is. A place
--- is empty while its connection is out with the holder of the slot
+-- No opening is half way: the word and the place are those of the slot p, and each thread is where its worker is. A
+-- place is empty while its connection is out with the holder of the slot
 pub record Settled (st : System) (p : SlotState) (workers : List WorkerState) : Type 0 where
   pub ends : st.ends ≡ ends_of p
   pub word : st.word ≡ word_at p
@@ -186,7 +186,7 @@ abbrev pub OthersRest : List Thread → List WorkerState → Type 0
 OthersRest threads workers =
     (i : ℕ) (t : Thread) → i ≢ 0 → slice_get threads i ≡ Some t → (t.todo ≡ []) × (slice_get workers i ≡ Some machine.resting)
 
--- An opening is half way: the machine has made it, and nobody but the poller's thread t has anything to do with the slot
+-- An opening is half way: the machine has made it, and only the poller's thread t has anything to do with the slot
 pub record HalfOpen (st : System) (t : Thread) (c : Connection) (workers : List WorkerState) : Type 0 where
   pub first : slice_get st.threads 0 ≡ Some t
   pub worker : slice_get workers 0 ≡ Some machine.resting
@@ -221,9 +221,9 @@ call_in e = []
 abbrev pub calls_in : List Event → List (ℕ × Reply)
 calls_in = flat_map call_in
 
--- What a thread with a ticket of this generation finds, if this is the rest of its program: where it claims the slot, nobody
--- holds it; where it takes the connection out, the ticket's own is in the place; where it puts one in, the place is empty;
--- where it adopts the slot, the slot is free
+-- What a thread with a ticket of this generation finds, if this is the rest of its program: where it claims the slot,
+-- nobody holds it; where it takes the connection out, the ticket's own is in the place; where it puts one in, the
+-- place is empty; where it adopts the slot, the slot is free
 abbrev pub Finds : WordState → Option Connection → ℕ → List Act → Type 0
 Finds word place g (Claim ∷ rest) = word.held ≡ false
 Finds word place g (TakeOut ∷ rest) = (c : Connection) × (place ≡ Some c) × (c.pair.generation ≡ g)
@@ -237,8 +237,8 @@ pub record NoActInVain (st : System) : Type 0 where
   pub one_ticket : length st.tickets ≤ 1
   pub free_once : st.free ≤ 1
 
--- What the clock, the network and the kernel do, and what the poller does at its listener and with a poll, as the machine's
--- events: those of the steps, and those among the events
+-- What the clock, the network and the kernel do, and what the poller does at its listener and with a poll, as the
+-- machine's events: those of the steps, and those among the events
 
 abbrev pub here : Reported → Reported
 here reported.Listener = reported.Listener
@@ -271,10 +271,10 @@ outside_in e = []
 abbrev pub outside_among : List Event → List Event
 outside_among = flat_map outside_in
 
--- These steps of threads are a run of the machine: there are events, allowed one after the other from its opening, that
--- lead to a like state. They have the same calls and replies in the same order; clock, network, kernel, listener and polls
--- do the same in the same order; and so do the exchanges of the slot's word, with the same answers, but for what the
--- machine is ahead by. So the headline holds of it
+-- These steps of threads are a run of the machine: there are events, allowed one after the other from its opening,
+-- that lead to a like state. They have the same calls and replies in the same order; clock, network, kernel, listener
+-- and polls do the same in the same order; and so do the exchanges of the slot's word, with the same answers, but for
+-- what the machine is ahead by. So the headline holds of it
 pub record IsARun (l : Limits) (steps : List Step) (st : System) : Type 0 where
   pub made : List Event
   pub world : State

@@ -1,6 +1,6 @@
--- The threads of the server at one slot. Part of the promises. First the programs of a turn and of an opening, as lists of
--- atomic acts; then what the threads share, which is the slot's word, its place, the queues and the kernel, and what each act
--- does to it. Acts of different threads come in any order.
+-- The threads of the server at one slot. Part of the promises. First the programs of a turn and of an opening, as
+-- lists of atomic acts; then what the threads share, which is the slot's word, its place, the queues and the kernel,
+-- and what each act does to it. Acts of different threads come in any order.
 use Rattle.std.specs.{Global.Global, Prelude.{◌≡◌, Vec, ℕ, zero, suc, ◌+◌, ◌-◌, ◌==◌, Bool, true, false, not, ◌&&◌, nat_lt, nat_le, if◌then◌else◌, List, [], ◌∷◌, ◌++◌, length, replicate, slice_get, slice_set, Option, Some, None, option_map, option_and_then}, Option.is_none}
 use Rattle.token.specs.{declared.{side.Side.{Side, TheVariants.{Client, Target}}, name.Name.Name}, Names.EndName}
 use Rattle.kernel_model.specs.{declared.{reply.Reply.Reply, watched.Watched.Watched, accepting.Accepting.{Accepting, TheVariants.{Accepted, Blocked, Again, Starved}}, both.{Descriptors.Descriptors, Sockets.Sockets}}, Outcome.{guard, Told}, Kernel.KernelState}
@@ -46,8 +46,8 @@ plan left p = if is_live (verdict p) then (if is_none (next_call p) then quiet e
 abbrev pub open_slot : List Act
 open_slot = Register ∷ Adopt ∷ Enter ∷ Discard ∷ PutIn ∷ Post ∷ Release ∷ []
 
--- Two acts change nothing here: after `Settle` the sockets hold nothing back, and whether a ticket is in the queue or in
--- a hand does not matter
+-- Two acts change nothing here: after `Settle` the sockets hold nothing back, and whether a ticket is in the queue or
+-- in a hand does not matter
 abbrev pub seen : List Act → List Act
 seen [] = []
 seen (Settle ∷ acts) = seen acts
@@ -73,11 +73,11 @@ pub record Thread : Type 0 where
   pub todo : List Act
 
 -- `second` is the second that it is, and `kernel` has the sockets. The poller has `flag`, which says that an accept is
--- worth a try, perhaps an `accepted` client, the rest of its `batch`, and in its table the slot's `entry`. `ends` are the
--- sockets of the slot's connection. `word` is the slot's word, `place` the connection in its place, `tickets` are the
--- generations of its tickets in the ready queue and in hands, oldest first, and `free` is how often the slot stands in
--- the queue of free slots or in the poller's hand. The first of the `threads` is the poller's, and `past` are the
--- closed connections, in order
+-- worth a try, perhaps an `accepted` client, the rest of its `batch`, and in its table the slot's `entry`. `ends` are
+-- the sockets of the slot's connection. `word` is the slot's word, `place` the connection in its place, `tickets` are
+-- the generations of its tickets in the ready queue and in hands, oldest first, and `free` is how often the slot
+-- stands in the queue of free slots or in the poller's hand. The first of the `threads` is the poller's, and `past`
+-- are the closed connections, in order
 pub record System : Type 0 where
   pub limits : Limits
   pub second : ℕ
@@ -116,11 +116,11 @@ start l = record {
   past = [];
 }
 
--- What may happen: some seconds pass (`Tick`); the network does something (`Network`, `Connect`); a report comes without
--- cause (`Spurious`) or is taken back (`Vanish`). The poller calls accept(2) (`Accept`), drops what it accepted (`Drop`),
--- polls (`Poll`), delivers the first report of its batch (`Deliver`), posts for time (`Sweep`), or begins an opening
--- (`Open`). A thread begins a turn with the oldest ticket and a number of calls, at most the budget (`Begin`), or makes
--- the next act of its program: `Acts`, or `Calls` with the reply of a call
+-- What may happen: some seconds pass (`Tick`); the network does something (`Network`, `Connect`); a report comes
+-- without cause (`Spurious`) or is taken back (`Vanish`). The poller calls accept(2) (`Accept`), drops what it
+-- accepted (`Drop`), polls (`Poll`), delivers the first report of its batch (`Deliver`), posts for time (`Sweep`), or
+-- begins an opening (`Open`). A thread begins a turn with the oldest ticket and a number of calls, at most the budget
+-- (`Begin`), or makes the next act of its program: `Acts`, or `Calls` with the reply of a call
 pub data Step : Type 0 where
   Tick : ℕ → Step
   Network : Side → Change → Step

@@ -1,5 +1,5 @@
 // The kernel of one process. The calls on single ends are in `sockets.rt`.
-ghost use Rattle.std.specs.{Prelude.{◌≡◌, ◌<◌, vec_len, vec_capacity, Some, IsSome, IsErrOf, IsTrue, ◌↔◌, position}, Option.{option_copied, is_none}};
+ghost use Rattle.std.specs.{Prelude.{◌≡◌, ◌<◌, Some, IsSome, IsErrOf, IsTrue, ◌↔◌, position}, Option.{option_copied, is_none}};
 ghost use Rattle.kernel_model.specs.{Outcome.{Meets, MeetsAlways, Tells, TellsAlways}, Names.has, Kernel.{Registered, queues_more, idle, end_at, lowest_free, open_end, close, name_of, is_quiet, spurious, vanish, poll, connect_in, accept}};
 
 use crate::accepting::Accepting;

@@ -1,5 +1,5 @@
 // What arrives at the open ends of a kernel, and the calls on them.
-ghost use Rattle.std.specs.Prelude.{◌≡◌, ◌<◌, ◌||◌, IsErrOf, IsTrue};
+ghost use Rattle.std.specs.Prelude.{◌<◌, ◌||◌, IsErrOf, IsTrue};
 ghost use Rattle.kernel_model.specs.{Outcome.{Meets, MeetsAlways}, Ends.EndState, Replies.needs_memory, Changes.{brings_bytes, change_of, told, lengthens, watch}, Kernel.{Registered, queues_more, changed, arrive, fin, reset, room, read, write, join, shut}};
 
 use crate::change::Change;

@@ -1,5 +1,4 @@
 // How many lines were left out, and are counted in no line yet.
-ghost use Rattle.std.specs.Prelude.{◌≡◌};
 ghost use Rattle.log_queue.specs.Lines.{CountStep, Added, Taken};
 
 use std::sync::atomic::{AtomicU64, Ordering};

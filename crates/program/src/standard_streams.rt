@@ -1,6 +1,6 @@
 //! Standard streams that are closed when the program starts. A file or a socket that it opens gets the lowest number
 //! that is not open (open(2), socket(2)), and would be read, written or logged to in the place of such a stream.
-ghost use Rattle.std.specs.Prelude.{◌≡◌, ℤ, IfOk, IfSome};
+ghost use Rattle.std.specs.Prelude.{◌≡◌, IfOk, IfSome};
 ghost use Rattle.program.specs.Starting.{number, Refuses};
 
 use crate::constants::FAULT;

@@ -1,4 +1,5 @@
--- What is late, the socket as it is once that has come, what every step keeps, and so what holds after any list of steps.
+-- What is late, the socket as it is once that has come, what every step keeps, and so what holds after any list of
+-- steps.
 use Rattle.std.{proofs.{Common.{◌≡◌, ◌⊎◌, Bool, true, false, ◌||◌, List, [], ◌∷◌, ◌++◌, ℕ, map, Option, Some, refl, ap, ◌∙◌, inl, inr, ◌≢◌, not, ◌&&◌, zero, suc, take, length, Contains, None, option_map, sym, append-nil, append_assoc, length-append, lt-ltb, ltb-true, arith}, lemmas.{Bool.{or_left, not-true, or_cases, or_parts, or_right}, List.Elements.Contains-push, Option.option_and_then_some}}, specs.{Prelude.if◌then◌else◌, Cmp.{first_so, second_so}}}
 use Rattle.kernel_model.specs.{Ends.{EndState, is_readable, is_nonempty, is_writable, new_room}, Outcome.{Told, guard}, declared.reply.Reply.Reply, Replies.{after_read, is_count}}
 use Rattle.readiness.specs.{Delays.{Came, Event, IsOnItsWay, Seen, WillBeTold, came_in, events, replies_in, Called, Gone, GotRoom, MissesNothing, Stray, Taken, WiresAreDelayed, WiresMissNothing, at_call, at_telling, happened, is_late, late_after, late_call, late_telling, meanwhile, still_late, unseen}, Machine.{Bytes, Call, Change, Error, Fin, Step, Way, answer_of, change_in, change_of, Calls, Comes, Handed, HasRoom, Join, Looks, Old, Polled, Read, Shut, Spurious, Tells, Unasked, Vanished, Write, after_call, answers_of, changes_of, is_quiet, may_call, opening, reads_after, run, step, tells}}

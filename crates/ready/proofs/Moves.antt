@@ -1,5 +1,5 @@
--- Each call of an end keeps the queue rule: one end's list of places and items, and the sums over all ends, when one entry
--- is added.
+-- Each call of an end keeps the queue rule: one end's list of places and items, and the sums over all ends, when one
+-- entry is added.
 use Rattle.std.{proofs.{Common.{true, false, true≢false, ◌≡◌, ℕ, zero, suc, ◌+◌, ◌-◌, ◌<◌, ◌≤◌, ◌==◌, if◌then◌else◌, replicate, List, [], ◌∷◌, ◌++◌, length, get_or, set, refl, sym, ap, ◌∙◌, append_assoc, length-append, length-set, arith}, lemmas.List.{length_push, replicate-append-replicate, FromFn.{length-map-range_with_len, map-range_with_len_more}, Elements.{All-push, All-set}, Quantifiers.all_pairs_push, Sums.{sum_by_push, sum_by-set}}}, specs.List.{sum_by, All}}
 use Rattle.crossbeam_queue.{proofs.Lists.{at_longer, at_last}, specs.Fifo.{Pushes, Pops, Forks, Learns}}
 use Rattle.ready.specs.{declared.history.History.History, Rule.{once_below, times, Fits, MakeUp, FirstPutAll, QueueRule}, Steps.{EndState, opener, blank, among_others, after_put, after_take, Saw, HeldOnce, PutOne, TookOne, in_order}}

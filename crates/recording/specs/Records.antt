@@ -84,7 +84,8 @@ drops (Wire name made.Drop) = true
 drops act = false
 
 -- a step on a thread's handle of the recording, `S`: the count before an act, if anything is recorded still; the count
--- after it; both, of an act that takes no time; a record that was put; another handle. `did` is what a step makes of `S`
+-- after it; both, of an act that takes no time; a record that was put; another handle. `did` is what a step makes of
+-- `S`
 pub data Step : Type 0 where
   Began : Option ℕ → Step
   Ended : ℕ → Step

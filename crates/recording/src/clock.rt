@@ -1,5 +1,5 @@
 // A clock that records what it tells.
-ghost use Rattle.std.specs.Prelude.{◌≡◌, IsTrue, [], ◌∷◌};
+ghost use Rattle.std.specs.Prelude.{IsTrue, [], ◌∷◌};
 ghost use Rattle.records.specs.declared.act.Act.TheVariants.{Second};
 ghost use Rattle.recording.specs.Records.{Beside, Records, RecordsAtOnce};
 ghost use Rattle.records.specs.declared.act.Act.TheVariants as act;

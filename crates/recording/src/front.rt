@@ -1,5 +1,5 @@
 // A front that records what comes from it.
-ghost use Rattle.std.specs.{Prelude.{◌≡◌, ◌≢◌, ◌≤◌, Some, None, true, false, [], ◌∷◌, IfOk, IfErr, OnErr, vec_len, vec_capacity}, IoError.error_kind, declared.io.ErrorKind.TheVariants.Interrupted};
+ghost use Rattle.std.specs.{Prelude.{◌≡◌, ◌≢◌, ◌≤◌, Some, None, true, [], ◌∷◌, IfOk, IfErr, OnErr, vec_len, vec_capacity}, IoError.error_kind, declared.io.ErrorKind.TheVariants.Interrupted};
 ghost use Rattle.recording.specs.Records.{accept_answer, accepted, not_waited, opened as opened_of, polled, Records};
 ghost use Rattle.records.specs.declared.act.Act.TheVariants as act;
 ghost use Rattle.records.specs.declared.act.Polling.TheVariants as polling;

@@ -3,7 +3,7 @@
 //!
 //! A server is made of parts that record: [`RecordedFront`] records its waits for reports, what it accepts and what it
 //! opens; [`RecordedWire`] its calls and its end; [`RecordedGate`] where turns begin and end, and [`RecordedClock`]
-//! what second was told. Each does and promises what the part in it does and promises. Of the bytes only how many there
+//! what second was read. Each does and promises what the part in it does and promises. Of the bytes only how many there
 //! were is recorded.
 //!
 //! A thread that records waits for nobody, and takes no memory: its record goes into a bounded queue ([`RecordQueue`]),

@@ -190,7 +190,7 @@ impl<W: Wire + Drop, S: Sink> Wire for RecordedWire<W, S> {
 impl<W: Settle + Drop, S: Sink> Settle for RecordedWire<W, S> {
     ghost settled = { λ w. W.settled w.inner };
 
-    /// Both ends are told, the target's last, which alone is recorded.
+    /// Both ends settle, the target's last, and that alone is recorded.
     fn settle(&mut self)
         ensures same { W.told self.new.inner ≡ W.told self.old.inner }
         ensures settled { W.settled self.new.inner }

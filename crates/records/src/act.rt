@@ -78,7 +78,7 @@ pub enum Made {
     Join(Answer),
     /// A shutdown. Its answer is never `Blocked`.
     Shut(Answer),
-    /// It was told that a turn had ended quiet.
+    /// It settled, since a turn had ended quiet.
     Settle,
     /// It was dropped, which closes its socket.
     Drop,

@@ -42,8 +42,9 @@ impl Display for Header {
 
 /// Reads a recording's first line, which is given without its line feed.
 ///
-/// It refuses a line of another form, and sizes that no relay has: 0 or over 4,096 slots, 0 or over 16 pollers or workers,
-/// a ring of 0 or over 65,536 bytes, a budget of 0 or over 1,024 calls, and an idle limit of over 86,400 seconds.
+/// It refuses a line of another form, and sizes that no relay has: 0 or over 4,096 slots, 0 or over 16 pollers or
+/// workers, a ring of 0 or over 65,536 bytes, a budget of 0 or over 1,024 calls, and an idle limit of over 86,400
+/// seconds.
 pub fn read_header(line: &[u8]) -> Result<Header, Wrong<'_>> {
     let words = &mut Pieces::new(line, b' ');
     for text in &["relayd", "recording", "1"] {

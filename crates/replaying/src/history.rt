@@ -5,8 +5,8 @@ use std::alloc::{AllocError, Global};
 use std::marker::Model;
 use world::{Event, Limits, World};
 
-/// A world from its opening on, with each event that has happened in it, and which of the acts that records have these were.
-/// Nothing else makes one or changes it, so its world is the one after its events.
+/// A world from its opening on, with each event that has happened in it, and which of the acts that records have these
+/// were. Nothing else makes one or changes it, so its world is the one after its events.
 #[derive(Drop)]
 pub(crate) struct History {
     limits: Limits,

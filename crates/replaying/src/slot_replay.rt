@@ -109,7 +109,7 @@ fn opening_of(act: &Act) -> Option<(u64, Opening)> {
 }
 
 impl<'a> SlotReplay<'a> {
-    /// A slot that is to be replayed, whose first act is this one.
+    /// A slot to replay, whose first act is this one.
     pub(crate) fn new(
         findings: Findings<'a>,
         slot: usize,

@@ -2,7 +2,7 @@
 use Rattle.std.{proofs.{Common.{add-one, ◌≡◌, ℕ, zero, suc, ◌+◌, ◌≤◌, Bool, true, false, cond, List, [], ◌∷◌, ◌++◌, length, length-append, refl, sym, ◌∙◌, arith, inl, inr, append_assoc, ◌≢◌, ◌⊎◌, ◌↔◌, IsTrue, slice_index, replicate, slice_set, ◌==◌, ◌||◌, if◌then◌else◌, Option, Some, None, nat_lt, Contains}, lemmas.{Bool.{eq-eqb, ne_eqb, Decides.nat_tests}, List.{append-nil, map-append, length-map, length-replicate, get_or-replicate, get_or_past, get_or-set_other, Elements.{All-append}, Sums.sum_by-append}}}, specs.List.{All, cons_option}}
 use Rattle.claims.{specs.{declared.view.Account.Account, Views.{after_all, minted_by}, Seats.{SeatState, trace_at, account_at, HoldsNothing, Adds}}, proofs.Seats.after_both}
 use Rattle.ready.specs.declared.ticket.Ticket.{Ticket}
-use Rattle.rounds.specs.{Acts.{Act, exchanges_at, made_by, due_of, ActsMade, IsPost, ArePosts, opening, IsTry, held_of, AreTries, at_slot, reported, all_reported, ArePosted, is_due, last_in, opened_in, opened_below, all_opened, sweep_of}, Pollers.{IsOwnTable, PollerState, AreGenerations}, Openings.AreIn}
+use Rattle.rounds.specs.{Acts.{SeatAct, exchanges_at, made_by, due_of, ActsMade, IsPost, ArePosts, opening, IsTry, held_of, AreTries, at_slot, reported, all_reported, ArePosted, is_due, last_in, opened_in, opened_below, all_opened, sweep_of}, Pollers.{IsOwnTable, PollerState, AreGenerations}, Openings.AreIn}
 use Rattle.relay_core.specs.Idle.{is_past}
 use Rattle.dispatch.specs.{Hands.HandState, declared.split.Part.Part, Splits.IsIn}
 use mathlib.Core.Logic.{dite}
@@ -12,25 +12,25 @@ use Rattle.claims.specs.declared.view.Exchange.TheVariants as exchange
 pub at_slot-append : (slot : ℕ) (xs ys : List Ticket) → at_slot slot (xs ++ ys) ≡ at_slot slot xs + at_slot slot ys
 at_slot-append slot xs ys = sum_by-append (λ (t : Ticket). cond (t.slot == slot) 1 0) xs ys
 
-exchanges-append : (slot : ℕ) (xs ys : List Act) → exchanges_at slot (xs ++ ys) ≡ exchanges_at slot xs ++ exchanges_at slot ys
+exchanges-append : (slot : ℕ) (xs ys : List SeatAct) → exchanges_at slot (xs ++ ys) ≡ exchanges_at slot xs ++ exchanges_at slot ys
 exchanges-append slot [] ys = refl
 exchanges-append slot (x ∷ xs) ys = rw (exchanges-append slot xs ys, append_assoc)
 
-pub due-append : (xs ys : List Act) → due_of (xs ++ ys) ≡ due_of xs ++ due_of ys
+pub due-append : (xs ys : List SeatAct) → due_of (xs ++ ys) ≡ due_of xs ++ due_of ys
 due-append [] ys = refl
 due-append (x ∷ xs) ys = rw (due-append xs ys, append_assoc)
 
 pub acts_none : (s : SeatState) → ActsMade [] s s
 acts_none s = record { table = refl; traces = λ slot. sym (append-nil (trace_at s slot)) }
 
-pub acts_both : (xs ys : List Act) (a b c : SeatState) → ActsMade xs a b → ActsMade ys b c → ActsMade (xs ++ ys) a c
+pub acts_both : (xs ys : List SeatAct) (a b c : SeatState) → ActsMade xs a b → ActsMade ys b c → ActsMade (xs ++ ys) a c
 acts_both xs ys a b c one two = record {
   table = two.table ∙ one.table;
   traces = λ slot. rw (two.traces slot, one.traces slot, exchanges-append slot xs ys, append_assoc);
 }
 
 -- at the slot of an act's ticket, and at the others
-pub acts_one : (act : Act) (old new : SeatState) → Adds act.ticket.slot act.exchanges old new → ActsMade (act ∷ []) old new
+pub acts_one : (act : SeatAct) (old new : SeatState) → Adds act.ticket.slot act.exchanges old new → ActsMade (act ∷ []) old new
 acts_one act old new adds = record {
   table = adds.only.table;
   traces = λ slot. dite (ℕ_discrete act.ticket.slot slot)
@@ -49,38 +49,38 @@ made_le : (minted : ℕ) (t : Ticket) → length (made_by minted t) ≤ 1
 made_le minted t = grind arith
 
 -- as many tickets as acts, or fewer
-due_le : (acts : List Act) → length (due_of acts) ≤ length acts
+due_le : (acts : List SeatAct) → length (due_of acts) ≤ length acts
 due_le [] = omega arith
 due_le (act ∷ acts) = simp length-append (omega (arith, due_le acts, made_le (minted_by act.exchanges) act.ticket))
 
 -- Posts leave who holds a slot
 
-posts_hold : (slot : ℕ) (acts : List Act) → All IsPost acts → (a : Account) → (after_all (exchanges_at slot acts) a).holds ≡ a.holds
+posts_hold : (slot : ℕ) (acts : List SeatAct) → All IsPost acts → (a : Account) → (after_all (exchanges_at slot acts) a).holds ≡ a.holds
 posts_hold slot [] each a = refl
 posts_hold slot (act ∷ acts) each a = rw (after_both, posts_hold slot acts (λ i d lt. each (suc i) d (omega arith))) (by_case (act.ticket.slot == slot)) where
   by_case : (b : Bool) → (after_all (if b then act.exchanges else []) a).holds ≡ a.holds
   by_case true = let is = each 0 act (omega arith) in rw is.1
   by_case false = refl
 
-posts_hold_nothing : {acts : List Act} {old new : SeatState} → All IsPost acts → ActsMade acts old new → HoldsNothing old → HoldsNothing new
+posts_hold_nothing : {acts : List SeatAct} {old new : SeatState} → All IsPost acts → ActsMade acts old new → HoldsNothing old → HoldsNothing new
 posts_hold_nothing {acts} {old} each made nothing = record {
   nowhere = λ slot. rw (made.traces slot, after_both) (posts_hold slot acts each (account_at old slot) ∙ nothing.nowhere slot);
 }
 
-posts_both : {xs ys : List Ticket} {us bs : List Act} → ArePosts xs us → ArePosts ys bs → ArePosts (xs ++ ys) (us ++ bs)
+posts_both : {xs ys : List Ticket} {us bs : List SeatAct} → ArePosts xs us → ArePosts ys bs → ArePosts (xs ++ ys) (us ++ bs)
 posts_both {us = us} {bs = bs} one two = record {
   each = All-append IsPost us bs one.each two.each;
-  in_order = rw (map-append (λ (act : Act). act.ticket) us bs, one.in_order, two.in_order);
+  in_order = rw (map-append (λ (act : SeatAct). act.ticket) us bs, one.in_order, two.in_order);
 }
 
-posts_le : {xs : List Ticket} {acts : List Act} → ArePosts xs acts → length (due_of acts) ≤ length xs
+posts_le : {xs : List Ticket} {acts : List SeatAct} → ArePosts xs acts → length (due_of acts) ≤ length xs
 posts_le {acts = acts} posts = rw (← posts.in_order, length-map) (due_le acts)
 
-held-append : (xs ys : List Act) → held_of (xs ++ ys) ≡ held_of xs ++ held_of ys
+held-append : (xs ys : List SeatAct) → held_of (xs ++ ys) ≡ held_of xs ++ held_of ys
 held-append [] ys = refl
 held-append (x ∷ xs) ys = rw (held-append xs ys, append_assoc)
 
-pub tries_both : {xs ys : List Ticket} {h k : List ℕ} {us bs : List Act} → AreTries xs h us → AreTries ys k bs → AreTries (xs ++ ys) (h ++ k) (us ++ bs)
+pub tries_both : {xs ys : List Ticket} {h k : List ℕ} {us bs : List SeatAct} → AreTries xs h us → AreTries ys k bs → AreTries (xs ++ ys) (h ++ k) (us ++ bs)
 tries_both {us = us} {bs = bs} one two = record {
   each = All-append IsTry us bs one.each two.each;
   made = rw (due-append us bs, one.made, two.made);
@@ -129,7 +129,7 @@ module _ {t : Ticket} {old new : SeatState} where
   one_posted : (woke : Bool) {h k : HandState} → Adds t.slot (exchange.Post woke ∷ []) old new
       → k ≡ record h { tickets = h.tickets ++ (made_by (minted_by (exchange.Post woke ∷ [])) t ++ []) } → ArePosted (t ∷ []) old new h k
   one_posted woke adds hand =
-      let act : Act = record { ticket = t; exchanges = exchange.Post woke ∷ [] } in
+      let act : SeatAct = record { ticket = t; exchanges = exchange.Post woke ∷ [] } in
       record { posts = act ∷ []; are = record { each = all_one IsPost act (woke, refl); in_order = refl }; made = acts_one act old new adds; hand = hand }
 
   -- a post that did not wake

@@ -1,10 +1,10 @@
 -- Connections that are opened one after the other, why one is closed unopened, and a round of its parts.
-use Rattle.std.proofs.{Common.{◌≡◌, ◌⊎◌, ℕ, ◌+◌, ◌<◌, ◌≤◌, List, [], ◌∷◌, ◌++◌, length, drop, slice_get, slice_set, min, cond, Bool, true, refl, sym, ◌∙◌, arith, inl, inr, append_assoc, length-append, Option, Some, None, ◌==◌, Result, Ok, Err, OnOk, IfErr, OnErr, IsErr, IsErrAnd, slice_index, ◌≢◌, ◌↔◌, false, IsTrue}, lemmas.{Bool.{cases_lt, false≢true}, List.{append-nil, length-set, get_or-set_other, get_or_past, Sums.sum_by-append}, Grind.get_or-set_at, Option.{none-some, same_Some}}}
+use Rattle.std.proofs.{Common.{◌≡◌, ◌⊎◌, ℕ, ◌+◌, ◌<◌, ◌≤◌, List, [], ◌∷◌, ◌++◌, length, drop, slice_get, slice_set, min, cond, Bool, true, refl, sym, ◌∙◌, arith, inl, inr, append_assoc, length-append, Option, Some, None, ◌==◌, Result, Ok, Err, OnOk, IfErr, OnErr, IsErr, IsErrAnd, slice_index, ◌≢◌, false}, lemmas.{Bool.{cases_lt, false≢true}, List.{append-nil, length-set, get_or-set_other, get_or_past, Sums.sum_by-append}, Grind.get_or-set_at, Option.{none-some, same_Some}}}
 use Rattle.claims.{specs.{declared.answers.Posted.Posted, Calls.PostChange, Seats.{SeatState, TableId, Adds}}, proofs.Seats.adds_both}
 use Rattle.dispatch.{specs.{Posts.HoldsOnly, declared.{shared.Own.Own, front.{Unopened.Unopened, Route.Route, Waiting.{Waiting, TheVariants.{No, Brief, Long}}}}, Hands.{HandState, ticket_room}, Acts.{Act, AreMade, Register, Adopt, placing}, Told.cause_of}, proofs.Holding.{holds_still, released_all, woke_behind_post}}
 use Rattle.ready.specs.declared.ticket.Ticket.{Ticket}
 use Rattle.token.specs.Names.{last_generation}
-use Rattle.rounds.{specs.{Acts.{Act as Acted, ActsMade, AreTries, all_reported, ArePosted, Delivered, swept_after, sweep_of}, Openings.{times, slots_in, AreIn, AreOpened, OnlyTook, Between, LetGo, Started, Connected, AcceptDone, IsOpened, IsLost, IsSpent, AreLost, Fate, next_in, Opened, Held, DropsFor, Placed, lacks, lead_of}, Pollers.{PollerState, Counted, counted_up, HasOpenedAll}, Rounds.{AcceptEnded, HasLeft, IsOver, RoundDone, RoundKeeps, ListenerKept, ListensNoMore, ListensToOpen, Looked, MayWait, MayWaitBriefly, WaitLasted, WaitedAsMay}}, proofs.Acts.{at_slot-append, acts_none, acts_both, tries_none, tries_both, posted_none, no_sweep}}
+use Rattle.rounds.{specs.{Acts.{SeatAct, ActsMade, AreTries, all_reported, ArePosted, Delivered, swept_after, sweep_of}, Openings.{times, slots_in, AreIn, AreOpened, OnlyTook, Between, LetGo, Started, Connected, AcceptDone, IsOpened, IsLost, IsSpent, AreLost, Fate, next_in, Opened, DropsFor, Placed, lacks, lead_of}, Pollers.{PollerState, Counted, counted_up, HasOpenedAll}, Rounds.{AcceptEnded, HasLeft, IsOver, RoundDone, RoundKeeps, ListenerKept, ListensNoMore, ListensToOpen, Looked, MayWait, MayWaitBriefly, WaitLasted, WaitedAsMay}}, proofs.Acts.{at_slot-append, acts_none, acts_both, tries_none, tries_both, posted_none, no_sweep}}
 use Rattle.relay_log.specs.declared.{cause.Cause.Cause, faults.ServerFault.{ServerFault, TheVariants.Worn}}
 use Rattle.claims.specs.declared.view.Exchange.TheVariants as exchange
 use Rattle.claims.specs.declared.answers.Posted.TheVariants as posted
@@ -150,7 +150,7 @@ slot_left : (s slot : ℕ) (a b : Own) (hand : HandState) → hand ≡ record a.
 slot_left s slot a b hand taken is free slots = rw (free, slots, taken) (omega (arith, times_first s a.hand.slots slot is))
 
 -- one slot is no longer used
-pub lost_one : {p q : PollerState} {a b : Own} {slot : ℕ} (held : List ℕ) (tries : List Acted) → q ≡ record p { lost = counted_up p.lost 1 } → AreLost p held (slot ∷ [])
+pub lost_one : {p q : PollerState} {a b : Own} {slot : ℕ} (held : List ℕ) (tries : List SeatAct) → q ≡ record p { lost = counted_up p.lost 1 } → AreLost p held (slot ∷ [])
     → AreTries [] held tries → ActsMade tries a.seat b.seat → b.hand.tickets ≡ a.hand.tickets → b.ready ≡ a.ready → b.free ≡ a.free
     → Connected [] (slot ∷ []) held p q a b
 lost_one {p} {a = a} held tries lost why are made tickets ready free = rw lost (record {
@@ -249,7 +249,7 @@ ended_by p own why = grind arith
 fate_by : {slot : ℕ} {p q : PollerState} {opened dropped : Type 0} {after made : List Act → Type 0} {a b : SeatState} → ((acts : List Act) → after acts → made (Register ∷ acts))
     → (IsOpened p q × opened × after placing) ⊎ (IsLost p q × Adds slot (exchange.NotFree ∷ []) a b × after (Adopt ∷ [])) → Fate slot opened dropped made p q a b
 fate_by joined (inl done) = Opened done.0 done.1 (joined placing done.2)
-fate_by joined (inr lost) = Held lost.0 lost.1 (joined (Adopt ∷ []) lost.2)
+fate_by joined (inr lost) = NotFree lost.0 lost.1 (joined (Adopt ∷ []) lost.2)
 
 pub placed_fate : {slot : ℕ} {p s q : PollerState} {told : Ticket → Type 0} {dropped : Type 0} {after made : List Act → Type 0} {a b : Own} {t : Ticket} → s ≡ p → t ≡ next_in p slot
     → ((acts : List Act) → after acts → made (Register ∷ acts)) → Placed told after t s q a b → Fate slot (told (next_in p slot)) dropped made p q a.seat b.seat

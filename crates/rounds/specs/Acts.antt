@@ -7,16 +7,16 @@ use Rattle.relay_core.specs.Idle.{is_past}
 use Rattle.dispatch.specs.Hands.{HandState}
 use Rattle.rounds.specs.Pollers.{PollerState}
 
--- the exchanges at the slot of a ticket
-pub record Act : Type 0 where
+-- exchanges of a seat at the slot of a ticket
+pub record SeatAct : Type 0 where
   pub ticket : Ticket
   pub exchanges : List Exchange
 
-abbrev pub tickets_of : List Act → List Ticket
-tickets_of acts = map (λ (act : Act). act.ticket) acts
+abbrev pub tickets_of : List SeatAct → List Ticket
+tickets_of acts = map (λ (act : SeatAct). act.ticket) acts
 
 -- their exchanges at this slot, in order
-abbrev pub exchanges_at : ℕ → List Act → List Exchange
+abbrev pub exchanges_at : ℕ → List SeatAct → List Exchange
 exchanges_at slot [] = []
 exchanges_at slot (act ∷ acts) = (if act.ticket.slot == slot then act.exchanges else []) ++ exchanges_at slot acts
 
@@ -26,21 +26,21 @@ made_by zero ticket = []
 made_by (suc n) ticket = ticket ∷ []
 
 -- the tickets that they made, in order
-abbrev pub due_of : List Act → List Ticket
+abbrev pub due_of : List SeatAct → List Ticket
 due_of [] = []
 due_of (act ∷ acts) = made_by (minted_by act.exchanges) act.ticket ++ due_of acts
 
 -- these acts were made by this seat, in order, and nothing else was
-pub record ActsMade (acts : List Act) (old new : SeatState) : Type 0 where
+pub record ActsMade (acts : List SeatAct) (old new : SeatState) : Type 0 where
   pub table : new.table ≡ old.table
   pub traces : (slot : ℕ) → trace_at new slot ≡ trace_at old slot ++ exchanges_at slot acts
 
 -- a note was posted
-abbrev pub IsPost : Act → Type 0
+abbrev pub IsPost : SeatAct → Type 0
 IsPost act = (woke : Bool) × (act.exchanges ≡ Post woke ∷ [])
 
 -- one for each of these connections, in order
-pub record ArePosts (tickets : List Ticket) (posts : List Act) : Type 0 where
+pub record ArePosts (tickets : List Ticket) (posts : List SeatAct) : Type 0 where
   pub each : All IsPost posts
   pub in_order : tickets_of posts ≡ tickets
 
@@ -50,7 +50,7 @@ abbrev pub opening : ℕ → ℕ → List Exchange
 opening found noted = Adopted found ∷ Take noted ∷ Post false ∷ Release true ∷ []
 
 -- a connection was opened, or its slot was found not to be free
-abbrev pub IsTry : Act → Type 0
+abbrev pub IsTry : SeatAct → Type 0
 IsTry act = ((found : ℕ) × (noted : ℕ) × (act.exchanges ≡ opening found noted)) ⊎ (act.exchanges ≡ NotFree ∷ [])
 
 -- the slot, if these exchanges found that it is not free
@@ -59,12 +59,12 @@ found_held (NotFree ∷ rest) slot = slot ∷ []
 found_held exchanges slot = []
 
 -- the slots that they found not to be free, in order
-abbrev pub held_of : List Act → List ℕ
+abbrev pub held_of : List SeatAct → List ℕ
 held_of [] = []
 held_of (act ∷ acts) = found_held act.exchanges act.ticket.slot ++ held_of acts
 
 -- by these acts these connections were opened, and these slots were found not to be free
-pub record AreTries (opened : List Ticket) (held : List ℕ) (tries : List Act) : Type 0 where
+pub record AreTries (opened : List Ticket) (held : List ℕ) (tries : List SeatAct) : Type 0 where
   pub each : All IsTry tries
   pub made : due_of tries ≡ opened
   pub found : held_of tries ≡ held
@@ -91,7 +91,7 @@ at_slot slot tickets = count_by (λ t. t.slot == slot) tickets
 -- A note was posted for each of these connections, in order, by one exchange at its slot, and those that woke left
 -- their tickets in hand. Nothing else of the seat or of the hand changed
 pub record ArePosted (tickets : List Ticket) (old new : SeatState) (had has : HandState) : Type 0 where
-  pub posts : List Act
+  pub posts : List SeatAct
   pub are : ArePosts tickets posts
   pub made : ActsMade posts old new
   pub hand : has ≡ record had { tickets = had.tickets ++ due_of posts }

@@ -4,7 +4,7 @@ use Rattle.claims.specs.{Seats.{SeatState, TableId, Adds, HoldsNothing, account_
 use Rattle.ready.specs.declared.ticket.Ticket.{Ticket}
 use Rattle.dispatch.specs.{declared.{shared.Own.Own, front.{Unopened.Unopened, Route.Route}, split.Part.Part}, Splits.IsIn, Hands.ticket_room}
 use Rattle.token.specs.Names.{last_generation}
-use Rattle.rounds.specs.{Pollers.{PollerState, Counted, counted_up}, Acts.{Act, made_by, opening, ActsMade, AreTries, at_slot}, Episodes.{dropped_for, opened_after}}
+use Rattle.rounds.specs.{Pollers.{PollerState, Counted, counted_up}, Acts.{SeatAct, made_by, opening, ActsMade, AreTries, at_slot}, Episodes.{dropped_for, opened_after}}
 use Rattle.log.specs.declared.level.Level.{Level}
 use Rattle.statistics.specs.declared.event.Event.{Event}
 use Rattle.relay_log.specs.{Messages.open_message, declared.cause.Cause.Cause}
@@ -73,8 +73,8 @@ pub record Started (ticket : Ticket) (old new : Own) : Type 0 where
 abbrev pub IsSpent : PollerState → ℕ → Type 0
 IsSpent p slot = (IsIn p.part slot → ⊥) ⊎ ((length p.table ≤ slot) ⊎ ((32768 ≤ slot) ⊎ (last_generation ≤ slice_index p.table slot)))
 
--- Why each of these slots is no longer used, in order: it is spent, or it is the next of those that were found not to be
--- free, which are all among them
+-- Why each of these slots is no longer used, in order: it is spent, or it is the next of those that were found not to
+-- be free, which are all among them
 abbrev pub AreLost : PollerState → List ℕ → List ℕ → Type 0
 AreLost p held [] = held ≡ []
 AreLost p held (slot ∷ lost) = (IsSpent p slot × AreLost p held lost) ⊎ ((rest : List ℕ) × (held ≡ slot ∷ rest) × AreLost p rest lost)
@@ -86,7 +86,7 @@ pub record Connected (opened : List Ticket) (lost held : List ℕ) (old new : Po
   pub counted : Counted old.opened (length opened) new.opened
   pub unused : Counted old.lost (length lost) new.lost
   pub why : AreLost new held lost
-  pub tries : List Act
+  pub tries : List SeatAct
   pub are : AreTries opened held tries
   pub made : ActsMade tries had.seat has.seat
   pub batch : new.batch ≡ old.batch
@@ -148,13 +148,13 @@ Registered made slot (Ok opened) from to = made act.Register slot from to
 Registered made slot (Err cause) from to = (to ≡ from) ⊎ made act.Register slot from to
 
 -- What became of an accepted connection that was for this slot, what is logged and counted of it, and the acts that
--- were made there: it was opened; it was dropped; no connection can be opened in the slot; or one exchange found it not free
+-- were made there: it was opened; it was dropped; none can be opened in the slot; or one exchange found it not free
 pub data Fate (slot : ℕ) (opened dropped : Type 0) (made : List act.Act → Type 0)
     (old new : PollerState) (had has : SeatState) : Type 0 where
   Opened : IsOpened old new → opened → made act.open_slot → Fate slot opened dropped made old new had has
   Dropped : IsDropped old new → dropped → made [] ⊎ made (act.Register ∷ []) → Fate slot opened dropped made old new had has
   Spent : IsLost old new → IsSpent old slot → made [] → Fate slot opened dropped made old new had has
-  Held : IsLost old new → Adds slot (exchange.NotFree ∷ []) had has → made (act.Register ∷ act.Adopt ∷ [])
+  NotFree : IsLost old new → Adds slot (exchange.NotFree ∷ []) had has → made (act.Register ∷ act.Adopt ∷ [])
       → Fate slot opened dropped made old new had has
 
 -- the log was passed the line of an opening, which was counted at its slot

@@ -4,35 +4,48 @@ use Rattle.rounds.specs.declared.{episodes.Episodes.Episodes, opening.Opening.Op
 use Rattle.dispatch.specs.{declared.split.Part.Part, Splits.IsIn}
 use Rattle.token.specs.Names.{last_generation}
 
--- What the front reported at the last wait, whether that failed, how many milliseconds it could take (0 if the front
--- does not say so), whether the front listens, each slot's generation, the reports that this round delivers, the accept
--- flag (whether a connection may wait to be accepted), whether accept(2) was starved at its last answer, whether the
--- last round left a client to other pollers, how many tries of accept(2) it left, what connections are opened with, the
--- slots in which it opens them, each slot's heavy mark (how many of its next tickets are for the workers), how many it
--- may open in all, how many it has opened and how many it has closed unopened, how many slots it no longer uses, the
--- second of the last round, that of the last sweep (at first, that at which it began), whether it is over, and what is
--- logged once for as long as it lasts
 pub record PollerState : Type 0 where
+  -- what the front reported at the last wait
   pub reported : List ℕ
+  -- that wait failed
   pub failed : Bool
+  -- how many milliseconds it could take, 0 if the front does not say so
   pub waited : ℕ
+  -- the front listens
   pub listening : Bool
+  -- each slot's generation
   pub table : List ℕ
+  -- the reports that this round delivers
   pub batch : List ℕ
+  -- the accept flag: a client may wait to be accepted
   pub accepting : Bool
+  -- accept(2) was starved at its last answer
   pub starved : Bool
+  -- the last round left a client to other pollers
   pub left : Bool
+  -- how many tries of accept(2) it left
   pub tries : ℕ
+  -- what connections are opened with
   pub opening : Opening
+  -- the slots in which it opens them
   pub part : Part
+  -- each slot's heavy mark: how many of its next tickets are for the workers
   pub heavy : List ℕ
+  -- how many connections it may open in all
   pub most : ℕ
+  -- how many it has opened
   pub opened : ℕ
+  -- how many it has closed unopened
   pub dropped : ℕ
+  -- how many slots it no longer uses
   pub lost : ℕ
+  -- the second of the last round
   pub second : ℕ
+  -- the second of the last sweep, at first that at which the poller began
   pub swept : ℕ
+  -- it makes no more rounds
   pub over : Bool
+  -- what is logged once for as long as it lasts
   pub episodes : Episodes
 
 -- every entry is a generation

@@ -1,8 +1,9 @@
--- What a round of the poller does. Part of the promises.
+-- What a round of the poller does. The first two states are the poller's, before and after, the next two what its
+-- thread owns. Part of the promises.
 use Rattle.std.specs.Prelude.{◌≡◌, ◌≢◌, ◌⊎◌, ℕ, ◌+◌, ◌<◌, ◌≤◌, true, false, List, [], ◌++◌, length, Contains}
 use Rattle.ready.specs.{declared.ticket.Ticket.Ticket, Steps.HeldOnce}
 use Rattle.dispatch.specs.{declared.{front.Waiting.Waiting, shared.Own.Own}, Hands.{HasRoom, ticket_room}, Outgoing.tickets_out, Posts.OnlyWorn}
-use Rattle.rounds.specs.{Acts.{Act, due_of, ActsMade, ArePosts, AreTries, all_reported, ArePosted, is_due, sweep_of, swept_after}, Openings.{AreIn, AreLost, AreOpened, SlotsCounted}, Pollers.{PollerState, HasOpenedAll, Counted, spare_room}, Episodes.AreLogged}
+use Rattle.rounds.specs.{Acts.{SeatAct, due_of, ActsMade, ArePosts, AreTries, all_reported, ArePosted, is_due, sweep_of, swept_after}, Openings.{AreIn, AreLost, AreOpened, SlotsCounted}, Pollers.{PollerState, HasOpenedAll, Counted, spare_room}, Episodes.AreLogged}
 use Rattle.relay_log.specs.declared.faults.ServerFault.{ServerFault}
 use Rattle.dispatch.specs.declared.front.Waiting.TheVariants as waiting
 use Rattle.relay_log.specs.declared.faults.ServerFault.TheVariants as server_fault
@@ -13,9 +14,9 @@ use Rattle.relay_log.specs.declared.faults.ServerFault.TheVariants as server_fau
 -- and of the openings are put or in hand, in this order. Each slot that was taken was opened, or is in hand, or is no
 -- longer used
 pub record RoundDone (old new : PollerState) (had has : Own) : Type 0 where
-  pub reports : List Act
-  pub sweep : List Act
-  pub tries : List Act
+  pub reports : List SeatAct
+  pub sweep : List SeatAct
+  pub tries : List SeatAct
   pub opened : List Ticket
   pub lost : List ℕ
   pub held : List ℕ

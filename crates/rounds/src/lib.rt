@@ -24,10 +24,10 @@
 //!   is no pair (`cause`).
 //! - An accepted connection counts as opened, as dropped, or by its slot as lost (`open`: `counted`, by `Fate`), and
 //!   once (`Uncounted`). An opening passes its line to the log, and both are counted at their slot (`OpeningLogged`,
-//!   `DropCounted`). A connection counts as dropped only if the log gets a line or a count of it (`Dropped`). A slot is
-//!   lost only if one exchange found that it is not free (`Held`), or if no connection can be opened there (`Spent`).
-//!   After an opening that failed the slot is in hand, and nowhere else (`prepare`: `failed`; `round`: `slots`). Slots
-//!   start at generation 0 (`Poller::new`), and a table has its poller's own alone (`IsOwnTable`).
+//!   `DropCounted`). A connection counts as dropped only if the log gets a line or a count of it (`Dropped`). A slot
+//!   is lost only if one exchange found that it is not free (`NotFree`), or if no connection can be opened there
+//!   (`Spent`). After an opening that failed the slot is in hand, and nowhere else (`prepare`: `failed`; `round`:
+//!   `slots`). Slots start at generation 0 (`Poller::new`), and a table has its poller's own alone (`IsOwnTable`).
 #![tactic(auto)]
 
 mod delivering;

@@ -1,4 +1,4 @@
-ghost use Rattle.std.specs.Prelude.{◌≡◌, ◌^◌, ◌<◌, IsErrOf, IsTrue, Some};
+ghost use Rattle.std.specs.Prelude.{◌<◌, IsErrOf, IsTrue, Some};
 ghost use Rattle.script_text.specs.{Headers.IsWithin, Events.{step_of, event_of}};
 ghost use Rattle.script.specs.{Faults.GivesBy, Scripts.{BeginsWell, begins_well, goes_on, headed, parsed, plan_of, steps_of, events_of, said_by, said_lines, starts_with}};
 

@@ -1,4 +1,4 @@
-ghost use Rattle.std.specs.{Prelude.{◌≡◌, ◌≢◌, ◌+◌, IfOk, IfErr, IfSome, Ok, Err}, Io.KnownBytes.Appends};
+ghost use Rattle.std.specs.{Prelude.{◌≡◌, ◌≢◌, ◌+◌, IfErr, IfSome, Ok, Err}, Io.KnownBytes.Appends};
 ghost use Rattle.script.specs.{Scripts.most_bytes, Runs.{fault_line, LeadsTo, WritesReport, AnswersFault, WritesFault, EveryByte, EveryEnd, EveryRun, EveryRunIsSound, report_of}};
 ghost use Rattle.input.specs.Texts.{TakesAtMost};
 

@@ -190,8 +190,8 @@ where
     Ok((shared, Parts { seats, ready }))
 }
 
-/// Whether workers run light tickets, too. Where at least two threads poll, and no fewer than work, a worker that sleeps
-/// says nothing of an idle processor: it would wait for one, and so would its tickets.
+/// Whether workers run light tickets, too. Where at least two threads poll, and no fewer than work, a worker that
+/// sleeps says nothing of an idle processor: it would wait for one, and so would its tickets.
 fn shares_light(pollers: usize, workers: usize) -> bool
     ensures { IsTrue result ↔ SharesLight pollers workers }
 {

@@ -1,5 +1,5 @@
-/// For each poller, of two at least, the longest wait for reports is this many milliseconds longer: so all together wake
-/// ten times a second.
+/// For each poller, of two at least, the longest wait for reports is this many milliseconds longer: so all together
+/// wake ten times a second.
 pub(crate) const WAIT_MILLIS: u64 = 100;
 
 /// The most pollers that the settings can ask for.

@@ -1,4 +1,4 @@
-ghost use Rattle.std.specs.{Prelude.{◌≡◌, length, OnOk}, Io.WritesAtMost};
+ghost use Rattle.std.specs.{Prelude.{length, OnOk}, Io.WritesAtMost};
 ghost use Rattle.engine.specs.Wires.{read_gave, write_gave, call_gave};
 ghost use Rattle.sockets.specs.Wires.{Made, Called, Pending, Named, NamedHere, SentAtOnce, GivesUpAfter, Probes, Registered, Looked};
 ghost use Rattle.engine.specs.Wires as ask;

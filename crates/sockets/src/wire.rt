@@ -2,7 +2,6 @@ ghost use Rattle.std.specs.{Prelude.{◌≡◌, true, false, Some, None, IfSome,
 ghost use Rattle.token.specs.Names.{end_number};
 ghost use Rattle.engine.specs.{Classes.{class_by, pending_kind, connected, counted}, Wires.call_gave};
 ghost use Rattle.sockets.specs.Wires.{IsOffered, Registered, Switches, Joins, Lifts, Limits, Probing, Waits, fresh_wire, patient, promptly, took, under, goes_on, goes_on_after, Looked};
-ghost use Rattle.engine.specs.Wires as ask;
 
 use crate::delay::Delay;
 use crate::failure::log_failure;

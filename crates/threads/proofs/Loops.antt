@@ -6,7 +6,7 @@ use Rattle.relay_log.specs.declared.faults.ServerFault.{ServerFault, TheVariants
 use Rattle.dispatch.{proofs.Outgoing.took_both, specs.{declared.shared.Own.Own, Hands.HandState, Outgoing.{Inserted, outgoing, tickets_out, slots_out, without_first, TookNothing}, Heavy.looked_at, Limits.own_turns, Posts.OnlyWorn}}
 use Rattle.turns.specs.{declared.worker.Worked.Worked, Shares.{AreShared, OneShared, TicketsShared}, Turns.{TicketsKept, SlotsKept, TurnMade, OwnTurn, program}}
 use Rattle.threads.{proofs.Divided.End, specs.{declared.ending.{Ended.Ended, Why.{Why, TheVariants.{FaultFound, Met}}}, Loops.{faults_by, times_of, times_in, freed, Run, tickets_of, act_of, acts_of, due_from, fault_in, faults_of, IsRun, TurnsMade, takes_of, times_by, times_given, SlotsGiven, Changes, OthersKept, OneRan, tickets_in, Took, WorkerMayEnd, WorkerEnded, WorkerRan, OwnTurnsRan, SharedAndRan, TurnsCut, WornEnd, NoTicketTaken, Asked, RoundMade, RoundCut, TurnsAfter, StepCut, StepsMade, IsPollerAct, PollerRan, PollerEnded, opened_by, openings_of}}}
-use Rattle.rounds.{specs.{Pollers.PollerState, Rounds.{RoundDone, RoundRefused, ListenerKept}, Acts.{Act, made_by, due_of, IsPost, IsTry}, Openings.slots_in}, proofs.Acts.{all_none, all_one, acts_none, acts_one, acts_both, at_slot-append, due-append}}
+use Rattle.rounds.{specs.{Pollers.PollerState, Rounds.{RoundDone, RoundRefused, ListenerKept}, Acts.{SeatAct, made_by, due_of, IsPost, IsTry}, Openings.slots_in}, proofs.Acts.{all_none, all_one, acts_none, acts_one, acts_both, at_slot-append, due-append}}
 use Rattle.turns.specs.declared.worker.Worked.TheVariants as worked
 
 -- how often a ticket, or a slot, stands in lists one after the other
@@ -368,24 +368,24 @@ cut_worn {count} worn made turn poller few = record {
 
 -- Which connections acts opened
 
-abbrev opened_in : Act → List Ticket
+abbrev opened_in : SeatAct → List Ticket
 opened_in act = opened_by act.exchanges act.ticket
 
-abbrev OpensNone : Act → Type 0
+abbrev OpensNone : SeatAct → Type 0
 OpensNone act = opened_in act ≡ []
 
-none_opened : (acts : List Act) → All OpensNone acts → openings_of acts ≡ []
+none_opened : (acts : List SeatAct) → All OpensNone acts → openings_of acts ≡ []
 none_opened [] each = refl
 none_opened (act ∷ acts) each = rw (All-head OpensNone act acts each) (none_opened acts (All-tail OpensNone act acts each))
 
-posts_open_none : (posts : List Act) → All IsPost posts → openings_of posts ≡ []
+posts_open_none : (posts : List SeatAct) → All IsPost posts → openings_of posts ≡ []
 posts_open_none posts each = none_opened posts (All-weaker IsPost OpensNone (λ post is. rw is.1) posts each)
 
-try_opens : (act : Act) → IsTry act → opened_in act ≡ made_by (minted_by act.exchanges) act.ticket
+try_opens : (act : SeatAct) → IsTry act → opened_in act ≡ made_by (minted_by act.exchanges) act.ticket
 try_opens act (inl (found, noted, is)) = rw is
 try_opens act (inr is) = rw is
 
-tries_open : (tries : List Act) → All IsTry tries → openings_of tries ≡ due_of tries
+tries_open : (tries : List SeatAct) → All IsTry tries → openings_of tries ≡ due_of tries
 tries_open [] each = refl
 tries_open (act ∷ tries) each = rw (try_opens act (All-head IsTry act tries each), tries_open tries (All-tail IsTry act tries each))
 
@@ -398,7 +398,7 @@ turn_opens_none words run is (inl inside) = rw (is.inside inside) (program_opens
 turn_opens_none words run is (inr outside) = rw (is.outside outside).0
 
 -- what holds of each turn's act
-each_act : (P : Act → Type 0) (words : ℕ) (ran : List Run) → ((run : Run) → IsRun words run → P (act_of run)) → All (IsRun words) ran → All P (acts_of ran)
+each_act : (P : SeatAct → Type 0) (words : ℕ) (ran : List Run) → ((run : Run) → IsRun words run → P (act_of run)) → All (IsRun words) ran → All P (acts_of ran)
 each_act P words ran one each = All-map P act_of ran (All-weaker (IsRun words) (λ run. P (act_of run)) one ran each)
 
 turns_open_none : (words : ℕ) (ran : List Run) → All (IsRun words) ran → openings_of (acts_of ran) ≡ []

@@ -1,5 +1,5 @@
--- Why a thread's loop ends, which fault a server ends by, and what a loop does with tickets and with free slots. Part of
--- the promises.
+-- Why a thread's loop ends, which fault a server ends by, and what a loop does with tickets and with free slots. Part
+-- of the promises.
 use Rattle.std.specs.{Prelude.{◌≡◌, ◌≢◌, ◌⊎◌, ℕ, zero, suc, ◌+◌, ◌-◌, ◌<◌, ◌≤◌, ◌==◌, ◌&&◌, Bool, true, false, nat_lt, if◌then◌else◌, Option, Some, None, option_to_list, List, [], ◌∷◌, ◌++◌, length, map, Result, Ok, Err, slice_get, slice_set, IfSome}, List.{count_by, flat_map, sum_by, All}}
 use Rattle.token.specs.Names.{last_generation}
 use Rattle.claims.specs.{declared.view.Exchange.{Exchange, TheVariants.Adopted}, Seats.SeatState}
@@ -7,7 +7,7 @@ use Rattle.ready.specs.{declared.ticket.Ticket.Ticket, Steps.{EndState, HeldOnce
 use Rattle.relay_log.specs.declared.faults.ServerFault.{ServerFault, TheVariants.{Poll, Worn}}
 use Rattle.dispatch.specs.{declared.{shared.Own.Own, split.Split.Split}, Limits.own_turns, Outgoing.{TookNothing, tickets_out, slots_out}, Splits.{IsIn, part_of, parts_of}, Posts.{IsWorn, OnlyWorn}}
 use Rattle.turns.specs.{declared.worker.Worked.Worked, Shares.TicketsShared, Turns.{IsTurnOf, NoOwnTurn}}
-use Rattle.rounds.specs.{Acts.{Act, ActsMade, IsPost, IsTry, at_slot, due_of}, Pollers.{PollerState, HasOpenedAll}, Openings.slots_in, Rounds.{EndedEarly, ListenerKept, ListensToOpen, RoundDone}}
+use Rattle.rounds.specs.{Acts.{SeatAct, ActsMade, IsPost, IsTry, at_slot, due_of}, Pollers.{PollerState, HasOpenedAll}, Openings.slots_in, Rounds.{EndedEarly, ListenerKept, ListensToOpen, RoundDone}}
 use Rattle.threads.specs.declared.ending.Why.{Why, TheVariants.{FaultFound, PollerOver, QueueClosed, Met}}
 use Rattle.turns.specs.declared.worker.Worked.TheVariants as worked
 
@@ -45,10 +45,10 @@ abbrev pub tickets_of : List Run → List Ticket
 tickets_of ran = map (λ (run : Run). run.ticket) ran
 
 -- what a turn did at its slot
-abbrev pub act_of : Run → Act
+abbrev pub act_of : Run → SeatAct
 act_of run = record { ticket = run.ticket; exchanges = run.exchanges }
 
-abbrev pub acts_of : List Run → List Act
+abbrev pub acts_of : List Run → List SeatAct
 acts_of ran = map act_of ran
 
 -- the tickets that turns made, in order
@@ -103,8 +103,8 @@ pub record SlotsGiven (now_free : List ℕ) (old new : Own) (others others_new :
   pub slots : (slot : ℕ) → times_in slot new.hand.slots + times_given slot (new.free ∷ others_new)
       ≡ times_in slot old.hand.slots + times_given slot (old.free ∷ others) + times_in slot now_free
 
--- A worker made these turns. What it was to put before, what they made, and these tickets, are put or in hand, and so are
--- free slots
+-- A worker made these turns. What it was to put before, what they made, and these tickets, are put or in hand, and so
+-- are free slots
 pub record WorkerTurns (ran : List Run) (left : List Ticket) (old new : Own) (others others_new : List (EndState ℕ)) : Type 0 where
   pub turns : TurnsMade ran old.seat new.seat
   pub tickets : (t : Ticket) → times_of t (tickets_out new)
@@ -149,9 +149,9 @@ pub record Took (ticket : Ticket) (old new : Own) : Type 0 where
   pub free : new.free ≡ old.free
   pub hand : new.hand ≡ old.hand
 
--- A poller's thread ran this many tickets in its hand, and met these faults. Each ticket that it was to put before, or that
--- these turns made, was run or is put or in hand, once. Each free slot that it was to give before, or that they freed, is
--- given or in hand, once. It took nothing from a queue
+-- A poller's thread ran this many tickets in its hand, and met these faults. Each ticket that it was to put before, or
+-- that these turns made, was run or is put or in hand, once. Each free slot that it was to give before, or that they
+-- freed, is given or in hand, once. It took nothing from a queue
 pub record OwnTurnsRan (count : ℕ) (faults : List ServerFault) (old new : Own) : Type 0 where
   pub ran : List Run
   pub each : length ran ≡ count
@@ -193,8 +193,8 @@ pub record TurnsCut (why : Why) (p q : PollerState) (a b : Own) : Type 0 where
 abbrev pub NoTicketTaken : Own → Own → Type 0
 NoTicketTaken old new = new.ready.history.taken ≡ old.ready.history.taken
 
--- A look at the flag that stops openings, of which this much is known, showed this. If it was set, the poller has opened
--- all that it may from now on, and else it is as it was
+-- A look at the flag that stops openings, of which this much is known, showed this. If it was set, the poller has
+-- opened all that it may from now on, and else it is as it was
 pub record Asked (said : Bool → Type 0) (old new : PollerState) : Type 0 where
   pub found : Bool
   pub looked : said found
@@ -264,7 +264,7 @@ RunMade said tells p a b = (why : Why) × (second : ℕ) × (q : PollerState) ×
     × LoopMade said why (record p { swept = second }) q a b
 
 -- a note was posted, or a connection opened, or a turn made
-abbrev pub IsPollerAct : ℕ → Act → Type 0
+abbrev pub IsPollerAct : ℕ → SeatAct → Type 0
 IsPollerAct words act = IsPost act
     ⊎ (IsTry act ⊎ ((answer : Result Worked ServerFault) × IsTurnOf words act.ticket.slot answer act.exchanges))
 
@@ -273,15 +273,15 @@ abbrev pub opened_by : List Exchange → Ticket → List Ticket
 opened_by (Adopted found ∷ more) ticket = ticket ∷ []
 opened_by exchanges ticket = []
 
-abbrev pub openings_of : List Act → List Ticket
-openings_of acts = flat_map (λ (act : Act). opened_by act.exchanges act.ticket) acts
+abbrev pub openings_of : List SeatAct → List Ticket
+openings_of acts = flat_map (λ (act : SeatAct). opened_by act.exchanges act.ticket) acts
 
--- What a poller's seat did is these acts, in order. Each ticket that its thread was to put before, or that they made, was
--- run by the thread itself or is put or in hand, once, and none was taken out of the queue. Each free slot that was taken
--- out of its queue, that it was to give before, or that these turns freed, was opened, or is no longer used, or is given or
--- in hand
+-- What a poller's seat did is these acts, in order. Each ticket that its thread was to put before, or that they made,
+-- was run by the thread itself or is put or in hand, once, and none was taken out of the queue. Each free slot that
+-- was taken out of its queue, that it was to give before, or that these turns freed, was opened, or is no longer used,
+-- or is given or in hand
 pub record PollerRan (old new : Own) : Type 0 where
-  pub acts : List Act
+  pub acts : List SeatAct
   pub each : All (IsPollerAct old.seat.table.words) acts
   pub made : ActsMade acts old.seat new.seat
   pub ran : List Run
@@ -300,8 +300,8 @@ PollerEnded why old new = PollerRan old new ⊎ RoundWorn why old new
 abbrev pub OthersKept : ℕ → List (EndState ℕ) → List (EndState ℕ) → Type 0
 OthersKept poller old new = (other : ℕ) → other ≢ poller → slice_get new other ≡ slice_get old other
 
--- A worker exchanges its end of the first poller's queue, which it uses, with that of the poller with this number, if it
--- has one. The others are of the other pollers, in order
+-- A worker exchanges its end of the first poller's queue, which it uses, with that of the poller with this number, if
+-- it has one. The others are of the other pollers, in order
 pub record Changes (poller : ℕ) (used used_new : EndState ℕ) (others others_new : List (EndState ℕ)) : Type 0 where
   pub first : poller ≡ 0 → (used_new ≡ used) × (others_new ≡ others)
   pub other : poller ≢ 0 → IfSome (slice_get others (poller - 1)) (λ end. (used_new ≡ end)

@@ -45,8 +45,8 @@ impl Model for Rest {
 /// end of every poller's queue, the first poller's first. A thread has the number of its poller, and the workers have
 /// those after.
 ///
-/// Refuses with `NoMemory` if there is none for what they own, if there are too few parts, or if a poller's table is not
-/// one of these slots.
+/// Refuses with `NoMemory` if there is none for what they own, if there are too few parts, or if a poller's table is
+/// not one of these slots.
 pub fn divide<F: Front + Drop>(
     alloc: Global,
     shared: &Arc<Shared<F>>,

@@ -69,10 +69,10 @@ where
         unreachable!()
     }
 
-    /// One step of the thread: it puts the tickets in hand, which a queue had refused, takes a ticket, for which it may
-    /// wait, and runs its turn; without room in hand it takes none. It is refused if the thread ends: the queue of tickets
-    /// is closed and empty, a fault was recorded before the taking or after it, which leaves the ticket in hand, or this
-    /// step met one.
+    /// One step of the thread: it puts the tickets in hand, which a queue had refused, takes a ticket, for which it
+    /// may wait, and runs its turn; without room in hand it takes none. It is refused if the thread ends: the queue of
+    /// tickets is closed and empty, a fault was recorded before the taking or after it, which leaves the ticket in
+    /// hand, or this step met one.
     pub fn step<G: Gate, C: Clock, R: Wait + Log, S>(
         &mut self,
         context: &Context<'_, G, C, R, S>,

@@ -213,7 +213,7 @@ marks_none None heavy = refl
 pub still_at_work : {claims : TableId} {slot : ℕ} {a b : Own} → AtWork claims slot a → HoldsOnly slot b.seat → OnlyAt slot a.seat b.seat → b.hand ≡ a.hand → AtWork claims slot b
 still_at_work work holder only hand = record { same = only.table ∙ work.same; inside = work.inside; holder = holder; room = rw hand work.room }
 
--- Of all these so many were looked at, and so many have stayed. Whatever becomes of the rest, it is what becomes of all
+-- Of all these, `done` were looked at and `stayed` have stayed. Whatever becomes of the rest, it is what becomes of all
 pub record SharedSoFar (all : List Ticket) (marks : List ℕ) (queue : EndState Ticket) (done stayed : ℕ) (hand : List Ticket) (heavy : List ℕ) (now : EndState Ticket) : Type 0 where
   pub kept : List Ticket
   pub is : hand ≡ drop done all ++ kept

@@ -76,7 +76,7 @@ pub record TurnDone (ticket : Ticket) (exchanges : List Exchange) (result : Resu
   pub slots : SlotsKept ticket result old new
   pub took : TookNothing old new
 
--- the rest of a turn after so many of its exchanges and acts, if another connection was in the place or not
+-- the rest of a turn after this many of its exchanges and of its acts, if another connection was in the place or not
 pub record TurnRest {S : Type 0} (made : Act → ℕ → S → S → Type 0) (ticket : Ticket) (result : Result Worked ServerFault)
     (other : Bool) (exchanged acted : ℕ) (old new : Own) (from to : S) : Type 0 where
   pub noted : ℕ
@@ -141,7 +141,7 @@ NoOwnTurn own = (own.hand.tickets ≡ []) ⊎ (own.hand.capacity ≤ length own.
 abbrev pub noted_by : ℕ → PairState → PairState
 noted_by notes pair = if nat_lt 0 notes then noted pair else pair
 
--- A wire is served so: at this second it came from one state to another by these answers to the calls of a pair on a side
+-- A wire is served so: at this second it came from one state to another by these answers to a pair's calls on a side
 abbrev pub Serves : Type 0 → Type 1
 Serves S = ℕ → S → S → Side → PairState → List AnswerValue → Type 0
 

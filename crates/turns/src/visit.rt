@@ -114,7 +114,7 @@ impl<F: Front> Visit<F> {
         &self.berth.pair
     }
 
-    /// Gives the connection a report if notes waited, and makes its calls on its two wires.
+    /// Raises the connection's flags if notes waited, and makes its calls on its two wires.
     pub(crate) fn play(&mut self, notes: u64, terms: Terms, buffer: &mut [u8; MAX_READ]) -> Turn
         requires least { 1 ≤ terms.budget }
         requires most { terms.budget ≤ 1024 }

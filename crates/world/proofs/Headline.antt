@@ -141,7 +141,7 @@ pub movable_is_due : (laws : CoreLaws) (st : State) → Turns st → EdgesHold s
 movable_is_due laws st turns edges s moving = grind (arith, held_due laws st s, turns.each s)
 
 -- When each connection last moved: not before any event that opened it or moved something of it, and not after the
--- second that it is. One that expires moved nothing for the idle limit; and a pair fails only after a failed call, or so.
+-- second that it is. One that expires moved nothing for the idle limit; and a pair fails only so, or by a failed call.
 
 -- the first event happened, and then the others
 goes_on : (o : Option State) (q : State) (events : List Event) {p : Option State} → p ≡ o → option_and_then (λ (m : State). run m events) o ≡ Some q → (m : State)

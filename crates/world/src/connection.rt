@@ -1,4 +1,6 @@
-ghost use Rattle.std.specs.Prelude.{◌≡◌, Some, IsNone, IsSome, ◌↔◌, option_map};
+#![tactic(auto, using(std::proofs::lemmas::Option::gets, std::proofs::lemmas::Grind::common_steps))]
+
+ghost use Rattle.std.specs.Prelude.{◌≡◌, Some, option_map};
 ghost use Rattle.relay_core.specs.{Order.next_call, Replies.reply_of};
 ghost use Rattle.world.specs.Calls.{told_of, plain};
 
@@ -61,8 +63,8 @@ impl Connection {
 
     /// Makes the next call on the kernel's end, which gets this reply at the second `now`.
     ///
-    /// Refuses with `NotAllowed` if there is no next call, or it may not be answered so, and with `NoMemory` if there is
-    /// none for the bytes that a write takes. A refusal changes nothing.
+    /// Refuses with `NotAllowed` if there is no next call, or it may not be answered so, and with `NoMemory` if there
+    /// is none for the bytes that a write takes. A refusal changes nothing.
     #[tactic(auto, unfolding(crate::specs::Calls::called))]
     pub fn call(&mut self, kernel: &mut Kernel, reply: Reply, now: u64) -> Result<(), Refusal>
         ensures outcome { Meets (called now (record { kernel = kernel.old; connection = self.old }) reply)

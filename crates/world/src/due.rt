@@ -1,4 +1,6 @@
 // What could move, and what is due to be tried.
+#![tactic(auto, using(std::proofs::lemmas::Option::gets, std::proofs::lemmas::Grind::common_steps))]
+
 ghost use Rattle.std.specs.{Prelude.◌≡◌, List.list_any, Option.option_copied};
 ghost use Rattle.relay_core.specs.{Pairs.stream_of, Order.{is_waiting, is_drained}};
 ghost use Rattle.world.specs.Due.{gives, takes, has_place, flows, moves, is_report, is_ticket, tries, has_ticket, is_reported, is_ticketed, movable, due};

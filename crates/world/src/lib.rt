@@ -21,7 +21,7 @@
 //!
 //! The definitions are in `specs/`: one event in `Steps.antt`, on the state in `States.antt`; what holds after every
 //! list of events in `Headline.antt`, and what that depends on in `Support.antt`.
-#![tactic(auto, using(std::proofs::lemmas::Option::gets, std::proofs::lemmas::Grind::common_steps))]
+#![tactic(auto)]
 
 mod actors;
 mod connection;

@@ -1,4 +1,6 @@
 // What happens outside the relay: time, the network's changes, reports, and connections at the listener.
+#![tactic(auto, using(std::proofs::lemmas::Option::gets, std::proofs::lemmas::Grind::common_steps))]
+
 ghost use Rattle.std.specs.Prelude.{◌||◌, IsErrOf, IsTrue};
 ghost use Rattle.kernel_model.specs.{Outcome.Meets, Kernel.queues_more};
 ghost use Rattle.world.specs.{Memory.brings_bytes, Steps.change_at};

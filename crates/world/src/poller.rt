@@ -1,4 +1,6 @@
 // The poller's events.
+#![tactic(auto, using(std::proofs::lemmas::Option::gets, std::proofs::lemmas::Grind::common_steps))]
+
 ghost use Rattle.std.specs.Prelude.{◌≡◌};
 ghost use Rattle.token.specs.Names.{last_generation};
 ghost use Rattle.world.specs.Steps.{token_of};

@@ -1,4 +1,6 @@
 // A list of events from the opening world on.
+#![tactic(auto, using(std::proofs::lemmas::Option::gets, std::proofs::lemmas::Grind::common_steps))]
+
 ghost use Rattle.std.specs.Prelude.{◌≡◌, IfOk, IfErr, Some};
 ghost use Rattle.world.specs.{States.{IsWithinLimits, opening}, Runs.{run, Fails}, Headline.{BytesAndEndsHold, ClosedHold, DueHolds, FailuresHold, ListenerHolds, Throughout, TriedOnOwn}, Support.SupportHolds};
 

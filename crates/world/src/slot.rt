@@ -1,3 +1,5 @@
+#![tactic(auto, using(std::proofs::lemmas::Option::gets, std::proofs::lemmas::Grind::common_steps))]
+
 use crate::actors::Holder;
 use crate::connection::Connection;
 use kernel_model::{Kernel, Refusal, Reply};

@@ -1,3 +1,5 @@
+#![tactic(auto, using(std::proofs::lemmas::Option::gets, std::proofs::lemmas::Grind::common_steps))]
+
 use crate::event::Event;
 use crate::laws::rests_on_core;
 use crate::world::World;

@@ -1,3 +1,5 @@
+#![tactic(auto, using(std::proofs::lemmas::Option::gets, std::proofs::lemmas::Grind::common_steps))]
+
 use crate::actors::{Doing, Ticket};
 use std::marker::Model;
 
@@ -23,7 +25,7 @@ impl Model for Worker {
 }
 
 impl Worker {
-    ghost use Rattle.std.specs.{Prelude.{◌≡◌, ◌==◌, ◌⊎◌, [], length}, Option.option_to_list};
+    ghost use Rattle.std.specs.{Prelude.{◌≡◌, ◌⊎◌, []}, Option.option_to_list};
     ghost use Rattle.world.specs.{States.resting, Steps.with_ticket};
 
     /// A worker with nothing to do.

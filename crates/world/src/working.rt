@@ -1,4 +1,6 @@
 // The workers' events.
+#![tactic(auto, using(std::proofs::lemmas::Option::gets, std::proofs::lemmas::Grind::common_steps))]
+
 ghost use Rattle.std.specs.Prelude.{◌≡◌};
 ghost use Rattle.relay_core.specs.Pairs.{is_live};
 

@@ -1,4 +1,6 @@
 // The machine's state, how it starts, and its readers.
+#![tactic(auto, using(std::proofs::lemmas::Option::gets, std::proofs::lemmas::Grind::common_steps))]
+
 ghost use Rattle.std.specs.Prelude.{◌≡◌, IfOk, replicate};
 ghost use Rattle.world.specs.States.{numbers_below, unused, resting};
 

@@ -1,5 +1,5 @@
--- What a step is for the machine: what the network, the kernel, the clock and the poller do between the programs, and what a
--- thread does, act by act, where no opening is half way. What this file imports is passed on to the one above it.
+-- What a step is for the machine: what the network, the kernel, the clock and the poller do between the programs, and
+-- what a thread does, act by act, where no opening is half way. Its imports are passed on to the file above it.
 pub use Rattle.std.{proofs.{Common.{Bool, List, None, Option, Some, [], ap, append-nil, arith, drop, false, if◌then◌else◌, inl, inr, is_some, length, lt-ltb, map, nat_le, nat_lt, not, option_map, refl, replicate, slice_get, slice_set, subst, suc, sym, true, zero, ℕ, ◌&&◌, ◌++◌, ◌+◌, ◌==◌, ◌∙◌, ◌∷◌, ◌≡◌, ◌≢◌, ◌≤◌, ◌⊎◌, ◌||◌, length-append, eqb-true, ne_eqb, ◌-◌, append_assoc, eq-eqb, leb-true}, lemmas.{Bool.{or_right, and_parts, cases_eq}, Option.get_or_from_slice_get, List.{map-append, length-replicate, set-get_or, set-set}}}, specs.{Option.is_none, Cmp.second_so}}
 pub use Rattle.claims.specs.{Words.{WordState, made as exchange_made, some_wait, wakes, word_after}, declared.view.Exchange.Exchange}
 pub use Rattle.interleaving.specs.{Likeness.{OthersRest, exchange, exchanges_in, first_kind, kind_in, left_of, Adopted, Emptied, Entered, Goes, HalfOpen, HasClosed, HasOut, HasRetired, Held, HolderLike, Holds, IsHalfOpen, IsHolder, IsSettled, Leaves, Like, Opens, Placed, Posted, Registered, Rests, Settled, Stage, Stays, ThreadLike, Tries, WorkerFor, WorkersFor, ahead, call_of, calls_in, ends_of, machine_of, opened_slot, outside_among, outside_of, ticket, posts, here, Finds}, Threads.{Act, Call, Release, TakeOut, again, ended, open_slot, plan, quiet, turn, Accept, Acts, Begin, Calls, Connect, Deliver, Drop, Network, Open, Poll, Spurious, Step, Sweep, System, Thread, Tick, Vanish, acts, begun, goes_on, is_over, poller_rests, posted, released, rests, step, with_thread, watched_of, is_limited, delivered, delivers, Post, Retire, Give, calls, closed, begins, given, heard, taking, planned, put_in, registered, registering}}
@@ -31,8 +31,8 @@ shown before w events = (machine_runs.run w events, calls_in events, outside_amo
 abbrev pub after_step : Step → List Exchange → Shown → Shown
 after_step s own x = (x.0, call_of s ++ x.1, outside_of s ++ x.2, own ++ x.3)
 
--- One step of the threads, which makes these exchanges, and what the machine makes of it, which was ahead by those before;
--- whatever comes next
+-- One step of the threads, which makes these exchanges, and what the machine makes of it, which was ahead by those
+-- before; whatever comes next
 pub record Follows (before own : List Exchange) (w : State) (s : Step) (next : System) : Type 0 where
   pub events : List Event
   pub world : State

@@ -1,7 +1,7 @@
--- What each event does to the ends of each connection, to each slot, and to the closed connections; so after every run:
--- bytes and ends, and no flag down without cover. And of each closed connection: what was sent is a beginning of the
--- preamble and what was given, and all of it where it was done. Nothing more is given for its generation, since its slot
--- has none of that generation any more.
+-- What each event does to the ends of each connection, to each slot, and to the closed connections; so after every
+-- run: bytes and ends, and no flag down without cover. And of each closed connection: what was sent is a beginning of
+-- the preamble and what was given, and all of it where it was done. Nothing more is given for its generation, since
+-- its slot has none of that generation any more.
 pub mod Pairs
 unfoldable pub use Pairs.*
 

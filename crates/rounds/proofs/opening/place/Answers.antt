@@ -1,7 +1,7 @@
 use Rattle.std.proofs.{Common.{◌∙◌, ◌∷◌, [], ap, arith, inl, inr, length-append, refl}, lemmas.List.length-set}
 use Rattle.claims.{specs.declared.view.Account.Account, proofs.Seats.{account_after, adds_both, holds_nothing_again}}
 use Rattle.dispatch.{proofs.Holding.holds_from, specs.Acts.{AreMade, placing}}
-use Rattle.rounds.{specs.Acts.{Act, opening}, proofs.{Acts.{acts_one, none_at, try_held, try_opened}, Rounds.{counted_one, counted_same, if_fails, lost_one, not_ok, passed_up}}}
+use Rattle.rounds.{specs.Acts.{SeatAct, opening}, proofs.{Acts.{acts_one, none_at, try_held, try_opened}, Rounds.{counted_one, counted_same, if_fails, lost_one, not_ok, passed_up}}}
 use Rattle.claims.specs.declared.view.Exchange.TheVariants as exchange
 use Rattle.rounds.proofs.opening.place.Goals as goal
 
@@ -11,7 +11,7 @@ returns-in_ok-start-in-Adopted g c =
     let started = c.in_ok-start-in-Adopted.ensures.started in
     let counted = c.count_opened.ensures.poller in
     let told = c.end_episodes.ensures in
-    let try : Act = record { ticket = c.args.ticket; exchanges = opening change.0 started.noted } in
+    let try : SeatAct = record { ticket = c.args.ticket; exchanges = opening change.0 started.noted } in
     record {
       between = record {
         same = c.start.ensures.only.table ∙ change.1.only.table ∙ c.requires.between.same;
@@ -69,7 +69,7 @@ returns-in_err-start-in-Adopted g c =
 pub returns-in-NotFree : goal.returns-in-NotFree
 returns-in-NotFree g c =
     let change = c.in-NotFree.ensures.change in
-    let try : Act = record { ticket = c.args.ticket; exchanges = exchange.NotFree ∷ [] } in
+    let try : SeatAct = record { ticket = c.args.ticket; exchanges = exchange.NotFree ∷ [] } in
     record {
       between = record {
         same = change.only.table ∙ c.requires.between.same;

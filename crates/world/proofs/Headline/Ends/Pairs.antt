@@ -1,5 +1,5 @@
--- A pair and its two ends: the bytes keep their order, an end comes last, and each flag that is down is covered. A change
--- of the network and a worker's call keep that.
+-- A pair and its two ends: the bytes keep their order, an end comes last, and each flag that is down is covered. A
+-- change of the network and a worker's call keep that.
 pub mod Holders
 unfoldable pub use Holders.*
 pub use Rattle.flow.specs.Stream.{waiting}
