@@ -12,7 +12,8 @@ import time
 
 from loopback import Relay, echo, port_of, target, unheard, until
 from shared import (
-    answers_soon, ask_once, asked, asking, at_once, drops_in, few, having, is_closed_soon, left_out, reset, served,
+    answers_soon, ask_once, asked, asking, at_once, drops_in, few, having, is_closed_soon, leave_one_descriptor, left_out, reset,
+    served,
 )
 
 
@@ -133,6 +134,22 @@ def closes_what_it_has_opened():
                 time.sleep(0.5)
                 before = len(relay.descriptors())
         assert until(lambda: len(relay.descriptors()) <= before)
+
+
+def floods_nothing_without_descriptors():
+    # Each of four pollers logs the first of each kind, and a count once a second.
+    relay = Relay(target(echo), log="warn")
+    leave_one_descriptor(relay)
+    ended = time.monotonic() + 3
+
+    def connect_again_and_again():
+        while time.monotonic() < ended:
+            with contextlib.suppress(ConnectionError), relay.connect() as client:
+                client.recv(1)
+
+    at_once(*[connect_again_and_again] * 8)
+    lines = relay.end()
+    assert len(having(lines, "] accept: ")) <= 4 and len(lines) <= 32 and drops_in(lines) > 100
 
 
 def out_of_memory():

@@ -8,9 +8,9 @@ import socket
 import tempfile
 import time
 
-from loopback import WAIT, Relay, echo, in_thread, port_of, read_all, send_and_shut, target, unanswered, unheard, until
+from loopback import WAIT, Relay, echo, in_thread, port_of, read_all, send_and_shut, target, unanswered, unheard
 from shared import (
-    answer_and_read, ask_once, asked, at_once, drops_in, having, is_closed_soon, name_of, numbers_in, reset,
+    answer_and_read, ask_once, asked, at_once, drops_in, having, is_closed_soon, leave_one_descriptor, name_of, numbers_in, reset,
     served, told,
 )
 
@@ -144,9 +144,7 @@ def statistics_add_up():
     begun, listener = time.monotonic(), unheard()
     with tempfile.TemporaryFile("w+") as errors:
         relay = Relay(port_of(listener), errors=errors, slots=256, idle=1, stop_after=1000, options=("--stats", "1"), log="debug")
-        # One is left for a client. Four pollers have two each, beside the listener's, three streams and the recording's.
-        assert until(lambda: len(relay.descriptors()) == 12 + bool(relay.record))
-        relay.limit(resource.RLIMIT_NOFILE, max(relay.descriptors()) + 2)
+        leave_one_descriptor(relay)
         assert all([relay.connect().recv(1) == b"" for _ in range(20)])
         relay.limit(resource.RLIMIT_NOFILE, None)
         at_once(*[sends(b"?", times=50)] * 4)

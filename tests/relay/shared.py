@@ -1,12 +1,13 @@
 """What the checks of several topics use."""
 
 import re
+import resource
 import select
 import socket
 import struct
 import time
 
-from loopback import WAIT, Relay, echo, in_thread, port_of, read_all, target
+from loopback import WAIT, Relay, echo, in_thread, port_of, read_all, target, until
 
 LONGEST = 100  # the longest that a check may take, in seconds
 OWN = "[WARN  relayd] target: the relay itself listens there, so a connection would go round without end"
@@ -137,6 +138,13 @@ def numbers_in(line):
 def drops_in(lines):
     """How many clients were closed unopened, by these lines."""
     return sum(numbers_in(line).get("more", 1) for line in having(lines, "] drop"))
+
+
+def leave_one_descriptor(relay):
+    """Leaves one for a client, and none for its target."""
+    # Four pollers have two each, beside the listener's, three streams and the recording's.
+    assert until(lambda: len(relay.descriptors()) == 12 + bool(relay.record))
+    relay.limit(resource.RLIMIT_NOFILE, max(relay.descriptors()) + 2)
 
 
 def line_of(client):

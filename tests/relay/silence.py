@@ -160,3 +160,15 @@ def gives_up_peers_that_are_gone():
     assert is_silent(waiting, 1) and is_silent(next_one, 7) and asked(next_one)
     for each, side in (relay, "client"), (other, "target"):
         assert having(each.end(), f"side={side} call=read kind=timedout")
+
+
+def ends_a_receiver_that_stalls():
+    relay = Relay(slots=1, ring=4096, idle=1)
+    client, _end = relay.pair()
+    client.settimeout(0.5)
+    with contextlib.suppress(ConnectionError):
+        with contextlib.suppress(TimeoutError):
+            while client.send(bytes(65536)):
+                pass
+        assert is_closed_soon(client)
+    assert relay.end()[-1] == IDLE

@@ -56,6 +56,23 @@ def ends_soon_behind_its_last():
         assert sorted(taken(pollers) for _ in range(7))[3] < most
 
 
+def gives_up_its_port(relay, clients):
+    """Clients are refused and another relay listens there, while these go on, each of which echoes. Answers the log."""
+    assert until(lambda: not is_open(relay.port))
+    ask_once(Relay(target(echo), listen=f"127.0.0.1:{relay.port}", log="off"))
+    for client in clients:
+        assert asked(client) and relay.process.poll() is None
+        client.close()
+    return relay.ended()
+
+
+def closes_its_socket_behind_its_last():
+    # One poller; and four, of which each has its share of the connections, 3, 3, 2 and 2.
+    for most, settings in (4, {"workers": 1, "slots": 4}), (10, {"slots": 256}):
+        relay = Relay(target(echo), stop_after=most, **settings)
+        assert len(having(gives_up_its_port(relay, served(relay, most)), "] open ")) == most
+
+
 # refuses waits_while_it_listens: a poller that may open nothing waits for reports with the listening socket open
 def refuses_who_comes_behind_its_last():
     # Of sixteen pollers fifteen may open none, and wait for 1.6 seconds. A client would wake them.
@@ -71,8 +88,7 @@ def refuses_who_comes_behind_its_last():
 
 # refuses end_of_input_overlooked: a relay with --until-eof goes on to accept clients after the end of its standard input
 def ends_behind_its_standard_input():
-    # What it reads there is thrown away. Then clients are refused and another relay listens there, while the others go on. With 4
-    # pollers and 16, from a file and on the command line.
+    # What it reads there is thrown away. With 4 pollers and 16, from a file and on the command line.
     for settings in {}, {"workers": 16}, {"typed": True}:
         relay = Relay(target(echo), options=["--until-eof"], stdin=subprocess.PIPE, **settings)
         relay.process.stdin.write("x" * 1_000_000)
@@ -81,12 +97,7 @@ def ends_behind_its_standard_input():
         assert relay.process.poll() is None
         relay.process.stdin.close()
         relay.process.stdin = None
-        assert until(lambda: not is_open(relay.port))
-        ask_once(Relay(target(echo), listen=f"127.0.0.1:{relay.port}", log="off"))
-        for client in clients:
-            assert asked(client) and relay.process.poll() is None
-            client.close()
-        assert "[INFO  relayd] input: has ended, so no more clients are accepted" in relay.ended()
+        assert "[INFO  relayd] input: has ended, so no more clients are accepted" in gives_up_its_port(relay, clients)
 
 
 def ends_where_there_is_no_input():

@@ -1,3 +1,6 @@
+//! How many clients each poller has. By these counts a poller leaves clients to others.
+ghost use Rattle.std.specs.Prelude.{◌≤◌};
+
 use crate::limits::{LEAST_MARGIN, MARGIN_PART};
 use dispatch::Split;
 use std::alloc::{AllocError, Global};
@@ -65,6 +68,9 @@ fn clients(load: &Arc<Load>) -> usize {
     Arc::strong_count(load).saturating_sub(1)
 }
 
-fn margin(count: usize) -> usize {
+/// By how many more than this a poller may have and still take the next client.
+fn margin(count: usize) -> usize
+    ensures { 2 ≤ result }
+{
     (count / MARGIN_PART).max(LEAST_MARGIN)
 }

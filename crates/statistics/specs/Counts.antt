@@ -11,6 +11,12 @@ sum count count_more = min (count + count_more) 18446744073709551615
 abbrev pub more : ℕ → ℕ
 more count = sum count 1
 
+-- the numbers of a slot's counts: of connections that have ended before those of all that were opened
+abbrev pub numbers_of : Counts → List ℕ
+numbers_of c =
+    c.up ∷ c.down ∷ c.up_ended ∷ c.down_ended ∷ c.done ∷ c.client ∷ c.target ∷ c.idle ∷ c.refused ∷ c.reset
+    ∷ c.timedout ∷ c.dropped ∷ c.opened ∷ []
+
 -- a failed call is counted by the side on whose socket it was made
 abbrev pub blamed : Side → Counts → Counts
 blamed Client c = record c { client = more c.client }

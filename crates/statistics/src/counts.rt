@@ -1,5 +1,5 @@
 ghost use Rattle.std.specs.Prelude.{◌≡◌};
-ghost use Rattle.statistics.specs.Counts.{after, blamed, by_kind, closed, more, moved, live_at, plus, verdict_counted};
+ghost use Rattle.statistics.specs.Counts.{after, blamed, by_kind, closed, more, moved, live_at, numbers_of, plus, verdict_counted};
 
 use crate::event::Event;
 use relay_core::{Fault, Verdict};
@@ -56,7 +56,9 @@ impl Counts {
         down_ended: 0,
     };
 
-    pub(crate) fn of(numbers: [u64; COUNTS]) -> Counts {
+    pub(crate) fn of(numbers: [u64; COUNTS]) -> Counts
+        ensures { (c : Counts) → numbers ≡ numbers_of c → result ≡ c }
+    {
         let [
             up,
             down,
@@ -90,7 +92,9 @@ impl Counts {
     }
 
     /// Their numbers: of connections that have ended before those of all that were opened.
-    pub(crate) fn numbers(self) -> [u64; COUNTS] {
+    pub(crate) fn numbers(self) -> [u64; COUNTS]
+        ensures { result ≡ numbers_of self }
+    {
         [
             self.up,
             self.down,
