@@ -7,7 +7,7 @@ ghost use Rattle.dispatch.specs.{Splits.parts_of, declared.front.Unopened.TheVar
 use crate::bound::Bound;
 use crate::failure::{log_failure, log_failure_at};
 use crate::forwarding::{Dial, Forwarding};
-use crate::limits::{MAX_POLLERS, MOST_LEFT, WAIT_MILLIS};
+use crate::limits::{MAX_POLLERS, MOST_BUSY, MOST_LEFT, WAIT_MILLIS};
 use crate::loads::Loads;
 use crate::socket::Socket;
 use crate::stream::Stream;
@@ -27,6 +27,7 @@ use std::marker::Model;
 use std::net::{Net, SocketAddr, SocketAddrV4};
 use std::os::fd::AsRawFd;
 use std::sync::Arc;
+use std::thread::yield_now;
 use std::time::Duration;
 use token::{Name, Token, unpack};
 
@@ -52,6 +53,8 @@ pub struct Sockets<'r, R> {
     poller: usize,
     // How many times in a row it has left a client.
     left: u8,
+    // How many polls gave reports since it let other threads run.
+    busy: u8,
 }
 
 impl<'r, R> Model for Sockets<'r, R> {
@@ -159,6 +162,7 @@ fn fronts_of<'r, R>(
                 loads: Arc::try_clone(loads)?,
                 poller,
                 left: 0,
+                busy: 0,
             }),
             None => unreachable!(),
         }
@@ -177,6 +181,16 @@ fn millis_of(wait: Waiting, longest: u64) -> u64
         Waiting::Brief => 1,
         Waiting::Long => longest,
     }
+}
+
+/// Lets other threads run after enough polls that gave reports (sched_yield(2)), and returns how many are counted then.
+/// A poller under load never sleeps, and would keep the processor that it shares for a whole slice of the scheduler.
+fn let_others_run(busy: u8) -> u8 {
+    if busy < MOST_BUSY {
+        return busy;
+    }
+    yield_now();
+    0
 }
 
 fn wait_of(pollers: usize) -> u64
@@ -365,12 +379,14 @@ impl<R: Dial> Front for Sockets<'_, R> {
         } }
     {
         batch.clear();
+        self.busy = let_others_run(self.busy);
         self.waited = millis_of(wait, self.wait);
         let most = Duration::from_millis(self.waited);
         let answer = self.poll.poll(&mut self.events, Some(most));
         self.failed = has_failed(&answer);
         answer?;
         put_numbers(batch, &self.events, &self.told);
+        self.busy = self.busy.saturating_add(u8::from(!batch.is_empty()));
         if wait == Waiting::Brief && batch.is_empty() {
             self.left = MOST_LEFT;
         }
