@@ -76,18 +76,32 @@ def both_sides_stall():
 # refuses blocked_read_goes_on: a wire goes on reading after a read that would block
 # refuses option_unasked: a socket gets an option of `--connect-timeout` or `--keepalive` that nobody asked for
 # refuses wires_are_not_told: no wire is told of its socket's reports, so each reads where there is nothing to read
-def makes_no_call_that_nobody_asked_for():
-    # By strace(1), from its only accept(2) on. How often it writes and waits is left out.
-    if not shutil.which("strace"):
-        return left_out("strace")
+def traced(calls, times):
+    """What strace(1) writes of these calls of a relay whose only client asks this often."""
     with tempfile.NamedTemporaryFile("r") as file:
-        words = ["strace", "-f", "-e", "trace=%network,epoll_ctl", "-o", file.name, Relay.program, "forward", "127.0.0.1:0"]
+        words = ["strace", "-f", "-e", f"trace={calls}", "-o", file.name, Relay.program, "forward", "127.0.0.1:0"]
         words += [f"127.0.0.1:{target(echo)}", "--workers", "1", "--slots", "1", "--stop-after", "1"]
         relay = start(words, stdout=subprocess.PIPE, stderr=subprocess.DEVNULL)
         with connected(int(relay.stdout.readline().rpartition(":")[2])) as client:
-            assert all([asked(client) for _ in range(3)])
+            assert all([asked(client) for _ in range(times)])
         assert relay.wait(WAIT) == 0
-        _, accepted, after = re.split(r"(accept4.* = \d+\n)", file.read())
+        return file.read()
+
+
+# refuses busy_poller_keeps_on: a poller that finds reports each time lets no other thread run
+def lets_others_run_under_load():
+    if not shutil.which("strace"):
+        return left_out("strace")
+    calls = traced("epoll_wait,sched_yield", 500)
+    polls = len(re.findall(r"epoll_wait.* = [1-9]", calls))
+    assert polls >= 500 and abs(calls.count("sched_yield(") - polls // 20) <= 1
+
+
+def makes_no_call_that_nobody_asked_for():
+    # From its only accept(2) on. How often it writes and waits is left out.
+    if not shutil.which("strace"):
+        return left_out("strace")
+    _, accepted, after = re.split(r"(accept4.* = \d+\n)", traced("%network,epoll_ctl", 3))
     made = collections.Counter(re.findall(r"^\d+ +(\w+)\(", after, re.M))
     wanted = {"socket": 1, "connect": 1, "epoll_ctl": 3, "setsockopt": 2, "shutdown": 2}
     assert after.count("EAGAIN") <= 10, after  # one for each of the six times that bytes come
