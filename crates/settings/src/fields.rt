@@ -83,14 +83,17 @@ impl fmt::Display for Settings {
     ghost output = { λ s. Some (settings_text s) };
 
     fn fmt<W: fmt::Write>(&self, f: &mut fmt::Formatter<W>) -> fmt::Result {
-        let listen = AddressText(self.listen);
-        let target = AddressText(self.target);
+        let (listen, target) = (AddressText(self.listen), AddressText(self.target));
         let (ring, budget, workers) = (self.ring, self.budget, self.workers);
+        write!(
+            f,
+            "listen={listen}\ntarget={target}\nring={ring}\nbudget={budget}\nworkers={workers}\n"
+        )?;
         let (slots, stop_after) = (self.slots, self.stop_after);
         let (log, idle, proxy) = (self.log, self.idle, self.proxy);
         write!(
             f,
-            "listen={listen}\ntarget={target}\nring={ring}\nbudget={budget}\nworkers={workers}\nslots={slots}\nstop_after={stop_after}\nlog={log}\nidle={idle}\nproxy={proxy}\n"
+            "slots={slots}\nstop_after={stop_after}\nlog={log}\nidle={idle}\nproxy={proxy}\n"
         )
     }
 }

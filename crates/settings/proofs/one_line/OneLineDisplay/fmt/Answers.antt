@@ -42,7 +42,7 @@ loop-character-preserved g c =
       λ plain.
           let before = c.loop-character.invariant.2 plain in
           has_written_of_eq _ _ _ _ _ (one_more (chars text) c.loop-character.shown c.in-Some.character (rw counted t))
-          (has_written_append _ _ _ _ _ _ before (c.in_ok-write.ensures.writes before.plain refl)),
+          (has_written_append _ _ _ _ _ _ before (c.in_ok-fmt.ensures.writes before.plain refl)),
     )
 
 pub returns-clause-writes : goal.returns-clause-writes
