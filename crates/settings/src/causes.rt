@@ -18,8 +18,8 @@ pub fn cause(alloc: Global, bytes: &[u8], fault: &SettingsFault) -> Option<Strin
     let text = match std::str::from_utf8(bytes) {
         Ok(text) => text,
         Err(error) => {
-            let line = line_at(bytes, error.valid_up_to());
-            return format!(in alloc; "line {line}: this is not UTF-8").ok();
+            let slip = Slip::Other("this is not UTF-8");
+            return at(alloc, bytes, error.valid_up_to(), slip);
         }
     };
     match fault {
@@ -56,8 +56,13 @@ fn not_toml(alloc: Global, text: &str) -> Option<String> {
 }
 
 fn slip_at(alloc: Global, text: &str, index: usize, message: &str) -> Option<String> {
-    let line = line_at(text.as_bytes(), index);
     let slip = Slip::of(alloc, text, index).unwrap_or(Slip::Other(message));
+    at(alloc, text.as_bytes(), index, slip)
+}
+
+/// What is wrong in the line of this byte.
+fn at(alloc: Global, bytes: &[u8], index: usize, slip: Slip<'_>) -> Option<String> {
+    let line = line_at(bytes, index);
     format!(in alloc; "line {line}: {slip}").ok()
 }
 
@@ -200,7 +205,7 @@ pub(crate) enum Slip<'a> {
     Twice(&'a str, usize),
     /// What it has for a key is no value.
     NoValue(Key, &'a str, Wanted<'a>),
-    /// None of these; the parser says this.
+    /// These words say it.
     Other(&'a str),
 }
 

@@ -42,9 +42,9 @@ pub struct Settings {
 }
 
 impl Settings {
-    ghost use Rattle.std.specs.Prelude.{IfOk, IfErr};
+    ghost use Rattle.std.specs.Prelude.{IfOk, IfErr, ◌∷◌, []};
     ghost use Rattle.toml.specs.View.{table_view};
-    ghost use Rattle.settings.specs.{Table.{setting, keys}, Document.{GivesEach, IsFirstFault}};
+    ghost use Rattle.settings.specs.{Table.{setting, keys, row_of, number, level, truth}, Document.{Gives, GivesEach, IsFirstFault}};
 
     /// The settings of a document that has no unknown key, or the fault of the first key that has one.
     pub(crate) fn of(document: &Table) -> Result<Settings, SettingsFault>
@@ -56,11 +56,7 @@ impl Settings {
         let ring = number_at(document, RING)?;
         let budget = number_at(document, BUDGET)?;
         let workers = number_at(document, WORKERS)?;
-        let slots = number_at(document, SLOTS)?;
-        let stop_after = number_at(document, STOP_AFTER)?;
-        let log = level_at(document, Key::Log, LogLevel::Info)?;
-        let idle = number_at(document, IDLE)?;
-        let proxy = truth_at(document, Key::Proxy, false)?;
+        let (slots, stop_after, log, idle, proxy) = Settings::from_slots(document)?;
         Ok(Settings {
             listen,
             target,
@@ -73,6 +69,24 @@ impl Settings {
             idle,
             proxy,
         })
+    }
+
+    /// What a document sets from `slots` on, in the order of the keys.
+    fn from_slots(document: &Table) -> Result<(u32, u32, LogLevel, u32, bool), SettingsFault>
+        ensures slots { IfOk result (λ s. Gives (row_of Key.Slots) (table_view document.now) (number s.0)) }
+        ensures stop_after { IfOk result (λ s. Gives (row_of Key.StopAfter) (table_view document.now) (number s.1)) }
+        ensures log { IfOk result (λ s. Gives (row_of Key.Log) (table_view document.now) (level s.2)) }
+        ensures idle { IfOk result (λ s. Gives (row_of Key.Idle) (table_view document.now) (number s.3)) }
+        ensures proxy { IfOk result (λ s. Gives (row_of Key.Proxy) (table_view document.now) (truth s.4)) }
+        ensures ranges { IfOk result (λ s. (1 ≤ s.0) × (s.0 ≤ 4096) × (s.3 ≤ 86400)) }
+        ensures fault { IfErr result (IsFirstFault (Key.Slots ∷ Key.StopAfter ∷ Key.Log ∷ Key.Idle ∷ Key.Proxy ∷ []) (table_view document.now)) }
+    {
+        let slots = number_at(document, SLOTS)?;
+        let stop_after = number_at(document, STOP_AFTER)?;
+        let log = level_at(document, Key::Log, LogLevel::Info)?;
+        let idle = number_at(document, IDLE)?;
+        let proxy = truth_at(document, Key::Proxy, false)?;
+        Ok((slots, stop_after, log, idle, proxy))
     }
 }
 
