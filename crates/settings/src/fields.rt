@@ -73,12 +73,9 @@ impl Settings {
 
     /// What a document sets from `slots` on, in the order of the keys.
     fn from_slots(document: &Table) -> Result<(u32, u32, LogLevel, u32, bool), SettingsFault>
-        ensures slots { IfOk result (λ s. Gives (row_of Key.Slots) (table_view document.now) (number s.0)) }
-        ensures stop_after { IfOk result (λ s. Gives (row_of Key.StopAfter) (table_view document.now) (number s.1)) }
-        ensures log { IfOk result (λ s. Gives (row_of Key.Log) (table_view document.now) (level s.2)) }
-        ensures idle { IfOk result (λ s. Gives (row_of Key.Idle) (table_view document.now) (number s.3)) }
-        ensures proxy { IfOk result (λ s. Gives (row_of Key.Proxy) (table_view document.now) (truth s.4)) }
-        ensures ranges { IfOk result (λ s. (1 ≤ s.0) × (s.0 ≤ 4096) × (s.3 ≤ 86400)) }
+        ensures settings { IfOk result (λ s. let doc = table_view document.now in
+            Gives (row_of Key.Slots) doc (number s.0) × Gives (row_of Key.StopAfter) doc (number s.1) × Gives (row_of Key.Log) doc (level s.2)
+            × Gives (row_of Key.Idle) doc (number s.3) × Gives (row_of Key.Proxy) doc (truth s.4) × (1 ≤ s.0) × (s.0 ≤ 4096) × (s.3 ≤ 86400)) }
         ensures fault { IfErr result (IsFirstFault (Key.Slots ∷ Key.StopAfter ∷ Key.Log ∷ Key.Idle ∷ Key.Proxy ∷ []) (table_view document.now)) }
     {
         let slots = number_at(document, SLOTS)?;
