@@ -272,10 +272,7 @@ fn opened<'a>(words: &mut Pieces<'a>) -> Result<Polling, Wrong<'a>> {
 fn place_named(word: &[u8]) -> Option<(usize, u64)> {
     let mut parts = Pieces::new(word, b'.');
     let place = place(&mut parts)?;
-    match parts.next() {
-        None => Some(place),
-        Some(_) => None,
-    }
+    parts.next().is_none().then_some(place)
 }
 
 fn made<'a>(words: &mut Pieces<'a>) -> Result<Made, Wrong<'a>> {
@@ -284,22 +281,17 @@ fn made<'a>(words: &mut Pieces<'a>) -> Result<Made, Wrong<'a>> {
     let Some(answers) = named(word, &CALLS) else {
         return said(named(word, &UNANSWERED), word, wanted);
     };
-    let (bytes, answer) = called(words, &answers)?;
+    let bytes = match answers.bytes {
+        Some(wanted) => number(words, wanted)?,
+        None => 0,
+    };
+    let answer = answered(words, &answers)?;
     Ok(match answers.call {
         Call::Read => Made::Read(bytes, answer),
         Call::Write => Made::Write(bytes, answer),
         Call::Join => Made::Join(answer),
         Call::Shut => Made::Shut(answer),
     })
-}
-
-/// The number of bytes of a call, if it has one, and its answer.
-fn called<'a>(words: &mut Pieces<'a>, answers: &Answers) -> Result<(usize, Answer), Wrong<'a>> {
-    let bytes = match answers.bytes {
-        Some(wanted) => number(words, wanted)?,
-        None => 0,
-    };
-    Ok((bytes, answered(words, answers)?))
 }
 
 fn answered<'a>(words: &mut Pieces<'a>, answers: &Answers) -> Result<Answer, Wrong<'a>> {

@@ -52,12 +52,9 @@ fn not_toml(alloc: Global, text: &str) -> Option<String> {
     let Err(error) = toml::table_from_str(alloc, text) else {
         return None;
     };
-    slip_at(alloc, text, error.span()?.start, error.message())
-}
-
-fn slip_at(alloc: Global, text: &str, index: usize, message: &str) -> Option<String> {
-    let slip = Slip::of(alloc, text, index).unwrap_or(Slip::Other(message));
-    at(alloc, text.as_bytes(), index, slip)
+    let start = error.span()?.start;
+    let slip = Slip::of(alloc, text, start).unwrap_or(Slip::Other(error.message()));
+    at(alloc, text.as_bytes(), start, slip)
 }
 
 /// What is wrong in the line of this byte.

@@ -5,14 +5,6 @@ use std::fmt;
 use std::net::{Ipv4Addr, Ipv6Addr};
 use toml::Value;
 
-/// The part of a text that matters, and the words before and after it.
-#[derive(Clone, Copy)]
-pub(crate) struct Phrase<'a> {
-    before: &'static str,
-    part: &'a str,
-    after: &'static str,
-}
-
 /// What can be wrong with a text that is no address.
 #[derive(Clone, Copy)]
 enum Kind {
@@ -29,7 +21,7 @@ enum Kind {
     NoNumber,
 }
 
-/// What is looked for, in this order, and the words before and after the part of a text that is wrong.
+/// What is looked for, in this order, and the words before and after the part that is wrong.
 static KINDS: [(Kind, &str, &str); 11] = [
     (Kind::Blank, "an address has no blanks", ""),
     (Kind::Scheme, "an address alone is wanted, without ", "://"),
@@ -57,14 +49,10 @@ static KINDS: [(Kind, &str, &str); 11] = [
 ];
 
 /// What is wrong with a text that is no address. None if that has no words here.
-fn mistake_in(text: &str) -> Option<Phrase<'_>> {
+fn mistake_in(text: &str) -> Option<Wanted<'_>> {
     for (kind, before, after) in &KINDS {
         if let Some(part) = kind.part_of(text) {
-            return Some(Phrase {
-                before,
-                part,
-                after,
-            });
+            return Some(Wanted::Words(before, part, after));
         }
     }
     None
@@ -172,24 +160,23 @@ pub(crate) enum Wanted<'a> {
     Port(u16),
     /// This text in quotes, for this key.
     Quotes(Key, &'a str),
-    /// What these words say.
-    Words(Phrase<'a>),
+    /// What these words say. The part of a text between them is shown on one line.
+    Words(&'static str, &'a str, &'static str),
 }
 
 impl<'a> Wanted<'a> {
     /// What a key takes.
     pub(crate) fn by(key: Key) -> Wanted<'a> {
-        let (before, part, after) = match key.takes() {
-            Takes::Address(row) => ("four numbers and a port, as ", row.example, ", are wanted"),
-            Takes::Number(row) => return Wanted::Number(row.low, row.high),
-            Takes::Level => ("off, error, warn, info, debug or trace is wanted", "", ""),
-            Takes::Truth => ("true or false is wanted", "", ""),
-        };
-        Wanted::Words(Phrase {
-            before,
-            part,
-            after,
-        })
+        match key.takes() {
+            Takes::Address(row) => {
+                Wanted::Words("four numbers and a port, as ", row.example, ", are wanted")
+            }
+            Takes::Number(row) => Wanted::Number(row.low, row.high),
+            Takes::Level => {
+                Wanted::Words("off, error, warn, info, debug or trace is wanted", "", "")
+            }
+            Takes::Truth => Wanted::Words("true or false is wanted", "", ""),
+        }
     }
 
     /// In place of a value that a key refuses, and that is `word` without quotes.
@@ -210,10 +197,7 @@ impl<'a> Wanted<'a> {
             Takes::Number(_) if has_leading_zero(word) => mistake_in(word),
             _ => None,
         };
-        match mistake {
-            Some(mistake) => Wanted::Words(mistake),
-            None => Wanted::by(key),
-        }
+        mistake.unwrap_or(Wanted::by(key))
     }
 
     /// In place of what a line has for a key, where that is no value of TOML. None of a text that is wrong in another
@@ -232,18 +216,14 @@ fn is_word(value: &Value) -> bool {
 }
 
 /// The address that a port alone, or one with `*` before it, stands for.
-fn port_alone(word: &str, row: AddressRow) -> Option<Phrase<'_>> {
+fn port_alone(word: &str, row: AddressRow) -> Option<Wanted<'_>> {
     let ("" | "*", port) = host_and_port(word) else {
         return None;
     };
     if decimal_number(port)? < row.lowest_port {
         return None;
     }
-    Some(Phrase {
-        before: row.host,
-        part: port,
-        after: row.stands_for,
-    })
+    Some(Wanted::Words(row.host, port, row.stands_for))
 }
 
 /// What is wanted in place of a text that lacks its quotes, or its last one.
@@ -251,11 +231,9 @@ fn quotes_of(written: &str, key: Key) -> Option<Wanted<'_>> {
     let quote = if written.starts_with('\'') { '\'' } else { '"' };
     match written.split_once(quote) {
         None => Some(Wanted::Quotes(key, written)),
-        Some(("", rest)) if !rest.contains(quote) => Some(Wanted::Words(Phrase {
-            before: "a quote is wanted at the end",
-            part: "",
-            after: "",
-        })),
+        Some(("", rest)) if !rest.contains(quote) => {
+            Some(Wanted::Words("a quote is wanted at the end", "", ""))
+        }
         Some(_) => None,
     }
 }
@@ -271,9 +249,8 @@ impl fmt::Display for Wanted<'_> {
                 let text = OneLine(text);
                 write!(f, "a text stands in quotes: {key} = \"{text}\"")
             }
-            Wanted::Words(phrase) => {
-                let (before, after) = (phrase.before, phrase.after);
-                let part = OneLine(phrase.part);
+            Wanted::Words(before, part, after) => {
+                let part = OneLine(part);
                 write!(f, "{before}{part}{after}")
             }
         }
