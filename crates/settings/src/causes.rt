@@ -133,10 +133,10 @@ struct KeyNames;
 
 impl fmt::Display for KeyNames {
     fn fmt<W: fmt::Write>(&self, f: &mut fmt::Formatter<W>) -> fmt::Result {
-        for (index, row) in ROWS.iter().enumerate() {
-            let before = match index {
-                0 => "",
-                _ if index == ROWS.len() - 1 => " and ",
+        for row in &ROWS {
+            let before = match row.key {
+                Key::Listen => "",
+                Key::Proxy => " and ",
                 _ => ", ",
             };
             let name = row.name;
