@@ -1,5 +1,5 @@
 -- A text has one answer: at most one setting for each key, and no settings where it has a fault.
-use Rattle.std.{proofs.{Common.{◌≡◌, ◌≢◌, ℕ, ◌<◌, ◌^◌, List, length, get_or, Result, Ok, Err, IfErr, Option, IfSome, IfNone, MatchOption, Bor, ◌++◌, ◌∷◌, sym, ◌∙◌, ap, ap₂, arith, [], map, append_assoc, refl, Some, None, pos, subst, inl, inr, All, lit≤}, NetLemmas.{Ipv4.read_ipv4_complete, Options.same_parts}, lemmas.{Str.{Parse.{IsNumeralModel, numerals_by_value, tells_digits, parse_plain, not_in_digits}, Pattern.{IsSplitOnceResult, split_after}}, Fmt.{decimal_digit, first_decimal, decimal_nonempty, digits_decimal, decimal-digits_value, parse-decimal, decimal_injective}, List.Elements.{All-nil, All-cons, All-tail, All-append, All-from_get_or}, Option.same_Some}}, specs.{Fmt.decimal, Int.IsInRange, Net.{Grammar.{IsDotted, IsIpv4Text, Parses}, Reader.read_ipv4}, Result.{IsErrAnd, result_ok}, Str.Parse.{AllDigits, digits_value, ParsesUnsigned}, List.join_with_byte, declared.net.ipv4_addr.Ipv4Addr.Ipv4Addr}}
+use Rattle.std.{proofs.{Common.{◌≡◌, ◌≢◌, ℕ, ◌<◌, ◌^◌, List, length, get_or, Result, Ok, Err, Option, IfSome, IfNone, MatchOption, Bor, ◌++◌, ◌∷◌, sym, ◌∙◌, ap, ap₂, arith, [], map, append_assoc, refl, Some, None, pos, subst, inl, inr, All, lit≤}, NetLemmas.{Ipv4.read_ipv4_complete, Options.same_parts}, lemmas.{Str.{Parse.{IsNumeralModel, numerals_by_value, tells_digits, parse_plain, not_in_digits}, Pattern.{IsSplitOnceResult, split_after}}, Fmt.{decimal_digit, first_decimal, decimal_nonempty, digits_decimal, decimal-digits_value, parse-decimal, decimal_injective}, List.Elements.{All-nil, All-cons, All-tail, All-append, All-from_get_or}, Option.same_Some}}, specs.{Fmt.decimal, Int.IsInRange, Net.{Grammar.{IsDotted, IsIpv4Text, Parses}, Reader.read_ipv4}, Result.result_ok, Str.Parse.{AllDigits, digits_value, ParsesUnsigned}, List.join_with_byte, declared.net.ipv4_addr.Ipv4Addr.Ipv4Addr}}
 use Rattle.settings.specs.{Addresses.{IsPlain, SocketAddress, IsAddress, address_text}, Table.{level_name, key_name, setting, Setting, address, number, level, truth, ValueKind, an_address, a_number, a_level, a_truth, Row, row_of, keys}, Document.{HasKind, Writes, GivesEach, Refuses, IsFirstFault, HasNoUnknown, IsDocument, IsSettingsOf, IsFaultOf}, declared.{table.Key.Key, faults.SettingsFault.{SettingsFault, TheVariants.Missing}, fields.Settings.Settings, levels.LogLevel.{LogLevel, TheVariants.{Off, Error, Warn, Info, Debug, Trace}}}}
 use Rattle.toml.specs.Data.{Data, Members, get_member}
 
@@ -11,11 +11,6 @@ own = numerals_by_value (AllDigits 10) tells_digits
 -- a byte that is no digit is nowhere in a number's text
 pub not_in_decimal : (n c : ℕ) → n < 2 ^ 64 → (IsInRange 48 57 c → ⊥) → (i : ℕ) → i < length (decimal n) → get_or (decimal n) i 0 ≢ c
 not_in_decimal n c small no_digit = not_in_digits own (decimal n) c (digits_decimal own n small) no_digit
-
--- the error that a `?` hands on
-pub refused : {T E : Type 0} (P : E → Type 0) (r : Result T E) (e : E) → IsErrAnd r (λ x. x ≡ e) → P e → IfErr r P
-refused P (Ok x) e none p = tt
-refused P (Err x) e same p = rw same p
 
 short_if_zero : (n : ℕ) → n ≡ 0 → length (decimal n) ≡ 1
 short_if_zero n e = ap (λ m. length (decimal m)) e ∙ ap length (decimal_digit 0 (omega arith))
