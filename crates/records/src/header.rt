@@ -3,8 +3,8 @@ ghost use Rattle.std.specs.Prelude.{Some};
 ghost use Rattle.records.specs.Texts.{header_text};
 
 use crate::act::yes_or_no;
-use crate::reading::{Wrong, end, said, word};
-use input::{Pieces, is, number};
+use crate::reading::{Wrong, end, one_of, said, word};
+use input::{Pieces, number};
 use std::fmt::{self, Display};
 
 /// The sizes of the relay that was recorded.
@@ -40,6 +40,18 @@ impl Display for Header {
     }
 }
 
+/// A key with its `=`, the least and the most that it can be, and what is wanted in its place.
+static SIZES: [(&str, usize, usize, &str); 6] = [
+    ("slots=", 1, 4_096, "slots=1 to slots=4096 is wanted"),
+    ("pollers=", 1, 16, "pollers=1 to pollers=16 is wanted"),
+    ("workers=", 1, 16, "workers=1 to workers=16 is wanted"),
+    ("ring=", 1, 65_536, "ring=1 to ring=65536 is wanted"),
+    ("budget=", 1, 1_024, "budget=1 to budget=1024 is wanted"),
+    ("idle=", 0, 86_400, "idle=0 to idle=86400 is wanted"),
+];
+
+static PROXY: [(&str, bool); 2] = [("proxy=yes", true), ("proxy=no", false)];
+
 /// Reads a recording's first line, which is given without its line feed.
 ///
 /// It refuses a line of another form, and sizes that no relay has: 0 or over 4,096 slots, 0 or over 16 pollers or
@@ -47,48 +59,46 @@ impl Display for Header {
 /// seconds.
 pub fn read_header(line: &[u8]) -> Result<Header, Wrong<'_>> {
     let words = &mut Pieces::new(line, b' ');
-    for text in &["relayd", "recording", "1"] {
-        let wanted = "a recording begins with relayd recording 1";
-        let word = word(words, wanted)?;
-        said(is(word, text).then_some(()), word, wanted)?;
-    }
-    let header = Header {
-        slots: size(words, 1, 4_096, "slots=1 to slots=4096 is wanted")?,
-        pollers: size(words, 1, 16, "pollers=1 to pollers=16 is wanted")?,
-        workers: size(words, 1, 16, "workers=1 to workers=16 is wanted")?,
-        ring: size(words, 1, 65_536, "ring=1 to ring=65536 is wanted")?,
-        budget: size(words, 1, 1_024, "budget=1 to budget=1024 is wanted")?,
-        idle: size(words, 0, 86_400, "idle=0 to idle=86400 is wanted")? as u64,
-        proxy: proxy(words)?,
-    };
+    begin(words)?;
+    let [slots, pollers, workers, ring, budget, idle] = sizes(words)?;
+    let proxy = one_of(words, &PROXY, "proxy=yes or proxy=no is wanted")?;
     end(words)?;
-    Ok(header)
+    Ok(Header {
+        slots,
+        pollers,
+        workers,
+        ring,
+        budget,
+        idle: idle as u64,
+        proxy,
+    })
 }
 
-/// A number between these two, after the key with which `wanted` begins.
-fn size<'a>(
-    words: &mut Pieces<'a>,
-    least: usize,
-    most: usize,
-    wanted: &'static str,
-) -> Result<usize, Wrong<'a>> {
-    let word = word(words, wanted)?;
-    match value_after(wanted, word) {
-        Some(value) if least <= value && value <= most => Ok(value),
-        _ => said(None, word, wanted),
+/// The words with which every recording begins.
+fn begin<'a>(words: &mut Pieces<'a>) -> Result<(), Wrong<'a>> {
+    for text in &["relayd", "recording", "1"] {
+        one_of(
+            words,
+            &[(*text, ())],
+            "a recording begins with relayd recording 1",
+        )?;
     }
+    Ok(())
 }
 
-fn value_after(wanted: &str, word: &[u8]) -> Option<usize> {
-    let (key, _) = wanted.split_once('=')?;
-    number(word.strip_prefix(key.as_bytes())?.strip_prefix(b"=")?)
-}
-
-fn proxy<'a>(words: &mut Pieces<'a>) -> Result<bool, Wrong<'a>> {
-    let wanted = "proxy=yes or proxy=no is wanted";
-    match word(words, wanted)? {
-        b"proxy=yes" => Ok(true),
-        b"proxy=no" => Ok(false),
-        word => said(None, word, wanted),
+fn sizes<'a>(words: &mut Pieces<'a>) -> Result<[usize; 6], Wrong<'a>> {
+    let mut sizes = [0; 6];
+    for index in 0..6 {
+        let (key, least, most, wanted) = SIZES[index];
+        let word = word(words, wanted)?;
+        sizes[index] = match value_after(key, word) {
+            Some(value) if least <= value && value <= most => value,
+            _ => return said(None, word, wanted),
+        };
     }
+    Ok(sizes)
+}
+
+fn value_after(key: &str, word: &[u8]) -> Option<usize> {
+    number(word.strip_prefix(key.as_bytes())?)
 }

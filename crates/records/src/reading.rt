@@ -44,37 +44,106 @@ pub(crate) fn said<'a, T>(
     value.ok_or(Wrong { word, wanted })
 }
 
-/// What a call can be answered, other than that it was interrupted or failed.
+/// What a word stands for in a table.
+fn named<T: Copy>(word: &[u8], table: &[(&'static str, T)]) -> Option<T> {
+    for (name, value) in table {
+        if is(word, name) {
+            return Some(*value);
+        }
+    }
+    None
+}
+
+/// What the next word stands for in a table.
+pub(crate) fn one_of<'a, T: Copy>(
+    words: &mut Pieces<'a>,
+    table: &[(&'static str, T)],
+    wanted: &'static str,
+) -> Result<T, Wrong<'a>> {
+    let word = word(words, wanted)?;
+    said(named(word, table), word, wanted)
+}
+
+/// What a wire can be asked that it answers.
+#[derive(Clone, Copy)]
+enum Call {
+    Read,
+    Write,
+    Join,
+    Shut,
+}
+
+/// A call, and what it can be answered, other than that it failed.
+#[derive(Clone, Copy)]
 struct Answers {
-    counts: bool,
+    call: Call,
+    /// What is wanted of its number of bytes. Only a call with one can be answered by one.
+    bytes: Option<&'static str>,
     /// The answers that have a word.
     named: &'static [(&'static str, Answer)],
     wanted: &'static str,
 }
 
-static READ: Answers = Answers {
-    counts: true,
-    named: &[("end", Answer::End), ("blocked", Answer::Blocked)],
+const READ: Answers = Answers {
+    call: Call::Read,
+    bytes: Some("the number of bytes that were asked for is wanted"),
+    named: &[
+        ("end", Answer::End),
+        ("blocked", Answer::Blocked),
+        ("interrupted", Answer::Interrupted),
+    ],
     wanted: "a number of bytes, end, blocked, interrupted or failed is wanted",
 };
 
-static WRITE: Answers = Answers {
-    counts: true,
-    named: &[("blocked", Answer::Blocked)],
+const WRITE: Answers = Answers {
+    call: Call::Write,
+    bytes: Some("the number of bytes that were offered is wanted"),
+    named: &[
+        ("blocked", Answer::Blocked),
+        ("interrupted", Answer::Interrupted),
+    ],
     wanted: "a number of bytes, blocked, interrupted or failed is wanted",
 };
 
-static JOIN: Answers = Answers {
-    counts: false,
-    named: &[("joined", Answer::Joined), ("blocked", Answer::Blocked)],
+const JOIN: Answers = Answers {
+    call: Call::Join,
+    bytes: None,
+    named: &[
+        ("joined", Answer::Joined),
+        ("blocked", Answer::Blocked),
+        ("interrupted", Answer::Interrupted),
+    ],
     wanted: "one of joined, blocked, interrupted and failed is wanted",
 };
 
-static SHUT: Answers = Answers {
-    counts: false,
-    named: &[("shut", Answer::Shut)],
+const SHUT: Answers = Answers {
+    call: Call::Shut,
+    bytes: None,
+    named: &[("shut", Answer::Shut), ("interrupted", Answer::Interrupted)],
     wanted: "one of shut, interrupted and failed is wanted",
 };
+
+static CALLS: [(&str, Answers); 4] = [
+    ("read", READ),
+    ("write", WRITE),
+    ("join", JOIN),
+    ("shut", SHUT),
+];
+
+static ACCEPTED: [(&str, Accepted); 4] = [
+    ("ok", Accepted::Taken),
+    ("blocked", Accepted::Blocked),
+    ("again", Accepted::Again),
+    ("starved", Accepted::Starved),
+];
+
+static OPENINGS: [(&str, Opening); 3] = [
+    ("ok", Opening::Opened),
+    ("connect", Opening::Connect),
+    ("register", Opening::Register),
+];
+
+static UNANSWERED: [(&str, Made); 2] = [("settle", Made::Settle), ("drop", Made::Drop)];
 
 /// Reads the record of a line without its line feed. Of what a record prints it reads that record. It refuses a line of
 /// another form, with its first word from the left that is wrong. Numbers are below 2^64 and have no leading zeros.
@@ -96,22 +165,23 @@ pub fn read_line(line: &[u8]) -> Result<Record, Wrong<'_>> {
 fn act<'a>(words: &mut Pieces<'a>) -> Result<Act, Wrong<'a>> {
     let wanted = "pP, second, S, S.G.SIDE, end or full is wanted";
     let word = word(words, wanted)?;
-    match word {
-        b"second" => Ok(Act::Second(number(words, "a number of seconds is wanted")? as u64)),
-        b"end" => Ok(Act::Ended),
-        b"full" => Ok(Act::Full),
-        _ => {
-            if let Some(token) = end_named(word) {
-                Ok(Act::Wire(token, made(words)?))
-            } else if let Some(poller) = poller_named(word) {
-                match polling(words) {
-                    Ok(did) => Ok(Act::Poller(poller, did)),
-                    Err(wrong) => Err(wrong),
-                }
-            } else {
-                turn(said(input::number(word), word, wanted)?, words)
-            }
+    if is(word, "end") {
+        Ok(Act::Ended)
+    } else if is(word, "full") {
+        Ok(Act::Full)
+    } else if is(word, "second") {
+        Ok(Act::Second(number(words, "a number of seconds is wanted")? as u64))
+    } else if let Some(token) = end_named(word) {
+        Ok(Act::Wire(token, made(words)?))
+    } else if let Some(poller) = poller_named(word) {
+        match polling(words) {
+            Ok(did) => Ok(Act::Poller(poller, did)),
+            Err(wrong) => Err(wrong),
         }
+    } else if let Some(slot) = input::number(word) {
+        turn(slot, words)
+    } else {
+        said(None, word, wanted)
     }
 }
 
@@ -138,107 +208,100 @@ fn end_named(word: &[u8]) -> Option<Token> {
 }
 
 fn turn<'a>(slot: usize, words: &mut Pieces<'a>) -> Result<Act, Wrong<'a>> {
-    let wanted = "begin or end is wanted";
-    match word(words, wanted)? {
-        b"begin" => Ok(Act::Begin(slot)),
-        b"end" => Ok(Act::End(slot)),
-        word => said(None, word, wanted),
-    }
+    let turns = [("begin", Act::Begin(slot)), ("end", Act::End(slot))];
+    one_of(words, &turns, "begin or end is wanted")
 }
 
 fn polling<'a>(words: &mut Pieces<'a>) -> Result<Polling, Wrong<'a>> {
     let wanted = "poll, report, accept or open is wanted";
-    match word(words, wanted)? {
-        b"poll" => polled(words),
-        b"report" => reported(words),
-        b"accept" => Ok(Polling::Accept(accepted(words)?)),
-        b"open" => opened(words),
-        word => said(None, word, wanted),
+    let word = word(words, wanted)?;
+    if is(word, "poll") {
+        polled(words)
+    } else if is(word, "report") {
+        reported(words)
+    } else if is(word, "accept") {
+        let wanted = "one of again, blocked, ok and starved is wanted";
+        Ok(Polling::Accept(one_of(words, &ACCEPTED, wanted)?))
+    } else if is(word, "open") {
+        opened(words)
+    } else {
+        said(None, word, wanted)
     }
 }
 
 fn polled<'a>(words: &mut Pieces<'a>) -> Result<Polling, Wrong<'a>> {
     let wanted = "a number of reports, interrupted or failed is wanted";
-    match word(words, wanted)? {
-        b"interrupted" => Ok(Polling::Interrupted),
-        b"failed" => Ok(Polling::Failed),
-        word => said(input::number(word), word, wanted).map(Polling::Gave),
+    let word = word(words, wanted)?;
+    let failures = [
+        ("interrupted", Polling::Interrupted),
+        ("failed", Polling::Failed),
+    ];
+    match input::number(word) {
+        Some(count) => Ok(Polling::Gave(count)),
+        None => said(named(word, &failures), word, wanted),
     }
 }
 
 fn reported<'a>(words: &mut Pieces<'a>) -> Result<Polling, Wrong<'a>> {
     let wanted = "listener, waker or S.G.SIDE is wanted";
-    match word(words, wanted)? {
-        b"listener" => Ok(Polling::Reported(Name::Listener)),
-        b"waker" => Ok(Polling::Reported(Name::Waker)),
-        word => match end_named(word) {
-            Some(token) => Ok(Polling::Reported(Name::End(token))),
-            None => said(None, word, wanted),
-        },
-    }
-}
-
-fn accepted<'a>(words: &mut Pieces<'a>) -> Result<Accepted, Wrong<'a>> {
-    let wanted = "one of again, blocked, ok and starved is wanted";
-    match word(words, wanted)? {
-        b"ok" => Ok(Accepted::Taken),
-        b"blocked" => Ok(Accepted::Blocked),
-        b"again" => Ok(Accepted::Again),
-        b"starved" => Ok(Accepted::Starved),
-        word => said(None, word, wanted),
+    let word = word(words, wanted)?;
+    let names = [
+        ("listener", Polling::Reported(Name::Listener)),
+        ("waker", Polling::Reported(Name::Waker)),
+    ];
+    match end_named(word) {
+        Some(token) => Ok(Polling::Reported(Name::End(token))),
+        None => said(named(word, &names), word, wanted),
     }
 }
 
 /// Where a connection was opened, or why it was not.
 fn opened<'a>(words: &mut Pieces<'a>) -> Result<Polling, Wrong<'a>> {
-    let at = "a slot and a generation as S.G are wanted";
-    let name = word(words, at)?;
-    let mut parts = Pieces::new(name, b'.');
-    let place = place(&mut parts).filter(|_place| parts.next().is_none());
-    let (slot, generation) = said(place, name, at)?;
-    let wanted = "one of ok, connect and register is wanted";
-    let opening = match word(words, wanted)? {
-        b"ok" => Opening::Opened,
-        b"connect" => Opening::Connect,
-        b"register" => Opening::Register,
-        word => return said(None, word, wanted),
-    };
+    let wanted = "a slot and a generation as S.G are wanted";
+    let word = word(words, wanted)?;
+    let (slot, generation) = said(place_named(word), word, wanted)?;
+    let opening = one_of(
+        words,
+        &OPENINGS,
+        "one of ok, connect and register is wanted",
+    )?;
     Ok(Polling::Open(slot, generation, opening))
+}
+
+/// The slot and the generation that `S.G` names.
+fn place_named(word: &[u8]) -> Option<(usize, u64)> {
+    let mut parts = Pieces::new(word, b'.');
+    let place = place(&mut parts)?;
+    parts.next().is_none().then_some(place)
 }
 
 fn made<'a>(words: &mut Pieces<'a>) -> Result<Made, Wrong<'a>> {
     let wanted = "one of drop, join, read, settle, shut and write is wanted";
-    match word(words, wanted)? {
-        b"read" => {
-            let most = number(words, "the number of bytes that were asked for is wanted")?;
-            Ok(Made::Read(most, answered(words, &READ)?))
-        }
-        b"write" => {
-            let length = number(words, "the number of bytes that were offered is wanted")?;
-            Ok(Made::Write(length, answered(words, &WRITE)?))
-        }
-        b"join" => Ok(Made::Join(answered(words, &JOIN)?)),
-        b"shut" => Ok(Made::Shut(answered(words, &SHUT)?)),
-        b"settle" => Ok(Made::Settle),
-        b"drop" => Ok(Made::Drop),
-        word => said(None, word, wanted),
-    }
+    let word = word(words, wanted)?;
+    let Some(answers) = named(word, &CALLS) else {
+        return said(named(word, &UNANSWERED), word, wanted);
+    };
+    let bytes = match answers.bytes {
+        Some(wanted) => number(words, wanted)?,
+        None => 0,
+    };
+    let answer = answered(words, &answers)?;
+    Ok(match answers.call {
+        Call::Read => Made::Read(bytes, answer),
+        Call::Write => Made::Write(bytes, answer),
+        Call::Join => Made::Join(answer),
+        Call::Shut => Made::Shut(answer),
+    })
 }
 
 fn answered<'a>(words: &mut Pieces<'a>, answers: &Answers) -> Result<Answer, Wrong<'a>> {
     let word = word(words, answers.wanted)?;
-    for (name, answer) in answers.named {
-        if is(word, name) {
-            return Ok(*answer);
-        }
+    if is(word, "failed") {
+        return Ok(Answer::Failed(kind(words)?));
     }
-    match word {
-        b"interrupted" => Ok(Answer::Interrupted),
-        b"failed" => Ok(Answer::Failed(kind(words)?)),
-        _ => match input::number(word) {
-            Some(count) if answers.counts => Ok(Answer::Moved(count)),
-            _ => said(None, word, answers.wanted),
-        },
+    match input::number(word) {
+        Some(count) if answers.bytes.is_some() => Ok(Answer::Moved(count)),
+        _ => said(named(word, answers.named), word, answers.wanted),
     }
 }
 

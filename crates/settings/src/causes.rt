@@ -18,8 +18,8 @@ pub fn cause(alloc: Global, bytes: &[u8], fault: &SettingsFault) -> Option<Strin
     let text = match std::str::from_utf8(bytes) {
         Ok(text) => text,
         Err(error) => {
-            let line = line_at(bytes, error.valid_up_to());
-            return format!(in alloc; "line {line}: this is not UTF-8").ok();
+            let slip = Slip::Other("this is not UTF-8");
+            return at(alloc, bytes, error.valid_up_to(), slip);
         }
     };
     match fault {
@@ -53,19 +53,19 @@ fn not_toml(alloc: Global, text: &str) -> Option<String> {
         return None;
     };
     let start = error.span()?.start;
-    let line = line_at(text.as_bytes(), start);
-    match Slip::of(alloc, text, start) {
-        Some(slip) => format!(in alloc; "line {line}: {slip}").ok(),
-        None => {
-            let message = error.message();
-            format!(in alloc; "line {line}: {message}").ok()
-        }
-    }
+    let slip = Slip::of(alloc, text, start).unwrap_or(Slip::Other(error.message()));
+    at(alloc, text.as_bytes(), start, slip)
+}
+
+/// What is wrong in the line of this byte.
+fn at(alloc: Global, bytes: &[u8], index: usize, slip: Slip<'_>) -> Option<String> {
+    let line = line_at(bytes, index);
+    format!(in alloc; "line {line}: {slip}").ok()
 }
 
 /// An unknown key, and the keys that are known.
 fn unknown(alloc: Global, text: &str, name: &str) -> Option<String> {
-    let place = place_of(alloc, text, name).ok()?;
+    let place = Place(line_of(alloc, text, name).ok()?);
     let name = OneLine(name);
     let names = KeyNames;
     format!(in alloc; "{place}{name}: one of {names} is wanted").ok()
@@ -73,14 +73,14 @@ fn unknown(alloc: Global, text: &str, name: &str) -> Option<String> {
 
 /// A value that a key does not take, and what the key takes.
 fn refused(alloc: Global, text: &str, key: Key) -> Option<String> {
-    let place = place_of(alloc, text, key.name()).ok()?;
+    let place = Place(line_of(alloc, text, key.name()).ok()?);
     let document = toml::table_from_str(alloc, text).ok()?;
-    refused_value(alloc, place.as_str(), document.get(key.name())?, key).ok()
+    refused_value(alloc, place, document.get(key.name())?, key).ok()
 }
 
 fn refused_value(
     alloc: Global,
-    place: &str,
+    place: Place,
     value: &Value,
     key: Key,
 ) -> Result<String, AllocError> {
@@ -109,10 +109,10 @@ pub fn argument_cause(alloc: Global, bytes: &[u8], fault: &SettingsFault) -> Opt
 /// An argument, by its option or by what stands for it in a help text, with a value that it does not take, and what it
 /// takes.
 fn refused_argument(alloc: Global, value: &Value, key: Key) -> Result<String, AllocError> {
-    let row = ROWS[key as usize];
     let typed = typed(alloc, value)?;
     let wanted = Wanted::in_place_of_word(typed.as_str(), key);
     let typed = OneLine(typed.as_str());
+    let row = &ROWS[key as usize];
     let (dashes, name) = match row.option {
         Some(option) => ("--", option),
         None => ("", row.value_name),
@@ -133,23 +133,29 @@ struct KeyNames;
 
 impl fmt::Display for KeyNames {
     fn fmt<W: fmt::Write>(&self, f: &mut fmt::Formatter<W>) -> fmt::Result {
-        for (index, row) in ROWS.iter().enumerate() {
+        for row in &ROWS {
+            let before = match row.key {
+                Key::Listen => "",
+                Key::Proxy => " and ",
+                _ => ", ",
+            };
             let name = row.name;
-            match index {
-                0 => write!(f, "{name}")?,
-                _ if index == ROWS.len() - 1 => write!(f, " and {name}")?,
-                _ => write!(f, ", {name}")?,
-            }
+            write!(f, "{before}{name}")?;
         }
         Ok(())
     }
 }
 
 /// The words `line N: ` for the line that sets a key, or nothing if it is not found.
-fn place_of(alloc: Global, text: &str, name: &str) -> Result<String, AllocError> {
-    match line_of(alloc, text, name)? {
-        Some(line) => format!(in alloc; "line {line}: "),
-        None => Ok(String::new(alloc)),
+#[derive(Clone, Copy)]
+struct Place(Option<usize>);
+
+impl fmt::Display for Place {
+    fn fmt<W: fmt::Write>(&self, f: &mut fmt::Formatter<W>) -> fmt::Result {
+        match self.0 {
+            Some(line) => write!(f, "line {line}: "),
+            None => Ok(()),
+        }
     }
 }
 
@@ -158,25 +164,22 @@ fn place_of(alloc: Global, text: &str, name: &str) -> Result<String, AllocError>
 /// [`MAX_LOOKS`] times.
 fn line_of(alloc: Global, text: &str, name: &str) -> Result<Option<usize>, AllocError> {
     let mut looks = 0usize;
-    let mut start = 0usize;
+    let mut end = 0usize;
     let mut number = 0usize;
     // The line that may begin what sets the key.
     let mut begun = None;
-    for (index, byte) in text.as_bytes().iter().enumerate() {
-        if *byte == b'\n' || index == text.len() - 1 {
-            number = number.saturating_add(1);
-            let line = text.get(start..index + 1).unwrap_or("");
-            start = index + 1;
-            if begun.is_none() && line.contains(name) {
-                begun = Some(number);
-            }
-            if begun.is_some() && looks < MAX_LOOKS {
-                looks = looks.saturating_add(1);
-                match sets(alloc, text.get(..start).unwrap_or(""), name)? {
-                    Some(true) => return Ok(begun),
-                    Some(false) => begun = None,
-                    None => {}
-                }
+    for line in text.split_inclusive('\n') {
+        end = end.saturating_add(line.len());
+        number = number.saturating_add(1);
+        if begun.is_none() && line.contains(name) {
+            begun = Some(number);
+        }
+        if begun.is_some() && looks < MAX_LOOKS {
+            looks += 1;
+            match sets(alloc, text.get(..end).unwrap_or(""), name)? {
+                Some(true) => return Ok(begun),
+                Some(false) => begun = None,
+                None => {}
             }
         }
     }
@@ -199,6 +202,8 @@ pub(crate) enum Slip<'a> {
     Twice(&'a str, usize),
     /// What it has for a key is no value.
     NoValue(Key, &'a str, Wanted<'a>),
+    /// These words say it.
+    Other(&'a str),
 }
 
 impl<'a> Slip<'a> {
@@ -208,10 +213,14 @@ impl<'a> Slip<'a> {
         let (before, line) = line_around(text, index)?;
         let (name, written) = line.split_once('=')?;
         let name = name.trim();
-        if let Some(first) = line_of(alloc, before, name).ok()? {
-            return Some(Slip::Twice(name, first));
+        match line_of(alloc, before, name) {
+            Ok(Some(first)) => Some(Slip::Twice(name, first)),
+            Ok(None) => Slip::no_value(Key::named(name)?, value_in(written)),
+            Err(_) => None,
         }
-        let (key, written) = (Key::named(name)?, value_in(written));
+    }
+
+    fn no_value(key: Key, written: &str) -> Option<Slip<'_>> {
         let wanted = Wanted::in_place_of_written(written, key)?;
         Some(Slip::NoValue(key, written, wanted))
     }
@@ -223,8 +232,11 @@ fn line_around(text: &str, index: usize) -> Option<(&str, &str)> {
         Some(end) => end.saturating_add(1),
         None => 0,
     };
-    let before = text.get(..start)?;
-    let line = text.get(start..)?.lines().next().unwrap_or("");
+    let (before, rest) = text.split_at_checked(start)?;
+    let line = match rest.split_once('\n') {
+        Some((line, _)) => line,
+        None => rest,
+    };
     Some((before, line))
 }
 
@@ -250,6 +262,7 @@ impl fmt::Display for Slip<'_> {
                 let written = OneLine(written);
                 write!(f, "{key} = {written}: {wanted}")
             }
+            Slip::Other(message) => f.write_str(message),
         }
     }
 }

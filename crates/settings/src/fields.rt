@@ -42,9 +42,9 @@ pub struct Settings {
 }
 
 impl Settings {
-    ghost use Rattle.std.specs.Prelude.{IfOk, IfErr};
+    ghost use Rattle.std.specs.Prelude.{IfOk, IfErr, ◌∷◌, []};
     ghost use Rattle.toml.specs.View.{table_view};
-    ghost use Rattle.settings.specs.{Table.{setting, keys}, Document.{GivesEach, IsFirstFault}};
+    ghost use Rattle.settings.specs.{Table.{setting, keys, row_of, number, level, truth}, Document.{Gives, GivesEach, IsFirstFault}};
 
     /// The settings of a document that has no unknown key, or the fault of the first key that has one.
     pub(crate) fn of(document: &Table) -> Result<Settings, SettingsFault>
@@ -56,11 +56,7 @@ impl Settings {
         let ring = number_at(document, RING)?;
         let budget = number_at(document, BUDGET)?;
         let workers = number_at(document, WORKERS)?;
-        let slots = number_at(document, SLOTS)?;
-        let stop_after = number_at(document, STOP_AFTER)?;
-        let log = level_at(document, Key::Log, LogLevel::Info)?;
-        let idle = number_at(document, IDLE)?;
-        let proxy = truth_at(document, Key::Proxy, false)?;
+        let (slots, stop_after, log, idle, proxy) = Settings::from_slots(document)?;
         Ok(Settings {
             listen,
             target,
@@ -74,6 +70,21 @@ impl Settings {
             proxy,
         })
     }
+
+    /// What a document sets from `slots` on, in the order of the keys.
+    fn from_slots(document: &Table) -> Result<(u32, u32, LogLevel, u32, bool), SettingsFault>
+        ensures settings { IfOk result (λ s. let doc = table_view document.now in
+            Gives (row_of Key.Slots) doc (number s.0) × Gives (row_of Key.StopAfter) doc (number s.1) × Gives (row_of Key.Log) doc (level s.2)
+            × Gives (row_of Key.Idle) doc (number s.3) × Gives (row_of Key.Proxy) doc (truth s.4) × (1 ≤ s.0) × (s.0 ≤ 4096) × (s.3 ≤ 86400)) }
+        ensures fault { IfErr result (IsFirstFault (Key.Slots ∷ Key.StopAfter ∷ Key.Log ∷ Key.Idle ∷ Key.Proxy ∷ []) (table_view document.now)) }
+    {
+        let slots = number_at(document, SLOTS)?;
+        let stop_after = number_at(document, STOP_AFTER)?;
+        let log = level_at(document, Key::Log, LogLevel::Info)?;
+        let idle = number_at(document, IDLE)?;
+        let proxy = truth_at(document, Key::Proxy, false)?;
+        Ok((slots, stop_after, log, idle, proxy))
+    }
 }
 
 /// A line `KEY=VALUE` for each key, in the order of `Key`.
@@ -83,14 +94,17 @@ impl fmt::Display for Settings {
     ghost output = { λ s. Some (settings_text s) };
 
     fn fmt<W: fmt::Write>(&self, f: &mut fmt::Formatter<W>) -> fmt::Result {
-        let listen = AddressText(self.listen);
-        let target = AddressText(self.target);
+        let (listen, target) = (AddressText(self.listen), AddressText(self.target));
         let (ring, budget, workers) = (self.ring, self.budget, self.workers);
+        write!(
+            f,
+            "listen={listen}\ntarget={target}\nring={ring}\nbudget={budget}\nworkers={workers}\n"
+        )?;
         let (slots, stop_after) = (self.slots, self.stop_after);
         let (log, idle, proxy) = (self.log, self.idle, self.proxy);
         write!(
             f,
-            "listen={listen}\ntarget={target}\nring={ring}\nbudget={budget}\nworkers={workers}\nslots={slots}\nstop_after={stop_after}\nlog={log}\nidle={idle}\nproxy={proxy}\n"
+            "slots={slots}\nstop_after={stop_after}\nlog={log}\nidle={idle}\nproxy={proxy}\n"
         )
     }
 }

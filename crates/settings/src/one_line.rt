@@ -19,8 +19,7 @@ impl fmt::Display for OneLine<'_> {
                 return f.write_str("..");
             }
             shown += 1;
-            let character = ShownCharacter(character);
-            write!(f, "{character}")?;
+            ShownCharacter(character).fmt(f)?;
         }
         Ok(())
     }

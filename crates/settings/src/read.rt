@@ -13,7 +13,6 @@ use toml::{Table, Value};
 /// The settings of a text, or the first fault in it.
 ///
 /// `NoMemory` says nothing about the text. A blank text and bytes that are not UTF-8 need no memory.
-#[tactic(auto, using(crate::proofs::Unknown::named_not_blank))]
 pub fn parse(alloc: Global, bytes: &[u8]) -> Result<Settings, SettingsFault>
     ensures settings { IfOk result (λ s. IsSettingsOf bytes.now s) }
     ensures fault { IfErr result (λ fault. fault ≢ SettingsFault.NoMemory → IsFaultOf bytes.now fault) }

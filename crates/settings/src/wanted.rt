@@ -5,14 +5,6 @@ use std::fmt;
 use std::net::{Ipv4Addr, Ipv6Addr};
 use toml::Value;
 
-/// The part of a text that is wrong, and the words before and after it.
-#[derive(Clone, Copy)]
-pub(crate) struct Mistake<'a> {
-    pub(crate) before: &'static str,
-    pub(crate) part: &'a str,
-    pub(crate) after: &'static str,
-}
-
 /// What can be wrong with a text that is no address.
 #[derive(Clone, Copy)]
 enum Kind {
@@ -29,7 +21,7 @@ enum Kind {
     NoNumber,
 }
 
-/// What is looked for, in this order, and the words of its [`Mistake`].
+/// What is looked for, in this order, and the words before and after the part that is wrong.
 static KINDS: [(Kind, &str, &str); 11] = [
     (Kind::Blank, "an address has no blanks", ""),
     (Kind::Scheme, "an address alone is wanted, without ", "://"),
@@ -56,43 +48,57 @@ static KINDS: [(Kind, &str, &str); 11] = [
     (Kind::NoNumber, "", " is no port, which has digits only"),
 ];
 
-impl<'a> Mistake<'a> {
-    /// What is wrong with a text that is no address. None if that has no words here.
-    pub(crate) fn of(text: &'a str) -> Option<Mistake<'a>> {
-        for (kind, before, after) in &KINDS {
-            if let Some(part) = kind.part_of(text) {
-                return Some(Mistake {
-                    before,
-                    part,
-                    after,
-                });
-            }
+/// What is wrong with a text that is no address. None if that has no words here.
+fn mistake_in(text: &str) -> Option<Wanted<'_>> {
+    for (kind, before, after) in &KINDS {
+        if let Some(part) = kind.part_of(text) {
+            return Some(Wanted::Words(before, part, after));
         }
-        None
     }
+    None
 }
 
 impl Kind {
     /// The part of a text that is wrong in this way.
     fn part_of(self, text: &str) -> Option<&str> {
-        let (host, port) = host_and_port(text);
         match self {
-            Kind::Blank if text.contains(' ') || text.contains('\n') || text.contains('\t') => Some(
-                "",
-            ),
+            Kind::Blank => text.contains([' ', '\n', '\t']).then_some(""),
             Kind::Scheme => Some(text.split_once("://")?.0),
             Kind::Ipv6 => ipv6_in(text),
             Kind::Slash => text.split_once('/')?.1.split(':').next(),
+            _ => self.part_of_address(host_and_port(text)),
+        }
+    }
+
+    /// The part of a host and a port that is wrong in this way.
+    fn part_of_address<'a>(self, (host, port): (&'a str, &'a str)) -> Option<&'a str> {
+        match self {
             Kind::Name if is_name(host) => Some(host),
             Kind::LeadingZero if has_leading_zero(port) => Some(port),
-            Kind::LeadingZero => host.split('.').find(|number| has_leading_zero(number)),
-            Kind::LargeNumber => host.split('.').find(|number| is_over(number, 255)),
+            Kind::LeadingZero | Kind::LargeNumber => self.number_in(host),
             Kind::LargePort if is_over(port, 65_535) => Some(port),
-            Kind::NoPort if port.is_empty() && is_ipv4(host) => Some(""),
-            Kind::Range if !port.starts_with('-') => Some(port.split_once('-')?.1),
+            Kind::NoPort if port.is_empty() && is_ipv4(host) => Some(port),
             Kind::NoNumber if is_ipv4(host) => Some(port),
+            Kind::Range => match port.split_once('-')? {
+                ("", _) => None,
+                (_, last) => Some(last),
+            },
             _ => None,
         }
+    }
+
+    /// The first number of a host that is wrong in this way.
+    fn number_in(self, host: &str) -> Option<&str> {
+        for number in host.split('.') {
+            let is_wrong = match self {
+                Kind::LeadingZero => has_leading_zero(number),
+                _ => is_over(number, 255),
+            };
+            if is_wrong {
+                return Some(number);
+            }
+        }
+        None
     }
 }
 
@@ -145,32 +151,32 @@ fn is_over(text: &str, most: u32) -> bool {
     are_digits(text) && !text.is_empty() && !is_within
 }
 
-impl fmt::Display for Mistake<'_> {
-    fn fmt<W: fmt::Write>(&self, f: &mut fmt::Formatter<W>) -> fmt::Result {
-        let (before, after) = (self.before, self.after);
-        let part = OneLine(self.part);
-        write!(f, "{before}{part}{after}")
-    }
-}
-
 /// What is wanted in place of a value that a key does not take.
 #[derive(Clone, Copy)]
 pub(crate) enum Wanted<'a> {
-    /// What the key takes.
-    Value(Takes),
+    /// A whole number from this one to that one.
+    Number(u32, u32),
     /// A port from this one up.
     Port(u16),
-    /// A value without this mistake.
-    Without(Mistake<'a>),
     /// This text in quotes, for this key.
     Quotes(Key, &'a str),
-    ClosingQuote,
+    /// What these words say. The part of a text between them is shown on one line.
+    Words(&'static str, &'a str, &'static str),
 }
 
 impl<'a> Wanted<'a> {
     /// What a key takes.
     pub(crate) fn by(key: Key) -> Wanted<'a> {
-        Wanted::Value(key.takes())
+        match key.takes() {
+            Takes::Address(row) => {
+                Wanted::Words("four numbers and a port, as ", row.example, ", are wanted")
+            }
+            Takes::Number(row) => Wanted::Number(row.low, row.high),
+            Takes::Level => {
+                Wanted::Words("off, error, warn, info, debug or trace is wanted", "", "")
+            }
+            Takes::Truth => Wanted::Words("true or false is wanted", "", ""),
+        }
     }
 
     /// In place of a value that a key refuses, and that is `word` without quotes.
@@ -187,14 +193,11 @@ impl<'a> Wanted<'a> {
             Takes::Address(row) if address_of(word).is_some() => {
                 return Wanted::Port(row.lowest_port);
             }
-            Takes::Address(row) => port_alone(word, row).or(Mistake::of(word)),
-            Takes::Number(_) if has_leading_zero(word) => Mistake::of(word),
+            Takes::Address(row) => port_alone(word, row).or(mistake_in(word)),
+            Takes::Number(_) if has_leading_zero(word) => mistake_in(word),
             _ => None,
         };
-        match mistake {
-            Some(mistake) => Wanted::Without(mistake),
-            None => Wanted::by(key),
-        }
+        mistake.unwrap_or(Wanted::by(key))
     }
 
     /// In place of what a line has for a key, where that is no value of TOML. None of a text that is wrong in another
@@ -213,18 +216,14 @@ fn is_word(value: &Value) -> bool {
 }
 
 /// The address that a port alone, or one with `*` before it, stands for.
-fn port_alone(word: &str, row: AddressRow) -> Option<Mistake<'_>> {
+fn port_alone(word: &str, row: AddressRow) -> Option<Wanted<'_>> {
     let ("" | "*", port) = host_and_port(word) else {
         return None;
     };
     if decimal_number(port)? < row.lowest_port {
         return None;
     }
-    Some(Mistake {
-        before: row.host,
-        part: port,
-        after: row.stands_for,
-    })
+    Some(Wanted::Words(row.host, port, row.stands_for))
 }
 
 /// What is wanted in place of a text that lacks its quotes, or its last one.
@@ -232,7 +231,9 @@ fn quotes_of(written: &str, key: Key) -> Option<Wanted<'_>> {
     let quote = if written.starts_with('\'') { '\'' } else { '"' };
     match written.split_once(quote) {
         None => Some(Wanted::Quotes(key, written)),
-        Some(("", rest)) if !rest.contains(quote) => Some(Wanted::ClosingQuote),
+        Some(("", rest)) if !rest.contains(quote) => {
+            Some(Wanted::Words("a quote is wanted at the end", "", ""))
+        }
         Some(_) => None,
     }
 }
@@ -240,25 +241,18 @@ fn quotes_of(written: &str, key: Key) -> Option<Wanted<'_>> {
 impl fmt::Display for Wanted<'_> {
     fn fmt<W: fmt::Write>(&self, f: &mut fmt::Formatter<W>) -> fmt::Result {
         match *self {
-            Wanted::Value(Takes::Address(row)) => {
-                let example = row.example;
-                write!(f, "four numbers and a port, as {example}, are wanted")
-            }
-            Wanted::Value(Takes::Number(row)) => {
-                let (low, high) = (row.low, row.high);
+            Wanted::Number(low, high) => {
                 write!(f, "a whole number from {low} to {high} is wanted")
             }
-            Wanted::Value(Takes::Level) => {
-                f.write_str("off, error, warn, info, debug or trace is wanted")
-            }
-            Wanted::Value(Takes::Truth) => f.write_str("true or false is wanted"),
             Wanted::Port(lowest) => write!(f, "a port from {lowest} up is wanted"),
-            Wanted::Without(mistake) => write!(f, "{mistake}"),
             Wanted::Quotes(key, text) => {
                 let text = OneLine(text);
                 write!(f, "a text stands in quotes: {key} = \"{text}\"")
             }
-            Wanted::ClosingQuote => f.write_str("a quote is wanted at the end"),
+            Wanted::Words(before, part, after) => {
+                let part = OneLine(part);
+                write!(f, "{before}{part}{after}")
+            }
         }
     }
 }

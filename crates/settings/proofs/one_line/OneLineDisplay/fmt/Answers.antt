@@ -1,4 +1,4 @@
-use Rattle.std.{proofs.{Common.{rules, ◌≡◌, ℕ, ◌+◌, ◌<◌, ◌≤◌, length, take, get_or, chars, IsUtf8, arith, ◌++◌, ◌∷◌, [], List, codes, refl, sym, ap, ◌∙◌, append-nil, take_all}, Output.{has_written_append, has_written_of_eq}, lemmas.{Bool.{le-ltb, lt-ltb}, Iterator.{YieldsList-from_chars, Consumers.{YieldsList-turn, YieldsList-end}}, List.{take_more, flat_map_more, length_push}}}, specs.List.flat_map}
+use Rattle.std.{proofs.{Common.{rules, ◌≡◌, ℕ, ◌+◌, ◌<◌, ◌≤◌, length, take, get_or, chars, IsUtf8, arith, ◌++◌, ◌∷◌, [], List, codes, refl, sym, true, ap, ◌∙◌, append-nil, take_all}, Output.{has_written_append, has_written_of_eq}, lemmas.{Bool.{le-ltb, lt-ltb}, Iterator.{YieldsList-from_chars, Consumers.{YieldsList-turn, YieldsList-end}}, List.{take_more, flat_map_more, length_push}}}, specs.List.flat_map}
 use Rattle.settings.specs.Faults.{dots, shown_character}
 use Rattle.settings.proofs.one_line.OneLineDisplay.fmt.Goals as goal
 
@@ -42,7 +42,7 @@ loop-character-preserved g c =
       λ plain.
           let before = c.loop-character.invariant.2 plain in
           has_written_of_eq _ _ _ _ _ (one_more (chars text) c.loop-character.shown c.in-Some.character (rw counted t))
-          (has_written_append _ _ _ _ _ _ before (c.in_ok-write.ensures.writes before.plain refl)),
+          (has_written_append _ _ _ _ _ _ before (c.in_ok-fmt.ensures.writes before.plain (refl {a = true}))),
     )
 
 pub returns-clause-writes : goal.returns-clause-writes
