@@ -108,6 +108,7 @@ fn reply_word(reply: Reply) -> &'static str {
 
 /// The kind by which an event is counted: the first word of its line, and the rest if others begin so, too.
 pub(crate) fn kind_of(event: &Event) -> (&'static str, &'static str) {
+    let word = word_of(event).text();
     let more = match event {
         Event::Spurious(Reported::Listener) => "listener",
         Event::Spurious(Reported::Waker) => "waker",
@@ -117,5 +118,5 @@ pub(crate) fn kind_of(event: &Event) -> (&'static str, &'static str) {
         Event::Work(_, Act::Call(reply)) => reply_word(*reply),
         _ => "",
     };
-    (word_of(event).text(), more)
+    (word, more)
 }

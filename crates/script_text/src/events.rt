@@ -1,12 +1,12 @@
 // The events in a script of a world.
-ghost use Rattle.std.specs.Prelude.{◌≡◌, ◌≤◌, nat_lt, ◌∷◌, [], None, Err, if◌then◌else◌, option_map};
-ghost use Rattle.script_text.specs.{Events.{said_of, slot_of, accepting_of, change_event, put_event, call_event, act_event, plain_event, arrival, event_of, generation_of, end_of, name_of, are_names, names_of, reply_of, reported_of}, Texts.{number_of, word_then, if_last, Reads, ReadsBy, full_of}};
+ghost use Rattle.std.specs.Prelude.{◌≡◌, ◌≤◌, nat_lt, ◌∷◌, [], None, Err, if◌then◌else◌};
+ghost use Rattle.script_text.specs.{Events.{said_of, accepting_of, change_event, put_event, act_event, plain_event, arrival, event_of, generation_of, end_of, name_of, are_names, names_of, reply_of, reported_of}, Texts.{word_then, if_last, Reads, ReadsBy}};
 ghost use Rattle.token.specs.Kinds.{kind_named};
 
 use crate::Word;
 use crate::readers::{
     MAX_SLOTS, MAX_WORKERS, NotRead, Wrong, count, first_word, is_full, last, last_bytes,
-    number_below, said, side, slot, word, worker,
+    number_below, side, slot, worker,
 };
 use input::{Pieces, is, number};
 use kernel_model::{Accepting, MAX_POLLED, Reply};
@@ -42,11 +42,11 @@ fn arrive<'a>(alloc: Global, mut words: Pieces<'a>) -> Result<Event, NotRead<'a>
     Ok(Event::Network(slot, side, Change::Arrive(bytes.into_vec())))
 }
 
-fn plain_event(first: Word, words: Pieces<'_>) -> Result<Event, Wrong<'_>>
+fn plain_event(first: Word, mut words: Pieces<'_>) -> Result<Event, Wrong<'_>>
     ensures { Reads (plain_event first words.entry) result }
 {
     match first {
-        Word::Tick => tick(words),
+        Word::Tick => last(Event::Tick(count(&mut words)? as u64), words),
         Word::Connect => last(Event::Listen(Listening::Connect), words),
         Word::Accept => accept(words),
         Word::Drop => last(Event::Listen(Listening::Drop), words),
@@ -57,9 +57,9 @@ fn plain_event(first: Word, words: Pieces<'_>) -> Result<Event, Wrong<'_>>
         Word::Vanish => Ok(Event::Vanish(reported(words)?)),
         Word::Open => last(Event::Poll(Polling::Open), words),
         Word::Deliver => last(Event::Poll(Polling::Deliver), words),
-        Word::Sweep => sweep(words),
+        Word::Sweep => last(Event::Poll(Polling::Sweep(slot(&mut words)?)), words),
         Word::Put => put(words),
-        Word::Call => call(words),
+        Word::Call => Ok(Event::Work(worker(&mut words)?, Act::Call(reply(words)?))),
         Word::Pop => work(Act::Pop, words),
         Word::Claim => work(Act::Claim, words),
         Word::Take => work(Act::Take, words),
@@ -75,19 +75,16 @@ fn plain_event(first: Word, words: Pieces<'_>) -> Result<Event, Wrong<'_>>
     }
 }
 
-fn tick(mut words: Pieces<'_>) -> Result<Event, Wrong<'_>>
-    ensures { Reads (word_then number_of (λ n. if_last (Event.Tick n)) words.entry) result }
-{
-    let seconds = count(&mut words)?;
-    last(Event::Tick(seconds as u64), words)
-}
-
 fn accept(mut words: Pieces<'_>) -> Result<Event, Wrong<'_>>
     ensures { Reads (word_then accepting_of (λ answer. if_last (Event.Listen (Listening.Accept answer))) words.entry) result }
 {
     let wanted = "one of again, blocked, ok and starved is wanted";
-    let word = word(&mut words, wanted)?;
-    let answer = said(accepting_named(word), word, wanted)?;
+    let Some(word) = words.next() else {
+        return Err(Wrong::missing(wanted));
+    };
+    let Some(answer) = accepting_named(word) else {
+        return Err(Wrong::malformed(word, wanted));
+    };
     last(Event::Listen(Listening::Accept(answer)), words)
 }
 
@@ -116,36 +113,25 @@ fn at_end(change: Change, mut words: Pieces<'_>) -> Result<Event, Wrong<'_>>
     last(Event::Network(slot, side, change), words)
 }
 
-fn sweep(mut words: Pieces<'_>) -> Result<Event, Wrong<'_>>
-    ensures { Reads (word_then slot_of (λ slot. if_last (Event.Poll (Polling.Sweep slot))) words.entry) result }
-{
-    let slot = slot(&mut words)?;
-    last(Event::Poll(Polling::Sweep(slot)), words)
-}
-
 /// The poller's put, or a worker's.
 fn put(mut words: Pieces<'_>) -> Result<Event, Wrong<'_>>
     ensures { Reads (put_event words.entry) result }
 {
     let wanted = "poller or the number of a worker, 0 to 15, is wanted";
-    let who = word(&mut words, wanted)?;
+    let Some(who) = words.next() else {
+        return Err(Wrong::missing(wanted));
+    };
     if is(who, "poller") {
         last(Event::Poll(Polling::Put), words)
     } else {
-        let worker = said(number_below(MAX_WORKERS, who), who, wanted)?;
+        let Some(worker) = number_below(MAX_WORKERS, who) else {
+            return Err(Wrong::malformed(who, wanted));
+        };
         last(Event::Work(worker, Act::Put), words)
     }
 }
 
-/// The next call of a worker gets a reply.
-fn call(mut words: Pieces<'_>) -> Result<Event, Wrong<'_>>
-    ensures { Reads (call_event words.entry) result }
-{
-    let worker = worker(&mut words)?;
-    Ok(Event::Work(worker, Act::Call(reply(words)?)))
-}
-
-/// Anything else that a worker does.
+/// What a worker does by a word alone.
 fn work(act: Act, mut words: Pieces<'_>) -> Result<Event, Wrong<'_>>
     ensures { Reads (act_event act words.entry) result }
 {
@@ -213,7 +199,7 @@ fn names<'a>(alloc: Global, mut words: Pieces<'a>) -> Result<Vec<Name>, NotRead<
             return Err(NotRead::Malformed(not_a_name(names.len(), word)));
         };
         match names.reserve(1) {
-            Ok(()) => names.push(name).unwrap(),
+            Ok(()) => names.push_reserved(name),
             Err(error) => return Err(lacking(error, names.len() + 1, words)),
         }
     }
@@ -267,13 +253,17 @@ fn reported(mut words: Pieces<'_>) -> Result<Reported, Wrong<'_>>
     ensures { Reads (reported_of words.entry) result }
 {
     let wanted = "listener, waker or the number of a slot, 0 to 63, is wanted";
-    let who = word(&mut words, wanted)?;
+    let Some(who) = words.next() else {
+        return Err(Wrong::missing(wanted));
+    };
     if is(who, "listener") {
         last(Reported::Listener, words)
     } else if is(who, "waker") {
         last(Reported::Waker, words)
     } else {
-        let slot = said(number_below(MAX_SLOTS, who), who, wanted)?;
+        let Some(slot) = number_below(MAX_SLOTS, who) else {
+            return Err(Wrong::malformed(who, wanted));
+        };
         let side = side(&mut words)?;
         last(Reported::End(slot, side), words)
     }
@@ -284,13 +274,15 @@ fn reply(mut words: Pieces<'_>) -> Result<Reply, Wrong<'_>>
     ensures { Reads (reply_of words.entry) result }
 {
     let wanted = "one of blocked, end, failed, interrupted, joined, read, shut and wrote is wanted";
-    let name = word(&mut words, wanted)?;
+    let Some(name) = words.next() else {
+        return Err(Wrong::missing(wanted));
+    };
     if is(name, "read") {
-        read(words)
+        last(Reply::Bytes(count(&mut words)?), words)
     } else if is(name, "end") {
         last(Reply::End, words)
     } else if is(name, "wrote") {
-        wrote(words)
+        Ok(Reply::Wrote(count(&mut words)?, is_full(words)?))
     } else if is(name, "joined") {
         last(Reply::Joined, words)
     } else if is(name, "shut") {
@@ -306,24 +298,14 @@ fn reply(mut words: Pieces<'_>) -> Result<Reply, Wrong<'_>>
     }
 }
 
-fn read(mut words: Pieces<'_>) -> Result<Reply, Wrong<'_>>
-    ensures { Reads (word_then number_of (λ n. if_last (Reply.Bytes n)) words.entry) result }
-{
-    let count = count(&mut words)?;
-    last(Reply::Bytes(count), words)
-}
-
-fn wrote(mut words: Pieces<'_>) -> Result<Reply, Wrong<'_>>
-    ensures { Reads (word_then number_of (λ n left. option_map (λ full. Reply.Wrote n full) (full_of left)) words.entry) result }
-{
-    let count = count(&mut words)?;
-    Ok(Reply::Wrote(count, is_full(words)?))
-}
-
 fn failed(mut words: Pieces<'_>) -> Result<Reply, Wrong<'_>>
     ensures { Reads (word_then kind_named (λ kind. if_last (Reply.Failed kind)) words.entry) result }
 {
-    let word = word(&mut words, KIND_WANTED)?;
-    let kind = said(Kind::named(word), word, KIND_WANTED)?;
+    let Some(word) = words.next() else {
+        return Err(Wrong::missing(KIND_WANTED));
+    };
+    let Some(kind) = Kind::named(word) else {
+        return Err(Wrong::malformed(word, KIND_WANTED));
+    };
     last(Reply::Failed(kind), words)
 }

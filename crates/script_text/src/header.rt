@@ -5,8 +5,8 @@ ghost use Rattle.world.specs.States.{IsWithinLimits};
 ghost use Rattle.script_text.specs.{Texts.{first_as, Reads, Takes, bytes_of}, Headers.{size_of, generation_of, ring_of, idle_of, lead_of, short_enough, optional, with_extras, limits_of, lone_ring, header_of, IsRing, IsWithin}};
 
 use crate::readers::{
-    MAX_BUDGET, MAX_IDLE, MAX_SLOTS, MAX_WORKERS, Wrong, end_or, is_hex_text, last, said,
-    value_after, word,
+    MAX_BUDGET, MAX_BYTES, MAX_IDLE, MAX_SLOTS, MAX_WORKERS, Wrong, decode, end_or, last, said,
+    value_after,
 };
 use flow::Flow;
 use input::{Pieces, is};
@@ -29,7 +29,9 @@ pub fn read_header(line: &[u8]) -> Result<Header, Wrong<'_>>
 {
     let wanted = "a script begins with flow or world";
     let mut words = Pieces::new(line, b' ');
-    let name = word(&mut words, wanted)?;
+    let Some(name) = words.next() else {
+        return Err(Wrong::missing(wanted));
+    };
     if is(name, "flow") {
         Ok(Header::Flow(lone_ring(words)?))
     } else if is(name, "world") {
@@ -166,8 +168,10 @@ fn size<'a>(
     ensures value { Takes (first_as (size_of key.now most) words.old) result words.new }
     ensures range { IfOk result (λ size. (1 ≤ size) × (size ≤ most)) }
 {
-    let word = word(words, wanted)?;
-    said(size_said(key, most, word), word, wanted)
+    match words.next() {
+        Some(word) => said(size_said(key, most, word), word, wanted),
+        None => Err(Wrong::missing(wanted)),
+    }
 }
 
 fn size_said(key: &[u8], most: usize, word: &[u8]) -> Option<usize>
@@ -183,18 +187,10 @@ fn size_said(key: &[u8], most: usize, word: &[u8]) -> Option<usize>
 }
 
 /// The lead whose bytes a text stands for in lower-case hexadecimal.
-#[tactic(auto, using(crate::proofs::Loops::too_long))]
 fn short_bytes(text: &[u8]) -> Option<Lead>
     ensures { result ≡ option_and_then short_enough (bytes_of text.now) }
 {
-    if !is_hex_text(text) {
-        return None;
-    }
-    let length = text.len() / 2;
-    if length > Flow::MAX_LEAD {
-        return None;
-    }
-    let mut room = [0; Flow::MAX_LEAD];
-    hex::decode_to_slice(text, &mut room[..length]).ok()?;
+    let mut room = [0; MAX_BYTES];
+    let length = decode(text, &mut room)?;
     Lead::new(&room[..length])
 }
