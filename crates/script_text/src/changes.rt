@@ -50,7 +50,7 @@ impl Outline {
     pub fn changes(&self, alloc: Global, world: &World) -> Result<String, AllocError> {
         let mut page = Page::new(alloc);
         let after = lines(alloc, world, self.worker, self.slot)?;
-        put_changed(&mut page, self.lines.as_str(), after);
+        put_changed(&mut page, self.lines.as_str(), after.as_str());
         self.put_way(&mut page, world, self.up, Direction::Up);
         self.put_way(&mut page, world, self.down, Direction::Down);
         if let Some(past) = world.past().get(self.past..) {
@@ -70,9 +70,9 @@ impl Outline {
 }
 
 /// Adds each line that is not what it was.
-fn put_changed(page: &mut Page, before: &str, after: String) {
+fn put_changed(page: &mut Page, before: &str, after: &str) {
     let mut before = before.split('\n');
-    for line in after.as_str().split('\n') {
+    for line in after.split('\n') {
         if before.next() != Some(line) {
             page.put(&[Piece::Text(line), Piece::Text("\n")]);
         }

@@ -17,18 +17,18 @@ pub fn put_header(page: &mut Page, limits: &Limits) {
         Piece::Named(" gen=", limits.generation),
     ]);
     if limits.idle > 0 {
-        page.put(&[Piece::Named(" idle=", limits.idle)]);
+        page.put_piece(Piece::Named(" idle=", limits.idle));
     }
     let lead = limits.lead.as_slice();
     if !lead.is_empty() {
         page.put(&[Piece::Text(" lead="), Piece::Bytes(lead)]);
     }
-    page.put(&[Piece::Text("\n")]);
+    page.put_piece(Piece::Text("\n"));
 }
 
 /// Adds the line of an event, without its end.
 pub fn put_event(page: &mut Page, event: &Event) {
-    page.put(&[Piece::Text(word_of(event).text())]);
+    page.put_piece(Piece::Text(word_of(event).text()));
     match event {
         Event::Tick(seconds) => put_number(page, *seconds),
         Event::Network(slot, side, change) => put_change(page, *slot, *side, change),
@@ -48,7 +48,7 @@ fn put_word(page: &mut Page, word: &str) {
 }
 
 fn put_number(page: &mut Page, number: u64) {
-    page.put(&[Piece::Named(" ", number)]);
+    page.put_piece(Piece::Named(" ", number));
 }
 
 fn put_end(page: &mut Page, slot: usize, side: Side) {

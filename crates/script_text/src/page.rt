@@ -63,16 +63,23 @@ impl Page {
         ensures { Adds self.old self.new (pieces_text pieces.now) }
     {
         for piece in pieces {
-            if let Err(error) = self.add(piece) {
-                self.lost = Some(error);
-            }
+            self.put_piece(*piece);
         }
     }
 
-    fn add(&mut self, piece: &Piece<'_>) -> Result<(), AllocError>
-        ensures { IfOk result (λ _. Adds self.old self.new (piece_text piece.now)) }
+    /// Adds a piece.
+    pub(crate) fn put_piece(&mut self, piece: Piece<'_>)
+        ensures { Adds self.old self.new (piece_text piece.entry) }
     {
-        match *piece {
+        if let Err(error) = self.add(piece) {
+            self.lost = Some(error);
+        }
+    }
+
+    fn add(&mut self, piece: Piece<'_>) -> Result<(), AllocError>
+        ensures { IfOk result (λ _. Adds self.old self.new (piece_text piece.entry)) }
+    {
+        match piece {
             Piece::Bytes([]) => self.text.push_str("-"),
             Piece::Text(text) => self.text.push_str(text),
             Piece::Number(number) => write!(self.text, "{number}"),
@@ -124,8 +131,8 @@ impl Listed for Name {
 
     fn put(&self, page: &mut Page) {
         match *self {
-            Name::Listener => page.put(&[Piece::Text(" listener")]),
-            Name::Waker => page.put(&[Piece::Text(" waker")]),
+            Name::Listener => page.put_piece(Piece::Text(" listener")),
+            Name::Waker => page.put_piece(Piece::Text(" waker")),
             Name::End(token) => page.put(&[
                 Piece::Named(" ", token.slot() as u64),
                 Piece::Named(".", token.generation()),
@@ -156,7 +163,7 @@ impl Listed for usize {
     ghost text = { λ number. codes " " ++ decimal number };
 
     fn put(&self, page: &mut Page) {
-        page.put(&[Piece::Named(" ", *self as u64)]);
+        page.put_piece(Piece::Named(" ", *self as u64));
     }
 }
 

@@ -2,7 +2,7 @@
 //! a row of `tests/program/causes` tries each text with the last word that is taken and the first that is not.
 ghost use Rattle.std.specs.{Prelude.{◌≡◌, ◌≤◌, take, option_map, IfSome}, List.list_all};
 ghost use Rattle.token.specs.Sides.{side_named};
-ghost use Rattle.script_text.specs.{Events.{word_named, slot_of, worker_of}, Texts.{number_of, bytes_of, first_as, word_then, line_end, if_last, full_of, Reads, ReadsBy, Takes, number_below, value_after, is_lower_hex}};
+ghost use Rattle.script_text.specs.{Events.{word_named, slot_of, worker_of}, Texts.{number_of, bytes_of, first_as, word_then, line_end, if_last, full_of, Reads, ReadsBy, Ends, Takes, number_below, value_after, is_lower_hex}};
 
 use crate::{Bytes, Word};
 use input::{Pieces, is, is_digit, number};
@@ -139,14 +139,14 @@ pub(crate) fn last_bytes<'a>(alloc: Global, mut words: Pieces<'a>) -> Result<Byt
 }
 
 /// Whether a write left no room, which `full` at the end of the line says.
-pub(crate) fn is_full(mut words: Pieces<'_>) -> Result<bool, Wrong<'_>>
-    ensures { Reads (full_of words.entry) result }
+pub(crate) fn is_full<'a>(words: &mut Pieces<'a>) -> Result<bool, Wrong<'a>>
+    ensures { Ends (full_of words.old) result words.new }
 {
     let Some(word) = words.next() else {
         return Ok(false);
     };
     if is(word, "full") {
-        last(true, words)
+        Ok(true)
     } else {
         Err(Wrong::malformed(word, "full, or the end of the line, is wanted"))
     }

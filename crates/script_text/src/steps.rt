@@ -1,6 +1,6 @@
 // The steps in a script of one direction.
 ghost use Rattle.std.specs.Prelude.{◌≡◌, ◌≢◌};
-ghost use Rattle.script_text.specs.{Events.{word_of, step_by, step_of}, Texts.{Reads, ReadsBy}};
+ghost use Rattle.script_text.specs.{Events.{word_of, step_by, step_of}, Texts.{ReadsBy, Ends}};
 
 use crate::Word;
 use crate::readers::{NotRead, Wrong, count, first_word, is_full, last, last_bytes};
@@ -113,23 +113,23 @@ pub fn read_step<'a>(alloc: Global, line: &'a [u8]) -> Result<Step, NotRead<'a>>
     let first = first_word(&mut words, STEPS)?;
     match first {
         Word::Arrive => Ok(Step::Arrive(last_bytes(alloc, words)?)),
-        _ => Ok(plain_step(first, words)?),
+        _ => Ok(last(plain_step(first, &mut words)?, words)?),
     }
 }
 
 /// A step that carries no bytes.
-#[tactic(auto, using(crate::proofs::FirstWords::other_step))]
-fn plain_step(first: Word, mut words: Pieces<'_>) -> Result<Step, Wrong<'_>>
+#[tactic(auto, using(crate::proofs::FirstWords::made_last, crate::proofs::FirstWords::other_step))]
+fn plain_step<'a>(first: Word, words: &mut Pieces<'a>) -> Result<Step, Wrong<'a>>
     requires { first ≢ Word.Arrive }
-    ensures { Reads (step_by first words.entry) result }
+    ensures { Ends (step_by first words.old) result words.new }
 {
     match first {
-        Word::Fin => last(Step::Fin, words),
-        Word::Room => last(Step::Room, words),
-        Word::Read => last(Step::Read(count(&mut words)?), words),
-        Word::End => last(Step::End, words),
-        Word::Wrote => Ok(Step::Wrote(count(&mut words)?, is_full(words)?)),
-        Word::Shut => last(Step::Shut, words),
+        Word::Fin => Ok(Step::Fin),
+        Word::Room => Ok(Step::Room),
+        Word::Read => Ok(Step::Read(count(words)?)),
+        Word::End => Ok(Step::End),
+        Word::Wrote => Ok(Step::Wrote(count(words)?, is_full(words)?)),
+        Word::Shut => Ok(Step::Shut),
         _ => Err(Wrong::unknown(first.text().as_bytes(), STEPS)),
     }
 }
