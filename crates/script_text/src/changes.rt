@@ -50,7 +50,12 @@ impl Outline {
     pub fn changes(&self, alloc: Global, world: &World) -> Result<String, AllocError> {
         let mut page = Page::new(alloc);
         let after = lines(alloc, world, self.worker, self.slot)?;
-        put_changed(&mut page, self.lines.as_str(), after.as_str());
+        let mut before = self.lines.as_str().split('\n');
+        for line in after.as_str().split('\n') {
+            if before.next() != Some(line) {
+                page.put(&[Piece::Text(line), Piece::Text("\n")]);
+            }
+        }
         self.put_way(&mut page, world, self.up, Direction::Up);
         self.put_way(&mut page, world, self.down, Direction::Down);
         if let Some(past) = world.past().get(self.past..) {
@@ -65,16 +70,6 @@ impl Outline {
             if way(world, self.slot, direction) != before {
                 put_way(page, self.slot, world, connection, direction);
             }
-        }
-    }
-}
-
-/// Adds each line that is not what it was.
-fn put_changed(page: &mut Page, before: &str, after: &str) {
-    let mut before = before.split('\n');
-    for line in after.split('\n') {
-        if before.next() != Some(line) {
-            page.put(&[Piece::Text(line), Piece::Text("\n")]);
         }
     }
 }

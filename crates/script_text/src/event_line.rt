@@ -17,18 +17,18 @@ pub fn put_header(page: &mut Page, limits: &Limits) {
         Piece::Named(" gen=", limits.generation),
     ]);
     if limits.idle > 0 {
-        page.put_piece(Piece::Named(" idle=", limits.idle));
+        page.put(&[Piece::Named(" idle=", limits.idle)]);
     }
     let lead = limits.lead.as_slice();
     if !lead.is_empty() {
         page.put(&[Piece::Text(" lead="), Piece::Bytes(lead)]);
     }
-    page.put_piece(Piece::Text("\n"));
+    page.put(&[Piece::Text("\n")]);
 }
 
 /// Adds the line of an event, without its end.
 pub fn put_event(page: &mut Page, event: &Event) {
-    page.put_piece(Piece::Text(word_of(event).text()));
+    page.put(&[Piece::Text(word_of(event).text())]);
     match event {
         Event::Tick(seconds) => put_number(page, *seconds),
         Event::Network(slot, side, change) => put_change(page, *slot, *side, change),
@@ -48,7 +48,7 @@ fn put_word(page: &mut Page, word: &str) {
 }
 
 fn put_number(page: &mut Page, number: u64) {
-    page.put_piece(Piece::Named(" ", number));
+    page.put(&[Piece::Named(" ", number)]);
 }
 
 fn put_end(page: &mut Page, slot: usize, side: Side) {
@@ -108,7 +108,6 @@ fn reply_word(reply: Reply) -> &'static str {
 
 /// The kind by which an event is counted: the first word of its line, and the rest if others begin so, too.
 pub(crate) fn kind_of(event: &Event) -> (&'static str, &'static str) {
-    let word = word_of(event).text();
     let more = match event {
         Event::Spurious(Reported::Listener) => "listener",
         Event::Spurious(Reported::Waker) => "waker",
@@ -118,5 +117,5 @@ pub(crate) fn kind_of(event: &Event) -> (&'static str, &'static str) {
         Event::Work(_, Act::Call(reply)) => reply_word(*reply),
         _ => "",
     };
-    (word, more)
+    (word_of(event).text(), more)
 }

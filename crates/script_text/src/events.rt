@@ -155,12 +155,9 @@ fn generation_said(word: &[u8]) -> Option<u64>
 fn end(mut parts: Pieces) -> Option<Name>
     ensures { result ≡ end_of parts.entry }
 {
-    let slot = parts.next()?;
-    let generation = parts.next()?;
-    let side = parts.next()?;
-    match parts.next() {
-        Some(_) => None,
-        None => end_named(slot, generation, side),
+    match (parts.next(), parts.next(), parts.next(), parts.next()) {
+        (Some(slot), Some(generation), Some(side), None) => end_named(slot, generation, side),
+        _ => None,
     }
 }
 
@@ -168,12 +165,13 @@ fn end(mut parts: Pieces) -> Option<Name>
 fn end_named(slot: &[u8], generation: &[u8], side: &[u8]) -> Option<Name>
     ensures { result ≡ end_of (slot.now ∷ generation.now ∷ side.now ∷ []) }
 {
-    let slot = number_below(MAX_SLOTS, slot)?;
-    let generation = generation_said(generation)?;
-    let side = Side::named(side)?;
-    match Token::pack(slot, side, generation) {
-        Ok(token) => Some(Name::End(token)),
-        Err(_) => None,
+    let slot = number_below(MAX_SLOTS, slot);
+    match (slot, generation_said(generation), Side::named(side)) {
+        (Some(slot), Some(generation), Some(side)) => match Token::pack(slot, side, generation) {
+            Ok(token) => Some(Name::End(token)),
+            Err(_) => None,
+        },
+        _ => None,
     }
 }
 

@@ -125,12 +125,13 @@ fn generation(words: &mut Pieces<'_>) -> Option<u64>
     ensures value { optional generation_of 0 words.old ≡ record { value = unwrap_or result 0; words = words.new } }
     ensures range { IfSome result (λ generation. generation < last_generation) }
 {
-    let generation = value_after(b"gen=", words.peek()?)?;
-    if generation >= MAX_GENERATION as usize {
-        return None;
+    match value_after(b"gen=", words.peek()?) {
+        Some(generation) if generation < MAX_GENERATION as usize => {
+            words.next();
+            Some(generation as u64)
+        }
+        _ => None,
     }
-    words.next();
-    Some(generation as u64)
 }
 
 /// The same of `idle=L`, in seconds.

@@ -63,23 +63,16 @@ impl Page {
         ensures { Adds self.old self.new (pieces_text pieces.now) }
     {
         for piece in pieces {
-            self.put_piece(*piece);
+            if let Err(error) = self.add(piece) {
+                self.lost = Some(error);
+            }
         }
     }
 
-    /// Adds a piece.
-    pub(crate) fn put_piece(&mut self, piece: Piece<'_>)
-        ensures { Adds self.old self.new (piece_text piece.entry) }
+    fn add(&mut self, piece: &Piece<'_>) -> Result<(), AllocError>
+        ensures { IfOk result (λ _. Adds self.old self.new (piece_text piece.now)) }
     {
-        if let Err(error) = self.add(piece) {
-            self.lost = Some(error);
-        }
-    }
-
-    fn add(&mut self, piece: Piece<'_>) -> Result<(), AllocError>
-        ensures { IfOk result (λ _. Adds self.old self.new (piece_text piece.entry)) }
-    {
-        match piece {
+        match *piece {
             Piece::Bytes([]) => self.text.push_str("-"),
             Piece::Text(text) => self.text.push_str(text),
             Piece::Number(number) => write!(self.text, "{number}"),
@@ -131,8 +124,8 @@ impl Listed for Name {
 
     fn put(&self, page: &mut Page) {
         match *self {
-            Name::Listener => page.put_piece(Piece::Text(" listener")),
-            Name::Waker => page.put_piece(Piece::Text(" waker")),
+            Name::Listener => page.put(&[Piece::Text(" listener")]),
+            Name::Waker => page.put(&[Piece::Text(" waker")]),
             Name::End(token) => page.put(&[
                 Piece::Named(" ", token.slot() as u64),
                 Piece::Named(".", token.generation()),
@@ -163,7 +156,7 @@ impl Listed for usize {
     ghost text = { λ number. codes " " ++ decimal number };
 
     fn put(&self, page: &mut Page) {
-        page.put_piece(Piece::Named(" ", *self as u64));
+        page.put(&[Piece::Named(" ", *self as u64)]);
     }
 }
 

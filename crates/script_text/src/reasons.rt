@@ -147,28 +147,18 @@ fn network_reason(world: &World, slot: usize, side: Side, change: &Change) -> &'
 
 fn vanish_reason(world: &World, who: Reported) -> &'static str {
     let kernel = world.kernel();
-    let (name, reason) = match who {
-        Reported::Listener if 0 < kernel.backlog() => (Name::Listener, WAITING),
-        Reported::Listener => (Name::Listener, NOT_HERE),
-        Reported::Waker => (Name::Waker, NOT_HERE),
+    match who {
+        Reported::Listener if !kernel.is_queued(&Name::Listener) => UNQUEUED,
+        Reported::Listener if 0 < kernel.backlog() => WAITING,
+        Reported::Waker if !kernel.is_queued(&Name::Waker) => UNQUEUED,
+        Reported::Listener | Reported::Waker => NOT_HERE,
         Reported::End(slot, side) => match end_at(world, slot, side) {
-            Some(open) => (Name::End(open.token), ready_reason(&open.socket)),
-            None => return vacant_reason(world, slot),
+            Some(open) if !kernel.is_queued(&Name::End(open.token)) => UNQUEUED,
+            Some(open) if open.socket.is_readable() => READABLE,
+            Some(open) if open.socket.is_writable() => WRITABLE,
+            Some(_) => NOT_HERE,
+            None => vacant_reason(world, slot),
         },
-    };
-    if kernel.is_queued(&name) {
-        reason
-    } else {
-        UNQUEUED
-    }
-}
-
-/// Why a report of a socket in the queue does not vanish.
-fn ready_reason(end: &End) -> &'static str {
-    match end {
-        _ if end.is_readable() => READABLE,
-        _ if end.is_writable() => WRITABLE,
-        _ => NOT_HERE,
     }
 }
 
