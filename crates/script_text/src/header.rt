@@ -2,7 +2,7 @@
 ghost use Rattle.std.specs.Prelude.{◌≡◌, ◌≤◌, ◌<◌, [], unwrap_or, IfSome, IfOk, option_and_then};
 ghost use Rattle.token.specs.Names.{last_generation};
 ghost use Rattle.world.specs.States.{IsWithinLimits};
-ghost use Rattle.script_text.specs.{Texts.{first_as, Reads, Takes, bytes_of}, Headers.{size_of, generation_of, ring_of, idle_of, lead_of, short_enough, optional, with_extras, limits_of, lone_ring, header_of, IsRing, IsWithin}};
+ghost use Rattle.script_text.specs.{Texts.{first_as, Reads, Takes, bytes_of}, Headers.{size_of, generation_of, ring_of, idle_of, lead_of, short_enough, optional, with_extras, limits_of, header_of, IsRing, IsWithin}};
 
 use crate::readers::{
     MAX_BUDGET, MAX_BYTES, MAX_IDLE, MAX_SLOTS, MAX_WORKERS, Wrong, decode, end_or, last, said,
@@ -33,7 +33,8 @@ pub fn read_header(line: &[u8]) -> Result<Header, Wrong<'_>>
         return Err(Wrong::missing(wanted));
     };
     if is(name, "flow") {
-        Ok(Header::Flow(lone_ring(words)?))
+        let ring = ring(&mut words)?;
+        Ok(Header::Flow(last(ring, words)?))
     } else if is(name, "world") {
         match limits(words) {
             Ok(limits) => Ok(Header::World(limits)),
@@ -42,15 +43,6 @@ pub fn read_header(line: &[u8]) -> Result<Header, Wrong<'_>>
     } else {
         Err(Wrong::unknown(name, wanted))
     }
-}
-
-/// `ring=R` and nothing else.
-fn lone_ring(mut words: Pieces<'_>) -> Result<usize, Wrong<'_>>
-    ensures value { Reads (lone_ring words.entry) result }
-    ensures range { IfOk result IsRing }
-{
-    let ring = ring(&mut words)?;
-    last(ring, words)
 }
 
 /// The sizes of a world: `slots=S workers=W ring=R budget=B`, and what may stand after them.

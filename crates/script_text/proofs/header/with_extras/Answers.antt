@@ -13,5 +13,5 @@ returns-clause-range c = record {
   workers = c.requires.workers;
   ring = c.requires.ring;
   budget = c.requires.budget;
-  generation = rw c.unwrap_or.ensures (below_or _ c.generation-generation.ensures.range)
+  generation = rw c.unwrap_or.ensures (below_or _ c.generation-generation.ensures.range);
 }
