@@ -1,6 +1,6 @@
 -- What the first word of a line decides on.
 use Rattle.std.{proofs.Common.{◌≡◌, ℕ, ◌<◌, ◌+◌, add-one, sym, List, [], ◌∷◌, None, Some, Option, true, false, if◌then◌else◌, length, drop, drop-cons, get_or, refl, ◌∙◌}, specs.{Str.bytes_eq, Prelude.option_map}}
-use Rattle.script_text.specs.{declared.word.Word.Word, Texts.{if_last, word_then}, Events.{word_text, said_of, plain_event, event_by, step_by}}
+use Rattle.script_text.specs.{declared.word.Word.Word, Texts.if_last, Events.{word_text, said_of, plain_event, event_by, step_by}}
 use Rattle.script_text.specs.declared.word.Word.TheVariants as word
 
 -- the first word of these rows that a text is
@@ -19,17 +19,6 @@ module _ {T : Type 0} (rows : List (Word × T)) (k : ℕ) (d : Word × T) (text 
 pub made_last : {X Y : Type 0} (f : X → Y) (x : X) (words : List (List ℕ)) → option_map f (if_last x words) ≡ if_last (f x) words
 made_last f x [] = refl
 made_last f x (word ∷ words) = refl
-
-made_of : {X Y : Type 0} (f : X → Y) (said : Option X) (words : List (List ℕ))
-    → word_then (λ _. said) (λ x. if_last (f x)) ([] ∷ words) ≡ option_map f (word_then (λ _. said) if_last ([] ∷ words))
-made_of f None words = refl
-made_of f (Some x) [] = refl
-made_of f (Some x) (word ∷ words) = refl
-
--- what is made of the last value of a line
-pub made_of_last : {X Y : Type 0} (f : X → Y) (read : List ℕ → Option X) (words : List (List ℕ)) → word_then read (λ x. if_last (f x)) words ≡ option_map f (word_then read if_last words)
-made_of_last f read [] = refl
-made_of_last f read (word ∷ words) = made_of f (read word) words
 
 -- an event of another word than two carries no list
 pub plain_event_of : (w : Word) (words : List (List ℕ)) → (w ≡ word.Arrive → ⊥) → (w ≡ word.Poll → ⊥) → event_by w words ≡ option_map said_of (plain_event w words)

@@ -255,12 +255,7 @@ pub(crate) fn decode(text: &[u8], room: &mut [u8; MAX_BYTES]) -> Option<usize>
 fn is_all_lower_hex(text: &[u8]) -> bool
     ensures { result ≡ list_all is_lower_hex text.now }
 {
-    for byte in text {
-        if !is_lower_hex(*byte) {
-            return false;
-        }
-    }
-    true
+    text.iter().all(|byte| is_lower_hex(*byte))
 }
 
 fn is_lower_hex(byte: u8) -> bool
