@@ -1,6 +1,6 @@
 -- What the first word of a line decides on.
 use Rattle.std.{proofs.Common.{◌≡◌, ℕ, ◌<◌, ◌+◌, add-one, sym, List, [], ◌∷◌, None, Some, Option, true, false, if◌then◌else◌, length, drop, drop-cons, get_or, refl, ◌∙◌}, specs.{Str.bytes_eq, Prelude.option_map}}
-use Rattle.script_text.specs.{declared.word.Word.Word, Texts.if_last, Events.{word_text, said_of, plain_event, event_by, step_by}}
+use Rattle.script_text.specs.{declared.word.Word.Word, Events.{word_text, said_of, plain_event, event_by, step_by}}
 use Rattle.script_text.specs.declared.word.Word.TheVariants as word
 
 -- the first word of these rows that a text is
@@ -14,11 +14,6 @@ module _ {T : Type 0} (rows : List (Word × T)) (k : ℕ) (d : Word × T) (text 
 
   pub this_word : bytes_eq text (word_text (get_or rows k d).0) ≡ true → Some (get_or rows k d).0 ≡ r
   this_word hit = sym (so_far ∙ rw (drop-cons rows k d within, hit) refl)
-
--- what is made of a value that ends a line
-pub made_last : {X Y : Type 0} (f : X → Y) (x : X) (words : List (List ℕ)) → option_map f (if_last x words) ≡ if_last (f x) words
-made_last f x [] = refl
-made_last f x (word ∷ words) = refl
 
 -- an event of another word than two carries no list
 pub plain_event_of : (w : Word) (words : List (List ℕ)) → (w ≡ word.Arrive → ⊥) → (w ≡ word.Poll → ⊥) → event_by w words ≡ option_map said_of (plain_event w words)

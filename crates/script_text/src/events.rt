@@ -42,7 +42,6 @@ fn arrive<'a>(alloc: Global, mut words: Pieces<'a>) -> Result<Event, NotRead<'a>
     Ok(Event::Network(slot, side, Change::Arrive(bytes.into_vec())))
 }
 
-#[tactic(auto, using(crate::proofs::FirstWords::made_last))]
 fn plain_event<'a>(first: Word, words: &mut Pieces<'a>) -> Result<Event, Wrong<'a>>
     ensures { Ends (plain_event first words.old) result words.new }
 {
@@ -269,7 +268,6 @@ fn reported<'a>(words: &mut Pieces<'a>) -> Result<Reported, Wrong<'a>>
 }
 
 /// The answer to a call.
-#[tactic(auto, using(crate::proofs::FirstWords::made_last))]
 fn reply<'a>(words: &mut Pieces<'a>) -> Result<Reply, Wrong<'a>>
     ensures { Ends (reply_of words.old) result words.new }
 {

@@ -118,7 +118,7 @@ pub fn read_step<'a>(alloc: Global, line: &'a [u8]) -> Result<Step, NotRead<'a>>
 }
 
 /// A step that carries no bytes.
-#[tactic(auto, using(crate::proofs::FirstWords::made_last, crate::proofs::FirstWords::other_step))]
+#[tactic(auto, using(crate::proofs::FirstWords::other_step))]
 fn plain_step<'a>(first: Word, words: &mut Pieces<'a>) -> Result<Step, Wrong<'a>>
     requires { first ≢ Word.Arrive }
     ensures { Ends (step_by first words.old) result words.new }
