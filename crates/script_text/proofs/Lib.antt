@@ -1,2 +1,1 @@
 pub mod FirstWords
-pub mod Loops

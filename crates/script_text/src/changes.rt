@@ -6,7 +6,7 @@ use crate::report::{
 };
 use std::alloc::{AllocError, Global};
 use token::{Direction, Name};
-use world::{Doing, Event, Polling, Reported, Slot, World};
+use world::{Doing, Event, Polling, Reported, World};
 
 /// The part of a report, before an event, that this event may change: no other slot or worker, and no bytes. So the
 /// time for an event does not depend on these.
@@ -48,8 +48,8 @@ impl Outline {
 
     /// The lines of the report after the event that are not in the report before, in their order.
     pub fn changes(&self, alloc: Global, world: &World) -> Result<String, AllocError> {
-        let mut page = Page::new(alloc);
         let after = lines(alloc, world, self.worker, self.slot)?;
+        let mut page = Page::new(alloc);
         let mut before = self.lines.as_str().split('\n');
         for line in after.as_str().split('\n') {
             if before.next() != Some(line) {
@@ -107,19 +107,15 @@ fn lines(alloc: Global, world: &World, worker: usize, slot: usize) -> Result<Str
         put_worker(&mut page, worker, there);
     }
     if let Some(there) = world.slots().get(slot) {
-        put_slot_line(&mut page, world, slot, there);
-    }
-    page.finish()
-}
-
-fn put_slot_line(page: &mut Page, world: &World, number: usize, slot: &Slot) {
-    match slot.connection() {
-        None => put_rest_line(page, number, slot),
-        Some(connection) => {
-            put_place(page, number, slot, connection);
-            put_standing(page, world, number, slot);
+        match there.connection() {
+            None => put_rest_line(&mut page, slot, there),
+            Some(connection) => {
+                put_place(&mut page, slot, there, connection);
+                put_standing(&mut page, world, slot, there);
+            }
         }
     }
+    page.finish()
 }
 
 fn way(world: &World, slot: usize, direction: Direction) -> Way {

@@ -1,12 +1,12 @@
 // The events in a script of a world.
-ghost use Rattle.std.specs.Prelude.{◌≡◌, ◌≤◌, nat_lt, ◌∷◌, [], None, Err, if◌then◌else◌, option_map};
-ghost use Rattle.script_text.specs.{Events.{said_of, slot_of, accepting_of, change_event, put_event, call_event, act_event, plain_event, arrival, event_of, generation_of, end_of, name_of, are_names, names_of, reply_of, reported_of}, Texts.{number_of, word_then, if_last, Reads, ReadsBy, full_of}};
+ghost use Rattle.std.specs.Prelude.{◌≡◌, ◌≤◌, nat_lt, ◌∷◌, [], None, Err, if◌then◌else◌};
+ghost use Rattle.script_text.specs.{Events.{said_of, accepting_of, change_event, put_event, act_event, plain_event, arrival, event_of, generation_of, end_of, name_of, are_names, names_of, reply_of, reported_of}, Texts.{word_then, if_last, Reads, ReadsBy, Ends}};
 ghost use Rattle.token.specs.Kinds.{kind_named};
 
 use crate::Word;
 use crate::readers::{
     MAX_SLOTS, MAX_WORKERS, NotRead, Wrong, count, first_word, is_full, last, last_bytes,
-    number_below, said, side, slot, word, worker,
+    number_below, side, slot, worker,
 };
 use input::{Pieces, is, number};
 use kernel_model::{Accepting, MAX_POLLED, Reply};
@@ -29,7 +29,7 @@ pub fn read_event<'a>(alloc: Global, line: &'a [u8]) -> Result<Event, NotRead<'a
     match first {
         Word::Arrive => arrive(alloc, words),
         Word::Poll => Ok(Event::Poll(Polling::Poll(names(alloc, words)?))),
-        _ => Ok(plain_event(first, words)?),
+        _ => Ok(last(plain_event(first, &mut words)?, words)?),
     }
 }
 
@@ -42,24 +42,24 @@ fn arrive<'a>(alloc: Global, mut words: Pieces<'a>) -> Result<Event, NotRead<'a>
     Ok(Event::Network(slot, side, Change::Arrive(bytes.into_vec())))
 }
 
-fn plain_event(first: Word, words: Pieces<'_>) -> Result<Event, Wrong<'_>>
-    ensures { Reads (plain_event first words.entry) result }
+fn plain_event<'a>(first: Word, words: &mut Pieces<'a>) -> Result<Event, Wrong<'a>>
+    ensures { Ends (plain_event first words.old) result words.new }
 {
     match first {
-        Word::Tick => tick(words),
-        Word::Connect => last(Event::Listen(Listening::Connect), words),
+        Word::Tick => Ok(Event::Tick(count(words)? as u64)),
+        Word::Connect => Ok(Event::Listen(Listening::Connect)),
         Word::Accept => accept(words),
-        Word::Drop => last(Event::Listen(Listening::Drop), words),
+        Word::Drop => Ok(Event::Listen(Listening::Drop)),
         Word::Fin => at_end(Change::Fin, words),
         Word::Reset => at_end(Change::Reset, words),
         Word::Room => at_end(Change::Room, words),
         Word::Spurious => Ok(Event::Spurious(reported(words)?)),
         Word::Vanish => Ok(Event::Vanish(reported(words)?)),
-        Word::Open => last(Event::Poll(Polling::Open), words),
-        Word::Deliver => last(Event::Poll(Polling::Deliver), words),
-        Word::Sweep => sweep(words),
+        Word::Open => Ok(Event::Poll(Polling::Open)),
+        Word::Deliver => Ok(Event::Poll(Polling::Deliver)),
+        Word::Sweep => Ok(Event::Poll(Polling::Sweep(slot(words)?))),
         Word::Put => put(words),
-        Word::Call => call(words),
+        Word::Call => Ok(Event::Work(worker(words)?, Act::Call(reply(words)?))),
         Word::Pop => work(Act::Pop, words),
         Word::Claim => work(Act::Claim, words),
         Word::Take => work(Act::Take, words),
@@ -75,20 +75,17 @@ fn plain_event(first: Word, words: Pieces<'_>) -> Result<Event, Wrong<'_>>
     }
 }
 
-fn tick(mut words: Pieces<'_>) -> Result<Event, Wrong<'_>>
-    ensures { Reads (word_then number_of (λ n. if_last (Event.Tick n)) words.entry) result }
-{
-    let seconds = count(&mut words)?;
-    last(Event::Tick(seconds as u64), words)
-}
-
-fn accept(mut words: Pieces<'_>) -> Result<Event, Wrong<'_>>
-    ensures { Reads (word_then accepting_of (λ answer. if_last (Event.Listen (Listening.Accept answer))) words.entry) result }
+fn accept<'a>(words: &mut Pieces<'a>) -> Result<Event, Wrong<'a>>
+    ensures { Ends (word_then accepting_of (λ answer. if_last (Event.Listen (Listening.Accept answer))) words.old) result words.new }
 {
     let wanted = "one of again, blocked, ok and starved is wanted";
-    let word = word(&mut words, wanted)?;
-    let answer = said(accepting_named(word), word, wanted)?;
-    last(Event::Listen(Listening::Accept(answer)), words)
+    let Some(word) = words.next() else {
+        return Err(Wrong::missing(wanted));
+    };
+    let Some(answer) = accepting_named(word) else {
+        return Err(Wrong::malformed(word, wanted));
+    };
+    Ok(Event::Listen(Listening::Accept(answer)))
 }
 
 fn accepting_named(word: &[u8]) -> Option<Accepting>
@@ -108,49 +105,38 @@ fn accepting_named(word: &[u8]) -> Option<Accepting>
 }
 
 /// What the network does to an end.
-fn at_end(change: Change, mut words: Pieces<'_>) -> Result<Event, Wrong<'_>>
-    ensures { Reads (change_event change words.entry) result }
+fn at_end<'a>(change: Change, words: &mut Pieces<'a>) -> Result<Event, Wrong<'a>>
+    ensures { Ends (change_event change words.old) result words.new }
 {
-    let slot = slot(&mut words)?;
-    let side = side(&mut words)?;
-    last(Event::Network(slot, side, change), words)
-}
-
-fn sweep(mut words: Pieces<'_>) -> Result<Event, Wrong<'_>>
-    ensures { Reads (word_then slot_of (λ slot. if_last (Event.Poll (Polling.Sweep slot))) words.entry) result }
-{
-    let slot = slot(&mut words)?;
-    last(Event::Poll(Polling::Sweep(slot)), words)
+    let slot = slot(words)?;
+    let side = side(words)?;
+    Ok(Event::Network(slot, side, change))
 }
 
 /// The poller's put, or a worker's.
-fn put(mut words: Pieces<'_>) -> Result<Event, Wrong<'_>>
-    ensures { Reads (put_event words.entry) result }
+fn put<'a>(words: &mut Pieces<'a>) -> Result<Event, Wrong<'a>>
+    ensures { Ends (put_event words.old) result words.new }
 {
     let wanted = "poller or the number of a worker, 0 to 15, is wanted";
-    let who = word(&mut words, wanted)?;
+    let Some(who) = words.next() else {
+        return Err(Wrong::missing(wanted));
+    };
     if is(who, "poller") {
-        last(Event::Poll(Polling::Put), words)
+        Ok(Event::Poll(Polling::Put))
     } else {
-        let worker = said(number_below(MAX_WORKERS, who), who, wanted)?;
-        last(Event::Work(worker, Act::Put), words)
+        let Some(worker) = number_below(MAX_WORKERS, who) else {
+            return Err(Wrong::malformed(who, wanted));
+        };
+        Ok(Event::Work(worker, Act::Put))
     }
 }
 
-/// The next call of a worker gets a reply.
-fn call(mut words: Pieces<'_>) -> Result<Event, Wrong<'_>>
-    ensures { Reads (call_event words.entry) result }
+/// What a worker does by a word alone.
+fn work<'a>(act: Act, words: &mut Pieces<'a>) -> Result<Event, Wrong<'a>>
+    ensures { Ends (act_event act words.old) result words.new }
 {
-    let worker = worker(&mut words)?;
-    Ok(Event::Work(worker, Act::Call(reply(words)?)))
-}
-
-/// Anything else that a worker does.
-fn work(act: Act, mut words: Pieces<'_>) -> Result<Event, Wrong<'_>>
-    ensures { Reads (act_event act words.entry) result }
-{
-    let worker = worker(&mut words)?;
-    last(Event::Work(worker, act), words)
+    let worker = worker(words)?;
+    Ok(Event::Work(worker, act))
 }
 
 fn generation_said(word: &[u8]) -> Option<u64>
@@ -168,12 +154,9 @@ fn generation_said(word: &[u8]) -> Option<u64>
 fn end(mut parts: Pieces) -> Option<Name>
     ensures { result ≡ end_of parts.entry }
 {
-    let slot = parts.next()?;
-    let generation = parts.next()?;
-    let side = parts.next()?;
-    match parts.next() {
-        Some(_) => None,
-        None => end_named(slot, generation, side),
+    match (parts.next(), parts.next(), parts.next(), parts.next()) {
+        (Some(slot), Some(generation), Some(side), None) => end_named(slot, generation, side),
+        _ => None,
     }
 }
 
@@ -181,12 +164,13 @@ fn end(mut parts: Pieces) -> Option<Name>
 fn end_named(slot: &[u8], generation: &[u8], side: &[u8]) -> Option<Name>
     ensures { result ≡ end_of (slot.now ∷ generation.now ∷ side.now ∷ []) }
 {
-    let slot = number_below(MAX_SLOTS, slot)?;
-    let generation = generation_said(generation)?;
-    let side = Side::named(side)?;
-    match Token::pack(slot, side, generation) {
-        Ok(token) => Some(Name::End(token)),
-        Err(_) => None,
+    let slot = number_below(MAX_SLOTS, slot);
+    match (slot, generation_said(generation), Side::named(side)) {
+        (Some(slot), Some(generation), Some(side)) => match Token::pack(slot, side, generation) {
+            Ok(token) => Some(Name::End(token)),
+            Err(_) => None,
+        },
+        _ => None,
     }
 }
 
@@ -213,7 +197,7 @@ fn names<'a>(alloc: Global, mut words: Pieces<'a>) -> Result<Vec<Name>, NotRead<
             return Err(NotRead::Malformed(not_a_name(names.len(), word)));
         };
         match names.reserve(1) {
-            Ok(()) => names.push(name).unwrap(),
+            Ok(()) => names.push_reserved(name),
             Err(error) => return Err(lacking(error, names.len() + 1, words)),
         }
     }
@@ -263,42 +247,48 @@ fn are_names<'a>(mut count: usize, mut words: Pieces<'a>) -> Result<(), Wrong<'a
 }
 
 /// What a report without cause is about.
-fn reported(mut words: Pieces<'_>) -> Result<Reported, Wrong<'_>>
-    ensures { Reads (reported_of words.entry) result }
+fn reported<'a>(words: &mut Pieces<'a>) -> Result<Reported, Wrong<'a>>
+    ensures { Ends (reported_of words.old) result words.new }
 {
     let wanted = "listener, waker or the number of a slot, 0 to 63, is wanted";
-    let who = word(&mut words, wanted)?;
+    let Some(who) = words.next() else {
+        return Err(Wrong::missing(wanted));
+    };
     if is(who, "listener") {
-        last(Reported::Listener, words)
+        Ok(Reported::Listener)
     } else if is(who, "waker") {
-        last(Reported::Waker, words)
+        Ok(Reported::Waker)
     } else {
-        let slot = said(number_below(MAX_SLOTS, who), who, wanted)?;
-        let side = side(&mut words)?;
-        last(Reported::End(slot, side), words)
+        let Some(slot) = number_below(MAX_SLOTS, who) else {
+            return Err(Wrong::malformed(who, wanted));
+        };
+        let side = side(words)?;
+        Ok(Reported::End(slot, side))
     }
 }
 
 /// The answer to a call.
-fn reply(mut words: Pieces<'_>) -> Result<Reply, Wrong<'_>>
-    ensures { Reads (reply_of words.entry) result }
+fn reply<'a>(words: &mut Pieces<'a>) -> Result<Reply, Wrong<'a>>
+    ensures { Ends (reply_of words.old) result words.new }
 {
     let wanted = "one of blocked, end, failed, interrupted, joined, read, shut and wrote is wanted";
-    let name = word(&mut words, wanted)?;
+    let Some(name) = words.next() else {
+        return Err(Wrong::missing(wanted));
+    };
     if is(name, "read") {
-        read(words)
+        Ok(Reply::Bytes(count(words)?))
     } else if is(name, "end") {
-        last(Reply::End, words)
+        Ok(Reply::End)
     } else if is(name, "wrote") {
-        wrote(words)
+        Ok(Reply::Wrote(count(words)?, is_full(words)?))
     } else if is(name, "joined") {
-        last(Reply::Joined, words)
+        Ok(Reply::Joined)
     } else if is(name, "shut") {
-        last(Reply::Shut, words)
+        Ok(Reply::Shut)
     } else if is(name, "blocked") {
-        last(Reply::Blocked, words)
+        Ok(Reply::Blocked)
     } else if is(name, "interrupted") {
-        last(Reply::Interrupted, words)
+        Ok(Reply::Interrupted)
     } else if is(name, "failed") {
         failed(words)
     } else {
@@ -306,24 +296,14 @@ fn reply(mut words: Pieces<'_>) -> Result<Reply, Wrong<'_>>
     }
 }
 
-fn read(mut words: Pieces<'_>) -> Result<Reply, Wrong<'_>>
-    ensures { Reads (word_then number_of (λ n. if_last (Reply.Bytes n)) words.entry) result }
+fn failed<'a>(words: &mut Pieces<'a>) -> Result<Reply, Wrong<'a>>
+    ensures { Ends (word_then kind_named (λ kind. if_last (Reply.Failed kind)) words.old) result words.new }
 {
-    let count = count(&mut words)?;
-    last(Reply::Bytes(count), words)
-}
-
-fn wrote(mut words: Pieces<'_>) -> Result<Reply, Wrong<'_>>
-    ensures { Reads (word_then number_of (λ n left. option_map (λ full. Reply.Wrote n full) (full_of left)) words.entry) result }
-{
-    let count = count(&mut words)?;
-    Ok(Reply::Wrote(count, is_full(words)?))
-}
-
-fn failed(mut words: Pieces<'_>) -> Result<Reply, Wrong<'_>>
-    ensures { Reads (word_then kind_named (λ kind. if_last (Reply.Failed kind)) words.entry) result }
-{
-    let word = word(&mut words, KIND_WANTED)?;
-    let kind = said(Kind::named(word), word, KIND_WANTED)?;
-    last(Reply::Failed(kind), words)
+    let Some(word) = words.next() else {
+        return Err(Wrong::missing(KIND_WANTED));
+    };
+    let Some(kind) = Kind::named(word) else {
+        return Err(Wrong::malformed(word, KIND_WANTED));
+    };
+    Ok(Reply::Failed(kind))
 }

@@ -2,11 +2,11 @@
 ghost use Rattle.std.specs.Prelude.{◌≡◌, ◌≤◌, ◌<◌, [], unwrap_or, IfSome, IfOk, option_and_then};
 ghost use Rattle.token.specs.Names.{last_generation};
 ghost use Rattle.world.specs.States.{IsWithinLimits};
-ghost use Rattle.script_text.specs.{Texts.{first_as, Reads, Takes, bytes_of}, Headers.{size_of, generation_of, ring_of, idle_of, lead_of, short_enough, optional, with_extras, limits_of, lone_ring, header_of, IsRing, IsWithin}};
+ghost use Rattle.script_text.specs.{Texts.{first_as, Reads, Takes, bytes_of}, Headers.{size_of, generation_of, ring_of, idle_of, lead_of, short_enough, optional, with_extras, limits_of, header_of, IsRing, IsWithin}};
 
 use crate::readers::{
-    MAX_BUDGET, MAX_IDLE, MAX_SLOTS, MAX_WORKERS, Wrong, end_or, is_hex_text, last, said,
-    value_after, word,
+    MAX_BUDGET, MAX_BYTES, MAX_IDLE, MAX_SLOTS, MAX_WORKERS, Wrong, decode, end_or, last, said,
+    value_after,
 };
 use flow::Flow;
 use input::{Pieces, is};
@@ -29,9 +29,12 @@ pub fn read_header(line: &[u8]) -> Result<Header, Wrong<'_>>
 {
     let wanted = "a script begins with flow or world";
     let mut words = Pieces::new(line, b' ');
-    let name = word(&mut words, wanted)?;
+    let Some(name) = words.next() else {
+        return Err(Wrong::missing(wanted));
+    };
     if is(name, "flow") {
-        Ok(Header::Flow(lone_ring(words)?))
+        let ring = ring(&mut words)?;
+        Ok(Header::Flow(last(ring, words)?))
     } else if is(name, "world") {
         match limits(words) {
             Ok(limits) => Ok(Header::World(limits)),
@@ -40,15 +43,6 @@ pub fn read_header(line: &[u8]) -> Result<Header, Wrong<'_>>
     } else {
         Err(Wrong::unknown(name, wanted))
     }
-}
-
-/// `ring=R` and nothing else.
-fn lone_ring(mut words: Pieces<'_>) -> Result<usize, Wrong<'_>>
-    ensures value { Reads (lone_ring words.entry) result }
-    ensures range { IfOk result IsRing }
-{
-    let ring = ring(&mut words)?;
-    last(ring, words)
 }
 
 /// The sizes of a world: `slots=S workers=W ring=R budget=B`, and what may stand after them.
@@ -123,12 +117,13 @@ fn generation(words: &mut Pieces<'_>) -> Option<u64>
     ensures value { optional generation_of 0 words.old ≡ record { value = unwrap_or result 0; words = words.new } }
     ensures range { IfSome result (λ generation. generation < last_generation) }
 {
-    let generation = value_after(b"gen=", words.peek()?)?;
-    if generation >= MAX_GENERATION as usize {
-        return None;
+    match value_after(b"gen=", words.peek()?) {
+        Some(generation) if generation < MAX_GENERATION as usize => {
+            words.next();
+            Some(generation as u64)
+        }
+        _ => None,
     }
-    words.next();
-    Some(generation as u64)
 }
 
 /// The same of `idle=L`, in seconds.
@@ -166,8 +161,10 @@ fn size<'a>(
     ensures value { Takes (first_as (size_of key.now most) words.old) result words.new }
     ensures range { IfOk result (λ size. (1 ≤ size) × (size ≤ most)) }
 {
-    let word = word(words, wanted)?;
-    said(size_said(key, most, word), word, wanted)
+    match words.next() {
+        Some(word) => said(size_said(key, most, word), word, wanted),
+        None => Err(Wrong::missing(wanted)),
+    }
 }
 
 fn size_said(key: &[u8], most: usize, word: &[u8]) -> Option<usize>
@@ -183,18 +180,10 @@ fn size_said(key: &[u8], most: usize, word: &[u8]) -> Option<usize>
 }
 
 /// The lead whose bytes a text stands for in lower-case hexadecimal.
-#[tactic(auto, using(crate::proofs::Loops::too_long))]
 fn short_bytes(text: &[u8]) -> Option<Lead>
     ensures { result ≡ option_and_then short_enough (bytes_of text.now) }
 {
-    if !is_hex_text(text) {
-        return None;
-    }
-    let length = text.len() / 2;
-    if length > Flow::MAX_LEAD {
-        return None;
-    }
-    let mut room = [0; Flow::MAX_LEAD];
-    hex::decode_to_slice(text, &mut room[..length]).ok()?;
+    let mut room = [0; MAX_BYTES];
+    let length = decode(text, &mut room)?;
     Lead::new(&room[..length])
 }

@@ -1,8 +1,8 @@
 //! What reads the next word of a line, or says what is wrong with it. The numbers in the texts are those of the limits:
 //! a row of `tests/program/causes` tries each text with the last word that is taken and the first that is not.
-ghost use Rattle.std.specs.{Prelude.{◌≡◌, ◌∷◌, [], MatchResult, IfOk, IfErr, IsSome}, List.list_all};
+ghost use Rattle.std.specs.{Prelude.{◌≡◌, ◌≤◌, take, option_map, IfSome}, List.list_all};
 ghost use Rattle.token.specs.Sides.{side_named};
-ghost use Rattle.script_text.specs.{Events.{word_named, slot_of, worker_of}, Texts.{number_of, bytes_of, first_as, word_then, line_end, if_last, full_of, Reads, ReadsBy, Takes, number_below, value_after, is_lower_hex, is_hex_text}};
+ghost use Rattle.script_text.specs.{Events.{word_named, slot_of, worker_of}, Texts.{number_of, bytes_of, first_as, word_then, line_end, if_last, full_of, Reads, ReadsBy, Ends, Takes, number_below, value_after, is_lower_hex}};
 
 use crate::{Bytes, Word};
 use input::{Pieces, is, is_digit, number};
@@ -21,18 +21,8 @@ pub(crate) const MAX_BUDGET: usize = 1_024;
 /// The most seconds of an idle limit.
 pub(crate) const MAX_IDLE: usize = 86_400;
 
-/// The most hexadecimal digits of a word, two for each byte.
-const MAX_DIGITS: usize = 2_048;
-
-/// The next word, whatever it is.
-pub(crate) fn word<'a>(words: &mut Pieces<'a>, wanted: &'static str) -> Result<&'a [u8], Wrong<'a>>
-    ensures { MatchResult result (λ word. words.old ≡ word.now ∷ words.new) (λ _. words.old ≡ []) }
-{
-    match words.next() {
-        Some(word) => Ok(word),
-        None => Err(Wrong::missing(wanted)),
-    }
-}
+/// The most bytes of a word.
+pub(crate) const MAX_BYTES: usize = 1_024;
 
 /// The first word of a line, if a line begins with such a word.
 pub(crate) fn first_word<'a>(
@@ -41,7 +31,9 @@ pub(crate) fn first_word<'a>(
 ) -> Result<Word, Wrong<'a>>
     ensures { Takes (first_as word_named words.old) result words.new }
 {
-    let name = word(words, wanted)?;
+    let Some(name) = words.next() else {
+        return Err(Wrong::missing(wanted));
+    };
     match Word::named(name) {
         Some(first) => Ok(first),
         None => Err(Wrong::unknown(name, wanted)),
@@ -88,8 +80,10 @@ pub(crate) fn slot<'a>(words: &mut Pieces<'a>) -> Result<usize, Wrong<'a>>
     ensures { Takes (first_as slot_of words.old) result words.new }
 {
     let wanted = "the number of a slot, 0 to 63, is wanted";
-    let word = word(words, wanted)?;
-    said(number_below(MAX_SLOTS, word), word, wanted)
+    match words.next() {
+        Some(word) => said(number_below(MAX_SLOTS, word), word, wanted),
+        None => Err(Wrong::missing(wanted)),
+    }
 }
 
 /// The number of a worker, 0 to 15.
@@ -97,8 +91,10 @@ pub(crate) fn worker<'a>(words: &mut Pieces<'a>) -> Result<usize, Wrong<'a>>
     ensures { Takes (first_as worker_of words.old) result words.new }
 {
     let wanted = "the number of a worker, 0 to 15, is wanted";
-    let word = word(words, wanted)?;
-    said(number_below(MAX_WORKERS, word), word, wanted)
+    match words.next() {
+        Some(word) => said(number_below(MAX_WORKERS, word), word, wanted),
+        None => Err(Wrong::missing(wanted)),
+    }
 }
 
 /// The name of a side.
@@ -106,8 +102,10 @@ pub(crate) fn side<'a>(words: &mut Pieces<'a>) -> Result<Side, Wrong<'a>>
     ensures { Takes (first_as side_named words.old) result words.new }
 {
     let wanted = "client or target is wanted";
-    let word = word(words, wanted)?;
-    said(Side::named(word), word, wanted)
+    match words.next() {
+        Some(word) => said(Side::named(word), word, wanted),
+        None => Err(Wrong::missing(wanted)),
+    }
 }
 
 /// A count of bytes or of seconds.
@@ -115,8 +113,10 @@ pub(crate) fn count<'a>(words: &mut Pieces<'a>) -> Result<usize, Wrong<'a>>
     ensures { Takes (first_as number_of words.old) result words.new }
 {
     let wanted = "a number from 0 to 18446744073709551615 without leading zeros is wanted";
-    let word = word(words, wanted)?;
-    said(number(word), word, wanted)
+    match words.next() {
+        Some(word) => said(number(word), word, wanted),
+        None => Err(Wrong::missing(wanted)),
+    }
 }
 
 /// Bytes, after which the line ends. A line that goes on is malformed, even if there is no memory.
@@ -124,25 +124,29 @@ pub(crate) fn last_bytes<'a>(alloc: Global, mut words: Pieces<'a>) -> Result<Byt
     ensures { ReadsBy (λ bytes. bytes) (word_then bytes_of if_last words.entry) result }
 {
     let wanted = "1 to 1024 bytes as pairs of lower-case hexadecimal digits are wanted";
-    let word = word(&mut words, wanted)?;
-    match bytes(alloc, word) {
-        Ok(bytes) => Ok(last(said(bytes, word, wanted)?, words)?),
-        Err(error) => {
-            end_or(words, END)?;
-            Err(NotRead::from(error))
-        }
+    let Some(word) = words.next() else {
+        return Err(NotRead::Malformed(Wrong::missing(wanted)));
+    };
+    let mut room = [0; MAX_BYTES];
+    let Some(length) = decode(word, &mut room) else {
+        return Err(NotRead::Malformed(Wrong::malformed(word, wanted)));
+    };
+    end_or(words, END)?;
+    match Vec::from_slice(alloc, &room[..length]) {
+        Ok(bytes) => Ok(Bytes::new(bytes)),
+        Err(error) => Err(NotRead::from(error)),
     }
 }
 
 /// Whether a write left no room, which `full` at the end of the line says.
-pub(crate) fn is_full(mut words: Pieces<'_>) -> Result<bool, Wrong<'_>>
-    ensures { Reads (full_of words.entry) result }
+pub(crate) fn is_full<'a>(words: &mut Pieces<'a>) -> Result<bool, Wrong<'a>>
+    ensures { Ends (full_of words.old) result words.new }
 {
     let Some(word) = words.next() else {
         return Ok(false);
     };
     if is(word, "full") {
-        last(true, words)
+        Ok(true)
     } else {
         Err(Wrong::malformed(word, "full, or the end of the line, is wanted"))
     }
@@ -232,28 +236,20 @@ pub(crate) fn value_after(key: &[u8], word: &[u8]) -> Option<usize>
     number(word.strip_prefix(key)?)
 }
 
-/// The bytes that a text stands for in lower-case hexadecimal, 1 to 1,024 of them; only for these is memory asked for.
-pub(crate) fn bytes(alloc: Global, text: &[u8]) -> Result<Option<Bytes>, AllocError>
-    ensures value { IfOk result (λ bytes. bytes ≡ bytes_of text.now) }
-    ensures memory { IfErr result (λ _. IsSome (bytes_of text.now)) }
+/// Puts the bytes that a text stands for in lower-case hexadecimal, 1 to 1,024 of them, to the front of `room`, and says
+/// how many they are, if it stands for any.
+pub(crate) fn decode(text: &[u8], room: &mut [u8; MAX_BYTES]) -> Option<usize>
+    ensures value { bytes_of text.now ≡ option_map (λ length. take length room.new) result }
+    ensures range { IfSome result (λ length. length ≤ 1024) }
 {
-    if !is_hex_text(text) {
-        return Ok(None);
+    if text.is_empty() || text.len() > 2 * MAX_BYTES || !is_all_lower_hex(text) {
+        return None;
     }
-    let mut room = [0; MAX_DIGITS / 2];
     let length = text.len() / 2;
     if hex::decode_to_slice(text, &mut room[..length]).is_err() {
-        return Ok(None);
+        return None;
     }
-    let bytes = Vec::from_slice(alloc, &room[..length])?;
-    Ok(Some(Bytes::new(bytes)))
-}
-
-/// Whether a text is 1 to 1,024 bytes in lower-case hexadecimal, except that its length may be odd.
-pub(crate) fn is_hex_text(text: &[u8]) -> bool
-    ensures { result ≡ is_hex_text text.now }
-{
-    0 < text.len() && text.len() <= MAX_DIGITS && is_all_lower_hex(text)
+    Some(length)
 }
 
 fn is_all_lower_hex(text: &[u8]) -> bool

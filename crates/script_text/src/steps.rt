@@ -1,6 +1,6 @@
 // The steps in a script of one direction.
-ghost use Rattle.std.specs.Prelude.{◌≡◌, ◌≢◌, option_map};
-ghost use Rattle.script_text.specs.{Events.{word_of, step_by, step_of}, Texts.{number_of, word_then, if_last, full_of, Reads, ReadsBy}};
+ghost use Rattle.std.specs.Prelude.{◌≡◌, ◌≢◌};
+ghost use Rattle.script_text.specs.{Events.{word_of, step_by, step_of}, Texts.{ReadsBy, Ends}};
 
 use crate::Word;
 use crate::readers::{NotRead, Wrong, count, first_word, is_full, last, last_bytes};
@@ -112,44 +112,24 @@ pub fn read_step<'a>(alloc: Global, line: &'a [u8]) -> Result<Step, NotRead<'a>>
     let mut words = Pieces::new(line, b' ');
     let first = first_word(&mut words, STEPS)?;
     match first {
-        Word::Arrive => arrive(alloc, words),
-        _ => Ok(plain_step(first, words)?),
+        Word::Arrive => Ok(Step::Arrive(last_bytes(alloc, words)?)),
+        _ => Ok(last(plain_step(first, &mut words)?, words)?),
     }
-}
-
-fn arrive<'a>(alloc: Global, words: Pieces<'a>) -> Result<Step, NotRead<'a>>
-    ensures { ReadsBy (λ step. step) (step_by Word.Arrive words.entry) result }
-{
-    Ok(Step::Arrive(last_bytes(alloc, words)?))
 }
 
 /// A step that carries no bytes.
 #[tactic(auto, using(crate::proofs::FirstWords::other_step))]
-fn plain_step(first: Word, words: Pieces<'_>) -> Result<Step, Wrong<'_>>
+fn plain_step<'a>(first: Word, words: &mut Pieces<'a>) -> Result<Step, Wrong<'a>>
     requires { first ≢ Word.Arrive }
-    ensures { Reads (step_by first words.entry) result }
+    ensures { Ends (step_by first words.old) result words.new }
 {
     match first {
-        Word::Fin => last(Step::Fin, words),
-        Word::Room => last(Step::Room, words),
-        Word::Read => read(words),
-        Word::End => last(Step::End, words),
-        Word::Wrote => wrote(words),
-        Word::Shut => last(Step::Shut, words),
+        Word::Fin => Ok(Step::Fin),
+        Word::Room => Ok(Step::Room),
+        Word::Read => Ok(Step::Read(count(words)?)),
+        Word::End => Ok(Step::End),
+        Word::Wrote => Ok(Step::Wrote(count(words)?, is_full(words)?)),
+        Word::Shut => Ok(Step::Shut),
         _ => Err(Wrong::unknown(first.text().as_bytes(), STEPS)),
     }
-}
-
-fn read(mut words: Pieces<'_>) -> Result<Step, Wrong<'_>>
-    ensures { Reads (word_then number_of (λ n. if_last (Step.Read n)) words.entry) result }
-{
-    let count = count(&mut words)?;
-    last(Step::Read(count), words)
-}
-
-fn wrote(mut words: Pieces<'_>) -> Result<Step, Wrong<'_>>
-    ensures { Reads (word_then number_of (λ n left. option_map (λ full. Step.Wrote n full) (full_of left)) words.entry) result }
-{
-    let count = count(&mut words)?;
-    Ok(Step::Wrote(count, is_full(words)?))
 }
