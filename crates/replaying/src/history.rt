@@ -60,9 +60,9 @@ impl History {
         if let Err(refusal) = self.world.step(&event) {
             return Err((refusal, event));
         }
-        self.events.push(event).unwrap();
+        self.events.push_reserved(event);
         if let Some(action) = action {
-            self.trace.push(action).unwrap();
+            self.trace.push_reserved(action);
         }
         Ok(())
     }

@@ -8,7 +8,7 @@ use crate::machine::{Flaw, Machine};
 use crate::opening::limits_of;
 use crate::order::put_in_order;
 use crate::reading::read;
-use crate::recording::{Last, Recording};
+use crate::recording::{Last, Numbered, Recording};
 use crate::results::{Flawed, Results, Whose};
 use crate::round::check_rounds;
 use crate::rounds::find_posts;
@@ -39,10 +39,9 @@ impl Replay for OnMachine {
         rests: bool,
         output: &mut W,
     ) -> Result<Outcome, ReplayFault> {
-        let mut recording = read(alloc, input)?;
-        put_in_order(&mut recording)?;
+        let recording = read_in_order(alloc, input)?;
         let rests = recording.failed.is_none()
-            && (recording.last == Last::Ended || rests && recording.left_out == 0);
+            && (matches!(recording.last, Last::Ended) || rests && recording.left_out == 0);
         let outcome = replay_recording(&recording, wanted, rests, output)?;
         match output.flush() {
             Ok(()) => Ok(outcome),
@@ -51,16 +50,40 @@ impl Replay for OnMachine {
     }
 }
 
+fn read_in_order<R: Read>(alloc: Global, input: &mut R) -> Result<Recording, ReplayFault> {
+    let mut recording = read(alloc, input)?;
+    put_in_order(&mut recording)?;
+    Ok(recording)
+}
+
 fn replay_recording<W: Write>(
     recording: &Recording,
     wanted: Wanted,
     rests: bool,
     output: &mut W,
 ) -> Result<Outcome, ReplayFault> {
+    let mut results = Results::new(recording.alloc, wanted);
+    match (find_flaw(recording, rests, &mut results)?, &results.flawed) {
+        (None, _) => {
+            write_results(output, &results, recording)?;
+            Ok(Outcome::Run)
+        }
+        (Some(Flaw::NoMemory), _) | (_, None) => Err(ReplayFault::NoMemory),
+        (Some(flaw), Some(flawed)) => {
+            write_flaw(recording.alloc, output, flawed, flaw)?;
+            Ok(Outcome::NoRun)
+        }
+    }
+}
+
+/// Answers why the replay stops, where it does.
+fn find_flaw(
+    recording: &Recording,
+    rests: bool,
+    results: &mut Results,
+) -> Result<Option<Flaw>, ReplayFault> {
     let clock = read_clock(recording)?;
-    clock.check_readings(recording)?;
-    check_rounds(recording)?;
-    check_threads(recording)?;
+    check(recording, &clock)?;
     let posts = find_posts(recording, &clock)?;
     let findings = Findings {
         recording,
@@ -68,8 +91,14 @@ fn replay_recording<W: Write>(
         posts: posts.as_slice(),
         rests,
     };
-    let mut results = Results::new(recording.alloc, wanted);
-    write_outcome(findings, output, &mut results)
+    Ok(replay_all(findings, results).err())
+}
+
+/// Refuses what no thread does.
+fn check(recording: &Recording, clock: &Clock) -> Result<(), ReplayFault> {
+    clock.check_readings(recording)?;
+    check_rounds(recording)?;
+    check_threads(recording)
 }
 
 /// The clock does not go back.
@@ -78,27 +107,6 @@ fn read_clock(recording: &Recording) -> Result<Clock, ReplayFault> {
     match clock.first_back(recording.others()) {
         Some(back) => Err(recording.broken(back.line, "the clock does not go back")),
         None => Ok(clock),
-    }
-}
-
-fn write_outcome<W: Write>(
-    findings: Findings<'_>,
-    output: &mut W,
-    results: &mut Results,
-) -> Result<Outcome, ReplayFault> {
-    let recording = findings.recording;
-    match replay_all(findings, results) {
-        Ok(()) => {
-            write_results(output, results, recording)?;
-            Ok(Outcome::Run)
-        }
-        Err(flaw) => match (flaw, &results.flawed) {
-            (Flaw::NoMemory, _) | (_, None) => Err(ReplayFault::NoMemory),
-            (flaw, Some(flawed)) => {
-                write_flaw(recording.alloc, output, flawed, flaw)?;
-                Ok(Outcome::NoRun)
-            }
-        },
     }
 }
 
@@ -117,13 +125,22 @@ fn replay_all(findings: Findings<'_>, results: &mut Results) -> Result<(), Flaw>
 
 fn replay_poller(recording: &Recording, results: &mut Results, poller: usize) -> Result<(), Flaw> {
     let mut machine = Machine::new(recording.alloc, Machine::LIMITS)?;
-    for numbered in recording.poller(poller) {
-        if let Err(flaw) = machine.listen(&numbered.record.act) {
-            results.end(Whose::Poller(poller), *numbered, machine);
-            return Err(flaw);
+    match listen(&mut machine, recording.poller(poller)) {
+        Ok(()) => results.take(0, machine.history),
+        Err((flaw, numbered)) => {
+            results.end(Whose::Poller(poller), numbered, machine);
+            Err(flaw)
         }
     }
-    results.take(0, machine.history)
+}
+
+fn listen(machine: &mut Machine, acts: &[Numbered]) -> Result<(), (Flaw, Numbered)> {
+    for numbered in acts {
+        if let Err(flaw) = machine.listen(&numbered.record.act) {
+            return Err((flaw, *numbered));
+        }
+    }
+    Ok(())
 }
 
 fn replay_slot(findings: Findings<'_>, results: &mut Results, slot: usize) -> Result<(), Flaw>

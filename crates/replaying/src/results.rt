@@ -105,27 +105,36 @@ impl Results {
 
     /// A world was replayed to its end, or as far as the recording goes.
     pub(crate) fn take(&mut self, slot: usize, history: History) -> Result<(), Flaw> {
-        for event in history.events() {
-            self.counts.count(event);
-        }
-        if let Some(became) = Became::of(history.world()) {
-            if self.add(slot, &became)? {
-                self.script = Some(history);
-            }
+        if self.add(slot, &history)? {
+            self.script = Some(history);
         }
         Ok(())
     }
 
-    /// Answers whether the script of a connection is wanted.
-    fn add(&mut self, slot: usize, became: &Became) -> Result<bool, AllocError> {
+    /// Answers whether this script is wanted.
+    fn add(&mut self, slot: usize, history: &History) -> Result<bool, AllocError> {
+        for event in history.events() {
+            self.counts.count(event);
+        }
+        match Became::of(history.world()) {
+            Some(became) => self.add_connection(slot, &became),
+            None => Ok(false),
+        }
+    }
+
+    fn add_connection(&mut self, slot: usize, became: &Became) -> Result<bool, AllocError> {
         self.connections = self.connections.saturating_add(1);
-        for (sum, more) in self.moved.iter_mut().zip(became.moved.iter()) {
-            *sum = sum.saturating_add(*more);
+        for place in 0..4 {
+            self.moved[place] = self.moved[place].saturating_add(became.moved[place]);
         }
-        if let Wanted::Ends = self.wanted {
-            self.add_end(slot, became)?;
+        match self.wanted {
+            Wanted::Totals => Ok(false),
+            Wanted::Ends => {
+                self.add_end(slot, became)?;
+                Ok(false)
+            }
+            Wanted::Script(of, generation) => Ok(of == slot && generation == became.generation),
         }
-        Ok(self.wanted == Wanted::Script(slot, became.generation))
     }
 
     fn add_end(&mut self, slot: usize, became: &Became) -> Result<(), AllocError> {

@@ -1,5 +1,6 @@
 //! The turns of a slot's connection.
 use crate::machine::Flaw;
+use crate::recording::Numbered;
 use crate::slot_replay::{Phase, SlotReplay};
 use crate::threads::{OWN_BUDGET, is_busy};
 use records::{Act as Recorded, Made, Record};
@@ -16,14 +17,13 @@ impl SlotReplay<'_> {
         }
         let since = self.gather_notes(record.before)?;
         let (earliest, latest) = self.findings.clock.between(since, record.before);
-        self.pass_to(earliest)?;
-        self.machine.claim()?;
         let state = &mut self.state;
         state.latest = latest;
         state.taken_from = since;
         state.taken_by = record.before;
         state.phase = Phase::Calling(0);
-        Ok(())
+        self.pass_to(earliest)?;
+        self.machine.claim()
     }
 
     fn pass_to(&mut self, second: u64) -> Result<(), Flaw> {
@@ -53,21 +53,13 @@ impl SlotReplay<'_> {
         if self.machine.next_call().is_some() {
             return self.end_due(calls);
         }
-        if self.is_dropped_next() {
+        if is_drop_next(self.next) {
             self.pass_to(self.state.latest)?;
             self.state.phase = Phase::Closing(None);
             return self.machine.work(&[Act::Expire]);
         }
         self.state.phase = Phase::Settling;
         self.check_idle()
-    }
-
-    /// Whether the next act drops an end.
-    fn is_dropped_next(&self) -> bool {
-        match self.next.first() {
-            Some(first) => matches!(first.record.act, Recorded::Wire(_, Made::Drop)),
-            None => false,
-        }
     }
 
     /// A turn that ends with a call left has made as many as it may, and posts a note for the next turn.
@@ -107,7 +99,7 @@ impl SlotReplay<'_> {
     pub(crate) fn drop_end(&mut self, side: Side, record: Record) -> Result<(), Flaw> {
         let phase = self.state.phase;
         match phase {
-            Phase::Open if self.has_failed(record.before) => {
+            Phase::Open if self.findings.recording.has_failed(record.before) => {
                 self.state.void = self.state.generation;
                 self.state.phase = Phase::Void(Some(side));
                 Ok(())
@@ -133,17 +125,11 @@ impl SlotReplay<'_> {
         }
     }
 
-    fn has_failed(&self, count: u64) -> bool {
-        match self.findings.recording.failed {
-            Some(failed) => failed < count,
-            None => false,
-        }
-    }
-
     /// Whether the poller of a connection that came to nothing did something else up to this count.
     fn is_left(&self, count: u64) -> bool {
-        let acts = self.findings.recording.poller(self.poller);
-        !self.has_failed(count) && is_busy(acts, self.state.free_from.saturating_add(1), count)
+        let recording = self.findings.recording;
+        let from = self.state.free_from.saturating_add(1);
+        !recording.has_failed(count) && is_busy(recording.poller(self.poller), from, count)
     }
 
     fn drop_void(&mut self, side: Side, dropped: Option<Side>) -> Result<(), Flaw> {
@@ -153,14 +139,6 @@ impl SlotReplay<'_> {
             Some(_) => return Err(Flaw::Because("the same end is dropped twice")),
         };
         Ok(())
-    }
-
-    /// The relay has ended, and closed all its sockets.
-    pub(crate) fn ended(&self) -> Result<(), Flaw> {
-        match self.state.phase {
-            Phase::Free => Ok(()),
-            _ => Err(Flaw::Because("the relay has ended, and the connection is not closed")),
-        }
     }
 
     /// Nothing is left to do in the slot. A flaw names the record that what is left came from.
@@ -180,5 +158,13 @@ impl SlotReplay<'_> {
             return Err(Flaw::Because("the connection could move"));
         }
         Ok(())
+    }
+}
+
+/// Whether the first of these acts drops an end.
+fn is_drop_next(next: &[Numbered]) -> bool {
+    match next {
+        [first, ..] => matches!(first.record.act, Recorded::Wire(_, Made::Drop)),
+        [] => false,
     }
 }

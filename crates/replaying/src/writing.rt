@@ -5,7 +5,7 @@ use crate::recording::Recording;
 use crate::results::{Flawed, Results, Whose};
 use records::{ReplayFault, Wanted};
 use script_text::{Page, Piece, event_reason, put_event, put_header};
-use std::alloc::Global;
+use std::alloc::{AllocError, Global};
 use std::io::Write;
 use world::Event;
 
@@ -32,9 +32,7 @@ pub(crate) fn write_flaw<W: Write>(
     flawed: &Flawed,
     flaw: Flaw,
 ) -> Result<(), ReplayFault> {
-    let record = flawed.numbered.record;
-    let record = format!(in alloc; "{record}")?;
-    write(output, first_line(alloc, flawed, flaw, record.as_str()))?;
+    write(output, first_line(alloc, flawed, flaw)?)?;
     write_script(alloc, output, &flawed.machine.history)?;
     write(output, refused(alloc, &flawed.machine))
 }
@@ -128,17 +126,19 @@ fn put_line(page: &mut Page, event: &Event) {
     page.put(&[Piece::Text("\n")]);
 }
 
-fn first_line(alloc: Global, flawed: &Flawed, flaw: Flaw, record: &str) -> Page {
+fn first_line(alloc: Global, flawed: &Flawed, flaw: Flaw) -> Result<Page, AllocError> {
+    let record = flawed.numbered.record;
+    let record = format!(in alloc; "{record}")?;
     let mut page = Page::new(alloc);
     put_whose(&mut page, flawed.whose);
     page.put(&[
         Piece::Named(": line ", flawed.numbered.line),
         Piece::Text(": "),
-        Piece::Text(record),
+        Piece::Text(record.as_str()),
         Piece::Text(": "),
     ]);
     put_reason(&mut page, flaw, &flawed.machine);
-    page
+    Ok(page)
 }
 
 fn put_whose(page: &mut Page, whose: Whose) {
@@ -153,15 +153,16 @@ fn put_whose(page: &mut Page, whose: Whose) {
 
 /// Why the record can stand at no place, and the end of the line.
 fn put_reason(page: &mut Page, flaw: Flaw, machine: &Machine) {
-    match (flaw, &machine.refused) {
-        (Flaw::Because(why), _) => page.put(&[Piece::Text(why), Piece::Text("\n")]),
+    let why = match (flaw, &machine.refused) {
+        (Flaw::Because(why), _) => why,
         (Flaw::Refused, Some(event)) => {
             put_event(page, event);
-            let reason = event_reason(machine.world(), event);
-            page.put(&[Piece::Text(": "), Piece::Text(reason), Piece::Text("\n")]);
+            page.put(&[Piece::Text(": ")]);
+            event_reason(machine.world(), event)
         }
-        _ => put_next_call(page, machine),
-    }
+        _ => return put_next_call(page, machine),
+    };
+    page.put(&[Piece::Text(why), Piece::Text("\n")]);
 }
 
 fn put_next_call(page: &mut Page, machine: &Machine) {
