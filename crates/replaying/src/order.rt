@@ -2,6 +2,7 @@
 ghost use Rattle.std.specs.Prelude.{◌≡◌, ◌≢◌, ◌-◌, ◌<◌, ◌≤◌, ◌↔◌, ℕ, IfNone, IfSome, IsTrue, length, slice_index};
 ghost use Rattle.replaying.specs.Sequences.{IsBegun, IsMissing, Follows, FollowsAt, is_report};
 
+use crate::reading::fault;
 use crate::recording::{Last, Numbered, Recording, begun_before, is_twice, sort};
 use records::{Act, Made, Polling, ReplayFault};
 use std::alloc::AllocError;
@@ -20,8 +21,8 @@ pub(crate) fn put_in_order(recording: &mut Recording) -> Result<(), ReplayFault>
             Ok(())
         }
         Some(lost) => {
-            let wrong = format!(in recording.alloc; "the record with the count {lost} is missing")?;
-            Err(ReplayFault::Broken(wrong))
+            let text = format!(in recording.alloc; "the record with the count {lost} is missing");
+            Err(fault(text))
         }
     }
 }
@@ -69,8 +70,8 @@ fn disorder(last: Option<&Numbered>, next: &Numbered) -> &'static str {
 /// Refuses a count that two acts have, and a record `end` or `full` whose counts are not the greatest.
 fn check_counts(recording: &Recording, counts: &[u64]) -> Result<(), ReplayFault> {
     if let Some(count) = counts.get(first_twice(counts)) {
-        let wrong = format!(in recording.alloc; "two acts have the count {count}")?;
-        return Err(ReplayFault::Broken(wrong));
+        let text = format!(in recording.alloc; "two acts have the count {count}");
+        return Err(fault(text));
     }
     let greatest = counts.last().copied().unwrap_or(0);
     for numbered in recording.others() {

@@ -170,7 +170,11 @@ fn slot_of(act: &Act) -> Option<usize> {
 }
 
 pub fn fault_of(alloc: Global, number: u64, wrong: Wrong<'_>) -> ReplayFault {
-    match cause(alloc, number, wrong) {
+    fault(cause(alloc, number, wrong))
+}
+
+pub(crate) fn fault(cause: Result<String, AllocError>) -> ReplayFault {
+    match cause {
         Ok(text) => ReplayFault::Broken(text),
         Err(error) => ReplayFault::from(error),
     }
@@ -189,11 +193,15 @@ fn cause(alloc: Global, number: u64, wrong: Wrong<'_>) -> Result<String, AllocEr
 fn show(text: &mut String, word: &[u8]) -> Result<(), AllocError> {
     text.push_str("\"")?;
     for byte in word.iter().take(MAX_SHOWN) {
-        if byte.is_ascii_graphic() {
-            text.push(char::from(*byte))?;
-        } else {
-            write!(text, "\\x{byte:02x}")?;
-        }
+        show_byte(text, *byte)?;
     }
     text.push_str("\": ")
+}
+
+fn show_byte(text: &mut String, byte: u8) -> Result<(), AllocError> {
+    if byte.is_ascii_graphic() {
+        text.push(char::from(byte))
+    } else {
+        write!(text, "\\x{byte:02x}")
+    }
 }

@@ -63,17 +63,8 @@ fn replay_recording<W: Write>(
     output: &mut W,
 ) -> Result<Outcome, ReplayFault> {
     let mut results = Results::new(recording.alloc, wanted);
-    match (find_flaw(recording, rests, &mut results)?, &results.flawed) {
-        (None, _) => {
-            write_results(output, &results, recording)?;
-            Ok(Outcome::Run)
-        }
-        (Some(Flaw::NoMemory), _) | (_, None) => Err(ReplayFault::NoMemory),
-        (Some(flaw), Some(flawed)) => {
-            write_flaw(recording.alloc, output, flawed, flaw)?;
-            Ok(Outcome::NoRun)
-        }
-    }
+    let flaw = find_flaw(recording, rests, &mut results)?;
+    write_outcome(output, recording, &results, flaw)
 }
 
 /// Answers why the replay stops, where it does.
@@ -107,6 +98,25 @@ fn read_clock(recording: &Recording) -> Result<Clock, ReplayFault> {
     match clock.first_back(recording.others()) {
         Some(back) => Err(recording.broken(back.line, "the clock does not go back")),
         None => Ok(clock),
+    }
+}
+
+fn write_outcome<W: Write>(
+    output: &mut W,
+    recording: &Recording,
+    results: &Results,
+    flaw: Option<Flaw>,
+) -> Result<Outcome, ReplayFault> {
+    match (flaw, &results.flawed) {
+        (None, _) => {
+            write_results(output, results, recording)?;
+            Ok(Outcome::Run)
+        }
+        (Some(Flaw::NoMemory), _) | (_, None) => Err(ReplayFault::NoMemory),
+        (Some(flaw), Some(flawed)) => {
+            write_flaw(recording.alloc, output, flawed, flaw)?;
+            Ok(Outcome::NoRun)
+        }
     }
 }
 

@@ -1,9 +1,9 @@
 //! What the pollers were given in their rounds, and when they may have posted that.
 use crate::clock::Clock;
 use crate::posts::Post;
+use crate::reading::fault;
 use crate::recording::{Last, Numbered, Recording, add, begun_before, lists};
 use records::{Act, Polling, Record, ReplayFault};
-use std::alloc::Global;
 use token::Name;
 
 const MAX_REPORTS: usize = 256;
@@ -52,13 +52,6 @@ fn first_count(acts: &[Numbered]) -> u64 {
     }
 }
 
-fn missing_reports(alloc: Global) -> ReplayFault {
-    match String::from_str(alloc, "reports of the last poll are missing") {
-        Ok(text) => ReplayFault::Broken(text),
-        Err(error) => ReplayFault::from(error),
-    }
-}
-
 impl Rounds<'_> {
     fn find(&mut self, posts: &mut [Vec<Post>]) -> Result<(), ReplayFault> {
         for (place, numbered) in self.recording.poller(self.poller).iter().enumerate() {
@@ -69,7 +62,8 @@ impl Rounds<'_> {
             }
         }
         if self.missing > 0 && matches!(self.recording.last, Last::Ended) {
-            return Err(missing_reports(self.recording.alloc));
+            let text = "reports of the last poll are missing";
+            return Err(fault(String::from_str(self.recording.alloc, text)));
         }
         Ok(())
     }

@@ -136,25 +136,13 @@ impl<'a> SlotReplay<'a> {
     ) -> Result<(), Flaw>
         ensures runs { OnOk result (AreRuns recording.now.header recording.now.failed records.now) }
     {
-        self.replay_connections(recording, records, results)?;
-        self.end_all()
-    }
-
-    fn replay_connections(
-        &mut self,
-        recording: &Recording,
-        records: &'a [Numbered],
-        results: &mut Results,
-    ) -> Result<(), Flaw>
-        ensures runs { OnOk result (AreRuns recording.now.header recording.now.failed records.now) }
-    {
         let mut rest = records;
         while !rest.is_empty() {
             let (connection, next) = rest.split_at(connection_len(rest));
             self.replay_connection(recording, connection, results)?;
             rest = next;
         }
-        Ok(())
+        self.end_all()
     }
 
     fn replay_connection(

@@ -141,25 +141,30 @@ fn spans_of(recording: &Recording, slot: usize) -> Result<Vec<Span>, AllocError>
     for numbered in recording.slot(slot) {
         let act = numbered.record.act;
         if begins_span(&last, &act, failed) {
-            let is_turn = matches!(act, Act::Begin(_));
-            if let (Act::End(_), true, Some(span)) = (last, is_turn, spans.last_mut()) {
+            if let (Act::End(_), Act::Begin(_), Some(span)) = (last, act, spans.last_mut()) {
                 span.is_pollers = span.calls == OWN_BUDGET && OWN_BUDGET < budget;
             }
-            spans.push(Span {
-                poller: recording.split.poller_of(slot),
-                is_pollers: !is_turn && !failed,
-                line: numbered.line,
-                from: numbered.record.before,
-                to: numbered.record.after,
-                calls: 0,
-                is_over: !is_turn,
-            })?;
+            spans.push(span_from(numbered, recording.split.poller_of(slot), failed))?;
         } else if let Some(span) = spans.last_mut() {
             span.go_on(&numbered.record);
         }
         last = act;
     }
     Ok(spans)
+}
+
+/// The span that an act begins.
+fn span_from(numbered: &Numbered, poller: usize, failed: bool) -> Span {
+    let is_turn = matches!(numbered.record.act, Act::Begin(_));
+    Span {
+        poller,
+        is_pollers: !is_turn && !failed,
+        line: numbered.line,
+        from: numbered.record.before,
+        to: numbered.record.after,
+        calls: 0,
+        is_over: !is_turn,
+    }
 }
 
 /// Whether an act begins a span. What follows a turn's end is its own closing, unless the relay failed.

@@ -107,20 +107,23 @@ impl SlotReplay<'_> {
             Phase::Void(None) if self.is_left(record.before) => {
                 Err(Flaw::Because("its poller did something else before it closed this"))
             }
-            Phase::Void(dropped) => self.drop_void(side, dropped),
+            Phase::Void(None) => {
+                self.state.phase = Phase::Void(Some(side));
+                Ok(())
+            }
             Phase::Closing(None) => {
                 self.state.phase = Phase::Closing(Some(side));
                 self.state.taken_by = record.before;
                 Ok(())
             }
-            Phase::Closing(Some(other)) if side == other => {
+            Phase::Void(Some(other)) | Phase::Closing(Some(other)) if side == other => {
                 Err(Flaw::Because("the same end is dropped twice"))
             }
-            Phase::Closing(_) => {
-                self.note_while_held()?;
+            Phase::Void(Some(_)) => {
                 self.state.phase = Phase::Free;
-                self.machine.work(&[Act::Close, Act::Retire, Act::Free])
+                Ok(())
             }
+            Phase::Closing(Some(_)) => self.close(),
             _ => Err(Flaw::Because("the connection has not ended")),
         }
     }
@@ -132,13 +135,10 @@ impl SlotReplay<'_> {
         !recording.has_failed(count) && is_busy(recording.poller(self.poller), from, count)
     }
 
-    fn drop_void(&mut self, side: Side, dropped: Option<Side>) -> Result<(), Flaw> {
-        self.state.phase = match dropped {
-            None => Phase::Void(Some(side)),
-            Some(other) if other != side => Phase::Free,
-            Some(_) => return Err(Flaw::Because("the same end is dropped twice")),
-        };
-        Ok(())
+    fn close(&mut self) -> Result<(), Flaw> {
+        self.note_while_held()?;
+        self.state.phase = Phase::Free;
+        self.machine.work(&[Act::Close, Act::Retire, Act::Free])
     }
 
     /// Nothing is left to do in the slot. A flaw names the record that what is left came from.
