@@ -63,8 +63,7 @@ fn replay_recording<W: Write>(
     output: &mut W,
 ) -> Result<Outcome, ReplayFault> {
     let mut results = Results::new(recording.alloc, wanted);
-    let flaw = find_flaw(recording, rests, &mut results)?;
-    write_outcome(output, recording, &results, flaw)
+    write_outcome(recording, rests, output, &mut results)
 }
 
 /// Answers why the replay stops, where it does.
@@ -102,11 +101,12 @@ fn read_clock(recording: &Recording) -> Result<Clock, ReplayFault> {
 }
 
 fn write_outcome<W: Write>(
-    output: &mut W,
     recording: &Recording,
-    results: &Results,
-    flaw: Option<Flaw>,
+    rests: bool,
+    output: &mut W,
+    results: &mut Results,
 ) -> Result<Outcome, ReplayFault> {
+    let flaw = find_flaw(recording, rests, results)?;
     match (flaw, &results.flawed) {
         (None, _) => {
             write_results(output, results, recording)?;

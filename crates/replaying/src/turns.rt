@@ -1,7 +1,7 @@
 //! The turns of a slot's connection.
 use crate::machine::Flaw;
 use crate::recording::Numbered;
-use crate::slot_replay::{Phase, SlotReplay};
+use crate::slot_replay::{Phase, SlotReplay, State};
 use crate::threads::{OWN_BUDGET, is_busy};
 use records::{Act as Recorded, Made, Record};
 use token::Side;
@@ -56,7 +56,7 @@ impl SlotReplay<'_> {
         if is_drop_next(self.next) {
             self.pass_to(self.state.latest)?;
             self.state.phase = Phase::Closing(None);
-            return self.machine.work(&[Act::Expire]);
+            return self.machine.put(Event::Work(0, Act::Expire));
         }
         self.state.phase = Phase::Settling;
         self.check_idle()
@@ -84,55 +84,19 @@ impl SlotReplay<'_> {
 
     /// A turn has ended quiet, which the target's wire records. After that the slot is released.
     pub(crate) fn settle(&mut self, side: Side, record: Record) -> Result<(), Flaw> {
-        if !matches!(self.state.phase, Phase::Settling) {
-            return Err(Flaw::Because("no turn has ended quiet"));
-        }
-        if side != Side::Target {
-            return Err(Flaw::Because("of a client's end no settle is recorded"));
-        }
-        self.state.free_from = record.after;
-        self.state.phase = Phase::Open;
-        self.machine.work(&[Act::Release])
+        self.state.settle(side, record.after)?;
+        self.machine.put(Event::Work(0, Act::Release))
     }
 
     /// An end is dropped. After the second one the slot is free.
     pub(crate) fn drop_end(&mut self, side: Side, record: Record) -> Result<(), Flaw> {
-        let phase = self.state.phase;
-        match phase {
-            Phase::Open if self.findings.recording.has_failed(record.before) => {
-                self.state.void = self.state.generation;
-                self.state.phase = Phase::Void(Some(side));
-                Ok(())
-            }
-            Phase::Void(None) if self.is_left(record.before) => {
-                Err(Flaw::Because("its poller did something else before it closed this"))
-            }
-            Phase::Void(None) => {
-                self.state.phase = Phase::Void(Some(side));
-                Ok(())
-            }
-            Phase::Closing(None) => {
-                self.state.phase = Phase::Closing(Some(side));
-                self.state.taken_by = record.before;
-                Ok(())
-            }
-            Phase::Void(Some(other)) | Phase::Closing(Some(other)) if side == other => {
-                Err(Flaw::Because("the same end is dropped twice"))
-            }
-            Phase::Void(Some(_)) => {
-                self.state.phase = Phase::Free;
-                Ok(())
-            }
-            Phase::Closing(Some(_)) => self.close(),
-            _ => Err(Flaw::Because("the connection has not ended")),
-        }
-    }
-
-    /// Whether the poller of a connection that came to nothing did something else up to this count.
-    fn is_left(&self, count: u64) -> bool {
         let recording = self.findings.recording;
-        let from = self.state.free_from.saturating_add(1);
-        !recording.has_failed(count) && is_busy(recording.poller(self.poller), from, count)
+        let has_failed = recording.has_failed(record.before);
+        let acts = recording.poller(self.poller);
+        if self.state.drop_end(side, record.before, has_failed, acts)? {
+            return self.close();
+        }
+        Ok(())
     }
 
     fn close(&mut self) -> Result<(), Flaw> {
@@ -149,7 +113,9 @@ impl SlotReplay<'_> {
             Phase::Void(_) => return Err(Flaw::Because("the other end is not dropped")),
             _ => return Err(Flaw::Because("its turn has not ended")),
         }
-        self.note_the_rest()?;
+        if let Some(post) = self.posts.rest(&self.state) {
+            self.note(post)?;
+        }
         if self.machine.has_notes() {
             self.last = self.posted;
             return Err(Flaw::Because("no turn took the note of this"));
@@ -158,6 +124,54 @@ impl SlotReplay<'_> {
             return Err(Flaw::Because("the connection could move"));
         }
         Ok(())
+    }
+}
+
+impl State {
+    fn settle(&mut self, side: Side, count: u64) -> Result<(), Flaw> {
+        if !matches!(self.phase, Phase::Settling) {
+            return Err(Flaw::Because("no turn has ended quiet"));
+        }
+        if side != Side::Target {
+            return Err(Flaw::Because("of a client's end no settle is recorded"));
+        }
+        self.free_from = count;
+        self.phase = Phase::Open;
+        Ok(())
+    }
+
+    /// An end is dropped after this count, where the slot's poller did these acts. Answers whether that closes a
+    /// connection which a turn has ended.
+    fn drop_end(
+        &mut self,
+        side: Side,
+        count: u64,
+        has_failed: bool,
+        acts: &[Numbered],
+    ) -> Result<bool, Flaw> {
+        let phase = self.phase;
+        match phase {
+            Phase::Open if has_failed => {
+                self.void = self.generation;
+                self.phase = Phase::Void(Some(side));
+            }
+            Phase::Void(None)
+                if !has_failed && is_busy(acts, self.free_from.saturating_add(1), count) => {
+                return Err(Flaw::Because("its poller did something else before it closed this"));
+            }
+            Phase::Void(None) => self.phase = Phase::Void(Some(side)),
+            Phase::Closing(None) => {
+                self.phase = Phase::Closing(Some(side));
+                self.taken_by = count;
+            }
+            Phase::Void(Some(other)) | Phase::Closing(Some(other)) if side == other => {
+                return Err(Flaw::Because("the same end is dropped twice"));
+            }
+            Phase::Void(Some(_)) => self.phase = Phase::Free,
+            Phase::Closing(Some(_)) => return Ok(true),
+            _ => return Err(Flaw::Because("the connection has not ended")),
+        }
+        Ok(false)
     }
 }
 
