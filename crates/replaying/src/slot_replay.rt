@@ -142,7 +142,13 @@ impl<'a> SlotReplay<'a> {
             self.replay_connection(recording, connection, results)?;
             rest = next;
         }
-        self.end_all()
+        if self.findings.rests {
+            self.rest()?;
+        }
+        match (self.state.phase, self.findings.recording.last) {
+            (Phase::Free, _) | (_, Last::Stopped | Last::Full) => Ok(()),
+            _ => Err(Flaw::Because("the relay has ended, and the connection is not closed")),
+        }
     }
 
     fn replay_connection(
@@ -166,16 +172,6 @@ impl<'a> SlotReplay<'a> {
             Ok(())
         } else {
             Err(Flaw::Because("the records are not those of the run"))
-        }
-    }
-
-    fn end_all(&mut self) -> Result<(), Flaw> {
-        if self.findings.rests {
-            self.rest()?;
-        }
-        match (self.state.phase, self.findings.recording.last) {
-            (Phase::Free, _) | (_, Last::Stopped | Last::Full) => Ok(()),
-            _ => Err(Flaw::Because("the relay has ended, and the connection is not closed")),
         }
     }
 

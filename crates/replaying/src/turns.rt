@@ -93,13 +93,9 @@ impl SlotReplay<'_> {
         let recording = self.findings.recording;
         let has_failed = recording.has_failed(record.before);
         let acts = recording.poller(self.poller);
-        if self.state.drop_end(side, record.before, has_failed, acts)? {
-            return self.close();
+        if !self.state.drop_end(side, record.before, has_failed, acts)? {
+            return Ok(());
         }
-        Ok(())
-    }
-
-    fn close(&mut self) -> Result<(), Flaw> {
         self.note_while_held()?;
         self.state.phase = Phase::Free;
         self.machine.work(&[Act::Close, Act::Retire, Act::Free])
