@@ -2,8 +2,7 @@
 ghost use Rattle.std.specs.Prelude.{◌≤◌, IfSome};
 ghost use Rattle.world.specs.States.{IsWithinLimits};
 
-use crate::history::History;
-use crate::machine::Flaw;
+use crate::machine::{Flaw, Machine};
 use crate::recording::{Numbered, Recording, begun_before};
 use crate::results::Results;
 use crate::slot_replay::{Phase, SlotReplay, State};
@@ -41,8 +40,8 @@ impl SlotReplay<'_> {
             self.state.phase = Phase::Void(None);
             return Ok(());
         }
-        let history = history_before(self.findings.recording, self.next, generation)?;
-        results.take(self.slot, mem::replace(&mut self.machine.history, history))?;
+        let machine = machine_before(self.findings.recording, self.next, generation)?;
+        results.take(self.slot, mem::replace(&mut self.machine, machine))?;
         self.enter(record, generation);
         self.machine.open()
     }
@@ -82,18 +81,18 @@ fn last_wait(acts: &[Numbered]) -> u64 {
 }
 
 /// A world in which the connection of this generation, whose acts are next, is opened next.
-fn history_before(
+fn machine_before(
     recording: &Recording,
     next: &[Numbered],
     generation: u64,
-) -> Result<History, Flaw> {
+) -> Result<Machine, Flaw> {
     let lead = if recording.header.proxy {
         lead_of(next, generation)
     } else {
         Lead::NONE
     };
     match limits_of(&recording.header, generation, lead) {
-        Some(limits) => Ok(History::new(recording.alloc, limits)?),
+        Some(limits) => Ok(Machine::new(recording.alloc, limits)?),
         None => Err(Flaw::Because("no connection has such a generation")),
     }
 }

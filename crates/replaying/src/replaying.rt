@@ -9,7 +9,7 @@ use crate::opening::limits_of;
 use crate::order::put_in_order;
 use crate::reading::read;
 use crate::recording::{Last, Numbered, Recording};
-use crate::results::{Flawed, Results, Whose};
+use crate::results::{Results, Whose};
 use crate::round::check_rounds;
 use crate::rounds::find_posts;
 use crate::slot_replay::{Findings, SlotReplay};
@@ -40,13 +40,8 @@ impl Replay for OnMachine {
         output: &mut W,
     ) -> Result<Outcome, ReplayFault> {
         let recording = read_in_order(alloc, input)?;
-        let rests = recording.failed.is_none()
-            && (matches!(recording.last, Last::Ended) || rests && recording.left_out == 0);
-        let outcome = replay_recording(&recording, wanted, rests, output)?;
-        match output.flush() {
-            Ok(()) => Ok(outcome),
-            Err(_) => Err(ReplayFault::Write),
-        }
+        let mut results = Results::new(alloc, wanted);
+        replay_recording(&recording, rests, output, &mut results)
     }
 }
 
@@ -58,12 +53,16 @@ fn read_in_order<R: Read>(alloc: Global, input: &mut R) -> Result<Recording, Rep
 
 fn replay_recording<W: Write>(
     recording: &Recording,
-    wanted: Wanted,
     rests: bool,
     output: &mut W,
+    results: &mut Results,
 ) -> Result<Outcome, ReplayFault> {
-    let mut results = Results::new(recording.alloc, wanted);
-    write_outcome(recording, rests, output, &mut results)
+    let flaw = find_flaw(recording, rests, results)?;
+    let outcome = write_outcome(output, recording, results, flaw)?;
+    match output.flush() {
+        Ok(()) => Ok(outcome),
+        Err(_) => Err(ReplayFault::Write),
+    }
 }
 
 /// Answers why the replay stops, where it does.
@@ -79,7 +78,8 @@ fn find_flaw(
         recording,
         clock: &clock,
         posts: posts.as_slice(),
-        rests,
+        rests: recording.failed.is_none()
+            && (matches!(recording.last, Last::Ended) || rests && recording.left_out == 0),
     };
     Ok(replay_all(findings, results).err())
 }
@@ -101,20 +101,19 @@ fn read_clock(recording: &Recording) -> Result<Clock, ReplayFault> {
 }
 
 fn write_outcome<W: Write>(
-    recording: &Recording,
-    rests: bool,
     output: &mut W,
-    results: &mut Results,
+    recording: &Recording,
+    results: &Results,
+    flaw: Option<Flaw>,
 ) -> Result<Outcome, ReplayFault> {
-    let flaw = find_flaw(recording, rests, results)?;
-    match (flaw, &results.flawed) {
-        (None, _) => {
+    match (flaw, &results.flawed, &results.machine) {
+        (None, _, _) => {
             write_results(output, results, recording)?;
             Ok(Outcome::Run)
         }
-        (Some(Flaw::NoMemory), _) | (_, None) => Err(ReplayFault::NoMemory),
-        (Some(flaw), Some(flawed)) => {
-            write_flaw(recording.alloc, output, flawed, flaw)?;
+        (Some(Flaw::NoMemory), _, _) | (_, None, _) | (_, _, None) => Err(ReplayFault::NoMemory),
+        (Some(flaw), Some(flawed), Some(machine)) => {
+            write_flaw(output, flawed, flaw, machine)?;
             Ok(Outcome::NoRun)
         }
     }
@@ -136,7 +135,7 @@ fn replay_all(findings: Findings<'_>, results: &mut Results) -> Result<(), Flaw>
 fn replay_poller(recording: &Recording, results: &mut Results, poller: usize) -> Result<(), Flaw> {
     let mut machine = Machine::new(recording.alloc, Machine::LIMITS)?;
     match listen(&mut machine, recording.poller(poller)) {
-        Ok(()) => results.take(0, machine.history),
+        Ok(()) => results.take(0, machine),
         Err((flaw, numbered)) => {
             results.end(Whose::Poller(poller), numbered, machine);
             Err(flaw)
@@ -172,7 +171,7 @@ fn replay_slot(findings: Findings<'_>, results: &mut Results, slot: usize) -> Re
         ..
     } = replay;
     match result {
-        Ok(()) => results.take(slot, machine.history),
+        Ok(()) => results.take(slot, machine),
         Err(flaw) => {
             results.end(Whose::Slot(slot, state.generation), last, machine);
             Err(flaw)

@@ -28,12 +28,11 @@ pub(crate) enum Whose {
     Slot(usize, u64),
 }
 
-/// A record that can stand at no place, and the world in which it should have happened.
-#[derive(Drop)]
+/// A record that can stand at no place.
+#[derive(Clone, Copy)]
 pub(crate) struct Flawed {
     pub whose: Whose,
     pub numbered: Numbered,
-    pub machine: Machine,
 }
 
 /// What came of the worlds in which slots and listeners were replayed.
@@ -46,10 +45,10 @@ pub(crate) struct Results {
     pub moved: Moved,
     /// A line for each connection: what became of it, as the log says that, or that it is open.
     pub ends: String,
-    /// The world of the connection whose script is wanted.
-    pub script: Option<History>,
     /// Where the replay stopped.
     pub flawed: Option<Flawed>,
+    /// The world in which that should have happened, or that of the connection whose script is wanted.
+    pub machine: Option<Machine>,
 }
 
 fn moved(client: &End, target: &End) -> Moved {
@@ -89,24 +88,21 @@ impl Results {
             counts: Counts::NONE,
             moved: [0; 4],
             ends: String::new(alloc),
-            script: None,
             flawed: None,
+            machine: None,
         }
     }
 
     /// The replay stops at this record.
     pub(crate) fn end(&mut self, whose: Whose, numbered: Numbered, machine: Machine) {
-        self.flawed = Some(Flawed {
-            whose,
-            numbered,
-            machine,
-        });
+        self.flawed = Some(Flawed { whose, numbered });
+        self.machine = Some(machine);
     }
 
     /// A world was replayed to its end, or as far as the recording goes.
-    pub(crate) fn take(&mut self, slot: usize, history: History) -> Result<(), Flaw> {
-        if self.add(slot, &history)? {
-            self.script = Some(history);
+    pub(crate) fn take(&mut self, slot: usize, machine: Machine) -> Result<(), Flaw> {
+        if self.add(slot, &machine.history)? {
+            self.machine = Some(machine);
         }
         Ok(())
     }
