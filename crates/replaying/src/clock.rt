@@ -49,19 +49,12 @@ impl Clock {
     pub(crate) fn check_readings(&self, recording: &Recording) -> Result<(), ReplayFault> {
         let windows = windows_of(recording)?;
         let mut left = vec![in recording.alloc; true; self.after.len()]?;
-        match self.first_unread(windows.as_slice(), left.as_mut_slice()) {
-            Some(line) => Err(recording.broken(line, "the clock was not read for this")),
-            None => Ok(()),
-        }
-    }
-
-    fn first_unread(&self, windows: &[Window], left: &mut [bool]) -> Option<u64> {
-        for window in windows.iter().rev() {
-            if !self.take_reading(left, window) {
-                return Some(window.line);
+        for window in windows.as_slice().iter().rev() {
+            if !self.take_reading(left.as_mut_slice(), window) {
+                return Err(recording.broken(window.line, "the clock was not read for this"));
             }
         }
-        None
+        Ok(())
     }
 
     /// Takes the last reading in a window that is left. Answers whether there is one.
@@ -117,16 +110,12 @@ fn readings_of(
         }
     }
     readings.sort()?;
-    rise(readings.as_mut_slice());
-    Ok(readings)
-}
-
-fn rise(readings: &mut [(u64, u64)]) {
     let mut most = 0;
-    for reading in readings.iter_mut() {
+    for reading in readings.as_mut_slice().iter_mut() {
         most = most.max(reading.1);
         reading.1 = most;
     }
+    Ok(readings)
 }
 
 /// All windows of which each reading is recorded, in the order of their beginnings.

@@ -182,14 +182,8 @@ impl Machine {
     }
 
     /// A client comes in just before it is accepted.
-    fn come_in(&mut self) -> Result<(), Flaw> {
+    pub(crate) fn come_in(&mut self) -> Result<(), Flaw> {
         self.put(Event::Listen(Listening::Connect))?;
         self.put(Event::Listen(Listening::Accept(Accepting::Accepted)))
-    }
-
-    /// A client comes in, is accepted, and is opened in the slot.
-    pub(crate) fn open(&mut self) -> Result<(), Flaw> {
-        self.come_in()?;
-        self.put(Event::Poll(Polling::Open))
     }
 }

@@ -9,7 +9,7 @@ use crate::slot_replay::{Phase, SlotReplay, State};
 use records::{Act, Header, Made, Opening, Polling, Record};
 use std::mem;
 use token::{MAX_GENERATION, Side};
-use world::{Lead, Limits};
+use world::{Event, Lead, Limits, Polling as Polled};
 
 /// The lengths that a line about a client has.
 const LEAST_LEAD: usize = 32;
@@ -43,7 +43,8 @@ impl SlotReplay<'_> {
         let machine = machine_before(self.findings.recording, self.next, generation)?;
         results.take(self.slot, mem::replace(&mut self.machine, machine))?;
         self.enter(record, generation);
-        self.machine.open()
+        self.machine.come_in()?;
+        self.machine.put(Event::Poll(Polled::Open))
     }
 
     /// Time begins at the second of the poller's round.
@@ -86,8 +87,10 @@ fn machine_before(
     next: &[Numbered],
     generation: u64,
 ) -> Result<Machine, Flaw> {
+    // Stand-ins for what the target of a connection is sent first. Its length shows by the first write there.
+    let bytes = [b'-'; MOST_LEAD];
     let lead = if recording.header.proxy {
-        lead_of(next, generation)
+        Lead::new(&bytes[..first_offer(next, generation)]).unwrap_or(Lead::NONE)
     } else {
         Lead::NONE
     };
@@ -95,12 +98,6 @@ fn machine_before(
         Some(limits) => Ok(Machine::new(recording.alloc, limits)?),
         None => Err(Flaw::Because("no connection has such a generation")),
     }
-}
-
-/// Stand-ins for what the target of a connection is sent first. Its length shows by the first write there.
-fn lead_of(next: &[Numbered], generation: u64) -> Lead {
-    let bytes = [b'-'; MOST_LEAD];
-    Lead::new(&bytes[..first_offer(next, generation)]).unwrap_or(Lead::NONE)
 }
 
 /// Whether an end of the connection is dropped before its first turn: then it was never open.

@@ -193,15 +193,11 @@ fn cause(alloc: Global, number: u64, wrong: Wrong<'_>) -> Result<String, AllocEr
 fn show(text: &mut String, word: &[u8]) -> Result<(), AllocError> {
     text.push_str("\"")?;
     for byte in word.iter().take(MAX_SHOWN) {
-        show_byte(text, *byte)?;
+        if byte.is_ascii_graphic() {
+            text.push(char::from(*byte))?;
+        } else {
+            write!(text, "\\x{byte:02x}")?;
+        }
     }
     text.push_str("\": ")
-}
-
-fn show_byte(text: &mut String, byte: u8) -> Result<(), AllocError> {
-    if byte.is_ascii_graphic() {
-        text.push(char::from(byte))
-    } else {
-        write!(text, "\\x{byte:02x}")
-    }
 }

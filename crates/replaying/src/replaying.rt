@@ -8,7 +8,7 @@ use crate::machine::{Flaw, Machine};
 use crate::opening::limits_of;
 use crate::order::put_in_order;
 use crate::reading::read;
-use crate::recording::{Last, Numbered, Recording};
+use crate::recording::{Last, Recording};
 use crate::results::{Results, Whose};
 use crate::round::check_rounds;
 use crate::rounds::find_posts;
@@ -39,16 +39,11 @@ impl Replay for OnMachine {
         rests: bool,
         output: &mut W,
     ) -> Result<Outcome, ReplayFault> {
-        let recording = read_in_order(alloc, input)?;
+        let mut recording = read(alloc, input)?;
+        put_in_order(&mut recording)?;
         let mut results = Results::new(alloc, wanted);
         replay_recording(&recording, rests, output, &mut results)
     }
-}
-
-fn read_in_order<R: Read>(alloc: Global, input: &mut R) -> Result<Recording, ReplayFault> {
-    let mut recording = read(alloc, input)?;
-    put_in_order(&mut recording)?;
-    Ok(recording)
 }
 
 fn replay_recording<W: Write>(
@@ -72,7 +67,8 @@ fn find_flaw(
     results: &mut Results,
 ) -> Result<Option<Flaw>, ReplayFault> {
     let clock = read_clock(recording)?;
-    check(recording, &clock)?;
+    check_rounds(recording)?;
+    check_threads(recording)?;
     let posts = find_posts(recording, &clock)?;
     let findings = Findings {
         recording,
@@ -84,20 +80,14 @@ fn find_flaw(
     Ok(replay_all(findings, results).err())
 }
 
-/// Refuses what no thread does.
-fn check(recording: &Recording, clock: &Clock) -> Result<(), ReplayFault> {
-    clock.check_readings(recording)?;
-    check_rounds(recording)?;
-    check_threads(recording)
-}
-
-/// The clock does not go back.
+/// The clock does not go back, and was read wherever a thread reads it.
 fn read_clock(recording: &Recording) -> Result<Clock, ReplayFault> {
     let clock = Clock::new(recording.alloc, recording.others())?;
-    match clock.first_back(recording.others()) {
-        Some(back) => Err(recording.broken(back.line, "the clock does not go back")),
-        None => Ok(clock),
+    if let Some(back) = clock.first_back(recording.others()) {
+        return Err(recording.broken(back.line, "the clock does not go back"));
     }
+    clock.check_readings(recording)?;
+    Ok(clock)
 }
 
 fn write_outcome<W: Write>(
@@ -134,22 +124,13 @@ fn replay_all(findings: Findings<'_>, results: &mut Results) -> Result<(), Flaw>
 
 fn replay_poller(recording: &Recording, results: &mut Results, poller: usize) -> Result<(), Flaw> {
     let mut machine = Machine::new(recording.alloc, Machine::LIMITS)?;
-    match listen(&mut machine, recording.poller(poller)) {
-        Ok(()) => results.take(0, machine),
-        Err((flaw, numbered)) => {
-            results.end(Whose::Poller(poller), numbered, machine);
-            Err(flaw)
-        }
-    }
-}
-
-fn listen(machine: &mut Machine, acts: &[Numbered]) -> Result<(), (Flaw, Numbered)> {
-    for numbered in acts {
+    for numbered in recording.poller(poller) {
         if let Err(flaw) = machine.listen(&numbered.record.act) {
-            return Err((flaw, *numbered));
+            results.end(Whose::Poller(poller), *numbered, machine);
+            return Err(flaw);
         }
     }
-    Ok(())
+    results.take(0, machine)
 }
 
 fn replay_slot(findings: Findings<'_>, results: &mut Results, slot: usize) -> Result<(), Flaw>

@@ -112,13 +112,9 @@ impl Results {
         for event in history.events() {
             self.counts.count(event);
         }
-        match Became::of(history.world()) {
-            Some(became) => self.add_connection(slot, &became),
-            None => Ok(false),
-        }
-    }
-
-    fn add_connection(&mut self, slot: usize, became: &Became) -> Result<bool, AllocError> {
+        let Some(became) = Became::of(history.world()) else {
+            return Ok(false);
+        };
         self.connections = self.connections.saturating_add(1);
         for place in 0..4 {
             self.moved[place] = self.moved[place].saturating_add(became.moved[place]);
@@ -126,7 +122,7 @@ impl Results {
         match self.wanted {
             Wanted::Totals => Ok(false),
             Wanted::Ends => {
-                self.add_end(slot, became)?;
+                self.add_end(slot, &became)?;
                 Ok(false)
             }
             Wanted::Script(of, generation) => Ok(of == slot && generation == became.generation),

@@ -48,7 +48,10 @@ fn all_spans(recording: &Recording) -> Result<Vec<Span>, AllocError> {
     let mut spans = Vec::new(recording.alloc);
     for slot in 0..recording.header.slots {
         for span in spans_of(recording, slot)?.as_slice() {
-            spans.push(span.lasting(recording.whole))?;
+            // What has not ended lasts up to the first count of no record, which may be that of its next act.
+            let least = if span.is_over { 0 } else { recording.whole };
+            let to = span.to.max(least);
+            spans.push(Span { to, ..*span })?;
         }
     }
     Ok(spans)
@@ -141,30 +144,25 @@ fn spans_of(recording: &Recording, slot: usize) -> Result<Vec<Span>, AllocError>
     for numbered in recording.slot(slot) {
         let act = numbered.record.act;
         if begins_span(&last, &act, failed) {
-            if let (Act::End(_), Act::Begin(_), Some(span)) = (last, act, spans.last_mut()) {
+            let is_turn = matches!(act, Act::Begin(_));
+            if let (Act::End(_), true, Some(span)) = (last, is_turn, spans.last_mut()) {
                 span.is_pollers = span.calls == OWN_BUDGET && OWN_BUDGET < budget;
             }
-            spans.push(span_from(numbered, recording.split.poller_of(slot), failed))?;
+            spans.push(Span {
+                poller: recording.split.poller_of(slot),
+                is_pollers: !is_turn && !failed,
+                line: numbered.line,
+                from: numbered.record.before,
+                to: numbered.record.after,
+                calls: 0,
+                is_over: !is_turn,
+            })?;
         } else if let Some(span) = spans.last_mut() {
             span.go_on(&numbered.record);
         }
         last = act;
     }
     Ok(spans)
-}
-
-/// The span that an act begins.
-fn span_from(numbered: &Numbered, poller: usize, failed: bool) -> Span {
-    let is_turn = matches!(numbered.record.act, Act::Begin(_));
-    Span {
-        poller,
-        is_pollers: !is_turn && !failed,
-        line: numbered.line,
-        from: numbered.record.before,
-        to: numbered.record.after,
-        calls: 0,
-        is_over: !is_turn,
-    }
 }
 
 /// Whether an act begins a span. What follows a turn's end is its own closing, unless the relay failed.
@@ -197,16 +195,6 @@ impl Span {
             _ => self.calls = self.calls.saturating_add(1),
         }
         self.to = record.after;
-    }
-
-    /// What has not ended lasts up to the first count of no record, which may be that of its next act.
-    fn lasting(&self, whole: u64) -> Span {
-        let to = if self.is_over {
-            self.to
-        } else {
-            self.to.max(whole)
-        };
-        Span { to, ..*self }
     }
 }
 

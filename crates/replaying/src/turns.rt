@@ -84,7 +84,14 @@ impl SlotReplay<'_> {
 
     /// A turn has ended quiet, which the target's wire records. After that the slot is released.
     pub(crate) fn settle(&mut self, side: Side, record: Record) -> Result<(), Flaw> {
-        self.state.settle(side, record.after)?;
+        if !matches!(self.state.phase, Phase::Settling) {
+            return Err(Flaw::Because("no turn has ended quiet"));
+        }
+        if side != Side::Target {
+            return Err(Flaw::Because("of a client's end no settle is recorded"));
+        }
+        self.state.free_from = record.after;
+        self.state.phase = Phase::Open;
         self.machine.put(Event::Work(0, Act::Release))
     }
 
@@ -124,20 +131,7 @@ impl SlotReplay<'_> {
 }
 
 impl State {
-    fn settle(&mut self, side: Side, count: u64) -> Result<(), Flaw> {
-        if !matches!(self.phase, Phase::Settling) {
-            return Err(Flaw::Because("no turn has ended quiet"));
-        }
-        if side != Side::Target {
-            return Err(Flaw::Because("of a client's end no settle is recorded"));
-        }
-        self.free_from = count;
-        self.phase = Phase::Open;
-        Ok(())
-    }
-
-    /// An end is dropped after this count, where the slot's poller did these acts. Answers whether that closes a
-    /// connection which a turn has ended.
+    /// Answers whether that closes a connection which a turn has ended. The slot's poller did these acts.
     fn drop_end(
         &mut self,
         side: Side,
