@@ -32,7 +32,10 @@ impl SlotReplay<'_> {
         };
         let reply = reply_to(asked.call, answer, self.next);
         self.machine.call(asked, reply)?;
-        if moves(reply) {
+        if !matches!(
+            reply,
+            Reply::Blocked | Reply::Interrupted | Reply::Failed(_)
+        ) {
             self.state.moved = self.state.latest;
         }
         Ok(())
@@ -81,13 +84,6 @@ fn blocks_next(next: &[Numbered], side: Side) -> bool {
         }
     }
     false
-}
-
-fn moves(reply: Reply) -> bool {
-    !matches!(
-        reply,
-        Reply::Blocked | Reply::Interrupted | Reply::Failed(_)
-    )
 }
 
 impl Machine {

@@ -12,7 +12,11 @@ use std::alloc::AllocError;
 /// count, if the last record has not the greatest counts, or if a recording that says it is complete is not. Where one
 /// was stopped, threads lost what they had not handed over: then only the records before the first lost one are left.
 pub(crate) fn put_in_order(recording: &mut Recording) -> Result<(), ReplayFault> {
-    sort_others(recording)?;
+    // The last list alone has the lines of several queues. Those of a slot, and of a poller, stand in the order of their
+    // counts: each is put into one queue by the thread that has the slot then, or is the poller.
+    if let Some(list) = recording.lists.last_mut() {
+        sort(list)?;
+    }
     check_sequences(recording)?;
     match find_lost(recording)? {
         None => Ok(()),
@@ -34,15 +38,6 @@ fn find_lost(recording: &mut Recording) -> Result<Option<u64>, ReplayFault> {
     recording.whole = first_missing(counts.as_slice()) as u64;
     let begun = begun(recording)?;
     Ok(first_lost(counts.as_slice(), begun.as_slice()))
-}
-
-/// The last list alone has the lines of several queues. Those of a slot, and of a poller, stand in the order of their
-/// counts: each is put into one queue by the thread that has the slot then, or is the poller.
-fn sort_others(recording: &mut Recording) -> Result<(), AllocError> {
-    match recording.lists.last_mut() {
-        Some(list) => sort(list),
-        None => Ok(()),
-    }
 }
 
 /// Refuses two acts at once at a slot, or of a poller, and lines in another order.

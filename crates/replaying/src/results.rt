@@ -96,15 +96,20 @@ impl Results {
     /// The replay stops at this record.
     pub(crate) fn end(&mut self, whose: Whose, numbered: Numbered, machine: Machine) {
         self.flawed = Some(Flawed { whose, numbered });
-        self.machine = Some(machine);
+        self.keep(machine);
     }
 
     /// A world was replayed to its end, or as far as the recording goes.
     pub(crate) fn take(&mut self, slot: usize, machine: Machine) -> Result<(), Flaw> {
-        if self.add(slot, &machine.history)? {
-            self.machine = Some(machine);
+        match self.add(slot, &machine.history) {
+            Ok(true) => Ok(self.keep(machine)),
+            Ok(false) => Ok(()),
+            Err(error) => Err(Flaw::from(error)),
         }
-        Ok(())
+    }
+
+    fn keep(&mut self, machine: Machine) {
+        self.machine = Some(machine);
     }
 
     /// Answers whether this script is wanted.

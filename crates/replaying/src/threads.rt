@@ -78,7 +78,12 @@ fn acts_of_poller(
     acts.extend_from_slice(recording.poller(poller))?;
     for span in spans {
         if span.is_pollers && span.poller == poller {
-            acts.push(span.numbered())?;
+            let (before, after, act) = (span.from, span.to, Act::Begin(0));
+            let record = Record { before, after, act };
+            acts.push(Numbered {
+                line: span.line,
+                record,
+            })?;
         }
     }
     sort(&mut acts)?;
@@ -177,17 +182,6 @@ fn begins_span(last: &Act, act: &Act, failed: bool) -> bool {
 }
 
 impl Span {
-    fn numbered(&self) -> Numbered {
-        Numbered {
-            line: self.line,
-            record: Record {
-                before: self.from,
-                after: self.to,
-                act: Act::Begin(0),
-            },
-        }
-    }
-
     fn go_on(&mut self, record: &Record) {
         match record.act {
             Act::Poller(_, _) => return,
