@@ -42,7 +42,10 @@ impl Replay for OnMachine {
         let mut recording = read(alloc, input)?;
         put_in_order(&mut recording)?;
         let mut results = Results::new(alloc, wanted);
-        replay_recording(&recording, rests, output, &mut results)
+        let outcome = replay_recording(&recording, rests, output, &mut results);
+        drop(results);
+        drop(recording);
+        outcome
     }
 }
 

@@ -8,6 +8,7 @@ use relay_core::Verdict;
 use relay_log::{Done, Failed};
 use script_text::Counts;
 use std::alloc::{AllocError, Global};
+use std::mem;
 use world::World;
 
 /// Bytes that were read at clients and at targets, and bytes that were written there.
@@ -103,13 +104,16 @@ impl Results {
     pub(crate) fn take(&mut self, slot: usize, machine: Machine) -> Result<(), Flaw> {
         match self.add(slot, &machine.history) {
             Ok(true) => Ok(self.keep(machine)),
-            Ok(false) => Ok(()),
-            Err(error) => Err(Flaw::from(error)),
+            Ok(false) => Ok(drop(machine)),
+            Err(error) => {
+                drop(machine);
+                Err(Flaw::from(error))
+            }
         }
     }
 
     fn keep(&mut self, machine: Machine) {
-        self.machine = Some(machine);
+        drop(mem::replace(&mut self.machine, Some(machine)));
     }
 
     /// Answers whether this script is wanted.
