@@ -8,7 +8,7 @@ use kernel_model::{End, Reply};
 use records::{Act as Recorded, Answer, Made};
 use relay_core::{Call, Pair};
 use token::{Kind, Side};
-use world::{Act, Change};
+use world::{Act, Change, Event};
 
 /// The most bytes that arrive at once.
 const MAX_ARRIVAL: usize = 1_024;
@@ -30,13 +30,12 @@ impl SlotReplay<'_> {
         let Some((asked, answer)) = asked_by(side, made) else {
             return Ok(());
         };
-        if !self.machine.is_next(asked) {
-            return Err(Flaw::NextCall);
-        }
         let reply = reply_to(asked.call, answer, self.next);
-        self.machine.bring(asked, reply)?;
-        self.machine.work(&[Act::Call(reply)])?;
-        if moves(reply) {
+        self.machine.call(asked, reply)?;
+        if !matches!(
+            reply,
+            Reply::Blocked | Reply::Interrupted | Reply::Failed(_)
+        ) {
             self.state.moved = self.state.latest;
         }
         Ok(())
@@ -87,13 +86,6 @@ fn blocks_next(next: &[Numbered], side: Side) -> bool {
     false
 }
 
-fn moves(reply: Reply) -> bool {
-    !matches!(
-        reply,
-        Reply::Blocked | Reply::Interrupted | Reply::Failed(_)
-    )
-}
-
 impl Machine {
     /// The connection's next call.
     pub(crate) fn next_call(&self) -> Option<Asked> {
@@ -105,6 +97,14 @@ impl Machine {
             Call::Join(_) | Call::Shut(_) => 0,
         };
         Some(Asked { call, bytes })
+    }
+
+    fn call(&mut self, asked: Asked, reply: Reply) -> Result<(), Flaw> {
+        if !self.is_next(asked) {
+            return Err(Flaw::NextCall);
+        }
+        self.bring(asked, reply)?;
+        self.put(Event::Work(0, Act::Call(reply)))
     }
 
     fn is_next(&self, asked: Asked) -> bool {

@@ -24,25 +24,10 @@ struct Window {
 impl Clock {
     /// The readings of these records, which rise by the count before them.
     pub(crate) fn new(alloc: Global, records: &[Numbered]) -> Result<Clock, AllocError> {
-        let mut clock = Clock {
-            before: Vec::new(alloc),
-            after: Vec::new(alloc),
-        };
-        clock.take(records)?;
-        Ok(clock)
-    }
-
-    fn take(&mut self, records: &[Numbered]) -> Result<(), AllocError> {
-        for numbered in records {
-            if let Act::Second(second) = numbered.record.act {
-                self.before.push((numbered.record.before, second))?;
-                self.after.push((numbered.record.after, second))?;
-            }
-        }
-        self.after.sort()?;
-        rise(self.before.as_mut_slice());
-        rise(self.after.as_mut_slice());
-        Ok(())
+        Ok(Clock {
+            before: readings_of(alloc, records, false)?,
+            after: readings_of(alloc, records, true)?,
+        })
     }
 
     /// The earliest and the latest second of a reading between these two counts, by a thread of which nothing else is
@@ -62,16 +47,28 @@ impl Clock {
     /// Refuses with `Broken` for the first act before which its thread made no reading of its own. Each window takes
     /// the last reading in it that is left, and those that begin last come first: no other choice leaves more.
     pub(crate) fn check_readings(&self, recording: &Recording) -> Result<(), ReplayFault> {
-        let mut left = Vec::new(recording.alloc);
-        for reading in self.after.as_slice() {
-            left.push((reading.0, true))?;
-        }
-        for window in windows_of(recording)?.as_slice().iter().rev() {
-            if !take_reading(left.as_mut_slice(), window) {
+        let windows = windows_of(recording)?;
+        let mut left = vec![in recording.alloc; true; self.after.len()]?;
+        for window in windows.as_slice().iter().rev() {
+            if !self.take_reading(left.as_mut_slice(), window) {
                 return Err(recording.broken(window.line, "the clock was not read for this"));
             }
         }
         Ok(())
+    }
+
+    /// Takes the last reading in a window that is left. Answers whether there is one.
+    fn take_reading(&self, left: &mut [bool], window: &Window) -> bool {
+        let readings = self.after.as_slice();
+        let first = count_below(readings, window.from);
+        for place in (first..count_below(readings, window.to)).rev() {
+            if let Some(is_left) = left.get_mut(place) {
+                if mem::take(is_left) {
+                    return true;
+                }
+            }
+        }
+        false
     }
 
     /// The first record whose second is before one that was read before.
@@ -94,17 +91,39 @@ impl Clock {
     }
 }
 
-fn rise(readings: &mut [(u64, u64)]) {
+/// The counts before or after the readings of these records, in order, with the latest second up to each.
+fn readings_of(
+    alloc: Global,
+    records: &[Numbered],
+    is_after: bool,
+) -> Result<Vec<(u64, u64)>, AllocError> {
+    let mut readings = Vec::new(alloc);
+    for numbered in records {
+        let record = &numbered.record;
+        if let Act::Second(second) = record.act {
+            let count = if is_after {
+                record.after
+            } else {
+                record.before
+            };
+            readings.push((count, second))?;
+        }
+    }
+    readings.sort()?;
     let mut most = 0;
-    for reading in readings.iter_mut() {
+    for reading in readings.as_mut_slice().iter_mut() {
         most = most.max(reading.1);
         reading.1 = most;
     }
+    Ok(readings)
 }
 
 /// All windows of which each reading is recorded, in the order of their beginnings.
 fn windows_of(recording: &Recording) -> Result<Vec<Window>, AllocError> {
     let mut windows = Vec::new(recording.alloc);
+    if recording.header.idle == 0 {
+        return Ok(windows);
+    }
     for list in recording.lists.iter() {
         add_windows(&mut windows, recording, list.as_slice())?;
     }
@@ -121,12 +140,20 @@ fn add_windows(
     let mut is_first = true;
     for numbered in acts {
         let (line, record) = (numbered.line, &numbered.record);
-        if is_read_before(is_first, &record.act) && recording.reads_seconds(record.before) {
-            let to = record.before;
+        let to = record.before;
+        // A turn or a round that was over by then is known to have read the clock.
+        if is_read_before(is_first, &record.act) && to < recording.whole {
             windows.push(Window { from, to, line })?;
         }
         from = record.after;
-        is_first = is_wait(&record.act);
+        // A wait that did not fail, or one of its reports.
+        is_first = matches!(
+            record.act,
+            Act::Poller(
+                _,
+                Polling::Gave(_) | Polling::Interrupted | Polling::Reported(_)
+            )
+        );
     }
     Ok(())
 }
@@ -140,34 +167,6 @@ fn is_read_before(is_first: bool, act: &Act) -> bool {
         Act::Poller(_, _) => is_first,
         _ => false,
     }
-}
-
-/// Whether an act is a wait that did not fail, or one of its reports.
-fn is_wait(act: &Act) -> bool {
-    matches!(
-        act,
-        Act::Poller(
-            _,
-            Polling::Gave(_) | Polling::Interrupted | Polling::Reported(_)
-        )
-    )
-}
-
-/// Takes the last reading in a window that is left. Answers whether there is one.
-fn take_reading(left: &mut [(u64, bool)], window: &Window) -> bool {
-    let below = left.partition_point(|reading| reading.0 < window.to);
-    let Some(inside) = left.get_mut(..below) else {
-        return false;
-    };
-    for reading in inside.iter_mut().rev() {
-        if reading.0 < window.from {
-            return false;
-        }
-        if mem::take(&mut reading.1) {
-            return true;
-        }
-    }
-    false
 }
 
 fn second_at(readings: &[(u64, u64)], index: usize) -> u64 {

@@ -50,19 +50,16 @@ impl History {
         ensures limits { self.new.limits ≡ self.old.limits }
         ensures refused { OnErr result (self.new ≡ self.old) }
     {
-        if let Err(error) = self.events.reserve(1) {
-            return Err((Refusal::from(error), event));
-        }
-        if let Err(error) = self.trace.reserve(1) {
+        if let Err(error) = self.events.reserve(1).and(self.trace.reserve(1)) {
             return Err((Refusal::from(error), event));
         }
         let action = action_in(&self.world, &event);
         if let Err(refusal) = self.world.step(&event) {
             return Err((refusal, event));
         }
-        self.events.push(event).unwrap();
+        self.events.push_reserved(event);
         if let Some(action) = action {
-            self.trace.push(action).unwrap();
+            self.trace.push_reserved(action);
         }
         Ok(())
     }

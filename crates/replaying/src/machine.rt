@@ -154,21 +154,20 @@ impl Machine {
         let Recorded::Poller(_, did) = act else {
             return Ok(());
         };
-        match did {
-            Polled::Reported(Name::Listener) => self.deliver(Name::Listener, Reported::Listener),
-            Polled::Reported(Name::Waker) => self.deliver(Name::Waker, Reported::Waker),
-            Polled::Accept(Accepted::Taken) => self.accept(),
-            Polled::Accept(Accepted::Blocked) => self.answer(Accepting::Blocked),
-            Polled::Accept(Accepted::Again) => self.answer(Accepting::Again),
-            Polled::Accept(Accepted::Starved) => self.answer(Accepting::Starved),
+        let happens = match did {
+            Polled::Reported(Name::Listener) => {
+                return self.deliver(Name::Listener, Reported::Listener);
+            }
+            Polled::Reported(Name::Waker) => return self.deliver(Name::Waker, Reported::Waker),
+            Polled::Accept(Accepted::Taken) => return self.accept(),
+            Polled::Accept(Accepted::Blocked) => Listening::Accept(Accepting::Blocked),
+            Polled::Accept(Accepted::Again) => Listening::Accept(Accepting::Again),
+            Polled::Accept(Accepted::Starved) => Listening::Accept(Accepting::Starved),
             // What was accepted is opened in the world of its slot, or nowhere.
-            Polled::Open(_, _, _) => self.put(Event::Listen(Listening::Drop)),
-            _ => Ok(()),
-        }
-    }
-
-    fn answer(&mut self, reply: Accepting) -> Result<(), Flaw> {
-        self.put(Event::Listen(Listening::Accept(reply)))
+            Polled::Open(_, _, _) => Listening::Drop,
+            _ => return Ok(()),
+        };
+        self.put(Event::Listen(happens))
     }
 
     /// A client comes in and is accepted. Where that is reported, the report vanishes: the poller was given it when the
@@ -185,6 +184,6 @@ impl Machine {
     /// A client comes in just before it is accepted.
     pub(crate) fn come_in(&mut self) -> Result<(), Flaw> {
         self.put(Event::Listen(Listening::Connect))?;
-        self.answer(Accepting::Accepted)
+        self.put(Event::Listen(Listening::Accept(Accepting::Accepted)))
     }
 }

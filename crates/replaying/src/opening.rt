@@ -2,9 +2,8 @@
 ghost use Rattle.std.specs.Prelude.{◌≤◌, IfSome};
 ghost use Rattle.world.specs.States.{IsWithinLimits};
 
-use crate::history::History;
-use crate::machine::Flaw;
-use crate::recording::Numbered;
+use crate::machine::{Flaw, Machine};
+use crate::recording::{Numbered, Recording, begun_before};
 use crate::results::Results;
 use crate::slot_replay::{Phase, SlotReplay, State};
 use records::{Act, Header, Made, Opening, Polling, Record};
@@ -32,7 +31,7 @@ impl SlotReplay<'_> {
         if generation != self.state.generation.saturating_add(1) {
             return Err(Flaw::Because("the generation is not the slot's next one"));
         }
-        if opening != Opening::Opened {
+        if !matches!(opening, Opening::Opened) {
             return Ok(());
         }
         if is_void(self.next, generation) {
@@ -41,12 +40,8 @@ impl SlotReplay<'_> {
             self.state.phase = Phase::Void(None);
             return Ok(());
         }
-        let (header, lead) = (&self.findings.recording.header, self.lead(generation));
-        let Some(limits) = limits_of(header, generation, lead) else {
-            return Err(Flaw::Because("no connection has such a generation"));
-        };
-        let history = History::new(self.machine.alloc, limits)?;
-        results.take(self.slot, mem::replace(&mut self.machine.history, history))?;
+        let machine = machine_before(self.findings.recording, self.next, generation)?;
+        results.take(self.slot, mem::replace(&mut self.machine, machine))?;
         self.enter(record, generation);
         self.machine.come_in()?;
         self.machine.put(Event::Poll(Polled::Open))
@@ -54,7 +49,8 @@ impl SlotReplay<'_> {
 
     /// Time begins at the second of the poller's round.
     fn enter(&mut self, record: Record, generation: u64) {
-        let since = self.last_wait(record.before);
+        let acts = self.findings.recording.poller(self.poller);
+        let since = last_wait(begun_before(acts, record.before));
         let (earliest, latest) = self.findings.clock.between(since, record.before);
         self.posted = self.last;
         self.state = State {
@@ -69,30 +65,38 @@ impl SlotReplay<'_> {
             moved: latest,
         };
     }
+}
 
-    /// The count when the last wait of the slot's poller before this count had ended: the round has read its second
-    /// since then. A report has the counts of its wait.
-    fn last_wait(&self, count: u64) -> u64 {
-        let acts = self.findings.recording.poller(self.poller);
-        let place = acts.partition_point(|act| act.record.before < count);
-        for last in acts.get(..place).unwrap_or(&[]).iter().rev() {
-            if !matches!(
-                last.record.act,
-                Act::Poller(_, Polling::Accept(_) | Polling::Open(_, _, _))
-            ) {
-                return last.record.after;
-            }
+/// The count when the last wait of a poller had ended that did these acts: the round has read its second since then. A
+/// report has the counts of its wait.
+fn last_wait(acts: &[Numbered]) -> u64 {
+    for last in acts.iter().rev() {
+        if !matches!(
+            last.record.act,
+            Act::Poller(_, Polling::Accept(_) | Polling::Open(_, _, _))
+        ) {
+            return last.record.after;
         }
-        0
     }
+    0
+}
 
-    /// Stand-ins for what the target of a connection is sent first. Its length shows by the first write there.
-    fn lead(&self, generation: u64) -> Lead {
-        if !self.findings.recording.header.proxy {
-            return Lead::NONE;
-        }
-        let bytes = [b'-'; MOST_LEAD];
-        Lead::new(&bytes[..first_offer(self.next, generation)]).unwrap_or(Lead::NONE)
+/// A world in which the connection of this generation, whose acts are next, is opened next.
+fn machine_before(
+    recording: &Recording,
+    next: &[Numbered],
+    generation: u64,
+) -> Result<Machine, Flaw> {
+    // Stand-ins for what the target of a connection is sent first. Its length shows by the first write there.
+    let bytes = [b'-'; MOST_LEAD];
+    let lead = if recording.header.proxy {
+        Lead::new(&bytes[..first_offer(next, generation)]).unwrap_or(Lead::NONE)
+    } else {
+        Lead::NONE
+    };
+    match limits_of(&recording.header, generation, lead) {
+        Some(limits) => Ok(Machine::new(recording.alloc, limits)?),
+        None => Err(Flaw::Because("no connection has such a generation")),
     }
 }
 

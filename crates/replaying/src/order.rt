@@ -2,7 +2,8 @@
 ghost use Rattle.std.specs.Prelude.{◌≡◌, ◌≢◌, ◌-◌, ◌<◌, ◌≤◌, ◌↔◌, ℕ, IfNone, IfSome, IsTrue, length, slice_index};
 ghost use Rattle.replaying.specs.Sequences.{IsBegun, IsMissing, Follows, FollowsAt, is_report};
 
-use crate::recording::{Last, Numbered, Recording, is_twice};
+use crate::reading::fault;
+use crate::recording::{Last, Numbered, Recording, begun_before, is_twice, sort};
 use records::{Act, Made, Polling, ReplayFault};
 use std::alloc::AllocError;
 
@@ -11,32 +12,32 @@ use std::alloc::AllocError;
 /// count, if the last record has not the greatest counts, or if a recording that says it is complete is not. Where one
 /// was stopped, threads lost what they had not handed over: then only the records before the first lost one are left.
 pub(crate) fn put_in_order(recording: &mut Recording) -> Result<(), ReplayFault> {
-    sort(recording)?;
+    // The last list alone has the lines of several queues. Those of a slot, and of a poller, stand in the order of their
+    // counts: each is put into one queue by the thread that has the slot then, or is the poller.
+    if let Some(list) = recording.lists.last_mut() {
+        sort(list)?;
+    }
     check_sequences(recording)?;
-    let counts = counts_of(recording)?;
-    check_counts(recording, counts.as_slice())?;
-    recording.whole = first_missing(counts.as_slice()) as u64;
-    let begun = begun(recording)?;
-    match first_lost(counts.as_slice(), begun.as_slice()) {
+    match find_lost(recording)? {
         None => Ok(()),
-        Some(lost) if recording.last != Last::Ended => {
+        Some(lost) if !matches!(recording.last, Last::Ended) => {
             leave_out(recording, lost);
             Ok(())
         }
         Some(lost) => {
-            let wrong = format!(in recording.alloc; "the record with the count {lost} is missing")?;
-            Err(ReplayFault::Broken(wrong))
+            let text = format!(in recording.alloc; "the record with the count {lost} is missing");
+            Err(fault(text))
         }
     }
 }
 
-/// The last list alone has the lines of several queues. Those of a slot, and of a poller, stand in the order of their
-/// counts: each is put into one queue by the thread that has the slot then, or is the poller.
-fn sort(recording: &mut Recording) -> Result<(), AllocError> {
-    match recording.lists.last_mut() {
-        Some(list) => Ok(list.sort_by_key(|numbered: &Numbered| numbered.record.before)?),
-        None => Ok(()),
-    }
+/// Finds the first count that is of no record, and the first one that is of a lost record.
+fn find_lost(recording: &mut Recording) -> Result<Option<u64>, ReplayFault> {
+    let counts = counts_of(recording)?;
+    check_counts(recording, counts.as_slice())?;
+    recording.whole = first_missing(counts.as_slice()) as u64;
+    let begun = begun(recording)?;
+    Ok(first_lost(counts.as_slice(), begun.as_slice()))
 }
 
 /// Refuses two acts at once at a slot, or of a poller, and lines in another order.
@@ -64,8 +65,8 @@ fn disorder(last: Option<&Numbered>, next: &Numbered) -> &'static str {
 /// Refuses a count that two acts have, and a record `end` or `full` whose counts are not the greatest.
 fn check_counts(recording: &Recording, counts: &[u64]) -> Result<(), ReplayFault> {
     if let Some(count) = counts.get(first_twice(counts)) {
-        let wrong = format!(in recording.alloc; "two acts have the count {count}")?;
-        return Err(ReplayFault::Broken(wrong));
+        let text = format!(in recording.alloc; "two acts have the count {count}");
+        return Err(fault(text));
     }
     let greatest = counts.last().copied().unwrap_or(0);
     for numbered in recording.others() {
@@ -84,8 +85,7 @@ fn counts_of(recording: &Recording) -> Result<Vec<u64>, AllocError> {
         for numbered in list.as_slice() {
             let record = &numbered.record;
             if !is_twice(at < recording.header.slots, &record.act) && !is_report(&record.act) {
-                counts.push(record.before)?;
-                counts.push(record.after)?;
+                counts.extend_from_slice(&[record.before, record.after])?;
             }
         }
     }
@@ -125,7 +125,7 @@ fn first_missing(counts: &[u64]) -> usize
 /// order.
 fn begun(recording: &Recording) -> Result<Vec<u64>, AllocError> {
     let mut begun = vec![in recording.alloc; u64::MAX; recording.lists.len()]?;
-    if recording.last != Last::Ended {
+    if !matches!(recording.last, Last::Ended) {
         for (at, count) in begun.iter_mut().enumerate() {
             *count = next_begun(recording, at);
         }
@@ -198,7 +198,7 @@ fn is_begun(begun: &[u64], place: u64, count: u64) -> bool
 fn leave_out(recording: &mut Recording, lost: u64) {
     let slots = recording.header.slots;
     for (at, list) in recording.lists.iter_mut().enumerate() {
-        let kept = list.partition_point(|numbered| numbered.record.before < lost);
+        let kept = begun_before(list.as_slice(), lost).len();
         for numbered in list.get(kept..).unwrap_or(&[]) {
             if !is_twice(at < slots, &numbered.record.act) {
                 recording.left_out = recording.left_out.saturating_add(1);

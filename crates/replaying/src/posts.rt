@@ -114,6 +114,19 @@ impl Posts<'_> {
             (Some(_), _) => self.reports.take(),
         }
     }
+
+    /// The next report that can have come before the last turn took its notes.
+    fn next_held(&mut self, state: &State) -> Option<Post> {
+        let _report = self.reports.first(state, state.taken_by)?;
+        self.reports.take()
+    }
+
+    /// Whatever was reported after the last turn took its notes was posted by the end, and so was each sweep.
+    pub(crate) fn rest(&mut self, state: &State) -> Option<Post> {
+        self.sweeps.pass_over(state);
+        let report = self.reports.first_after(state);
+        report.or(self.sweeps.first_after(state))
+    }
 }
 
 impl SlotReplay<'_> {
@@ -141,27 +154,15 @@ impl SlotReplay<'_> {
     /// While the slot is held for the last time, whatever can have been reported of its connection is.
     pub(crate) fn note_while_held(&mut self) -> Result<(), Flaw> {
         for _post in 0..self.posts.reports.0.len() {
-            let before = self.state.taken_by;
-            let Some(post) = self.posts.reports.first(&self.state, before) else {
+            let Some(post) = self.posts.next_held(&self.state) else {
                 break;
             };
-            let _post = self.posts.reports.take();
             self.note(post)?;
         }
         Ok(())
     }
 
-    /// Whatever was reported after the last turn took its notes was posted by the end, and so was each sweep.
-    pub(crate) fn note_the_rest(&mut self) -> Result<(), Flaw> {
-        self.posts.sweeps.pass_over(&self.state);
-        let report = self.posts.reports.first_after(&self.state);
-        match report.or(self.posts.sweeps.first_after(&self.state)) {
-            Some(post) => self.note(post),
-            None => Ok(()),
-        }
-    }
-
-    fn note(&mut self, post: Post) -> Result<(), Flaw> {
+    pub(crate) fn note(&mut self, post: Post) -> Result<(), Flaw> {
         let Some(numbered) = self.findings.recording.poller(self.poller).get(post.place) else {
             return Ok(());
         };

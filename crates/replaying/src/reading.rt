@@ -31,13 +31,10 @@ pub(crate) fn read<R: Read>(alloc: Global, reader: &mut R) -> Result<Recording, 
         number: 1,
     };
     let mut buffer = vec![in alloc; 0u8; CHUNK]?;
-    let is_cut = lines.take_all(reader, buffer.as_mut_slice(), &mut Vec::new(alloc))?;
+    lines.take_all(reader, buffer.as_mut_slice(), &mut Vec::new(alloc))?;
     let number = lines.number;
     match lines.recording {
-        Some(recording) => Ok(Recording {
-            cut: if is_cut { Some(number) } else { None },
-            ..recording
-        }),
+        Some(recording) => Ok(recording),
         None => {
             let wrong = wanted("a recording begins with relayd recording 1");
             Err(fault_of(alloc, number, wrong))
@@ -46,13 +43,12 @@ pub(crate) fn read<R: Read>(alloc: Global, reader: &mut R) -> Result<Recording, 
 }
 
 impl Lines {
-    /// Answers whether the last line has no end.
     fn take_all<R: Read>(
         &mut self,
         reader: &mut R,
         buffer: &mut [u8],
         line: &mut Vec<u8>,
-    ) -> Result<bool, ReplayFault> {
+    ) -> Result<(), ReplayFault> {
         for _reads in 0..u64::MAX {
             match reader.read(buffer) {
                 Ok(0) => break,
@@ -60,7 +56,11 @@ impl Lines {
                 Err(_) => return Err(ReplayFault::Read),
             }
         }
-        Ok(!line.is_empty())
+        match &mut self.recording {
+            Some(recording) if !line.is_empty() => recording.cut = Some(self.number),
+            _ => {}
+        }
+        Ok(())
     }
 
     fn take(&mut self, bytes: &[u8], line: &mut Vec<u8>) -> Result<(), ReplayFault> {
@@ -107,7 +107,7 @@ fn sizes(line: &[u8]) -> Result<(Header, Split), Wrong<'_>> {
 }
 
 fn record_of<'a>(recording: &Recording, line: &'a [u8]) -> Result<Record, Wrong<'a>> {
-    if recording.last != Last::Stopped {
+    if !matches!(recording.last, Last::Stopped) {
         return Err(wanted("nothing comes after the record end or full"));
     }
     let record = match read_line(line) {
@@ -117,20 +117,17 @@ fn record_of<'a>(recording: &Recording, line: &'a [u8]) -> Result<Record, Wrong<
     if record.before >= record.after {
         return Err(wanted("the count before an act is below the one after it"));
     }
-    if takes_both(&record.act) && record.after - record.before > 1 {
+    let is_at_once = matches!(
+        record.act,
+        Act::Begin(_) | Act::End(_) | Act::Wire(_, Made::Settle)
+    );
+    if is_at_once && record.after - record.before > 1 {
         return Err(wanted("begin, end and settle take both counts at once"));
     }
     match outside(recording, &record.act) {
         Some(text) => Err(wanted(text)),
         None => Ok(record),
     }
-}
-
-fn takes_both(act: &Act) -> bool {
-    matches!(
-        act,
-        Act::Begin(_) | Act::End(_) | Act::Wire(_, Made::Settle)
-    )
 }
 
 /// This is wanted of a line whose words are right.
@@ -173,7 +170,11 @@ fn slot_of(act: &Act) -> Option<usize> {
 }
 
 pub fn fault_of(alloc: Global, number: u64, wrong: Wrong<'_>) -> ReplayFault {
-    match cause(alloc, number, wrong) {
+    fault(cause(alloc, number, wrong))
+}
+
+pub(crate) fn fault(cause: Result<String, AllocError>) -> ReplayFault {
+    match cause {
         Ok(text) => ReplayFault::Broken(text),
         Err(error) => ReplayFault::from(error),
     }

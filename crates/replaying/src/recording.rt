@@ -16,7 +16,7 @@ pub(crate) struct Numbered {
 }
 
 /// How a recording ends.
-#[derive(Clone, Copy, PartialEq, Eq)]
+#[derive(Clone, Copy)]
 pub(crate) enum Last {
     /// The relay was stopped: what is there is a beginning.
     Stopped,
@@ -88,13 +88,16 @@ impl Recording {
         match record.act {
             Act::Ended => self.last = Last::Ended,
             Act::Full => self.last = Last::Full,
-            Act::Poller(_, Polling::Failed) => self.fail(record.after),
+            Act::Poller(_, Polling::Failed) => {
+                let first = self.failed.unwrap_or(u64::MAX);
+                self.failed = Some(first.min(record.after));
+            }
             _ => {}
         }
         let (first, second) = self.lists_of(&record.act);
-        self.add_to(first, line, record)?;
+        add(self.lists.as_mut_slice(), first, Numbered { line, record })?;
         match second {
-            Some(second) => self.add_to(second, line, record),
+            Some(second) => add(self.lists.as_mut_slice(), second, Numbered { line, record }),
             None => Ok(()),
         }
     }
@@ -111,25 +114,16 @@ impl Recording {
         }
     }
 
-    fn fail(&mut self, count: u64) {
-        let first = self.failed.unwrap_or(u64::MAX);
-        self.failed = Some(first.min(count));
-    }
-
-    fn add_to(&mut self, at: usize, line: u64, record: Record) -> Result<(), AllocError> {
-        match self.lists.get_mut(at) {
-            Some(list) => Ok(list.push(Numbered { line, record })?),
-            None => Ok(()),
-        }
-    }
-
     pub fn broken(&self, line: u64, text: &'static str) -> ReplayFault {
         fault_of(self.alloc, line, wanted(text))
     }
 
-    /// Whether each turn and each round is known to have read the clock, if it was over by this count.
-    pub(crate) fn reads_seconds(&self, count: u64) -> bool {
-        self.header.idle > 0 && count < self.whole
+    /// Whether the relay had failed before this count.
+    pub(crate) fn has_failed(&self, count: u64) -> bool {
+        match self.failed {
+            Some(failed) => failed < count,
+            None => false,
+        }
     }
 
     /// What happened at a slot.
@@ -175,6 +169,31 @@ pub(crate) fn lists<T: Drop>(alloc: Global, count: usize) -> Result<Vec<Vec<T>>,
         lists.push(Vec::new(alloc))?;
     }
     Ok(lists)
+}
+
+/// Adds to the list with this number, where there is one.
+pub(crate) fn add<T: Copy>(lists: &mut [Vec<T>], at: usize, item: T) -> Result<(), AllocError> {
+    match lists.get_mut(at) {
+        Some(list) => Ok(list.push(item)?),
+        None => Ok(()),
+    }
+}
+
+/// Puts acts in the order of the counts before them.
+pub(crate) fn sort(acts: &mut Vec<Numbered>) -> Result<(), AllocError> {
+    Ok(acts.sort_by_key(|act: &Numbered| act.record.before)?)
+}
+
+/// Those of these acts, which are in order, that had begun before this count.
+pub(crate) fn begun_before(acts: &[Numbered], count: u64) -> &[Numbered] {
+    let begun = acts.partition_point(|act| act.record.before < count);
+    acts.get(..begun).unwrap_or(&[])
+}
+
+/// Those of them that had ended before this count.
+pub(crate) fn ended_before(acts: &[Numbered], count: u64) -> &[Numbered] {
+    let ended = acts.partition_point(|act| act.record.after < count);
+    acts.get(..ended).unwrap_or(&[])
 }
 
 /// Whether another list has this record, too: an opening in that of its slot.

@@ -9,7 +9,7 @@ use crate::opening::limits_of;
 use crate::order::put_in_order;
 use crate::reading::read;
 use crate::recording::{Last, Recording};
-use crate::results::{Flawed, Results, Whose};
+use crate::results::{Results, Whose};
 use crate::round::check_rounds;
 use crate::rounds::find_posts;
 use crate::slot_replay::{Findings, SlotReplay};
@@ -41,24 +41,35 @@ impl Replay for OnMachine {
     ) -> Result<Outcome, ReplayFault> {
         let mut recording = read(alloc, input)?;
         put_in_order(&mut recording)?;
-        let rests = recording.failed.is_none()
-            && (recording.last == Last::Ended || rests && recording.left_out == 0);
-        let outcome = replay_recording(&recording, wanted, rests, output)?;
-        match output.flush() {
-            Ok(()) => Ok(outcome),
-            Err(_) => Err(ReplayFault::Write),
-        }
+        let mut results = Results::new(alloc, wanted);
+        let outcome = replay_recording(&recording, rests, output, &mut results);
+        drop(results);
+        drop(recording);
+        outcome
     }
 }
 
 fn replay_recording<W: Write>(
     recording: &Recording,
-    wanted: Wanted,
     rests: bool,
     output: &mut W,
+    results: &mut Results,
 ) -> Result<Outcome, ReplayFault> {
+    let flaw = find_flaw(recording, rests, results)?;
+    let outcome = write_outcome(output, recording, results, flaw)?;
+    match output.flush() {
+        Ok(()) => Ok(outcome),
+        Err(_) => Err(ReplayFault::Write),
+    }
+}
+
+/// Answers why the replay stops, where it does.
+fn find_flaw(
+    recording: &Recording,
+    rests: bool,
+    results: &mut Results,
+) -> Result<Option<Flaw>, ReplayFault> {
     let clock = read_clock(recording)?;
-    clock.check_readings(recording)?;
     check_rounds(recording)?;
     check_threads(recording)?;
     let posts = find_posts(recording, &clock)?;
@@ -66,39 +77,38 @@ fn replay_recording<W: Write>(
         recording,
         clock: &clock,
         posts: posts.as_slice(),
-        rests,
+        rests: recording.failed.is_none()
+            && (matches!(recording.last, Last::Ended) || rests && recording.left_out == 0),
     };
-    let mut results = Results::new(recording.alloc, wanted);
-    write_outcome(findings, output, &mut results)
+    Ok(replay_all(findings, results).err())
 }
 
-/// The clock does not go back.
+/// The clock does not go back, and was read wherever a thread reads it.
 fn read_clock(recording: &Recording) -> Result<Clock, ReplayFault> {
     let clock = Clock::new(recording.alloc, recording.others())?;
-    match clock.first_back(recording.others()) {
-        Some(back) => Err(recording.broken(back.line, "the clock does not go back")),
-        None => Ok(clock),
+    if let Some(back) = clock.first_back(recording.others()) {
+        return Err(recording.broken(back.line, "the clock does not go back"));
     }
+    clock.check_readings(recording)?;
+    Ok(clock)
 }
 
 fn write_outcome<W: Write>(
-    findings: Findings<'_>,
     output: &mut W,
-    results: &mut Results,
+    recording: &Recording,
+    results: &Results,
+    flaw: Option<Flaw>,
 ) -> Result<Outcome, ReplayFault> {
-    let recording = findings.recording;
-    match replay_all(findings, results) {
-        Ok(()) => {
+    match (flaw, &results.flawed, &results.machine) {
+        (None, _, _) => {
             write_results(output, results, recording)?;
             Ok(Outcome::Run)
         }
-        Err(flaw) => match (flaw, &results.flawed) {
-            (Flaw::NoMemory, _) | (_, None) => Err(ReplayFault::NoMemory),
-            (flaw, Some(flawed)) => {
-                write_flaw(recording.alloc, output, flawed, flaw)?;
-                Ok(Outcome::NoRun)
-            }
-        },
+        (Some(Flaw::NoMemory), _, _) | (_, None, _) | (_, _, None) => Err(ReplayFault::NoMemory),
+        (Some(flaw), Some(flawed), Some(machine)) => {
+            write_flaw(output, flawed, flaw, machine)?;
+            Ok(Outcome::NoRun)
+        }
     }
 }
 
@@ -123,7 +133,7 @@ fn replay_poller(recording: &Recording, results: &mut Results, poller: usize) ->
             return Err(flaw);
         }
     }
-    results.take(0, machine.history)
+    results.take(0, machine)
 }
 
 fn replay_slot(findings: Findings<'_>, results: &mut Results, slot: usize) -> Result<(), Flaw>
@@ -145,7 +155,7 @@ fn replay_slot(findings: Findings<'_>, results: &mut Results, slot: usize) -> Re
         ..
     } = replay;
     match result {
-        Ok(()) => results.take(slot, machine.history),
+        Ok(()) => results.take(slot, machine),
         Err(flaw) => {
             results.end(Whose::Slot(slot, state.generation), last, machine);
             Err(flaw)

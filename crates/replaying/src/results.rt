@@ -8,6 +8,7 @@ use relay_core::Verdict;
 use relay_log::{Done, Failed};
 use script_text::Counts;
 use std::alloc::{AllocError, Global};
+use std::mem;
 use world::World;
 
 /// Bytes that were read at clients and at targets, and bytes that were written there.
@@ -28,12 +29,11 @@ pub(crate) enum Whose {
     Slot(usize, u64),
 }
 
-/// A record that can stand at no place, and the world in which it should have happened.
-#[derive(Drop)]
+/// A record that can stand at no place.
+#[derive(Clone, Copy)]
 pub(crate) struct Flawed {
     pub whose: Whose,
     pub numbered: Numbered,
-    pub machine: Machine,
 }
 
 /// What came of the worlds in which slots and listeners were replayed.
@@ -46,10 +46,10 @@ pub(crate) struct Results {
     pub moved: Moved,
     /// A line for each connection: what became of it, as the log says that, or that it is open.
     pub ends: String,
-    /// The world of the connection whose script is wanted.
-    pub script: Option<History>,
     /// Where the replay stopped.
     pub flawed: Option<Flawed>,
+    /// The world in which that should have happened, or that of the connection whose script is wanted.
+    pub machine: Option<Machine>,
 }
 
 fn moved(client: &End, target: &End) -> Moved {
@@ -89,43 +89,53 @@ impl Results {
             counts: Counts::NONE,
             moved: [0; 4],
             ends: String::new(alloc),
-            script: None,
             flawed: None,
+            machine: None,
         }
     }
 
     /// The replay stops at this record.
     pub(crate) fn end(&mut self, whose: Whose, numbered: Numbered, machine: Machine) {
-        self.flawed = Some(Flawed {
-            whose,
-            numbered,
-            machine,
-        });
+        self.flawed = Some(Flawed { whose, numbered });
+        self.keep(machine);
     }
 
     /// A world was replayed to its end, or as far as the recording goes.
-    pub(crate) fn take(&mut self, slot: usize, history: History) -> Result<(), Flaw> {
+    pub(crate) fn take(&mut self, slot: usize, machine: Machine) -> Result<(), Flaw> {
+        match self.add(slot, &machine.history) {
+            Ok(true) => Ok(self.keep(machine)),
+            Ok(false) => Ok(drop(machine)),
+            Err(error) => {
+                drop(machine);
+                Err(Flaw::from(error))
+            }
+        }
+    }
+
+    fn keep(&mut self, machine: Machine) {
+        drop(mem::replace(&mut self.machine, Some(machine)));
+    }
+
+    /// Answers whether this script is wanted.
+    fn add(&mut self, slot: usize, history: &History) -> Result<bool, AllocError> {
         for event in history.events() {
             self.counts.count(event);
         }
-        if let Some(became) = Became::of(history.world()) {
-            if self.add(slot, &became)? {
-                self.script = Some(history);
-            }
-        }
-        Ok(())
-    }
-
-    /// Answers whether the script of a connection is wanted.
-    fn add(&mut self, slot: usize, became: &Became) -> Result<bool, AllocError> {
+        let Some(became) = Became::of(history.world()) else {
+            return Ok(false);
+        };
         self.connections = self.connections.saturating_add(1);
-        for (sum, more) in self.moved.iter_mut().zip(became.moved.iter()) {
-            *sum = sum.saturating_add(*more);
+        for place in 0..4 {
+            self.moved[place] = self.moved[place].saturating_add(became.moved[place]);
         }
-        if let Wanted::Ends = self.wanted {
-            self.add_end(slot, became)?;
+        match self.wanted {
+            Wanted::Totals => Ok(false),
+            Wanted::Ends => {
+                self.add_end(slot, &became)?;
+                Ok(false)
+            }
+            Wanted::Script(of, generation) => Ok(of == slot && generation == became.generation),
         }
-        Ok(self.wanted == Wanted::Script(slot, became.generation))
     }
 
     fn add_end(&mut self, slot: usize, became: &Became) -> Result<(), AllocError> {

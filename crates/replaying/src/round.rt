@@ -1,6 +1,6 @@
 //! What a poller does in a round, one act after the other: it waits for reports once, and then accepts connections,
 //! each of which it opens at once.
-use crate::recording::{Last, Recording};
+use crate::recording::{Last, Recording, ended_before};
 use records::{Accepted, Act, Made, Opening, Polling, Record, ReplayFault};
 use std::alloc::AllocError;
 use std::mem;
@@ -48,7 +48,7 @@ impl Round<'_> {
             }
         }
         match acts.last() {
-            Some(last) if self.accepted && self.recording.last == Last::Ended => {
+            Some(last) if self.accepted && matches!(self.recording.last, Last::Ended) => {
                 let why = "the accepted connection is never opened";
                 Err(self.recording.broken(last.line, why))
             }
@@ -64,7 +64,13 @@ impl Round<'_> {
         if let Polling::Reported(name) = did {
             return self.report(name);
         }
-        if self.has_failed() {
+        if let Some(
+            Record {
+                act: Act::Poller(_, Polling::Failed),
+                ..
+            },
+        ) = self.poll
+        {
             return Ok(Some("a poller ends once its wait for reports has failed"));
         }
         Ok(match did {
@@ -72,13 +78,6 @@ impl Round<'_> {
             Polling::Open(slot, generation, opening) => self.open(slot, generation, opening),
             _ => self.begin(record),
         })
-    }
-
-    fn has_failed(&self) -> bool {
-        match &self.poll {
-            Some(poll) => matches!(poll.act, Act::Poller(_, Polling::Failed)),
-            None => false,
-        }
     }
 
     fn begin(&mut self, poll: &Record) -> Option<&'static str> {
@@ -112,8 +111,7 @@ impl Round<'_> {
             Some(poll) => poll.before,
             None => 0,
         };
-        let ended = acts.partition_point(|act| act.record.after < began);
-        for last in acts.get(..ended).unwrap_or(&[]).iter().rev().take(2) {
+        for last in ended_before(acts, began).iter().rev().take(2) {
             match last.record.act {
                 Act::Poller(_, Polling::Open(_, generation, _)) => {
                     return generation > token.generation();

@@ -1,10 +1,9 @@
 //! What the pollers were given in their rounds, and when they may have posted that.
-
 use crate::clock::Clock;
 use crate::posts::Post;
-use crate::recording::{Last, Numbered, Recording, lists};
+use crate::reading::fault;
+use crate::recording::{Last, Numbered, Recording, add, begun_before, lists};
 use records::{Act, Polling, Record, ReplayFault};
-use std::alloc::AllocError;
 use token::Name;
 
 const MAX_REPORTS: usize = 256;
@@ -41,11 +40,7 @@ pub(crate) fn find_posts(
             missing: 0,
             swept: Swept::at(clock.between(0, first_count(recording.poller(poller)))),
         };
-        rounds.find(&mut posts)?;
-        if rounds.missing > 0 && recording.last == Last::Ended {
-            let text = String::from_str(recording.alloc, "reports of the last poll are missing")?;
-            return Err(ReplayFault::Broken(text));
-        }
+        rounds.find(posts.as_mut_slice())?;
     }
     Ok(posts)
 }
@@ -58,13 +53,17 @@ fn first_count(acts: &[Numbered]) -> u64 {
 }
 
 impl Rounds<'_> {
-    fn find(&mut self, posts: &mut Vec<Vec<Post>>) -> Result<(), ReplayFault> {
+    fn find(&mut self, posts: &mut [Vec<Post>]) -> Result<(), ReplayFault> {
         for (place, numbered) in self.recording.poller(self.poller).iter().enumerate() {
             match self.act(place, &numbered.record) {
                 Ok(Some((at, post))) => add(posts, at, post)?,
                 Ok(None) => {}
                 Err(why) => return Err(self.recording.broken(numbered.line, why)),
             }
+        }
+        if self.missing > 0 && matches!(self.recording.last, Last::Ended) {
+            let text = "reports of the last poll are missing";
+            return Err(fault(String::from_str(self.recording.alloc, text)));
         }
         Ok(())
     }
@@ -90,6 +89,10 @@ impl Rounds<'_> {
             return Err("a poll gives 256 reports at most");
         }
         self.missing = count;
+        Ok(self.begin(place, record))
+    }
+
+    fn begin(&mut self, place: usize, record: &Record) -> Option<(usize, Post)> {
         let poll = Post {
             place,
             generation: None,
@@ -99,17 +102,13 @@ impl Rounds<'_> {
         };
         let sweep = self.sweep(&poll);
         self.poll = Some(poll);
-        match sweep {
-            Some(sweep) => Ok(Some((self.recording.at_poller(self.poller), sweep))),
-            None => Ok(None),
-        }
+        sweep
     }
 
     /// The count before the next act of the poller that is no report of this poll.
     fn next_count(&self, poll: u64) -> u64 {
         let acts = self.recording.poller(self.poller);
-        let next = acts.partition_point(|act| act.record.before <= poll);
-        match acts.get(next) {
+        match acts.get(begun_before(acts, poll.saturating_add(1)).len()) {
             Some(next) => next.record.before,
             None => u64::MAX,
         }
@@ -117,7 +116,7 @@ impl Rounds<'_> {
 
     /// The round after a poll may have made a sweep, by the second that the round before it read. Where that is in
     /// doubt, it may or may not.
-    fn sweep(&mut self, poll: &Post) -> Option<Post> {
+    fn sweep(&mut self, poll: &Post) -> Option<(usize, Post)> {
         let limit = self.recording.header.idle;
         let round = self.poll?;
         if limit == 0 {
@@ -125,7 +124,10 @@ impl Rounds<'_> {
         }
         let seconds = self.clock.between(round.from, round.to);
         let since = self.swept.pass(limit, seconds, poll.from)?;
-        Some(Post { since, ..*poll })
+        Some((
+            self.recording.at_poller(self.poller),
+            Post { since, ..*poll },
+        ))
     }
 
     /// Answers to which slot the poller may have posted a report.
@@ -151,13 +153,6 @@ impl Rounds<'_> {
             }
             _ => Ok(None),
         }
-    }
-}
-
-fn add(lists: &mut Vec<Vec<Post>>, at: usize, post: Post) -> Result<(), AllocError> {
-    match lists.get_mut(at) {
-        Some(list) => Ok(list.push(post)?),
-        None => Ok(()),
     }
 }
 

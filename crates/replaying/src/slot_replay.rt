@@ -7,7 +7,7 @@ use crate::posts::{Post, Posts, posts_at};
 use crate::recording::{Last, Numbered, Recording};
 use crate::results::Results;
 use crate::trace::{connection_len, is_connection};
-use records::{Act, Made, Opening, Polling, Record};
+use records::{Act, Made, Polling, Record};
 use token::{Side, Token};
 
 /// What was found out of a recording before its slots are replayed.
@@ -101,13 +101,6 @@ fn wire_of(act: &Act) -> Option<(Token, Made)> {
     }
 }
 
-fn opening_of(act: &Act) -> Option<(u64, Opening)> {
-    match act {
-        Act::Poller(_, Polling::Open(_, generation, opening)) => Some((*generation, *opening)),
-        _ => None,
-    }
-}
-
 impl<'a> SlotReplay<'a> {
     /// A slot to replay, whose first act is this one.
     pub(crate) fn new(
@@ -143,25 +136,19 @@ impl<'a> SlotReplay<'a> {
     ) -> Result<(), Flaw>
         ensures runs { OnOk result (AreRuns recording.now.header recording.now.failed records.now) }
     {
-        self.replay_connections(recording, records, results)?;
-        self.end_all()
-    }
-
-    fn replay_connections(
-        &mut self,
-        recording: &Recording,
-        records: &'a [Numbered],
-        results: &mut Results,
-    ) -> Result<(), Flaw>
-        ensures runs { OnOk result (AreRuns recording.now.header recording.now.failed records.now) }
-    {
         let mut rest = records;
         while !rest.is_empty() {
             let (connection, next) = rest.split_at(connection_len(rest));
             self.replay_connection(recording, connection, results)?;
             rest = next;
         }
-        Ok(())
+        if self.findings.rests {
+            self.rest()?;
+        }
+        match (self.state.phase, self.findings.recording.last) {
+            (Phase::Free, _) | (_, Last::Stopped | Last::Full) => Ok(()),
+            _ => Err(Flaw::Because("the relay has ended, and the connection is not closed")),
+        }
     }
 
     fn replay_connection(
@@ -188,27 +175,16 @@ impl<'a> SlotReplay<'a> {
         }
     }
 
-    fn end_all(&mut self) -> Result<(), Flaw> {
-        if self.findings.rests {
-            self.rest()?;
-        }
-        if self.findings.recording.last == Last::Ended {
-            return self.ended();
-        }
-        Ok(())
-    }
-
     fn act(&mut self, record: Record, results: &mut Results) -> Result<(), Flaw> {
         if let Some((token, made)) = wire_of(&record.act) {
             return self.wire(record, token, made);
         }
-        if let Some((generation, opening)) = opening_of(&record.act) {
-            return self.open(results, record, generation, opening);
-        }
-        if matches!(record.act, Act::Begin(_)) {
-            self.begin(record)
-        } else {
-            self.end(record)
+        match record.act {
+            Act::Poller(_, Polling::Open(_, generation, opening)) => {
+                self.open(results, record, generation, opening)
+            }
+            Act::Begin(_) => self.begin(record),
+            _ => self.end(record),
         }
     }
 

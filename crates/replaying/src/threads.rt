@@ -1,7 +1,7 @@
 //! How many threads were at work at once: a turn is made by the poller of its slot, while that does nothing else, or
 //! by a worker.
 use crate::order::first_overlap;
-use crate::recording::{Numbered, Recording, lists};
+use crate::recording::{Numbered, Recording, ended_before, sort};
 use records::{Act, Made, Record, ReplayFault};
 use std::alloc::AllocError;
 
@@ -34,12 +34,7 @@ struct Change {
 
 /// Refuses with `Broken` a turn for which no thread is left.
 pub(crate) fn check_threads(recording: &Recording) -> Result<(), ReplayFault> {
-    let mut spans = Vec::new(recording.alloc);
-    for slot in 0..recording.header.slots {
-        for span in spans_of(recording, slot)? {
-            spans.push(span.lasting(recording.whole))?;
-        }
-    }
+    let spans = all_spans(recording)?;
     let acts = acts_of_pollers(recording, spans.as_slice())?;
     let changes = changes_of(recording, acts.as_slice(), spans.as_slice())?;
     let over = first_over(recording, changes.as_slice())?;
@@ -49,23 +44,49 @@ pub(crate) fn check_threads(recording: &Recording) -> Result<(), ReplayFault> {
     }
 }
 
+fn all_spans(recording: &Recording) -> Result<Vec<Span>, AllocError> {
+    let mut spans = Vec::new(recording.alloc);
+    for slot in 0..recording.header.slots {
+        for span in spans_of(recording, slot)?.as_slice() {
+            // What has not ended lasts up to the first count of no record, which may be that of its next act.
+            let least = if span.is_over { 0 } else { recording.whole };
+            let to = span.to.max(least);
+            spans.push(Span { to, ..*span })?;
+        }
+    }
+    Ok(spans)
+}
+
 /// What each poller did for certain, in order.
 fn acts_of_pollers(
     recording: &Recording,
     spans: &[Span],
 ) -> Result<Vec<Vec<Numbered>>, AllocError> {
-    let mut acts = lists(recording.alloc, recording.header.pollers)?;
-    for (poller, list) in acts.iter_mut().enumerate() {
-        for numbered in recording.poller(poller) {
-            list.push(*numbered)?;
-        }
-        for span in spans {
-            if span.is_pollers && span.poller == poller {
-                list.push(span.numbered())?;
-            }
-        }
-        list.sort_by_key(|numbered: &Numbered| numbered.record.before)?;
+    let mut acts = Vec::new(recording.alloc);
+    for poller in 0..recording.header.pollers {
+        acts.push(acts_of_poller(recording, spans, poller)?)?;
     }
+    Ok(acts)
+}
+
+fn acts_of_poller(
+    recording: &Recording,
+    spans: &[Span],
+    poller: usize,
+) -> Result<Vec<Numbered>, AllocError> {
+    let mut acts = Vec::new(recording.alloc);
+    acts.extend_from_slice(recording.poller(poller))?;
+    for span in spans {
+        if span.is_pollers && span.poller == poller {
+            let (before, after, act) = (span.from, span.to, Act::Begin(0));
+            let record = Record { before, after, act };
+            acts.push(Numbered {
+                line: span.line,
+                record,
+            })?;
+        }
+    }
+    sort(&mut acts)?;
     Ok(acts)
 }
 
@@ -103,19 +124,17 @@ fn add(changes: &mut Vec<Change>, acts: &[Numbered], span: Span) -> Result<(), A
         begins: true,
         poller: if is_own { Some(span.poller) } else { None },
     };
-    changes.push(begins)?;
-    changes.push(Change {
+    let ends = Change {
         count: span.to,
         begins: false,
         ..begins
-    })?;
-    Ok(())
+    };
+    changes.extend_from_slice(&[begins, ends])
 }
 
 /// Whether a poller, which did these acts one after the other, did one between these two counts.
 pub(crate) fn is_busy(acts: &[Numbered], from: u64, to: u64) -> bool {
-    let ended = acts.partition_point(|act| act.record.after < from);
-    match acts.get(ended) {
+    match acts.get(ended_before(acts, from).len()) {
         Some(act) => act.record.before < to,
         None => false,
     }
@@ -163,17 +182,6 @@ fn begins_span(last: &Act, act: &Act, failed: bool) -> bool {
 }
 
 impl Span {
-    fn numbered(&self) -> Numbered {
-        Numbered {
-            line: self.line,
-            record: Record {
-                before: self.from,
-                after: self.to,
-                act: Act::Begin(0),
-            },
-        }
-    }
-
     fn go_on(&mut self, record: &Record) {
         match record.act {
             Act::Poller(_, _) => return,
@@ -181,14 +189,6 @@ impl Span {
             _ => self.calls = self.calls.saturating_add(1),
         }
         self.to = record.after;
-    }
-
-    /// What has not ended lasts up to the first count of no record, which may be that of its next act.
-    fn lasting(mut self, whole: u64) -> Span {
-        if !self.is_over {
-            self.to = self.to.max(whole);
-        }
-        self
     }
 }
 

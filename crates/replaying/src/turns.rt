@@ -1,6 +1,7 @@
 //! The turns of a slot's connection.
 use crate::machine::Flaw;
-use crate::slot_replay::{Phase, SlotReplay};
+use crate::recording::Numbered;
+use crate::slot_replay::{Phase, SlotReplay, State};
 use crate::threads::{OWN_BUDGET, is_busy};
 use records::{Act as Recorded, Made, Record};
 use token::Side;
@@ -16,14 +17,13 @@ impl SlotReplay<'_> {
         }
         let since = self.gather_notes(record.before)?;
         let (earliest, latest) = self.findings.clock.between(since, record.before);
-        self.pass_to(earliest)?;
-        self.machine.claim()?;
         let state = &mut self.state;
         state.latest = latest;
         state.taken_from = since;
         state.taken_by = record.before;
         state.phase = Phase::Calling(0);
-        Ok(())
+        self.pass_to(earliest)?;
+        self.machine.claim()
     }
 
     fn pass_to(&mut self, second: u64) -> Result<(), Flaw> {
@@ -53,21 +53,13 @@ impl SlotReplay<'_> {
         if self.machine.next_call().is_some() {
             return self.end_due(calls);
         }
-        if self.is_dropped_next() {
+        if is_drop_next(self.next) {
             self.pass_to(self.state.latest)?;
             self.state.phase = Phase::Closing(None);
-            return self.machine.work(&[Act::Expire]);
+            return self.machine.put(Event::Work(0, Act::Expire));
         }
         self.state.phase = Phase::Settling;
         self.check_idle()
-    }
-
-    /// Whether the next act drops an end.
-    fn is_dropped_next(&self) -> bool {
-        match self.next.first() {
-            Some(first) => matches!(first.record.act, Recorded::Wire(_, Made::Drop)),
-            None => false,
-        }
     }
 
     /// A turn that ends with a call left has made as many as it may, and posts a note for the next turn.
@@ -100,67 +92,20 @@ impl SlotReplay<'_> {
         }
         self.state.free_from = record.after;
         self.state.phase = Phase::Open;
-        self.machine.work(&[Act::Release])
+        self.machine.put(Event::Work(0, Act::Release))
     }
 
     /// An end is dropped. After the second one the slot is free.
     pub(crate) fn drop_end(&mut self, side: Side, record: Record) -> Result<(), Flaw> {
-        let phase = self.state.phase;
-        match phase {
-            Phase::Open if self.has_failed(record.before) => {
-                self.state.void = self.state.generation;
-                self.state.phase = Phase::Void(Some(side));
-                Ok(())
-            }
-            Phase::Void(None) if self.is_left(record.before) => {
-                Err(Flaw::Because("its poller did something else before it closed this"))
-            }
-            Phase::Void(dropped) => self.drop_void(side, dropped),
-            Phase::Closing(None) => {
-                self.state.phase = Phase::Closing(Some(side));
-                self.state.taken_by = record.before;
-                Ok(())
-            }
-            Phase::Closing(Some(other)) if side == other => {
-                Err(Flaw::Because("the same end is dropped twice"))
-            }
-            Phase::Closing(_) => {
-                self.note_while_held()?;
-                self.state.phase = Phase::Free;
-                self.machine.work(&[Act::Close, Act::Retire, Act::Free])
-            }
-            _ => Err(Flaw::Because("the connection has not ended")),
+        let recording = self.findings.recording;
+        let has_failed = recording.has_failed(record.before);
+        let acts = recording.poller(self.poller);
+        if !self.state.drop_end(side, record.before, has_failed, acts)? {
+            return Ok(());
         }
-    }
-
-    fn has_failed(&self, count: u64) -> bool {
-        match self.findings.recording.failed {
-            Some(failed) => failed < count,
-            None => false,
-        }
-    }
-
-    /// Whether the poller of a connection that came to nothing did something else up to this count.
-    fn is_left(&self, count: u64) -> bool {
-        let acts = self.findings.recording.poller(self.poller);
-        !self.has_failed(count) && is_busy(acts, self.state.free_from.saturating_add(1), count)
-    }
-
-    fn drop_void(&mut self, side: Side, dropped: Option<Side>) -> Result<(), Flaw> {
-        self.state.phase = match dropped {
-            None => Phase::Void(Some(side)),
-            Some(other) if other != side => Phase::Free,
-            Some(_) => return Err(Flaw::Because("the same end is dropped twice")),
-        };
-        Ok(())
-    }
-
-    /// The relay has ended, and closed all its sockets.
-    pub(crate) fn ended(&self) -> Result<(), Flaw> {
-        match self.state.phase {
-            Phase::Free => Ok(()),
-            _ => Err(Flaw::Because("the relay has ended, and the connection is not closed")),
-        }
+        self.note_while_held()?;
+        self.state.phase = Phase::Free;
+        self.machine.work(&[Act::Close, Act::Retire, Act::Free])
     }
 
     /// Nothing is left to do in the slot. A flaw names the record that what is left came from.
@@ -171,7 +116,9 @@ impl SlotReplay<'_> {
             Phase::Void(_) => return Err(Flaw::Because("the other end is not dropped")),
             _ => return Err(Flaw::Because("its turn has not ended")),
         }
-        self.note_the_rest()?;
+        if let Some(post) = self.posts.rest(&self.state) {
+            self.note(post)?;
+        }
         if self.machine.has_notes() {
             self.last = self.posted;
             return Err(Flaw::Because("no turn took the note of this"));
@@ -180,5 +127,48 @@ impl SlotReplay<'_> {
             return Err(Flaw::Because("the connection could move"));
         }
         Ok(())
+    }
+}
+
+impl State {
+    /// Answers whether that closes a connection which a turn has ended. The slot's poller did these acts.
+    fn drop_end(
+        &mut self,
+        side: Side,
+        count: u64,
+        has_failed: bool,
+        acts: &[Numbered],
+    ) -> Result<bool, Flaw> {
+        let phase = self.phase;
+        match phase {
+            Phase::Open if has_failed => {
+                self.void = self.generation;
+                self.phase = Phase::Void(Some(side));
+            }
+            Phase::Void(None)
+                if !has_failed && is_busy(acts, self.free_from.saturating_add(1), count) => {
+                return Err(Flaw::Because("its poller did something else before it closed this"));
+            }
+            Phase::Void(None) => self.phase = Phase::Void(Some(side)),
+            Phase::Closing(None) => {
+                self.phase = Phase::Closing(Some(side));
+                self.taken_by = count;
+            }
+            Phase::Void(Some(other)) | Phase::Closing(Some(other)) if side == other => {
+                return Err(Flaw::Because("the same end is dropped twice"));
+            }
+            Phase::Void(Some(_)) => self.phase = Phase::Free,
+            Phase::Closing(Some(_)) => return Ok(true),
+            _ => return Err(Flaw::Because("the connection has not ended")),
+        }
+        Ok(false)
+    }
+}
+
+/// Whether the first of these acts drops an end.
+fn is_drop_next(next: &[Numbered]) -> bool {
+    match next {
+        [first, ..] => matches!(first.record.act, Recorded::Wire(_, Made::Drop)),
+        [] => false,
     }
 }

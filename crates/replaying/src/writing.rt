@@ -1,11 +1,10 @@
 //! What is written of a recording.
-use crate::history::History;
 use crate::machine::{Flaw, Machine};
 use crate::recording::Recording;
 use crate::results::{Flawed, Results, Whose};
 use records::{ReplayFault, Wanted};
 use script_text::{Page, Piece, event_reason, put_event, put_header};
-use std::alloc::Global;
+use std::alloc::{AllocError, Global};
 use std::io::Write;
 use world::Event;
 
@@ -17,36 +16,30 @@ pub(crate) fn write_results<W: Write>(
     results: &Results,
     recording: &Recording,
 ) -> Result<(), ReplayFault> {
-    match (results.wanted, &results.script) {
+    match (results.wanted, &results.machine) {
         (Wanted::Totals, _) => write(output, totals(results, recording)),
         (Wanted::Ends, _) => write_text(output, results.ends.as_str()),
-        (_, Some(history)) => write_script(recording.alloc, output, history),
+        (_, Some(machine)) => write_script(output, machine),
         (_, None) => Err(ReplayFault::Unknown),
     }
 }
 
 /// Writes which record can stand at no place and why, and the script that leads there.
 pub(crate) fn write_flaw<W: Write>(
-    alloc: Global,
     output: &mut W,
     flawed: &Flawed,
     flaw: Flaw,
+    machine: &Machine,
 ) -> Result<(), ReplayFault> {
-    let record = flawed.numbered.record;
-    let record = format!(in alloc; "{record}")?;
-    write(output, first_line(alloc, flawed, flaw, record.as_str()))?;
-    write_script(alloc, output, &flawed.machine.history)?;
-    write(output, refused(alloc, &flawed.machine))
+    write(output, first_line(flawed, flaw, machine)?)?;
+    write_script(output, machine)?;
+    write(output, refused(machine))
 }
 
-fn write_script<W: Write>(
-    alloc: Global,
-    output: &mut W,
-    history: &History,
-) -> Result<(), ReplayFault> {
-    write(output, header(alloc, history))?;
-    for events in history.events().chunks(AT_ONCE) {
-        write(output, script_of(alloc, events))?;
+fn write_script<W: Write>(output: &mut W, machine: &Machine) -> Result<(), ReplayFault> {
+    write(output, header(machine))?;
+    for events in machine.history.events().chunks(AT_ONCE) {
+        write(output, script_of(machine.alloc, events))?;
     }
     Ok(())
 }
@@ -100,9 +93,9 @@ fn put_left_out(page: &mut Page, recording: &Recording) {
     }
 }
 
-fn header(alloc: Global, history: &History) -> Page {
-    let mut page = Page::new(alloc);
-    put_header(&mut page, &history.limits());
+fn header(machine: &Machine) -> Page {
+    let mut page = Page::new(machine.alloc);
+    put_header(&mut page, &machine.history.limits());
     page
 }
 
@@ -115,8 +108,8 @@ fn script_of(alloc: Global, events: &[Event]) -> Page {
 }
 
 /// The line of the event that was refused, if one was.
-fn refused(alloc: Global, machine: &Machine) -> Page {
-    let mut page = Page::new(alloc);
+fn refused(machine: &Machine) -> Page {
+    let mut page = Page::new(machine.alloc);
     if let Some(event) = &machine.refused {
         put_line(&mut page, event);
     }
@@ -128,17 +121,19 @@ fn put_line(page: &mut Page, event: &Event) {
     page.put(&[Piece::Text("\n")]);
 }
 
-fn first_line(alloc: Global, flawed: &Flawed, flaw: Flaw, record: &str) -> Page {
-    let mut page = Page::new(alloc);
+fn first_line(flawed: &Flawed, flaw: Flaw, machine: &Machine) -> Result<Page, AllocError> {
+    let record = flawed.numbered.record;
+    let record = format!(in machine.alloc; "{record}")?;
+    let mut page = Page::new(machine.alloc);
     put_whose(&mut page, flawed.whose);
     page.put(&[
         Piece::Named(": line ", flawed.numbered.line),
         Piece::Text(": "),
-        Piece::Text(record),
+        Piece::Text(record.as_str()),
         Piece::Text(": "),
     ]);
-    put_reason(&mut page, flaw, &flawed.machine);
-    page
+    put_reason(&mut page, flaw, machine);
+    Ok(page)
 }
 
 fn put_whose(page: &mut Page, whose: Whose) {
@@ -153,15 +148,16 @@ fn put_whose(page: &mut Page, whose: Whose) {
 
 /// Why the record can stand at no place, and the end of the line.
 fn put_reason(page: &mut Page, flaw: Flaw, machine: &Machine) {
-    match (flaw, &machine.refused) {
-        (Flaw::Because(why), _) => page.put(&[Piece::Text(why), Piece::Text("\n")]),
+    let why = match (flaw, &machine.refused) {
+        (Flaw::Because(why), _) => why,
         (Flaw::Refused, Some(event)) => {
             put_event(page, event);
-            let reason = event_reason(machine.world(), event);
-            page.put(&[Piece::Text(": "), Piece::Text(reason), Piece::Text("\n")]);
+            page.put(&[Piece::Text(": ")]);
+            event_reason(machine.world(), event)
         }
-        _ => put_next_call(page, machine),
-    }
+        _ => return put_next_call(page, machine),
+    };
+    page.put(&[Piece::Text(why), Piece::Text("\n")]);
 }
 
 fn put_next_call(page: &mut Page, machine: &Machine) {

@@ -1,6 +1,6 @@
 use Rattle.std.{proofs.Common.{sym, subst, List, ◌≡◌, ◌++◌}, specs.Prelude.{All, take}}
 use Rattle.replaying.{specs.{declared.recording.Numbered.Numbered, Traces.{IsConnection, joined}}, proofs.Traces.one_more}
-use Rattle.replaying.proofs.slot_replay.SlotReplay.replay_connections.Goals as goal
+use Rattle.replaying.proofs.slot_replay.SlotReplay.run.Goals as goal
 
 pub loop-rest-preserved : goal.loop-rest-preserved
 loop-rest-preserved c =
