@@ -18,7 +18,6 @@ use std::thread::Threads;
 use threads::{Outcome, Server, run_threads};
 
 /// What a server is lent while it serves.
-#[derive(Clone, Copy)]
 pub struct Lent<'a, G, C> {
     /// Called once all threads have been started, and before and after each turn.
     pub gate: &'a G,
@@ -33,6 +32,14 @@ pub struct Lent<'a, G, C> {
     /// Whether each client is logged at level info, when it comes and when it goes.
     pub log_clients: bool,
 }
+
+impl<G, C> Clone for Lent<'_, G, C> {
+    fn clone(&self) -> Result<Self, AllocError> {
+        Ok(*self)
+    }
+}
+
+impl<G, C> Copy for Lent<'_, G, C> {}
 
 /// Serves on the bound socket: accepts connections and forwards each one to the settings' target. Beside the settings'
 /// number of workers there are as many pollers' threads, but at most one for each 64 slots, and at least one; one of
@@ -94,32 +101,14 @@ where
     F::Waker: Send + Sync + Drop,
     requires { length fronts.items ≡ pollers_for settings.now.slots settings.now.workers }
 {
-    match build(rt, alloc, settings, split_of(settings), fronts, waker) {
-        Ok(server) => run(rt, alloc, settings, server, lent),
+    let (statistics, log_clients) = (lent.statistics, lent.log_clients);
+    match server_of(rt, alloc, settings, fronts, waker, statistics, log_clients) {
+        Ok(server) => {
+            let timing = timing_of(settings, lent.clock);
+            run_threads(rt, alloc, lent.gate, timing, lent.is_stopped, server)
+        }
         Err(fault) => Outcome::refused(fault),
     }
-}
-
-/// Runs a server that was made as the settings say.
-pub(crate) fn run<F, G: Gate + Sync, C: Clock + Sync, R: Wait + Threads + Log + Sync>(
-    rt: &R,
-    alloc: Global,
-    settings: &Settings,
-    mut server: Server<F>,
-    lent: Lent<'_, G, C>,
-) -> Outcome
-where
-    F: Front + Drop + Send,
-    F::Client: Send,
-    F::Target: Send,
-    F::Waker: Send + Sync + Drop,
-{
-    if let Err(AllocError) = count_in(&mut server.shared, lent.statistics) {
-        return Outcome::refused(ServerFault::NoMemory);
-    }
-    log_in(&mut server.shared, lent.log_clients);
-    let timing = timing_of(settings, lent.clock);
-    run_threads(rt, alloc, lent.gate, timing, lent.is_stopped, server)
 }
 
 fn timing_of<'a, C>(settings: &Settings, clock: &'a C) -> Timing<'a, C>
@@ -131,21 +120,42 @@ fn timing_of<'a, C>(settings: &Settings, clock: &'a C) -> Timing<'a, C>
     }
 }
 
-fn count_in<F: Front>(
-    shared: &mut Shared<F>,
+/// A server as the settings say, whose connections are counted there, and whose clients are logged so. It takes its
+/// share of the statistics first: so no server has to be dropped if there is no memory for that.
+fn server_of<F: Front + Drop, R: Wait>(
+    rt: &R,
+    alloc: Global,
+    settings: &Settings,
+    fronts: Vec<F>,
+    waker: F::Waker,
     statistics: Option<&Arc<Statistics>>,
-) -> Result<(), AllocError>
-    ensures { shared.new.claims ≡ shared.old.claims }
+    log_clients: bool,
+) -> Result<Server<F>, ServerFault>
+where
+    F::Waker: Drop,
+    requires { length fronts.items ≡ pollers_for settings.now.slots settings.now.workers }
 {
-    if let Some(statistics) = statistics {
-        shared.statistics = Some(statistics.clone()?);
-    }
-    Ok(())
+    let statistics = another(statistics)?;
+    let mut server = build(rt, alloc, settings, split_of(settings), fronts, waker)?;
+    count_and_log(&mut server.shared, statistics, log_clients);
+    Ok(server)
 }
 
-fn log_in<F: Front>(shared: &mut Shared<F>, log_clients: bool)
+fn another(statistics: Option<&Arc<Statistics>>) -> Result<Option<Arc<Statistics>>, AllocError> {
+    match statistics {
+        Some(statistics) => Ok(Some(statistics.clone()?)),
+        None => Ok(None),
+    }
+}
+
+fn count_and_log<F: Front>(
+    shared: &mut Shared<F>,
+    statistics: Option<Arc<Statistics>>,
+    log_clients: bool,
+)
     ensures { shared.new.claims ≡ shared.old.claims }
 {
+    shared.statistics = statistics;
     if log_clients {
         shared.clients = ClientsAt::Info;
     }

@@ -1,4 +1,5 @@
-use Rattle.std.proofs.{Common.{◌≡◌, ap, ◌∙◌, ◌+◌, ℕ, length, arith}, lemmas.List.{length-reverse, reverse-reverse}}
+use Rattle.std.proofs.{Common.{◌≡◌, ap, ◌∙◌, ◌+◌, ℕ, length, arith}, lemmas.List.{length-reverse, reverse-reverse, Elements.All-nil}}
+use Rattle.server.specs.Begins.{HasBegun}
 use Rattle.server.proofs.Parts.{mapped_more, begun_one, one_taken, all_taken}
 use Rattle.server.proofs.making.pollers_of.Goals as goal
 
@@ -39,7 +40,8 @@ loop-number-init g c =
     record {
       left = rw (turned, length-reverse) (omega (arith, c.requires));
       parts = rw made.items;
-      begun = rw made.items (λ k d lt. absurd (omega arith));
+      begun = rw made.items (All-nil (λ poller. HasBegun c.args.settings.now.slots
+          (record { ring = c.args.settings.now.ring; proxy = c.args.settings.now.proxy }) poller));
       shares = rw made.items;
       reported = rw (made.items, turned, reverse-reverse);
       failed = rw (made.items, turned, reverse-reverse);
