@@ -70,7 +70,7 @@ where
     Ok(ServerThreads { pollers, workers })
 }
 
-/// The threads of the pollers. A poller whose table is not for these slots is refused; `build` makes none.
+/// The threads of the pollers.
 fn pollers_of<F: Front + Drop>(
     alloc: Global,
     shared: &Arc<Shared<F>>,
@@ -85,29 +85,47 @@ where
     ensures slots { IfOk result (λ threads. All (λ thread. IsEndOf rest.old.free thread.number thread.own.free) threads.items) }
     ensures left { OnOk result (AreLeft rest.old.free rest.new.free) }
 {
-    let slots = shared.claims.slots();
     let count = pollers.len();
     let mut threads = Vec::with_capacity(alloc, count)?;
     for _thread in 0..count {
         match pollers.pop() {
             Some(poller) => {
-                if poller.table().len() != slots {
-                    return Err(ServerFault::NoMemory);
-                }
                 let number = pollers.len();
-                let (shared, own) = rest.next_own(alloc, shared, number, poller_hand(slots))?;
-                let thread = PollerThread {
-                    shared,
-                    number,
-                    own,
-                    poller,
-                };
-                threads.push_reserved(thread);
+                threads.push_reserved(thread_of(alloc, shared, rest, number, poller)?);
             }
             None => unreachable!(),
         }
     }
     Ok(threads)
+}
+
+/// The thread of a poller. One whose table is not for these slots is refused; `build` makes none.
+fn thread_of<F: Front + Drop>(
+    alloc: Global,
+    shared: &Arc<Shared<F>>,
+    rest: &mut Rest,
+    number: usize,
+    poller: Poller<F>,
+) -> Result<PollerThread<F>, ServerFault>
+where
+    F::Waker: Drop,
+    requires { AreFresh (arc_value shared.now).claims rest.old.parts.seats.items }
+    ensures fresh { OnOk result (AreFresh (arc_value shared.now).claims rest.new.parts.seats.items) }
+    ensures made { IfOk result (λ thread. (thread.number ≡ number) × (thread.poller ≡ poller)) }
+    ensures slots { IfOk result (λ thread. IsEndOf rest.old.free thread.number thread.own.free) }
+    ensures left { OnOk result (AreLeft rest.old.free rest.new.free) }
+{
+    let slots = shared.claims.slots();
+    if poller.table().len() != slots {
+        return Err(ServerFault::NoMemory);
+    }
+    let (shared, own) = rest.next_own(alloc, shared, number, poller_hand(slots))?;
+    Ok(PollerThread {
+        shared,
+        number,
+        own,
+        poller,
+    })
 }
 
 /// The room of the hand of a poller's thread: for all that two rounds may put there.

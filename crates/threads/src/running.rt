@@ -52,51 +52,46 @@ where
     F::Waker: Send + Sync + Drop,
 {
     let ending = Ending::new(server.pollers.len());
-    match run_server(rt, alloc, gate, timing, (&ending, is_stopped), server) {
-        Ok(served) => ending.outcome(served),
-        Err(fault) => Outcome::refused(fault),
-    }
-}
-
-/// The same, without its outcome: faults of threads are recorded.
-fn run_server<'a, F, G: Gate + Sync, C: Clock + Sync, R: Wait + Threads + Log + Sync>(
-    rt: &'a R,
-    alloc: Global,
-    gate: &'a G,
-    timing: Timing<'a, C>,
-    (ending, is_stopped): (&'a Ending, &'a AtomicBool),
-    server: Server<F>,
-) -> Result<Served, ServerFault>
-where
-    F: Front + Drop + Send,
-    F::Client: Send,
-    F::Target: Send,
-    F::Waker: Send + Sync + Drop,
-{
-    let Server {
-        shared,
-        parts,
-        free,
-        pollers,
-        split,
-        workers,
-        ..
-    } = server;
-    let shared = Arc::new(alloc, shared)?;
-    let threads = divide(alloc, &shared, Rest { parts, free }, pollers, workers)?;
+    let (split, workers) = (server.split, server.workers);
+    let threads = match threads_of(alloc, server) {
+        Ok(threads) => Mutex::new(threads),
+        Err(fault) => return Outcome::refused(fault),
+    };
     let startup = Startup {
         context: Context {
             rt,
             alloc,
             gate,
             timing,
-            ending,
+            ending: &ending,
             is_stopped,
             split,
         },
-        threads: Mutex::new(threads),
+        threads,
     };
-    Ok(run_all(&startup, workers))
+    let served = run_all(&startup, workers);
+    drop(startup);
+    ending.outcome(served)
+}
+
+/// The threads of a server, which do not run yet.
+fn threads_of<F: Front + Drop>(
+    alloc: Global,
+    server: Server<F>,
+) -> Result<ServerThreads<F>, ServerFault>
+where
+    F::Waker: Drop,
+{
+    let Server {
+        shared,
+        parts,
+        free,
+        pollers,
+        workers,
+        ..
+    } = server;
+    let shared = Arc::new(alloc, shared)?;
+    divide(alloc, &shared, Rest { parts, free }, pollers, workers)
 }
 
 /// All threads of a server have ended. Only [`run_all`] makes one.

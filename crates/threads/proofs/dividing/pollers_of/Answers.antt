@@ -1,28 +1,18 @@
-use Rattle.std.proofs.{Common.{◌≡◌, ap, refl, sym, ◌∙◌, ◌+◌, ℕ, length, arith}, lemmas.List.Elements.All-nil}
-use Rattle.claims.proofs.Seats.{fresh_holds_nothing}
+use Rattle.std.proofs.{Common.{◌≡◌, ap, ◌∙◌, ◌+◌, ℕ, length, arith}, lemmas.List.Elements.All-nil}
 use Rattle.threads.{specs.Divided.IsEndOf, proofs.Divided.{all_left, all_made, all_pushed, left_of_left, threads_more}}
 use Rattle.threads.proofs.dividing.pollers_of.Goals as goal
-
-pub invariant_of-thread : goal.invariant_of-thread
-invariant_of-thread g c =
-    let owned = c.in_ok-shared-in-Some.ensures in
-    record {
-      same = rw (owned.own, owned.shared);
-      idle = fresh_holds_nothing _ _ owned.own;
-      sized = sym (ap length c.table.ensures.table) ∙ c.if-table-slots.false ∙ c.slots-slots.ensures ∙ ap (λ shared. shared.claims.words) (c.deref.ensures ∙ sym owned.shared);
-    }
 
 pub loop-thread-preserved : goal.loop-thread-preserved
 loop-thread-preserved g c =
     let was = c.loop-thread.invariant in
     let pushed = c.push_reserved.ensures in
-    let owned = c.in_ok-shared-in-Some.ensures in
+    let made = c.in_ok-thread_of-in-Some.ensures in
     record {
-      fresh = owned.fresh;
+      fresh = made.fresh;
       left = omega (arith, was.left, c.in-Some.ensures.len, c.loop-thread.pollers.ok.0, c.pop.new.self.ok.0);
-      numbered = threads_more _ _ _ _ _ _ _ c.len-number.result _ pushed.items c.in-Some.ensures.items (omega (arith, c.len-number.ensures, c.pop.new.self.ok.0)) refl was.numbered;
-      slots = all_pushed (λ thread. IsEndOf c.args.rest.now.free thread.number thread.own.free) _ pushed.items was.slots (was.ends.each _ _ owned.slots);
-      ends = left_of_left was.ends owned.left;
+      numbered = threads_more _ _ _ _ _ _ _ c.len-number.result _ pushed.items c.in-Some.ensures.items (omega (arith, c.len-number.ensures, c.pop.new.self.ok.0)) (rw (made.made.0, made.made.1)) was.numbered;
+      slots = all_pushed (λ thread. IsEndOf c.args.rest.now.free thread.number thread.own.free) _ pushed.items was.slots (was.ends.each _ _ made.slots);
+      ends = left_of_left was.ends made.left;
       len = pushed.len ∙ ap (λ (n : ℕ). n + 1) was.len;
       room = omega (arith, pushed.capacity, was.room);
     }
