@@ -134,7 +134,6 @@ fn poller_hand(slots: usize) -> usize {
 }
 
 /// The threads of this many workers, numbered from `first` on.
-#[tactic(auto, using(crate::proofs::Divided::all_left))]
 fn workers_of<F: Front + Drop>(
     alloc: Global,
     shared: &Arc<Shared<F>>,

@@ -30,9 +30,14 @@ loop-thread-init g c =
       room = made.capacity;
     }
 
-pub returns-clause-pollers : goal.returns-clause-pollers
-returns-clause-pollers g c = all_made _ _ c.loop-thread.pollers.items (let none : length c.loop-thread.pollers.items ≡ 0 =
-    omega (arith, c.loop-thread.invariant.left, c.loop-thread-test.false) in none) c.loop-thread.invariant.numbered
+pub returns : goal.returns
+returns g c =
+    let was = c.loop-thread.invariant in
+    let none : length c.loop-thread.pollers.items ≡ 0 = omega (arith, was.left, c.loop-thread-test.false) in
+    record { fresh = was.fresh; pollers = all_made _ _ c.loop-thread.pollers.items none was.numbered; slots = was.slots; left = was.ends }
+
+pub thread_of-requires : goal.thread_of-requires
+thread_of-requires g c = c.loop-thread.invariant.fresh
 
 pub unreachable-requires : goal.unreachable-requires
 unreachable-requires g c = omega (arith, c.in-None.ensures.cases.0, c.loop-thread.pollers.ok.0, c.loop-thread.invariant.left, c.loop-thread-test.true)

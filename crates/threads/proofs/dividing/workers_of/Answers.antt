@@ -1,6 +1,6 @@
-use Rattle.std.proofs.Common.{ap, refl, ◌∙◌, ◌∷◌, ◌+◌, ℕ, arith}
+use Rattle.std.proofs.{Common.{◌≡◌, ap, refl, ◌∙◌, ◌∷◌, ◌+◌, ℕ, arith}, lemmas.List.Elements.All-nil}
 use Rattle.claims.proofs.Seats.{fresh_holds_nothing}
-use Rattle.threads.{specs.Divided.HasOneOfEach, proofs.Divided.{all_pushed, left_of_left, numbers_more, one_of_all, one_of_each}}
+use Rattle.threads.{specs.Divided.HasOneOfEach, proofs.Divided.{all_left, all_pushed, left_of_left, numbers_more, one_of_all, one_of_each}}
 use Rattle.threads.proofs.dividing.workers_of.Goals as goal
 
 pub invariant_of-worker : goal.invariant_of-worker
@@ -23,3 +23,24 @@ loop-index-preserved g c =
       len = pushed.len ∙ ap (λ (n : ℕ). n + 1) was.len;
       room = omega (arith, pushed.capacity, was.room);
     }
+
+pub loop-index-init : goal.loop-index-init
+loop-index-init g c =
+    let made = c.in_ok-made.ensures in
+    record {
+      fresh = c.requires;
+      numbers = rw made.items;
+      slots = rw made.items (All-nil (λ worker. HasOneOfEach c.args.rest.now.free (worker.own.free ∷ worker.others.items)));
+      ends = all_left;
+      len = made.len;
+      room = made.capacity;
+    }
+
+pub returns : goal.returns
+returns g c =
+    let was = c.loop-index.invariant in
+    let all : c.loop-index.index ≡ c.args.workers = omega (arith, c.loop-index-test.false, c.loop-index.auto.index-end) in
+    record { numbers = rw all at was.numbers; slots = was.slots }
+
+pub next_own-requires : goal.next_own-requires
+next_own-requires g c = rw c.in_ok-others.ensures.parts c.loop-index.invariant.fresh
