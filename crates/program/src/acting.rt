@@ -3,19 +3,18 @@ ghost use Rattle.std.specs.Prelude.{◌≡◌, ◌⊎◌, IfSome, IfOk, IfErr, O
 ghost use Rattle.script.specs.Runs.{WritesReport, WritesFault};
 ghost use Rattle.program.specs.Faults.{IsCarriedOut, status_of};
 
-use crate::command_line::{Command, read_command};
+use crate::command_line::{Command, Relay, Source, read_command};
 use crate::config;
 use crate::constants::{DONE, FAULT, USAGE};
 use crate::extras::{Extras, extras_of};
 use crate::faults::{ArgumentsFault, ProgramFault};
-use crate::logging::{log_form, starting_filter};
+use crate::logging::{direct_log, starting_filter};
 use crate::recording_file::create;
-use crate::replaying_file::{find_wanted, replay_file};
+use crate::replaying_file::replay;
 use crate::starting::{foresee, prepare};
 use crate::streams::{LoggedCauses, Stream};
 use crate::usage::answer_usage;
-use log::{LevelFilter, Log, Logged};
-use log_queue::Direct;
+use log::{LevelFilter, Log};
 use records::Replay;
 use relay_log::ServerFault;
 use script::Outcome;
@@ -73,12 +72,11 @@ where
     let Ok(arguments) = texts(rt.alloc(), arguments) else {
         return report_fault(errors, ProgramFault::from(AllocError));
     };
-    let form = log_form(rt);
-    let log = Logged::new(*rt, LevelFilter::Warn, Direct { rt: *rt, form });
+    let log = direct_log(rt, LevelFilter::Warn);
     let outcome = match read_command(rt.alloc(), arguments.as_slice()) {
         Ok(command) => {
             tell_if_typed(&command, reader, errors);
-            carry_out(rt, &log, command, reader, writer, serve, player)
+            carry_out(rt, &log, &command, reader, writer, serve, player)
         }
         Err(error) => {
             return answer_usage(
@@ -120,7 +118,7 @@ pub(crate) fn texts(alloc: Global, arguments: &[String]) -> Result<Vec<&str>, Al
 fn carry_out<R, S, P: Replay, L: Log, I: Read, O: Write>(
     rt: &R,
     log: &L,
-    command: Command<'_>,
+    command: &Command<'_>,
     reader: &mut I,
     writer: &mut O,
     serve: &S,
@@ -135,42 +133,43 @@ where
     ensures unwritten { IfErr result (λ fault. status_of fault ≡ 2 → O.contents writer.new ≡ O.contents writer.old) }
 {
     match command {
-        Command::Simulate { each } => simulate_by(rt.alloc(), log, each, reader, writer),
+        Command::Simulate { each } => simulate_by(rt.alloc(), log, *each, reader, writer),
         Command::Check(path) => check(rt, log, path, writer),
-        Command::Run(path, level, record, typed) => {
-            let extras = extras_of(log, typed)?;
-            let settings = settings_of_file(rt, log, path, level)?;
-            run(rt, settings, record, extras, serve)
-        }
-        Command::Forward(text, record, typed) => {
-            let extras = extras_of(log, typed)?;
-            let settings = settings_of_arguments(rt.alloc(), log, text.as_str())?;
-            run(rt, settings, record, extras, serve)
-        }
-        Command::Replay(replayed) => {
-            let wanted = find_wanted(log, replayed)?;
-            let mut writer = stream("output", writer, log);
-            replay_file(rt, log, replayed, wanted, &mut writer, player)
-        }
+        Command::Serve(relay) => serve_relay(rt, log, relay, serve),
+        Command::Replay(replayed) => replay(rt, log, *replayed, writer, player),
     }
 }
 
-fn settings_of_file<R: AllocGlobal + Files, L: Log>(
+fn serve_relay<R, S, L: Log>(
     rt: &R,
     log: &L,
-    path: &str,
-    level: Option<&str>,
-) -> Result<Settings, ProgramFault> {
-    let settings = config::load(rt, log, path)?;
-    config::at_level(log, rt.alloc(), settings, level).map_err(ProgramFault::of_arguments)
+    relay: &Relay<'_>,
+    serve: &S,
+) -> Result<u8, ProgramFault>
+where
+    R: AllocGlobal + Env + Files + Eprint + Net + Copy + Drop,
+    S: Fn(Settings, Bound, Extras, Option<R::File>) -> Result<bool, ServerFault>,
+    requires { S.IsAlwaysCallable serve.now }
+    ensures { IfOk result (λ status. status ≡ 0) }
+{
+    let extras = extras_of(log, relay.extras)?;
+    let settings = settings_of(rt, log, &relay.settings)?;
+    run(rt, settings, relay.record, extras, serve)
 }
 
-fn settings_of_arguments<L: Log>(
-    alloc: Global,
+fn settings_of<R: AllocGlobal + Files, L: Log>(
+    rt: &R,
     log: &L,
-    text: &str,
+    source: &Source<'_>,
 ) -> Result<Settings, ProgramFault> {
-    config::parse_arguments(log, alloc, text.as_bytes()).map_err(ProgramFault::of_arguments)
+    let settings = match source {
+        Source::File(path, level) => {
+            let settings = config::load(rt, log, path)?;
+            config::at_level(log, rt.alloc(), settings, *level)
+        }
+        Source::Arguments(text) => config::parse_arguments(log, rt.alloc(), text.as_bytes()),
+    };
+    settings.map_err(ProgramFault::of_arguments)
 }
 
 fn check<R, L: Log, O: Write>(
@@ -184,9 +183,20 @@ where
     ensures done { IfOk result (λ status. status ≡ 0) }
     ensures fault { IfErr result (λ fault. status_of fault ≡ 1) }
 {
+    let text = checked(rt, log, path)?;
+    write(&mut stream("output", writer, log), text.as_str())?;
+    Ok(DONE)
+}
+
+/// The text of the settings of a file that is checked.
+fn checked<R, L: Log>(rt: &R, log: &L, path: &str) -> Result<String, ProgramFault>
+where
+    R: AllocGlobal + Files + Eprint + Net + Copy + Drop,
+    ensures { IfErr result (λ fault. status_of fault ≡ 1) }
+{
     let settings = config::load(rt, log, path)?;
     foresee(rt, log, &settings)?;
-    print(rt.alloc(), &settings, &mut stream("output", writer, log))
+    Ok(format!(in rt.alloc(); "{settings}")?)
 }
 
 fn simulate_by<L: Log, I: Read, O: Write>(
@@ -246,15 +256,6 @@ fn simulate<L: Log, I: Read, O: Write>(
     }
 }
 
-fn print(alloc: Global, settings: &Settings, writer: &mut impl Write) -> Result<u8, ProgramFault>
-    ensures done { IfOk result (λ status. status ≡ 0) }
-    ensures fault { IfErr result (λ fault. status_of fault ≡ 1) }
-{
-    let text = format!(in alloc; "{settings}")?;
-    write(writer, text.as_str())?;
-    Ok(DONE)
-}
-
 /// Listens, looks at what the settings need, makes the file to record into, and serves.
 fn run<R, S>(
     rt: &R,
@@ -270,10 +271,9 @@ where
     ensures done { IfOk result (λ status. status ≡ 0) }
     ensures fault { IfErr result (λ fault. status_of fault ≡ 1) }
 {
-    let form = log_form(rt);
-    let log = Logged::new(*rt, starting_filter(settings.log), Direct { rt: *rt, form });
+    let log = direct_log(rt, starting_filter(settings.log));
     let bound = bind(&log, &settings).map_err(ProgramFault::Server)?;
-    let settings = prepare(rt, &log, settings, record.map_or(0, |_| 1))?;
+    let settings = prepare(rt, &log, settings, u64::from(record.is_some()))?;
     let file = create(rt, &log, record)?;
     match serve(settings, bound, extras, file) {
         Ok(true) => Ok(DONE),

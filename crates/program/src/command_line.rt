@@ -6,19 +6,35 @@ use crate::forwarding::{add_settings, settings_text};
 use clap::{Arg, ArgAction, ArgMatches, Error};
 use std::alloc::{AllocError, Global};
 
-/// A command of the program. A file to record into comes after what is served, if one is named.
+/// A command of the program.
 #[derive(Drop)]
 pub enum Command<'a> {
     /// Run the script on standard input, and show each step if this says so.
     Simulate { each: bool },
     /// Read this settings file and print what it sets.
     Check(&'a str),
-    /// Read this settings file and serve as it says, with the messages of another level if one is named.
-    Run(&'a str, Option<&'a str>, Option<&'a str>, TypedExtras<'a>),
-    /// Serve as this text of settings says.
-    Forward(String, Option<&'a str>, TypedExtras<'a>),
+    /// Serve.
+    Serve(Relay<'a>),
     /// Replay the recording in a file.
     Replay(Replayed<'a>),
+}
+
+/// What a relay is told.
+#[derive(Drop)]
+pub struct Relay<'a> {
+    pub settings: Source<'a>,
+    /// The file to record into, if one is named.
+    pub record: Option<&'a str>,
+    pub extras: TypedExtras<'a>,
+}
+
+/// Where settings come from.
+#[derive(Drop)]
+pub enum Source<'a> {
+    /// This file, with the messages of another level if one is named.
+    File(&'a str, Option<&'a str>),
+    /// The text that the arguments give.
+    Arguments(String),
 }
 
 /// What is replayed, and what is printed of it.
@@ -50,37 +66,49 @@ fn matches_of<'a>(alloc: Global, arguments: &'a [&'a str]) -> Result<ArgMatches<
 fn command_of<'a>(alloc: Global, matches: &ArgMatches<'a>) -> Result<Command<'a>, Error> {
     match matches.subcommand_matches("forward") {
         Some(forward) => {
-            let text = settings_text(alloc, forward)?;
-            Ok(Command::Forward(text, forward.get_str("record"), TypedExtras::of(forward)))
+            let settings = Source::Arguments(settings_text(alloc, forward)?);
+            Ok(relay_of(settings, forward))
         }
         None => Ok(chosen(matches)),
     }
+}
+
+fn relay_of<'a>(settings: Source<'a>, matches: &ArgMatches<'a>) -> Command<'a> {
+    Command::Serve(Relay {
+        settings,
+        record: matches.get_str("record"),
+        extras: TypedExtras::of(matches),
+    })
 }
 
 /// The chosen command, if it is not `forward`; without one, the simulator.
 fn chosen<'a>(matches: &ArgMatches<'a>) -> Command<'a> {
     if let Some(run) = matches.subcommand_matches("run") {
         if let Some(path) = run.get_str("config") {
-            let (level, record) = (run.get_str("log"), run.get_str("record"));
-            return Command::Run(path, level, record, TypedExtras::of(run));
+            return relay_of(Source::File(path, run.get_str("log")), run);
         }
     }
     if let Some(replay) = matches.subcommand_matches("replay") {
         if let Some(path) = replay.get_str("file") {
-            return Command::Replay(Replayed {
-                path,
-                script: replay.get_str("script"),
-                ends: replay.get_flag("ends"),
-                rests: replay.get_flag("rest"),
-            });
+            return Command::Replay(replay_of(path, replay));
         }
     }
-    let check = matches.subcommand_matches("check");
-    match check.and_then(|check| check.get_str("config")) {
-        Some(path) => Command::Check(path),
-        None => Command::Simulate {
-            each: shows_each(matches),
-        },
+    if let Some(check) = matches.subcommand_matches("check") {
+        if let Some(path) = check.get_str("config") {
+            return Command::Check(path);
+        }
+    }
+    Command::Simulate {
+        each: shows_each(matches),
+    }
+}
+
+fn replay_of<'a>(path: &'a str, matches: &ArgMatches<'a>) -> Replayed<'a> {
+    Replayed {
+        path,
+        script: matches.get_str("script"),
+        ends: matches.get_flag("ends"),
+        rests: matches.get_flag("rest"),
     }
 }
 
@@ -113,7 +141,7 @@ fn add_subcommands<'a>(
     subcommands: &mut Vec<clap::Command<'a>>,
 ) -> Result<(), AllocError> {
     for row in rows {
-        subcommands.push(subcommand(alloc, *row)?)?;
+        add_subcommand(alloc, *row, subcommands)?;
     }
     Ok(())
 }
@@ -310,10 +338,15 @@ fn commands() -> &'static [CommandRow] {
     &COMMANDS
 }
 
-fn subcommand<'a>(alloc: Global, row: CommandRow) -> Result<clap::Command<'a>, AllocError> {
+fn add_subcommand<'a>(
+    alloc: Global,
+    row: CommandRow,
+    subcommands: &mut Vec<clap::Command<'a>>,
+) -> Result<(), AllocError> {
     let mut arguments = Vec::new(alloc);
     add_arguments(alloc, row, &mut arguments)?;
-    without_arguments(alloc, row).args(arguments)
+    subcommands.push(without_arguments(alloc, row).args(arguments)?)?;
+    Ok(())
 }
 
 fn without_arguments<'a>(alloc: Global, row: CommandRow) -> clap::Command<'a> {

@@ -6,10 +6,10 @@ ghost use Rattle.program.specs.Faults.{FileSets, HasFault};
 use crate::constants::MAX_CONFIG_BYTES;
 use crate::faults::ConfigFault;
 use crate::forwarding::setting_text;
-use crate::streams::{Stream, Unopened, log_error};
+use crate::streams::{FileName, Stream, Unopened, log_error};
 use input::{InputFault, read_at_most};
-use log::{Log, error};
-use settings::{EndOfLine, Key, LogLevel, Settings, SettingsFault};
+use log::Log;
+use settings::{Key, LogLevel, Settings, SettingsFault};
 use std::alloc::Global;
 use std::fmt;
 use std::fs::{self, File};
@@ -23,7 +23,7 @@ pub fn load<R: AllocGlobal + Files, L: Log>(
     log: &L,
     path: &str,
 ) -> Result<Settings, ConfigFault> {
-    let name = ConfigName(path);
+    let name = FileName("config", path);
     match File::open(rt, path) {
         Ok(file) => {
             let mut file = Stream {
@@ -41,16 +41,6 @@ pub fn load<R: AllocGlobal + Files, L: Log>(
             log_error(log, &"config", &Unopened { path, error });
             Err(ConfigFault::Read)
         }
-    }
-}
-
-#[derive(Clone, Copy)]
-struct ConfigName<'a>(&'a str);
-
-impl fmt::Display for ConfigName<'_> {
-    fn fmt<W: fmt::Write>(&self, f: &mut fmt::Formatter<W>) -> fmt::Result {
-        let path = EndOfLine(self.0);
-        write!(f, "config: {path}")
     }
 }
 
@@ -151,8 +141,7 @@ pub fn at_level<L: Log>(
 
 fn log_cause(log: &impl Log, alloc: Global, path: &str, text: &[u8], fault: &SettingsFault) {
     if let Some(cause) = settings::cause(alloc, text, fault) {
-        let path = EndOfLine(path);
-        error!(log; target: "relayd", "settings: {path}: {cause}");
+        log_error(log, &FileName("settings", path), &cause);
     }
 }
 

@@ -8,11 +8,11 @@ ghost use Rattle.settings.specs.Table.{level_name};
 
 use log::kv::Source;
 use log::span::Spans;
-use log::{Level, LevelFilter, Log, Metadata, Record};
+use log::{Level, LevelFilter, Log, Logged, Metadata, Record};
 use log_queue::{Direct, Form, LogLine, LogQueue, write_lines};
 use relay_log::{ServerFault, log_no_thread};
 use settings::LogLevel;
-use std::alloc::AllocGlobal;
+use std::alloc::{AllocError, AllocGlobal, Global};
 use std::cell::Cell;
 use std::env::{self, Env};
 use std::fmt::{Display, Write as _};
@@ -43,6 +43,15 @@ pub(crate) fn log_form<R: AllocGlobal + Env + Files>(rt: &R) -> Form {
         Ok(found) if is_named(named.as_str(), found.dev(), found.ino()) => Form::Journal,
         _ => Form::Plain,
     }
+}
+
+/// A log that writes each line to standard error at once.
+pub(crate) fn direct_log<R: AllocGlobal + Env + Files + Copy + Drop>(
+    rt: &R,
+    level: LevelFilter,
+) -> Logged<R, Direct<R>> {
+    let form = log_form(rt);
+    Logged::new(*rt, level, Direct { rt: *rt, form })
 }
 
 fn is_named(name: &str, device: u64, inode: u64) -> bool {
@@ -88,7 +97,7 @@ where
     ensures refused { IfErr result (λ fault. (fault ≡ ServerFault.NoMemory) ⊎ (fault ≡ ServerFault.Threads)) }
 {
     let form = log_form(&rt);
-    let queue = Arc::new(rt.alloc(), LogQueue::new(rt.alloc(), form)?)?;
+    let queue = made(rt.alloc(), form)?;
     let lines = queue.clone()?;
     if Builder::new()
         .spawn(&rt, move || write_lines(&rt, &lines))
@@ -97,6 +106,10 @@ where
         return Err(log_no_thread(&Direct { rt, form }));
     }
     Ok(queue)
+}
+
+fn made(alloc: Global, form: Form) -> Result<Arc<LogQueue>, AllocError> {
+    Ok(Arc::new(alloc, LogQueue::new(alloc, form)?)?)
 }
 
 /// Closes the queue, and waits for a second at most until all of it is written. Answers whether it was.

@@ -5,9 +5,9 @@ ghost use Rattle.program.specs.{Faults.status_of, Starting.{Meets, HasFor, neede
 use crate::acting::{stream, write};
 use crate::constants::VERSION;
 use crate::faults::ProgramFault;
-use crate::logging::log_form;
-use log::{LevelFilter, Log, Logged, info, warn};
-use log_queue::Direct;
+use crate::logging::direct_log;
+use crate::streams::log_text;
+use log::{Level, LevelFilter, Log};
 use settings::{Address, Settings, pollers_for};
 use std::alloc::AllocGlobal;
 use std::env::Env;
@@ -90,19 +90,26 @@ fn used_slots<R: AllocGlobal + Files + Net + Copy + Drop>(
 fn warn_of_itself(rt: &impl Net, log: &impl Log, listen: Address, target: Address) {
     let is_here = listen.1 == target.1 && is_here(rt, target);
     if meets(listen, target, is_here) {
-        warn!(log; target: "relayd", "target: the relay itself listens there, so a connection would go round without end");
+        let text =
+            "target: the relay itself listens there, so a connection would go round without end";
+        log_text(log, Level::Warn, &text);
     }
 }
 
 /// Warns of an idle limit of a second. The clock counts whole seconds, so it may pass at once after a byte was moved.
 fn warn_of_short_idle(log: &impl Log, idle: u32) {
     if idle == 1 {
-        warn!(log; target: "relayd", "idle: 1 closes connections that move bytes, since whole seconds are counted; 2 leaves each at least one");
+        let text =
+            "idle: 1 closes connections that move bytes, since whole seconds are counted; 2 leaves each at least one";
+        log_text(log, Level::Warn, &text);
     }
 }
 
 fn warn_of_few(log: &impl Log, slots: usize, set: usize, most: u64, needs: u64) {
-    warn!(log; target: "relayd", "slots: at most {slots} of {set} connections are served at a time, since the limit is {most} descriptors and {needs} are needed (ulimit -n)");
+    let text = format_args!(
+        "slots: at most {slots} of {set} connections are served at a time, since the limit is {most} descriptors and {needs} are needed (ulimit -n)"
+    );
+    log_text(log, Level::Warn, &text);
 }
 
 /// Logs how a relay serves that listens at this address.
@@ -113,7 +120,10 @@ pub fn log_start(log: &impl Log, listen: SocketAddr, settings: &Settings) {
         settings.workers,
     );
     let pollers = pollers_for(slots, workers);
-    info!(log; target: "relayd", "relayd {VERSION}: {listen} to {target}, {slots} slots, {workers} workers, {pollers} pollers");
+    let text = format_args!(
+        "relayd {VERSION}: {listen} to {target}, {slots} slots, {workers} workers, {pollers} pollers"
+    );
+    log_text(log, Level::Info, &text);
 }
 
 /// Whether connections to the target reach the relay itself. `is_here`: its address is one of this machine.
@@ -146,8 +156,7 @@ pub fn print_listening<R>(rt: &R, address: SocketAddr, output: &mut impl Write) 
 where
     R: AllocGlobal + Env + Files + Eprint + Copy + Drop,
 {
-    let form = log_form(rt);
-    let log = Logged::new(*rt, LevelFilter::Error, Direct { rt: *rt, form });
+    let log = direct_log(rt, LevelFilter::Error);
     let mut output = stream("output", output, &log);
     print_line(rt, address, &mut output).is_ok()
 }
@@ -175,8 +184,17 @@ pub struct Descriptors {
 
 /// None if the process has no limit, or the system does not say.
 pub fn read_descriptors<R: AllocGlobal + Files + Copy + Drop>(rt: &R) -> Option<Descriptors> {
+    let most = read_limit(rt)?;
+    let in_use = count_open(rt)?;
+    Some(Descriptors { most, in_use })
+}
+
+fn read_limit<R: AllocGlobal + Files>(rt: &R) -> Option<u64> {
     let limits = fs::read_to_string(rt, "/proc/self/limits").ok()?;
-    let most = soft_limit(limits.as_str())?;
+    soft_limit(limits.as_str())
+}
+
+fn count_open<R: AllocGlobal + Files + Copy + Drop>(rt: &R) -> Option<u64> {
     let mut in_use = 0u64;
     for entry in fs::read_dir(rt, "/proc/self/fd").ok()? {
         if entry.is_ok() {
@@ -184,21 +202,14 @@ pub fn read_descriptors<R: AllocGlobal + Files + Copy + Drop>(rt: &R) -> Option<
         }
     }
     // The folder itself was open while it was read.
-    Some(Descriptors {
-        most,
-        in_use: in_use.saturating_sub(1),
-    })
+    Some(in_use.saturating_sub(1))
 }
 
 /// The soft limit of open files in `/proc/self/limits` (proc(5)). None if there is no such line, or it says
 /// `unlimited`.
 fn soft_limit(text: &str) -> Option<u64> {
-    for line in text.lines() {
-        if let Some(rest) = line.strip_prefix("Max open files ") {
-            return rest.split_whitespace().next()?.parse::<u64>().ok();
-        }
-    }
-    None
+    let (_, rest) = text.split_once("\nMax open files ")?;
+    rest.split_whitespace().next()?.parse::<u64>().ok()
 }
 
 /// The most of these slots that there are descriptors for, with their pollers.

@@ -1,5 +1,5 @@
 //! What is printed of the command line: help, the version, and why it is refused.
-ghost use Rattle.std.specs.Prelude.{◌≡◌, ◌≢◌, ◌⊎◌};
+ghost use Rattle.std.specs.Prelude.{◌≡◌, ◌≢◌, ◌⊎◌, IfErr};
 ghost use Rattle.clap.specs.Values.{kind_of};
 ghost use Rattle.program.specs.Faults.{IsCarriedOut, status_of};
 
@@ -45,15 +45,22 @@ pub(crate) fn answer_usage<L: Log, O: Write, E: Write>(
         print_refused(alloc, arguments, error, errors);
         return USAGE;
     }
-    let mut writer = stream("output", writer, log);
-    let Ok(text) = format!(in alloc; "{error}") else {
-        return report_fault(errors, ProgramFault::from(AllocError));
-    };
+    match print_answer(alloc, error, &mut stream("output", writer, log)) {
+        Ok(()) => DONE,
+        Err(fault) => report_fault(errors, fault),
+    }
+}
+
+/// Prints help or the version.
+fn print_answer(alloc: Global, error: &Error, writer: &mut impl Write) -> Result<(), ProgramFault>
+    ensures { IfErr result (λ fault. status_of fault ≡ 1) }
+{
+    let text = format!(in alloc; "{error}")?;
     let text = Wrapped(text.as_str());
     if write!(writer, "{text}").is_err() || writer.flush().is_err() {
-        return report_fault(errors, ProgramFault::Write);
+        return Err(ProgramFault::Write);
     }
-    DONE
+    Ok(())
 }
 
 /// Prints why arguments are refused. Where one has control characters, the parser is asked again, with these escaped.
@@ -100,24 +107,20 @@ impl fmt::Display for Escaped<'_> {
 /// Prints why arguments are refused. What to type instead stands below the first paragraph, in place of a tip of the
 /// parser's.
 fn print_error(alloc: Global, error: &Error, tip: Option<Tip<'_>>, errors: &mut impl Write) {
-    // If this cannot be written, only the status is left to report it.
-    let Some(tip) = tip else {
-        let _ = write!(errors, "{error}");
-        return;
-    };
-    match format!(in alloc; "{error}") {
-        Ok(text) => {
-            let (why, rest) = text
-                .as_str()
-                .split_once("\n\n")
-                .unwrap_or((text.as_str(), ""));
-            let rest = without_tip(rest);
-            let _ = write!(errors, "{why}\n\n  tip: {tip}\n\n{rest}");
-        }
-        Err(_) => {
-            let _ = write!(errors, "{error}");
+    if let Some(tip) = tip {
+        if let Ok(text) = format!(in alloc; "{error}") {
+            print_with_tip(text.as_str(), tip, errors);
+            return;
         }
     }
+    // If this cannot be written, only the status is left to report it.
+    let _ = write!(errors, "{error}");
+}
+
+fn print_with_tip(text: &str, tip: Tip<'_>, errors: &mut impl Write) {
+    let (why, rest) = text.split_once("\n\n").unwrap_or((text, ""));
+    let rest = without_tip(rest);
+    let _ = write!(errors, "{why}\n\n  tip: {tip}\n\n{rest}");
 }
 
 fn without_tip(rest: &str) -> &str {
@@ -158,8 +161,7 @@ fn write_line<W: fmt::Write>(f: &mut fmt::Formatter<W>, line: &str) -> fmt::Resu
     for word in line.split(' ') {
         let length = word.chars().count();
         if length > 0 && column > indent && column.saturating_add(length) >= COLUMNS {
-            f.write_char('\n')?;
-            write_spaces(f, indent)?;
+            break_line(f, indent)?;
             column = indent;
         } else if !is_first {
             f.write_char(' ')?;
@@ -172,8 +174,9 @@ fn write_line<W: fmt::Write>(f: &mut fmt::Formatter<W>, line: &str) -> fmt::Resu
     Ok(())
 }
 
-fn write_spaces<W: fmt::Write>(f: &mut fmt::Formatter<W>, many: usize) -> fmt::Result {
-    for _ in 0..many {
+fn break_line<W: fmt::Write>(f: &mut fmt::Formatter<W>, indent: usize) -> fmt::Result {
+    f.write_char('\n')?;
+    for _ in 0..indent {
         f.write_char(' ')?;
     }
     Ok(())
@@ -205,17 +208,14 @@ pub(crate) enum Tip<'a> {
 
 impl fmt::Display for Tip<'_> {
     fn fmt<W: fmt::Write>(&self, f: &mut fmt::Formatter<W>) -> fmt::Result {
-        match *self {
-            Tip::Config(command, file) => write!(f, "relayd {command} --config {file}"),
-            Tip::Forward(listen, target) => write!(f, "relayd forward {listen} {target}"),
-            Tip::Script(file) => write!(f, "relayd sim < {file}"),
-            Tip::Setting(option) => {
-                write!(
-                    f,
-                    "'{option}' is a setting: it stands in the file, or is an option of 'relayd forward'"
-                )
-            }
-        }
+        let setting = "' is a setting: it stands in the file, or is an option of 'relayd forward'";
+        let (lead, first, middle, last) = match *self {
+            Tip::Config(command, file) => ("relayd ", command, " --config ", file),
+            Tip::Forward(listen, target) => ("relayd forward ", listen, " ", target),
+            Tip::Script(file) => ("relayd sim < ", file, "", ""),
+            Tip::Setting(option) => ("'", option, setting, ""),
+        };
+        write!(f, "{lead}{first}{middle}{last}")
     }
 }
 
