@@ -69,29 +69,16 @@ where
     ensures unread { result ≡ 2 → I.remaining reader.new ≡ I.remaining reader.old }
     ensures unwritten { result ≡ 2 → O.contents writer.new ≡ O.contents writer.old }
 {
-    let Ok(arguments) = texts(rt.alloc(), arguments) else {
-        return report_fault(errors, ProgramFault::from(AllocError));
-    };
     let log = direct_log(rt, LevelFilter::Warn);
-    let outcome = match read_command(rt.alloc(), arguments.as_slice()) {
+    match read_command(rt.alloc(), arguments) {
         Ok(command) => {
             tell_if_typed(&command, reader, errors);
-            carry_out(rt, &log, &command, reader, writer, serve, player)
+            match carry_out(rt, &log, &command, reader, writer, serve, player) {
+                Ok(status) => status,
+                Err(fault) => report_fault(errors, fault),
+            }
         }
-        Err(error) => {
-            return answer_usage(
-                rt.alloc(),
-                &log,
-                arguments.as_slice(),
-                &error,
-                writer,
-                errors,
-            );
-        }
-    };
-    match outcome {
-        Ok(status) => status,
-        Err(fault) => report_fault(errors, fault),
+        Err(error) => answer_usage(rt.alloc(), &log, arguments, &error, writer, errors),
     }
 }
 
@@ -103,14 +90,6 @@ fn tell_if_typed<I: IsTerminal, E: Write>(command: &Command<'_>, reader: &I, err
             "relayd: waiting for a script; Ctrl-D ends it (see relayd --help)"
         );
     }
-}
-
-/// The arguments as the parser of the command line takes them.
-pub(crate) fn texts(alloc: Global, arguments: &[String]) -> Result<Vec<&str>, AllocError> {
-    arguments
-        .iter()
-        .map(|argument| argument.as_str())
-        .collect(alloc)
 }
 
 /// Carries out a command. The causes of faults, and warnings of `check`, go to `log`, whatever level a settings file
@@ -183,20 +162,9 @@ where
     ensures done { IfOk result (λ status. status ≡ 0) }
     ensures fault { IfErr result (λ fault. status_of fault ≡ 1) }
 {
-    let text = checked(rt, log, path)?;
-    write(&mut stream("output", writer, log), text.as_str())?;
-    Ok(DONE)
-}
-
-/// The text of the settings of a file that is checked.
-fn checked<R, L: Log>(rt: &R, log: &L, path: &str) -> Result<String, ProgramFault>
-where
-    R: AllocGlobal + Files + Eprint + Net + Copy + Drop,
-    ensures { IfErr result (λ fault. status_of fault ≡ 1) }
-{
     let settings = config::load(rt, log, path)?;
     foresee(rt, log, &settings)?;
-    Ok(format!(in rt.alloc(); "{settings}")?)
+    print(rt.alloc(), &settings, &mut stream("output", writer, log))
 }
 
 fn simulate_by<L: Log, I: Read, O: Write>(
@@ -254,6 +222,15 @@ fn simulate<L: Log, I: Read, O: Write>(
         Ok(Outcome::Refused) => Ok(FAULT),
         Err(fault) => Err(ProgramFault::Script(fault)),
     }
+}
+
+fn print(alloc: Global, settings: &Settings, writer: &mut impl Write) -> Result<u8, ProgramFault>
+    ensures done { IfOk result (λ status. status ≡ 0) }
+    ensures fault { IfErr result (λ fault. status_of fault ≡ 1) }
+{
+    let text = format!(in alloc; "{settings}")?;
+    write(writer, text.as_str())?;
+    Ok(DONE)
 }
 
 /// Listens, looks at what the settings need, makes the file to record into, and serves.

@@ -54,13 +54,9 @@ pub struct Replayed<'a> {
 ///
 /// An error is a usage text: the requested help or version, or why the arguments are refused; or it has the kind
 /// `OutOfMemory`. Nothing has been printed then.
-pub fn read_command<'a>(alloc: Global, arguments: &'a [&'a str]) -> Result<Command<'a>, Error> {
-    let matches = matches_of(alloc, arguments)?;
+pub fn read_command<'a>(alloc: Global, arguments: &'a [String]) -> Result<Command<'a>, Error> {
+    let matches = relayd(alloc)?.try_get_matches_from(arguments)?;
     command_of(alloc, &matches)
-}
-
-fn matches_of<'a>(alloc: Global, arguments: &'a [&'a str]) -> Result<ArgMatches<'a>, Error> {
-    relayd(alloc)?.try_get_matches_from(arguments)
 }
 
 fn command_of<'a>(alloc: Global, matches: &ArgMatches<'a>) -> Result<Command<'a>, Error> {
@@ -122,7 +118,8 @@ fn shows_each(matches: &ArgMatches<'_>) -> bool {
 /// The program's command line.
 fn relayd<'a>(alloc: Global) -> Result<clap::Command<'a>, AllocError> {
     let mut subcommands = Vec::new(alloc);
-    add_subcommands(alloc, commands(), &mut subcommands)?;
+    add_subcommands(alloc, serving(), &mut subcommands)?;
+    add_subcommands(alloc, others(), &mut subcommands)?;
     without_subcommands(alloc).subcommands(subcommands)
 }
 
@@ -279,8 +276,8 @@ const RECORDING: [ArgumentRow; 4] = [
     },
 ];
 
-/// The commands, in the order of the help.
-static COMMANDS: [CommandRow; 5] = [
+/// The commands that serve, in the order of the help.
+static SERVING: [CommandRow; 2] = [
     CommandRow {
         name: "forward",
         about: "Forwards connections from one address to another",
@@ -311,6 +308,10 @@ static COMMANDS: [CommandRow; 5] = [
             KEEPALIVE,
         ],
     },
+];
+
+/// The other commands, which follow in the help.
+static OTHERS: [CommandRow; 3] = [
     CommandRow {
         name: "check",
         about: "Reads a settings file and prints every setting, or what is wrong",
@@ -334,8 +335,12 @@ static COMMANDS: [CommandRow; 5] = [
     },
 ];
 
-fn commands() -> &'static [CommandRow] {
-    &COMMANDS
+fn serving() -> &'static [CommandRow] {
+    &SERVING
+}
+
+fn others() -> &'static [CommandRow] {
+    &OTHERS
 }
 
 fn add_subcommand<'a>(

@@ -11,7 +11,6 @@ use input::{InputFault, read_at_most};
 use log::Log;
 use settings::{Key, LogLevel, Settings, SettingsFault};
 use std::alloc::Global;
-use std::fmt;
 use std::fs::{self, File};
 use std::io::Read;
 use std::rt::Files;
@@ -33,7 +32,7 @@ pub fn load<R: AllocGlobal + Files, L: Log>(
             };
             let answer = read(log, rt.alloc(), path, &mut file);
             if matches!(&answer, Err(ConfigFault::Long)) {
-                log_error(log, &name, &Length::of(rt, path));
+                log_length(rt, log, path, &name);
             }
             answer
         }
@@ -44,25 +43,22 @@ pub fn load<R: AllocGlobal + Files, L: Log>(
     }
 }
 
-/// The length of a file that is too long, or none where the system does not say.
-#[derive(Clone, Copy)]
-struct Length(Option<u64>);
-
-impl Length {
-    fn of<R: Files>(rt: &R, path: &str) -> Length {
-        match fs::metadata(rt, path) {
-            Ok(found) if found.len() > MAX_CONFIG_BYTES as u64 => Length(Some(found.len())),
-            _ => Length(None),
+/// Logs the length of a file that is too long, if the system says it.
+fn log_length(rt: &impl Files, log: &impl Log, path: &str, name: &FileName<'_>) {
+    match fs::metadata(rt, path) {
+        Ok(found) if found.len() > MAX_CONFIG_BYTES as u64 => {
+            let bytes = found.len();
+            log_error(
+                log,
+                name,
+                &format_args!("{bytes} bytes are more than {MAX_CONFIG_BYTES}"),
+            );
         }
-    }
-}
-
-impl fmt::Display for Length {
-    fn fmt<W: fmt::Write>(&self, f: &mut fmt::Formatter<W>) -> fmt::Result {
-        match self.0 {
-            Some(bytes) => write!(f, "{bytes} bytes are more than {MAX_CONFIG_BYTES}"),
-            None => write!(f, "there are more than {MAX_CONFIG_BYTES} bytes"),
-        }
+        _ => log_error(
+            log,
+            name,
+            &format_args!("there are more than {MAX_CONFIG_BYTES} bytes"),
+        ),
     }
 }
 

@@ -96,19 +96,15 @@ struct Escaped<'a>(&'a str);
 impl fmt::Display for Escaped<'_> {
     fn fmt<W: fmt::Write>(&self, f: &mut fmt::Formatter<W>) -> fmt::Result {
         for character in self.0.chars() {
+            if matches!(character, '"' | '\\') {
+                f.write_char('\\')?;
+            }
             if character.is_control() {
                 write!(f, "\\u{:04X}", character as u32)?;
             } else {
-                write_plain(f, character)?;
+                f.write_char(character)?;
             }
         }
         Ok(())
     }
-}
-
-fn write_plain<W: fmt::Write>(f: &mut fmt::Formatter<W>, character: char) -> fmt::Result {
-    if matches!(character, '"' | '\\') {
-        f.write_char('\\')?;
-    }
-    f.write_char(character)
 }

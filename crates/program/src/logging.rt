@@ -12,7 +12,7 @@ use log::{Level, LevelFilter, Log, Logged, Metadata, Record};
 use log_queue::{Direct, Form, LogLine, LogQueue, write_lines};
 use relay_log::{ServerFault, log_no_thread};
 use settings::LogLevel;
-use std::alloc::{AllocError, AllocGlobal, Global};
+use std::alloc::AllocGlobal;
 use std::cell::Cell;
 use std::env::{self, Env};
 use std::fmt::{Display, Write as _};
@@ -97,7 +97,7 @@ where
     ensures refused { IfErr result (λ fault. (fault ≡ ServerFault.NoMemory) ⊎ (fault ≡ ServerFault.Threads)) }
 {
     let form = log_form(&rt);
-    let queue = made(rt.alloc(), form)?;
+    let queue = Arc::new(rt.alloc(), LogQueue::new(rt.alloc(), form)?)?;
     let lines = queue.clone()?;
     if Builder::new()
         .spawn(&rt, move || write_lines(&rt, &lines))
@@ -106,10 +106,6 @@ where
         return Err(log_no_thread(&Direct { rt, form }));
     }
     Ok(queue)
-}
-
-fn made(alloc: Global, form: Form) -> Result<Arc<LogQueue>, AllocError> {
-    Ok(Arc::new(alloc, LogQueue::new(alloc, form)?)?)
 }
 
 /// Closes the queue, and waits for a second at most until all of it is written. Answers whether it was.

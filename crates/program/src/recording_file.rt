@@ -135,18 +135,11 @@ pub(crate) fn is_recording(rt: &impl Files, path: &str) -> io::Result<bool> {
 fn free_name(rt: &impl Files, alloc: Global, path: &str) -> Result<String, Unmade> {
     for number in 1..=MOST_KEPT {
         let name = format!(in alloc; "{path}.{number}")?;
-        if is_made(rt, name.as_str())? {
-            return Ok(name);
+        match how_to_open(false).open(rt, name.as_str()) {
+            Ok(_) => return Ok(name),
+            Err(error) if error.kind() == ErrorKind::AlreadyExists => {}
+            Err(error) => return Err(Unmade::from(error)),
         }
     }
     Err(Unmade::from(io::Error::from(ErrorKind::AlreadyExists)))
-}
-
-/// Makes a file, and answers whether it was not there yet.
-fn is_made(rt: &impl Files, path: &str) -> io::Result<bool> {
-    match how_to_open(false).open(rt, path) {
-        Ok(_) => Ok(true),
-        Err(error) if error.kind() == ErrorKind::AlreadyExists => Ok(false),
-        Err(error) => Err(error),
-    }
 }

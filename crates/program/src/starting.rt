@@ -157,17 +157,17 @@ where
     R: AllocGlobal + Env + Files + Eprint + Copy + Drop,
 {
     let log = direct_log(rt, LevelFilter::Error);
-    let mut output = stream("output", output, &log);
-    print_line(rt, address, &mut output).is_ok()
+    print_line(rt, &log, address, output).is_ok()
 }
 
 fn print_line<R: AllocGlobal>(
     rt: &R,
+    log: &impl Log,
     address: SocketAddr,
     output: &mut impl Write,
 ) -> Result<(), ProgramFault> {
     let line = format!(in rt.alloc(); "listening {address}\n")?;
-    write(output, line.as_str())
+    write(&mut stream("output", output, log), line.as_str())
 }
 
 const FOR_A_CONNECTION: u64 = 2;
@@ -176,7 +176,7 @@ const FOR_A_CONNECTION: u64 = 2;
 const FOR_A_POLLER: u64 = 2;
 
 /// How many descriptors a process may have open, its soft limit, and how many are in use.
-#[derive(Clone, Copy, PartialEq, Eq)]
+#[derive(Clone, Copy)]
 pub struct Descriptors {
     pub most: u64,
     pub in_use: u64,
@@ -184,17 +184,8 @@ pub struct Descriptors {
 
 /// None if the process has no limit, or the system does not say.
 pub fn read_descriptors<R: AllocGlobal + Files + Copy + Drop>(rt: &R) -> Option<Descriptors> {
-    let most = read_limit(rt)?;
-    let in_use = count_open(rt)?;
-    Some(Descriptors { most, in_use })
-}
-
-fn read_limit<R: AllocGlobal + Files>(rt: &R) -> Option<u64> {
     let limits = fs::read_to_string(rt, "/proc/self/limits").ok()?;
-    soft_limit(limits.as_str())
-}
-
-fn count_open<R: AllocGlobal + Files + Copy + Drop>(rt: &R) -> Option<u64> {
+    let most = soft_limit(limits.as_str())?;
     let mut in_use = 0u64;
     for entry in fs::read_dir(rt, "/proc/self/fd").ok()? {
         if entry.is_ok() {
@@ -202,7 +193,10 @@ fn count_open<R: AllocGlobal + Files + Copy + Drop>(rt: &R) -> Option<u64> {
         }
     }
     // The folder itself was open while it was read.
-    Some(in_use.saturating_sub(1))
+    Some(Descriptors {
+        most,
+        in_use: in_use.saturating_sub(1),
+    })
 }
 
 /// The soft limit of open files in `/proc/self/limits` (proc(5)). None if there is no such line, or it says

@@ -3,7 +3,7 @@ ghost use Rattle.std.specs.Prelude.{◌≡◌, ◌≢◌, ◌⊎◌, IfErr};
 ghost use Rattle.clap.specs.Values.{kind_of};
 ghost use Rattle.program.specs.Faults.{IsCarriedOut, status_of};
 
-use crate::acting::{report_fault, stream, texts};
+use crate::acting::{report_fault, stream};
 use crate::command_line::read_command;
 use crate::constants::{DONE, USAGE};
 use crate::faults::ProgramFault;
@@ -27,7 +27,7 @@ const MOST_INDENT: usize = 40;
 pub(crate) fn answer_usage<L: Log, O: Write, E: Write>(
     alloc: Global,
     log: &L,
-    arguments: &[&str],
+    arguments: &[String],
     error: &Error,
     writer: &mut O,
     errors: &mut E,
@@ -64,14 +64,15 @@ fn print_answer(alloc: Global, error: &Error, writer: &mut impl Write) -> Result
 }
 
 /// Prints why arguments are refused. Where one has control characters, the parser is asked again, with these escaped.
-fn print_refused(alloc: Global, arguments: &[&str], error: &Error, errors: &mut impl Write) {
-    if arguments.iter().any(|argument| has_control(argument)) {
+fn print_refused(alloc: Global, arguments: &[String], error: &Error, errors: &mut impl Write) {
+    if arguments
+        .iter()
+        .any(|argument| has_control(argument.as_str()))
+    {
         if let Ok(escaped) = escape_all(alloc, arguments) {
-            if let Ok(escaped) = texts(alloc, escaped.as_slice()) {
-                if let Err(error) = read_command(alloc, escaped.as_slice()) {
-                    print_error(alloc, &error, find_tip(escaped.as_slice()), errors);
-                    return;
-                }
+            if let Err(error) = read_command(alloc, escaped.as_slice()) {
+                print_error(alloc, &error, find_tip(escaped.as_slice()), errors);
+                return;
             }
         }
     }
@@ -82,10 +83,10 @@ fn has_control(text: &str) -> bool {
     text.chars().any(|character| character.is_control())
 }
 
-fn escape_all(alloc: Global, arguments: &[&str]) -> Result<Vec<String>, AllocError> {
+fn escape_all(alloc: Global, arguments: &[String]) -> Result<Vec<String>, AllocError> {
     let mut all = Vec::new(alloc);
     for argument in arguments {
-        let argument = Escaped(argument);
+        let argument = Escaped(argument.as_str());
         all.push(format!(in alloc; "{argument}")?)?;
     }
     Ok(all)
@@ -109,18 +110,15 @@ impl fmt::Display for Escaped<'_> {
 fn print_error(alloc: Global, error: &Error, tip: Option<Tip<'_>>, errors: &mut impl Write) {
     if let Some(tip) = tip {
         if let Ok(text) = format!(in alloc; "{error}") {
-            print_with_tip(text.as_str(), tip, errors);
+            let text = text.as_str();
+            let (why, rest) = text.split_once("\n\n").unwrap_or((text, ""));
+            let rest = without_tip(rest);
+            let _ = write!(errors, "{why}\n\n  tip: {tip}\n\n{rest}");
             return;
         }
     }
     // If this cannot be written, only the status is left to report it.
     let _ = write!(errors, "{error}");
-}
-
-fn print_with_tip(text: &str, tip: Tip<'_>, errors: &mut impl Write) {
-    let (why, rest) = text.split_once("\n\n").unwrap_or((text, ""));
-    let rest = without_tip(rest);
-    let _ = write!(errors, "{why}\n\n  tip: {tip}\n\n{rest}");
 }
 
 fn without_tip(rest: &str) -> &str {
@@ -161,7 +159,8 @@ fn write_line<W: fmt::Write>(f: &mut fmt::Formatter<W>, line: &str) -> fmt::Resu
     for word in line.split(' ') {
         let length = word.chars().count();
         if length > 0 && column > indent && column.saturating_add(length) >= COLUMNS {
-            break_line(f, indent)?;
+            f.write_char('\n')?;
+            write_spaces(f, indent)?;
             column = indent;
         } else if !is_first {
             f.write_char(' ')?;
@@ -174,9 +173,8 @@ fn write_line<W: fmt::Write>(f: &mut fmt::Formatter<W>, line: &str) -> fmt::Resu
     Ok(())
 }
 
-fn break_line<W: fmt::Write>(f: &mut fmt::Formatter<W>, indent: usize) -> fmt::Result {
-    f.write_char('\n')?;
-    for _ in 0..indent {
+fn write_spaces<W: fmt::Write>(f: &mut fmt::Formatter<W>, many: usize) -> fmt::Result {
+    for _ in 0..many {
         f.write_char(' ')?;
     }
     Ok(())
@@ -208,21 +206,27 @@ pub(crate) enum Tip<'a> {
 
 impl fmt::Display for Tip<'_> {
     fn fmt<W: fmt::Write>(&self, f: &mut fmt::Formatter<W>) -> fmt::Result {
-        let setting = "' is a setting: it stands in the file, or is an option of 'relayd forward'";
-        let (lead, first, middle, last) = match *self {
-            Tip::Config(command, file) => ("relayd ", command, " --config ", file),
-            Tip::Forward(listen, target) => ("relayd forward ", listen, " ", target),
-            Tip::Script(file) => ("relayd sim < ", file, "", ""),
-            Tip::Setting(option) => ("'", option, setting, ""),
-        };
-        write!(f, "{lead}{first}{middle}{last}")
+        match *self {
+            Tip::Config(command, file) => write!(f, "relayd {command} --config {file}"),
+            Tip::Forward(listen, target) => write!(f, "relayd forward {listen} {target}"),
+            Tip::Script(file) => write!(f, "relayd sim < {file}"),
+            Tip::Setting(option) => {
+                write!(
+                    f,
+                    "'{option}' is a setting: it stands in the file, or is an option of 'relayd forward'"
+                )
+            }
+        }
     }
 }
 
 /// What to type in place of refused arguments, of which the first is the program's own name, if that is likely enough.
-fn find_tip<'a>(arguments: &[&'a str]) -> Option<Tip<'a>> {
-    let first = *arguments.get(1)?;
-    let second = arguments.get(2).copied();
+fn find_tip(arguments: &[String]) -> Option<Tip<'_>> {
+    let first = arguments.get(1)?.as_str();
+    let second = match arguments.get(2) {
+        Some(second) => Some(second.as_str()),
+        None => None,
+    };
     match first {
         "run" | "check" => match setting_in(arguments) {
             Some(option) => Some(Tip::Setting(option)),
@@ -250,12 +254,13 @@ fn no_option(word: Option<&str>) -> Option<&str> {
 }
 
 /// The first argument that gives a setting as `relayd forward` takes it. `--log` is an option of `relayd run`, too.
-fn setting_in<'a>(arguments: &[&'a str]) -> Option<&'a str> {
+fn setting_in(arguments: &[String]) -> Option<&str> {
     for argument in arguments {
+        let argument = argument.as_str();
         if let Some(option) = argument.strip_prefix("--") {
             let name = option.split('=').next()?;
             if name != "log" && is_setting(name) {
-                return Some(*argument);
+                return Some(argument);
             }
         }
     }
