@@ -114,26 +114,9 @@ where
     match command {
         Command::Simulate { each } => simulate_by(rt.alloc(), log, *each, reader, writer),
         Command::Check(path) => check(rt, log, path, writer),
-        Command::Serve(relay) => serve_relay(rt, log, relay, serve),
+        Command::Serve(relay) => run(rt, log, relay, serve),
         Command::Replay(replayed) => replay(rt, log, *replayed, writer, player),
     }
-}
-
-fn serve_relay<R, S, L: Log>(
-    rt: &R,
-    log: &L,
-    relay: &Relay<'_>,
-    serve: &S,
-) -> Result<u8, ProgramFault>
-where
-    R: AllocGlobal + Env + Files + Eprint + Net + Copy + Drop,
-    S: Fn(Settings, Bound, Extras, Option<R::File>) -> Result<bool, ServerFault>,
-    requires { S.IsAlwaysCallable serve.now }
-    ensures { IfOk result (λ status. status ≡ 0) }
-{
-    let extras = extras_of(log, relay.extras)?;
-    let settings = settings_of(rt, log, &relay.settings)?;
-    run(rt, settings, relay.record, extras, serve)
 }
 
 fn settings_of<R: AllocGlobal + Files, L: Log>(
@@ -229,29 +212,33 @@ fn print(alloc: Global, settings: &Settings, writer: &mut impl Write) -> Result<
     ensures fault { IfErr result (λ fault. status_of fault ≡ 1) }
 {
     let text = format!(in alloc; "{settings}")?;
-    write(writer, text.as_str())?;
+    if !write(writer, text.as_str()) {
+        return Err(ProgramFault::Write);
+    }
     Ok(DONE)
 }
 
 /// Listens, looks at what the settings need, makes the file to record into, and serves.
-fn run<R, S>(
-    rt: &R,
-    settings: Settings,
-    record: Option<&str>,
-    extras: Extras,
-    serve: &S,
-) -> Result<u8, ProgramFault>
+fn run<R, S, L: Log>(rt: &R, log: &L, relay: &Relay<'_>, serve: &S) -> Result<u8, ProgramFault>
 where
     R: AllocGlobal + Env + Files + Eprint + Net + Copy + Drop,
     S: Fn(Settings, Bound, Extras, Option<R::File>) -> Result<bool, ServerFault>,
     requires { S.IsAlwaysCallable serve.now }
-    ensures done { IfOk result (λ status. status ≡ 0) }
-    ensures fault { IfErr result (λ fault. status_of fault ≡ 1) }
+    ensures { IfOk result (λ status. status ≡ 0) }
 {
+    let extras = extras_of(log, relay.extras)?;
+    let settings = settings_of(rt, log, &relay.settings)?;
     let log = direct_log(rt, starting_filter(settings.log));
-    let bound = bind(&log, &settings).map_err(ProgramFault::Server)?;
-    let settings = prepare(rt, &log, settings, u64::from(record.is_some()))?;
-    let file = create(rt, &log, record)?;
+    let bound = match bind(&log, &settings) {
+        Ok(bound) => bound,
+        Err(fault) => return Err(ProgramFault::Server(fault)),
+    };
+    let recordings = match relay.record {
+        Some(_) => 1,
+        None => 0,
+    };
+    let settings = prepare(rt, &log, settings, recordings)?;
+    let file = create(rt, &log, relay.record)?;
     match serve(settings, bound, extras, file) {
         Ok(true) => Ok(DONE),
         Ok(false) => Err(ProgramFault::Write),
@@ -259,14 +246,9 @@ where
     }
 }
 
-/// Writes all of a text, and flushes it.
-pub(crate) fn write(writer: &mut impl Write, text: &str) -> Result<(), ProgramFault>
-    ensures { IfErr result (λ fault. status_of fault ≡ 1) }
-{
-    if writer.write_all(text.as_bytes()).is_err() || writer.flush().is_err() {
-        return Err(ProgramFault::Write);
-    }
-    Ok(())
+/// Writes all of a text, and flushes it. Answers whether that was done.
+pub(crate) fn write(writer: &mut impl Write, text: &str) -> bool {
+    writer.write_all(text.as_bytes()).is_ok() && writer.flush().is_ok()
 }
 
 /// Writes a fault to `errors`, and returns its status.

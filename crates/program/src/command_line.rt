@@ -94,9 +94,11 @@ fn chosen<'a>(matches: &ArgMatches<'a>) -> Command<'a> {
             return Command::Check(path);
         }
     }
-    Command::Simulate {
-        each: shows_each(matches),
-    }
+    let each = match matches.subcommand_matches("sim") {
+        Some(sim) => sim.get_flag("each"),
+        None => false,
+    };
+    Command::Simulate { each }
 }
 
 fn replay_of<'a>(path: &'a str, matches: &ArgMatches<'a>) -> Replayed<'a> {
@@ -105,13 +107,6 @@ fn replay_of<'a>(path: &'a str, matches: &ArgMatches<'a>) -> Replayed<'a> {
         script: matches.get_str("script"),
         ends: matches.get_flag("ends"),
         rests: matches.get_flag("rest"),
-    }
-}
-
-fn shows_each(matches: &ArgMatches<'_>) -> bool {
-    match matches.subcommand_matches("sim") {
-        Some(sim) => sim.get_flag("each"),
-        None => false,
     }
 }
 

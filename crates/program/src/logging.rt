@@ -97,7 +97,8 @@ where
     ensures refused { IfErr result (λ fault. (fault ≡ ServerFault.NoMemory) ⊎ (fault ≡ ServerFault.Threads)) }
 {
     let form = log_form(&rt);
-    let queue = Arc::new(rt.alloc(), LogQueue::new(rt.alloc(), form)?)?;
+    let alloc = rt.alloc();
+    let queue = Arc::new(alloc, LogQueue::new(alloc, form)?)?;
     let lines = queue.clone()?;
     if Builder::new()
         .spawn(&rt, move || write_lines(&rt, &lines))

@@ -29,31 +29,13 @@ pub(crate) fn replay<R: AllocGlobal + Files, L: Log, O: Write, P: Replay>(
     ensures unwritten { IfErr result (λ fault. status_of fault ≡ 2 → O.contents writer.new ≡ O.contents writer.old) }
 {
     let wanted = find_wanted(log, replayed)?;
-    replay_file(
-        rt,
-        log,
-        replayed,
-        wanted,
-        &mut stream("output", writer, log),
-        player,
-    )
-}
-
-fn replay_file<R: AllocGlobal + Files, L: Log, O: Write, P: Replay>(
-    rt: &R,
-    log: &L,
-    replayed: Replayed<'_>,
-    wanted: Wanted,
-    writer: &mut O,
-    player: &P,
-) -> Result<u8, ProgramFault>
-    ensures done { IfOk result (λ status. IsCarriedOut status) }
-    ensures fault { IfErr result (λ fault. status_of fault ≡ 1) }
-{
     let name = EndOfLine(replayed.path);
     let inner = open(rt, log, replayed.path)?;
     let mut file = Stream { name, inner, log };
-    let mut writer = Counted { writer, bytes: 0 };
+    let mut writer = Counted {
+        writer: stream("output", writer, log),
+        bytes: 0,
+    };
     match player.replay(rt.alloc(), &mut file, wanted, replayed.rests, &mut writer) {
         Ok(outcome) => Ok(status_after(log, outcome, wanted, writer.bytes)),
         Err(fault) => {

@@ -9,7 +9,7 @@ use crate::logging::direct_log;
 use crate::streams::log_text;
 use log::{Level, LevelFilter, Log};
 use settings::{Address, Settings, pollers_for};
-use std::alloc::AllocGlobal;
+use std::alloc::{AllocGlobal, Global};
 use std::env::Env;
 use std::fs;
 use std::io::{self, Eprint, Write};
@@ -157,17 +157,14 @@ where
     R: AllocGlobal + Env + Files + Eprint + Copy + Drop,
 {
     let log = direct_log(rt, LevelFilter::Error);
-    print_line(rt, &log, address, output).is_ok()
+    print_line(rt.alloc(), &log, address, output)
 }
 
-fn print_line<R: AllocGlobal>(
-    rt: &R,
-    log: &impl Log,
-    address: SocketAddr,
-    output: &mut impl Write,
-) -> Result<(), ProgramFault> {
-    let line = format!(in rt.alloc(); "listening {address}\n")?;
-    write(&mut stream("output", output, log), line.as_str())
+fn print_line(alloc: Global, log: &impl Log, address: SocketAddr, output: &mut impl Write) -> bool {
+    match format!(in alloc; "listening {address}\n") {
+        Ok(line) => write(&mut stream("output", output, log), line.as_str()),
+        Err(_) => false,
+    }
 }
 
 const FOR_A_CONNECTION: u64 = 2;
