@@ -72,8 +72,10 @@ where
     let log = direct_log(rt, LevelFilter::Warn);
     match read_command(rt.alloc(), arguments) {
         Ok(command) => {
-            tell_if_typed(&command, reader, errors);
-            match carry_out(rt, &log, &command, reader, writer, serve, player) {
+            if matches!(command, Command::Simulate { .. }) {
+                tell_if_typed(reader, errors);
+            }
+            match carry_out(rt, &log, command, reader, writer, serve, player) {
                 Ok(status) => status,
                 Err(fault) => report_fault(errors, fault),
             }
@@ -82,8 +84,8 @@ where
     }
 }
 
-fn tell_if_typed<I: IsTerminal, E: Write>(command: &Command<'_>, reader: &I, errors: &mut E) {
-    if matches!(command, Command::Simulate { .. }) && reader.is_terminal() {
+fn tell_if_typed<I: IsTerminal, E: Write>(reader: &I, errors: &mut E) {
+    if reader.is_terminal() {
         // Without this the script is read all the same.
         let _ = writeln!(
             errors,
@@ -97,7 +99,7 @@ fn tell_if_typed<I: IsTerminal, E: Write>(command: &Command<'_>, reader: &I, err
 fn carry_out<R, S, P: Replay, L: Log, I: Read, O: Write>(
     rt: &R,
     log: &L,
-    command: &Command<'_>,
+    command: Command<'_>,
     reader: &mut I,
     writer: &mut O,
     serve: &S,
@@ -112,10 +114,10 @@ where
     ensures unwritten { IfErr result (λ fault. status_of fault ≡ 2 → O.contents writer.new ≡ O.contents writer.old) }
 {
     match command {
-        Command::Simulate { each } => simulate_by(rt.alloc(), log, *each, reader, writer),
+        Command::Simulate { each } => simulate_by(rt.alloc(), log, each, reader, writer),
         Command::Check(path) => check(rt, log, path, writer),
-        Command::Serve(relay) => run(rt, log, relay, serve),
-        Command::Replay(replayed) => replay(rt, log, *replayed, writer, player),
+        Command::Serve(relay) => run(rt, log, &relay, serve),
+        Command::Replay(replayed) => replay(rt, log, replayed, writer, player),
     }
 }
 
