@@ -3,19 +3,18 @@ ghost use Rattle.std.specs.Prelude.{◌≡◌, ◌⊎◌, IfSome, IfOk, IfErr, O
 ghost use Rattle.script.specs.Runs.{WritesReport, WritesFault};
 ghost use Rattle.program.specs.Faults.{IsCarriedOut, status_of};
 
-use crate::command_line::{Command, read_command};
+use crate::command_line::{Command, Relay, Source, read_command};
 use crate::config;
 use crate::constants::{DONE, FAULT, USAGE};
 use crate::extras::{Extras, extras_of};
 use crate::faults::{ArgumentsFault, ProgramFault};
-use crate::logging::{log_form, starting_filter};
+use crate::logging::{direct_log, starting_filter};
 use crate::recording_file::create;
-use crate::replaying_file::{find_wanted, replay_file};
+use crate::replaying_file::replay;
 use crate::starting::{foresee, prepare};
 use crate::streams::{LoggedCauses, Stream};
 use crate::usage::answer_usage;
-use log::{LevelFilter, Log, Logged};
-use log_queue::Direct;
+use log::{LevelFilter, Log};
 use records::Replay;
 use relay_log::ServerFault;
 use script::Outcome;
@@ -70,49 +69,29 @@ where
     ensures unread { result ≡ 2 → I.remaining reader.new ≡ I.remaining reader.old }
     ensures unwritten { result ≡ 2 → O.contents writer.new ≡ O.contents writer.old }
 {
-    let Ok(arguments) = texts(rt.alloc(), arguments) else {
-        return report_fault(errors, ProgramFault::from(AllocError));
-    };
-    let form = log_form(rt);
-    let log = Logged::new(*rt, LevelFilter::Warn, Direct { rt: *rt, form });
-    let outcome = match read_command(rt.alloc(), arguments.as_slice()) {
+    let log = direct_log(rt, LevelFilter::Warn);
+    match read_command(rt.alloc(), arguments) {
         Ok(command) => {
-            tell_if_typed(&command, reader, errors);
-            carry_out(rt, &log, command, reader, writer, serve, player)
+            if matches!(command, Command::Simulate { .. }) {
+                tell_if_typed(reader, errors);
+            }
+            match carry_out(rt, &log, command, reader, writer, serve, player) {
+                Ok(status) => status,
+                Err(fault) => report_fault(errors, fault),
+            }
         }
-        Err(error) => {
-            return answer_usage(
-                rt.alloc(),
-                &log,
-                arguments.as_slice(),
-                &error,
-                writer,
-                errors,
-            );
-        }
-    };
-    match outcome {
-        Ok(status) => status,
-        Err(fault) => report_fault(errors, fault),
+        Err(error) => answer_usage(rt.alloc(), &log, arguments, &error, writer, errors),
     }
 }
 
-fn tell_if_typed<I: IsTerminal, E: Write>(command: &Command<'_>, reader: &I, errors: &mut E) {
-    if matches!(command, Command::Simulate { .. }) && reader.is_terminal() {
+fn tell_if_typed<I: IsTerminal, E: Write>(reader: &I, errors: &mut E) {
+    if reader.is_terminal() {
         // Without this the script is read all the same.
         let _ = writeln!(
             errors,
             "relayd: waiting for a script; Ctrl-D ends it (see relayd --help)"
         );
     }
-}
-
-/// The arguments as the parser of the command line takes them.
-pub(crate) fn texts(alloc: Global, arguments: &[String]) -> Result<Vec<&str>, AllocError> {
-    arguments
-        .iter()
-        .map(|argument| argument.as_str())
-        .collect(alloc)
 }
 
 /// Carries out a command. The causes of faults, and warnings of `check`, go to `log`, whatever level a settings file
@@ -137,40 +116,24 @@ where
     match command {
         Command::Simulate { each } => simulate_by(rt.alloc(), log, each, reader, writer),
         Command::Check(path) => check(rt, log, path, writer),
-        Command::Run(path, level, record, typed) => {
-            let extras = extras_of(log, typed)?;
-            let settings = settings_of_file(rt, log, path, level)?;
-            run(rt, settings, record, extras, serve)
-        }
-        Command::Forward(text, record, typed) => {
-            let extras = extras_of(log, typed)?;
-            let settings = settings_of_arguments(rt.alloc(), log, text.as_str())?;
-            run(rt, settings, record, extras, serve)
-        }
-        Command::Replay(replayed) => {
-            let wanted = find_wanted(log, replayed)?;
-            let mut writer = stream("output", writer, log);
-            replay_file(rt, log, replayed, wanted, &mut writer, player)
-        }
+        Command::Serve(relay) => run(rt, log, &relay, serve),
+        Command::Replay(replayed) => replay(rt, log, replayed, writer, player),
     }
 }
 
-fn settings_of_file<R: AllocGlobal + Files, L: Log>(
+fn settings_of<R: AllocGlobal + Files, L: Log>(
     rt: &R,
     log: &L,
-    path: &str,
-    level: Option<&str>,
+    source: &Source<'_>,
 ) -> Result<Settings, ProgramFault> {
-    let settings = config::load(rt, log, path)?;
-    config::at_level(log, rt.alloc(), settings, level).map_err(ProgramFault::of_arguments)
-}
-
-fn settings_of_arguments<L: Log>(
-    alloc: Global,
-    log: &L,
-    text: &str,
-) -> Result<Settings, ProgramFault> {
-    config::parse_arguments(log, alloc, text.as_bytes()).map_err(ProgramFault::of_arguments)
+    let settings = match source {
+        Source::File(path, level) => {
+            let settings = config::load(rt, log, path)?;
+            config::at_level(log, rt.alloc(), settings, *level)
+        }
+        Source::Arguments(text) => config::parse_arguments(log, rt.alloc(), text.as_bytes()),
+    };
+    settings.map_err(ProgramFault::of_arguments)
 }
 
 fn check<R, L: Log, O: Write>(
@@ -251,30 +214,33 @@ fn print(alloc: Global, settings: &Settings, writer: &mut impl Write) -> Result<
     ensures fault { IfErr result (λ fault. status_of fault ≡ 1) }
 {
     let text = format!(in alloc; "{settings}")?;
-    write(writer, text.as_str())?;
+    if !write(writer, text.as_str()) {
+        return Err(ProgramFault::Write);
+    }
     Ok(DONE)
 }
 
 /// Listens, looks at what the settings need, makes the file to record into, and serves.
-fn run<R, S>(
-    rt: &R,
-    settings: Settings,
-    record: Option<&str>,
-    extras: Extras,
-    serve: &S,
-) -> Result<u8, ProgramFault>
+fn run<R, S, L: Log>(rt: &R, log: &L, relay: &Relay<'_>, serve: &S) -> Result<u8, ProgramFault>
 where
     R: AllocGlobal + Env + Files + Eprint + Net + Copy + Drop,
     S: Fn(Settings, Bound, Extras, Option<R::File>) -> Result<bool, ServerFault>,
     requires { S.IsAlwaysCallable serve.now }
-    ensures done { IfOk result (λ status. status ≡ 0) }
-    ensures fault { IfErr result (λ fault. status_of fault ≡ 1) }
+    ensures { IfOk result (λ status. status ≡ 0) }
 {
-    let form = log_form(rt);
-    let log = Logged::new(*rt, starting_filter(settings.log), Direct { rt: *rt, form });
-    let bound = bind(&log, &settings).map_err(ProgramFault::Server)?;
-    let settings = prepare(rt, &log, settings, record.map_or(0, |_| 1))?;
-    let file = create(rt, &log, record)?;
+    let extras = extras_of(log, relay.extras)?;
+    let settings = settings_of(rt, log, &relay.settings)?;
+    let log = direct_log(rt, starting_filter(settings.log));
+    let bound = match bind(&log, &settings) {
+        Ok(bound) => bound,
+        Err(fault) => return Err(ProgramFault::Server(fault)),
+    };
+    let recordings = match relay.record {
+        Some(_) => 1,
+        None => 0,
+    };
+    let settings = prepare(rt, &log, settings, recordings)?;
+    let file = create(rt, &log, relay.record)?;
     match serve(settings, bound, extras, file) {
         Ok(true) => Ok(DONE),
         Ok(false) => Err(ProgramFault::Write),
@@ -282,14 +248,9 @@ where
     }
 }
 
-/// Writes all of a text, and flushes it.
-pub(crate) fn write(writer: &mut impl Write, text: &str) -> Result<(), ProgramFault>
-    ensures { IfErr result (λ fault. status_of fault ≡ 1) }
-{
-    if writer.write_all(text.as_bytes()).is_err() || writer.flush().is_err() {
-        return Err(ProgramFault::Write);
-    }
-    Ok(())
+/// Writes all of a text, and flushes it. Answers whether that was done.
+pub(crate) fn write(writer: &mut impl Write, text: &str) -> bool {
+    writer.write_all(text.as_bytes()).is_ok() && writer.flush().is_ok()
 }
 
 /// Writes a fault to `errors`, and returns its status.

@@ -6,19 +6,35 @@ use crate::forwarding::{add_settings, settings_text};
 use clap::{Arg, ArgAction, ArgMatches, Error};
 use std::alloc::{AllocError, Global};
 
-/// A command of the program. A file to record into comes after what is served, if one is named.
+/// A command of the program.
 #[derive(Drop)]
 pub enum Command<'a> {
     /// Run the script on standard input, and show each step if this says so.
     Simulate { each: bool },
     /// Read this settings file and print what it sets.
     Check(&'a str),
-    /// Read this settings file and serve as it says, with the messages of another level if one is named.
-    Run(&'a str, Option<&'a str>, Option<&'a str>, TypedExtras<'a>),
-    /// Serve as this text of settings says.
-    Forward(String, Option<&'a str>, TypedExtras<'a>),
+    /// Serve.
+    Serve(Relay<'a>),
     /// Replay the recording in a file.
     Replay(Replayed<'a>),
+}
+
+/// What a relay is told.
+#[derive(Drop)]
+pub struct Relay<'a> {
+    pub settings: Source<'a>,
+    /// The file to record into, if one is named.
+    pub record: Option<&'a str>,
+    pub extras: TypedExtras<'a>,
+}
+
+/// Where settings come from.
+#[derive(Drop)]
+pub enum Source<'a> {
+    /// This file, with the messages of another level if one is named.
+    File(&'a str, Option<&'a str>),
+    /// The text that the arguments give.
+    Arguments(String),
 }
 
 /// What is replayed, and what is printed of it.
@@ -38,63 +54,67 @@ pub struct Replayed<'a> {
 ///
 /// An error is a usage text: the requested help or version, or why the arguments are refused; or it has the kind
 /// `OutOfMemory`. Nothing has been printed then.
-pub fn read_command<'a>(alloc: Global, arguments: &'a [&'a str]) -> Result<Command<'a>, Error> {
-    let matches = matches_of(alloc, arguments)?;
+pub fn read_command<'a>(alloc: Global, arguments: &'a [String]) -> Result<Command<'a>, Error> {
+    let matches = relayd(alloc)?.try_get_matches_from(arguments)?;
     command_of(alloc, &matches)
-}
-
-fn matches_of<'a>(alloc: Global, arguments: &'a [&'a str]) -> Result<ArgMatches<'a>, Error> {
-    relayd(alloc)?.try_get_matches_from(arguments)
 }
 
 fn command_of<'a>(alloc: Global, matches: &ArgMatches<'a>) -> Result<Command<'a>, Error> {
     match matches.subcommand_matches("forward") {
         Some(forward) => {
-            let text = settings_text(alloc, forward)?;
-            Ok(Command::Forward(text, forward.get_str("record"), TypedExtras::of(forward)))
+            let settings = Source::Arguments(settings_text(alloc, forward)?);
+            Ok(relay_of(settings, forward))
         }
         None => Ok(chosen(matches)),
     }
+}
+
+fn relay_of<'a>(settings: Source<'a>, matches: &ArgMatches<'a>) -> Command<'a> {
+    Command::Serve(Relay {
+        settings,
+        record: matches.get_str("record"),
+        extras: TypedExtras::of(matches),
+    })
 }
 
 /// The chosen command, if it is not `forward`; without one, the simulator.
 fn chosen<'a>(matches: &ArgMatches<'a>) -> Command<'a> {
     if let Some(run) = matches.subcommand_matches("run") {
         if let Some(path) = run.get_str("config") {
-            let (level, record) = (run.get_str("log"), run.get_str("record"));
-            return Command::Run(path, level, record, TypedExtras::of(run));
+            return relay_of(Source::File(path, run.get_str("log")), run);
         }
     }
     if let Some(replay) = matches.subcommand_matches("replay") {
         if let Some(path) = replay.get_str("file") {
-            return Command::Replay(Replayed {
-                path,
-                script: replay.get_str("script"),
-                ends: replay.get_flag("ends"),
-                rests: replay.get_flag("rest"),
-            });
+            return Command::Replay(replay_of(path, replay));
         }
     }
-    let check = matches.subcommand_matches("check");
-    match check.and_then(|check| check.get_str("config")) {
-        Some(path) => Command::Check(path),
-        None => Command::Simulate {
-            each: shows_each(matches),
-        },
+    if let Some(check) = matches.subcommand_matches("check") {
+        if let Some(path) = check.get_str("config") {
+            return Command::Check(path);
+        }
     }
-}
-
-fn shows_each(matches: &ArgMatches<'_>) -> bool {
-    match matches.subcommand_matches("sim") {
+    let each = match matches.subcommand_matches("sim") {
         Some(sim) => sim.get_flag("each"),
         None => false,
+    };
+    Command::Simulate { each }
+}
+
+fn replay_of<'a>(path: &'a str, matches: &ArgMatches<'a>) -> Replayed<'a> {
+    Replayed {
+        path,
+        script: matches.get_str("script"),
+        ends: matches.get_flag("ends"),
+        rests: matches.get_flag("rest"),
     }
 }
 
 /// The program's command line.
 fn relayd<'a>(alloc: Global) -> Result<clap::Command<'a>, AllocError> {
     let mut subcommands = Vec::new(alloc);
-    add_subcommands(alloc, commands(), &mut subcommands)?;
+    add_subcommands(alloc, serving(), &mut subcommands)?;
+    add_subcommands(alloc, others(), &mut subcommands)?;
     without_subcommands(alloc).subcommands(subcommands)
 }
 
@@ -113,7 +133,7 @@ fn add_subcommands<'a>(
     subcommands: &mut Vec<clap::Command<'a>>,
 ) -> Result<(), AllocError> {
     for row in rows {
-        subcommands.push(subcommand(alloc, *row)?)?;
+        add_subcommand(alloc, *row, subcommands)?;
     }
     Ok(())
 }
@@ -251,8 +271,8 @@ const RECORDING: [ArgumentRow; 4] = [
     },
 ];
 
-/// The commands, in the order of the help.
-static COMMANDS: [CommandRow; 5] = [
+/// The commands that serve, in the order of the help.
+static SERVING: [CommandRow; 2] = [
     CommandRow {
         name: "forward",
         about: "Forwards connections from one address to another",
@@ -283,6 +303,10 @@ static COMMANDS: [CommandRow; 5] = [
             KEEPALIVE,
         ],
     },
+];
+
+/// The other commands, which follow in the help.
+static OTHERS: [CommandRow; 3] = [
     CommandRow {
         name: "check",
         about: "Reads a settings file and prints every setting, or what is wrong",
@@ -306,14 +330,23 @@ static COMMANDS: [CommandRow; 5] = [
     },
 ];
 
-fn commands() -> &'static [CommandRow] {
-    &COMMANDS
+fn serving() -> &'static [CommandRow] {
+    &SERVING
 }
 
-fn subcommand<'a>(alloc: Global, row: CommandRow) -> Result<clap::Command<'a>, AllocError> {
+fn others() -> &'static [CommandRow] {
+    &OTHERS
+}
+
+fn add_subcommand<'a>(
+    alloc: Global,
+    row: CommandRow,
+    subcommands: &mut Vec<clap::Command<'a>>,
+) -> Result<(), AllocError> {
     let mut arguments = Vec::new(alloc);
     add_arguments(alloc, row, &mut arguments)?;
-    without_arguments(alloc, row).args(arguments)
+    subcommands.push(without_arguments(alloc, row).args(arguments)?)?;
+    Ok(())
 }
 
 fn without_arguments<'a>(alloc: Global, row: CommandRow) -> clap::Command<'a> {

@@ -6,12 +6,11 @@ ghost use Rattle.program.specs.Faults.{FileSets, HasFault};
 use crate::constants::MAX_CONFIG_BYTES;
 use crate::faults::ConfigFault;
 use crate::forwarding::setting_text;
-use crate::streams::{Stream, Unopened, log_error};
+use crate::streams::{FileName, Stream, Unopened, log_error};
 use input::{InputFault, read_at_most};
-use log::{Log, error};
-use settings::{EndOfLine, Key, LogLevel, Settings, SettingsFault};
+use log::Log;
+use settings::{Key, LogLevel, Settings, SettingsFault};
 use std::alloc::Global;
-use std::fmt;
 use std::fs::{self, File};
 use std::io::Read;
 use std::rt::Files;
@@ -23,7 +22,7 @@ pub fn load<R: AllocGlobal + Files, L: Log>(
     log: &L,
     path: &str,
 ) -> Result<Settings, ConfigFault> {
-    let name = ConfigName(path);
+    let name = FileName("config", path);
     match File::open(rt, path) {
         Ok(file) => {
             let mut file = Stream {
@@ -33,7 +32,7 @@ pub fn load<R: AllocGlobal + Files, L: Log>(
             };
             let answer = read(log, rt.alloc(), path, &mut file);
             if matches!(&answer, Err(ConfigFault::Long)) {
-                log_error(log, &name, &Length::of(rt, path));
+                log_length(rt, log, path, &name);
             }
             answer
         }
@@ -44,35 +43,22 @@ pub fn load<R: AllocGlobal + Files, L: Log>(
     }
 }
 
-#[derive(Clone, Copy)]
-struct ConfigName<'a>(&'a str);
-
-impl fmt::Display for ConfigName<'_> {
-    fn fmt<W: fmt::Write>(&self, f: &mut fmt::Formatter<W>) -> fmt::Result {
-        let path = EndOfLine(self.0);
-        write!(f, "config: {path}")
-    }
-}
-
-/// The length of a file that is too long, or none where the system does not say.
-#[derive(Clone, Copy)]
-struct Length(Option<u64>);
-
-impl Length {
-    fn of<R: Files>(rt: &R, path: &str) -> Length {
-        match fs::metadata(rt, path) {
-            Ok(found) if found.len() > MAX_CONFIG_BYTES as u64 => Length(Some(found.len())),
-            _ => Length(None),
+/// Logs the length of a file that is too long, if the system says it.
+fn log_length(rt: &impl Files, log: &impl Log, path: &str, name: &FileName<'_>) {
+    match fs::metadata(rt, path) {
+        Ok(found) if found.len() > MAX_CONFIG_BYTES as u64 => {
+            let bytes = found.len();
+            log_error(
+                log,
+                name,
+                &format_args!("{bytes} bytes are more than {MAX_CONFIG_BYTES}"),
+            );
         }
-    }
-}
-
-impl fmt::Display for Length {
-    fn fmt<W: fmt::Write>(&self, f: &mut fmt::Formatter<W>) -> fmt::Result {
-        match self.0 {
-            Some(bytes) => write!(f, "{bytes} bytes are more than {MAX_CONFIG_BYTES}"),
-            None => write!(f, "there are more than {MAX_CONFIG_BYTES} bytes"),
-        }
+        _ => log_error(
+            log,
+            name,
+            &format_args!("there are more than {MAX_CONFIG_BYTES} bytes"),
+        ),
     }
 }
 
@@ -151,8 +137,7 @@ pub fn at_level<L: Log>(
 
 fn log_cause(log: &impl Log, alloc: Global, path: &str, text: &[u8], fault: &SettingsFault) {
     if let Some(cause) = settings::cause(alloc, text, fault) {
-        let path = EndOfLine(path);
-        error!(log; target: "relayd", "settings: {path}: {cause}");
+        log_error(log, &FileName("settings", path), &cause);
     }
 }
 

@@ -3,8 +3,9 @@ ghost use Rattle.std.specs.Prelude.{◌≡◌, ◌≤◌, IfOk, IfErr, IfSome};
 ghost use Rattle.program.specs.{Starting.most, Faults.status_of};
 
 use crate::faults::ProgramFault;
+use crate::streams::log_text;
 use clap::ArgMatches;
-use log::{Log, error};
+use log::{Level, Log};
 use settings::OneLine;
 use sockets::Patience;
 use std::fmt;
@@ -46,7 +47,7 @@ impl<'a> TypedExtras<'a> {
 }
 
 /// An option whose value is a number of seconds.
-#[derive(Clone, Copy, Debug)]
+#[derive(Clone, Copy)]
 pub enum SecondsOption {
     Stats,
     ConnectTimeout,
@@ -119,5 +120,8 @@ fn seconds_of(
 
 fn log_range(log: &impl Log, option: SecondsOption, text: &str) {
     let (text, most) = (OneLine(text), option.most());
-    error!(log; target: "relayd", "options: --{option} {text}: a whole number from 1 to {most} is wanted");
+    let text = format_args!(
+        "options: --{option} {text}: a whole number from 1 to {most} is wanted"
+    );
+    log_text(log, Level::Error, &text);
 }

@@ -83,11 +83,9 @@ impl fmt::Display for Assignment<'_> {
             Ok(number) if !has_leading_zero(value) => return write!(f, "{key} = {number}"),
             _ => {}
         }
-        if self.is_true_or_false() {
-            return write!(f, "{key} = {value}");
-        }
+        let quote = if self.is_true_or_false() { "" } else { "\"" };
         let text = Escaped(value);
-        write!(f, "{key} = \"{text}\"")
+        write!(f, "{key} = {quote}{text}{quote}")
     }
 }
 
@@ -98,11 +96,13 @@ struct Escaped<'a>(&'a str);
 impl fmt::Display for Escaped<'_> {
     fn fmt<W: fmt::Write>(&self, f: &mut fmt::Formatter<W>) -> fmt::Result {
         for character in self.0.chars() {
-            match character {
-                '"' => f.write_str("\\\"")?,
-                '\\' => f.write_str("\\\\")?,
-                _ if character.is_control() => write!(f, "\\u{:04X}", character as u32)?,
-                _ => f.write_char(character)?,
+            if matches!(character, '"' | '\\') {
+                f.write_char('\\')?;
+            }
+            if character.is_control() {
+                write!(f, "\\u{:04X}", character as u32)?;
+            } else {
+                f.write_char(character)?;
             }
         }
         Ok(())

@@ -8,7 +8,7 @@ ghost use Rattle.settings.specs.Table.{level_name};
 
 use log::kv::Source;
 use log::span::Spans;
-use log::{Level, LevelFilter, Log, Metadata, Record};
+use log::{Level, LevelFilter, Log, Logged, Metadata, Record};
 use log_queue::{Direct, Form, LogLine, LogQueue, write_lines};
 use relay_log::{ServerFault, log_no_thread};
 use settings::LogLevel;
@@ -43,6 +43,15 @@ pub(crate) fn log_form<R: AllocGlobal + Env + Files>(rt: &R) -> Form {
         Ok(found) if is_named(named.as_str(), found.dev(), found.ino()) => Form::Journal,
         _ => Form::Plain,
     }
+}
+
+/// A log that writes each line to standard error at once.
+pub(crate) fn direct_log<R: AllocGlobal + Env + Files + Copy + Drop>(
+    rt: &R,
+    level: LevelFilter,
+) -> Logged<R, Direct<R>> {
+    let form = log_form(rt);
+    Logged::new(*rt, level, Direct { rt: *rt, form })
 }
 
 fn is_named(name: &str, device: u64, inode: u64) -> bool {
@@ -88,7 +97,8 @@ where
     ensures refused { IfErr result (λ fault. (fault ≡ ServerFault.NoMemory) ⊎ (fault ≡ ServerFault.Threads)) }
 {
     let form = log_form(&rt);
-    let queue = Arc::new(rt.alloc(), LogQueue::new(rt.alloc(), form)?)?;
+    let alloc = rt.alloc();
+    let queue = Arc::new(alloc, LogQueue::new(alloc, form)?)?;
     let lines = queue.clone()?;
     if Builder::new()
         .spawn(&rt, move || write_lines(&rt, &lines))

@@ -4,8 +4,8 @@ ghost use Rattle.std.specs.{Prelude.{◌≡◌, IfErr, true, false}, Fs.{asks_re
 ghost use Rattle.program.specs.Faults.{status_of};
 
 use crate::faults::ProgramFault;
-use crate::streams::{Unopened, log_error};
-use log::{Log, error, info};
+use crate::streams::{FileName, Unopened, log_error, log_text};
+use log::{Level, Log};
 use settings::EndOfLine;
 use std::alloc::{AllocError, Global};
 use std::fs::{self, File, OpenOptions};
@@ -53,15 +53,27 @@ pub(crate) fn create<R: AllocGlobal + Files>(
         return Ok(None);
     };
     match open_new(rt, log, path) {
-        Ok(file) => return Ok(Some(file)),
-        Err(Unmade::NoMemory) => return Err(ProgramFault::from(AllocError)),
-        Err(Unmade::System(error)) => log_error(log, &"record", &Unopened { path, error }),
-        Err(Unmade::Taken) => {
-            let name = EndOfLine(path);
-            error!(log; target: "relayd", "record: {name}: is there, and is no recording");
+        Ok(file) => Ok(Some(file)),
+        Err(why) => Err(refused(log, path, why)),
+    }
+}
+
+/// The fault, after its cause was logged.
+fn refused(log: &impl Log, path: &str, why: Unmade) -> ProgramFault
+    ensures { status_of result ≡ 1 }
+{
+    match why {
+        Unmade::NoMemory => return ProgramFault::from(AllocError),
+        Unmade::System(error) => log_error(log, &"record", &Unopened { path, error }),
+        Unmade::Taken => {
+            log_error(
+                log,
+                &FileName("record", path),
+                &"is there, and is no recording",
+            );
         }
     }
-    Err(ProgramFault::Record)
+    ProgramFault::Record
 }
 
 fn open_new<R: AllocGlobal + Files>(rt: &R, log: &impl Log, path: &str) -> Result<R::File, Unmade> {
@@ -99,9 +111,17 @@ fn keep<R: AllocGlobal + Files>(rt: &R, log: &impl Log, path: &str) -> Result<()
     let kept = free_name(rt, rt.alloc(), path)?;
     // What has that name is the empty file that was just made.
     fs::rename(rt, path, kept.as_str())?;
-    let (name, kept) = (EndOfLine(path), EndOfLine(kept.as_str()));
-    info!(log; target: "relayd", "record: {name}: was there, and is {kept} now");
+    log_kept(log, path, kept.as_str());
     Ok(())
+}
+
+fn log_kept(log: &impl Log, path: &str, kept: &str) {
+    let (name, kept) = (EndOfLine(path), EndOfLine(kept));
+    log_text(
+        log,
+        Level::Info,
+        &format_args!("record: {name}: was there, and is {kept} now"),
+    );
 }
 
 /// Whether the file at a path begins as a recording does.

@@ -2,12 +2,13 @@
 ghost use Rattle.std.specs.Prelude.{◌≡◌, IfOk, IfErr};
 ghost use Rattle.program.specs.Faults.{IsCarriedOut, status_of};
 
+use crate::acting::stream;
 use crate::command_line::Replayed;
 use crate::constants::{DONE, FAULT};
 use crate::faults::ProgramFault;
 use crate::recording_file::is_recording;
-use crate::streams::{Stream, Unopened, log_error};
-use log::{Log, warn};
+use crate::streams::{Stream, Unopened, log_error, log_text};
+use log::{Level, Log};
 use records::{Outcome, Replay, ReplayFault, Wanted};
 use script::MAX_BYTES;
 use settings::EndOfLine;
@@ -16,18 +17,38 @@ use std::io::{self, Write};
 use std::rt::Files;
 
 /// Returns 0 if the recording in a file is of runs of the machine, and 1 if not. What is wrong with the file is logged.
-pub(crate) fn replay_file<R: AllocGlobal + Files, L: Log, O: Write, P: Replay>(
+/// Refuses with `Connection` if a script is wanted of what is no name of a connection. Then nothing was written.
+pub(crate) fn replay<R: AllocGlobal + Files, L: Log, O: Write, P: Replay>(
     rt: &R,
     log: &L,
     replayed: Replayed<'_>,
-    wanted: Wanted,
     writer: &mut O,
     player: &P,
 ) -> Result<u8, ProgramFault>
     ensures done { IfOk result (λ status. IsCarriedOut status) }
-    ensures fault { IfErr result (λ fault. status_of fault ≡ 1) }
+    ensures unwritten { IfErr result (λ fault. status_of fault ≡ 2 → O.contents writer.new ≡ O.contents writer.old) }
 {
-    let path = replayed.path;
+    let wanted = find_wanted(log, replayed)?;
+    let name = EndOfLine(replayed.path);
+    let inner = open(rt, log, replayed.path)?;
+    let mut file = Stream { name, inner, log };
+    let mut writer = Counted {
+        writer: stream("output", writer, log),
+        bytes: 0,
+    };
+    match player.replay(rt.alloc(), &mut file, wanted, replayed.rests, &mut writer) {
+        Ok(outcome) => Ok(status_after(log, outcome, wanted, writer.bytes)),
+        Err(fault) => {
+            log_broken(log, &name, &fault);
+            Err(ProgramFault::Replay(fault))
+        }
+    }
+}
+
+/// Refuses a file that is no recording.
+fn open<R: AllocGlobal + Files>(rt: &R, log: &impl Log, path: &str) -> Result<R::File, ProgramFault>
+    ensures { IfErr result (λ fault. status_of fault ≡ 1) }
+{
     let file = match File::open(rt, path) {
         Ok(file) => file,
         Err(error) => {
@@ -35,35 +56,27 @@ pub(crate) fn replay_file<R: AllocGlobal + Files, L: Log, O: Write, P: Replay>(
             return Err(ProgramFault::Replay(ReplayFault::Read));
         }
     };
-    let name = EndOfLine(path);
     if is_other_file(rt, path) {
-        log_error(log, &name, &"is no recording");
+        log_error(log, &EndOfLine(path), &"is no recording");
         return Err(ProgramFault::NoRecording);
     }
-    let mut file = Stream {
-        name,
-        inner: file,
-        log,
-    };
-    let mut writer = Counted { writer, bytes: 0 };
-    let outcome = player.replay(rt.alloc(), &mut file, wanted, replayed.rests, &mut writer);
-    match outcome {
-        Ok(Outcome::Run) => {
-            if matches!(wanted, Wanted::Script(..)) {
-                warn_if_long(log, writer.bytes);
-            }
-            Ok(DONE)
-        }
-        Ok(Outcome::NoRun) => {
-            warn_if_long(log, writer.bytes);
-            Ok(FAULT)
-        }
-        Err(fault) => {
-            if let ReplayFault::Broken(cause) = &fault {
-                log_error(log, &name, cause);
-            }
-            Err(ProgramFault::Replay(fault))
-        }
+    Ok(file)
+}
+
+/// The status after this many bytes were written, of which a script may be too long.
+fn status_after(log: &impl Log, outcome: Outcome, wanted: Wanted, bytes: usize) -> u8
+    ensures { IsCarriedOut result }
+{
+    let has_run = matches!(outcome, Outcome::Run);
+    if !has_run || matches!(wanted, Wanted::Script(..)) {
+        warn_if_long(log, bytes);
+    }
+    if has_run { DONE } else { FAULT }
+}
+
+fn log_broken(log: &impl Log, name: &EndOfLine<'_>, fault: &ReplayFault) {
+    if let ReplayFault::Broken(cause) = fault {
+        log_error(log, name, cause);
     }
 }
 
@@ -71,7 +84,10 @@ pub(crate) fn replay_file<R: AllocGlobal + Files, L: Log, O: Write, P: Replay>(
 fn warn_if_long(log: &impl Log, bytes: usize) {
     let most = MAX_BYTES;
     if bytes > most {
-        warn!(log; target: "relayd", "output: the script has {bytes} bytes, and relayd sim takes at most {most}");
+        let text = format_args!(
+            "output: the script has {bytes} bytes, and relayd sim takes at most {most}"
+        );
+        log_text(log, Level::Warn, &text);
     }
 }
 
@@ -102,7 +118,7 @@ fn is_other_file(rt: &impl Files, path: &str) -> bool {
 }
 
 /// What is wanted of a recording. Refuses with `Connection` the script of what is no name of a connection.
-pub(crate) fn find_wanted(log: &impl Log, replayed: Replayed<'_>) -> Result<Wanted, ProgramFault>
+fn find_wanted(log: &impl Log, replayed: Replayed<'_>) -> Result<Wanted, ProgramFault>
     ensures { IfErr result (λ fault. fault ≡ ProgramFault.Connection) }
 {
     let cause = "a slot and a generation are wanted, as in 3.1";

@@ -5,11 +5,11 @@ ghost use Rattle.program.specs.{Faults.status_of, Starting.{Meets, HasFor, neede
 use crate::acting::{stream, write};
 use crate::constants::VERSION;
 use crate::faults::ProgramFault;
-use crate::logging::log_form;
-use log::{LevelFilter, Log, Logged, info, warn};
-use log_queue::Direct;
+use crate::logging::direct_log;
+use crate::streams::log_text;
+use log::{Level, LevelFilter, Log};
 use settings::{Address, Settings, pollers_for};
-use std::alloc::AllocGlobal;
+use std::alloc::{AllocGlobal, Global};
 use std::env::Env;
 use std::fs;
 use std::io::{self, Eprint, Write};
@@ -90,19 +90,26 @@ fn used_slots<R: AllocGlobal + Files + Net + Copy + Drop>(
 fn warn_of_itself(rt: &impl Net, log: &impl Log, listen: Address, target: Address) {
     let is_here = listen.1 == target.1 && is_here(rt, target);
     if meets(listen, target, is_here) {
-        warn!(log; target: "relayd", "target: the relay itself listens there, so a connection would go round without end");
+        let text =
+            "target: the relay itself listens there, so a connection would go round without end";
+        log_text(log, Level::Warn, &text);
     }
 }
 
 /// Warns of an idle limit of a second. The clock counts whole seconds, so it may pass at once after a byte was moved.
 fn warn_of_short_idle(log: &impl Log, idle: u32) {
     if idle == 1 {
-        warn!(log; target: "relayd", "idle: 1 closes connections that move bytes, since whole seconds are counted; 2 leaves each at least one");
+        let text =
+            "idle: 1 closes connections that move bytes, since whole seconds are counted; 2 leaves each at least one";
+        log_text(log, Level::Warn, &text);
     }
 }
 
 fn warn_of_few(log: &impl Log, slots: usize, set: usize, most: u64, needs: u64) {
-    warn!(log; target: "relayd", "slots: at most {slots} of {set} connections are served at a time, since the limit is {most} descriptors and {needs} are needed (ulimit -n)");
+    let text = format_args!(
+        "slots: at most {slots} of {set} connections are served at a time, since the limit is {most} descriptors and {needs} are needed (ulimit -n)"
+    );
+    log_text(log, Level::Warn, &text);
 }
 
 /// Logs how a relay serves that listens at this address.
@@ -113,7 +120,10 @@ pub fn log_start(log: &impl Log, listen: SocketAddr, settings: &Settings) {
         settings.workers,
     );
     let pollers = pollers_for(slots, workers);
-    info!(log; target: "relayd", "relayd {VERSION}: {listen} to {target}, {slots} slots, {workers} workers, {pollers} pollers");
+    let text = format_args!(
+        "relayd {VERSION}: {listen} to {target}, {slots} slots, {workers} workers, {pollers} pollers"
+    );
+    log_text(log, Level::Info, &text);
 }
 
 /// Whether connections to the target reach the relay itself. `is_here`: its address is one of this machine.
@@ -146,19 +156,15 @@ pub fn print_listening<R>(rt: &R, address: SocketAddr, output: &mut impl Write) 
 where
     R: AllocGlobal + Env + Files + Eprint + Copy + Drop,
 {
-    let form = log_form(rt);
-    let log = Logged::new(*rt, LevelFilter::Error, Direct { rt: *rt, form });
-    let mut output = stream("output", output, &log);
-    print_line(rt, address, &mut output).is_ok()
+    let log = direct_log(rt, LevelFilter::Error);
+    print_line(rt.alloc(), &log, address, output)
 }
 
-fn print_line<R: AllocGlobal>(
-    rt: &R,
-    address: SocketAddr,
-    output: &mut impl Write,
-) -> Result<(), ProgramFault> {
-    let line = format!(in rt.alloc(); "listening {address}\n")?;
-    write(output, line.as_str())
+fn print_line(alloc: Global, log: &impl Log, address: SocketAddr, output: &mut impl Write) -> bool {
+    match format!(in alloc; "listening {address}\n") {
+        Ok(line) => write(&mut stream("output", output, log), line.as_str()),
+        Err(_) => false,
+    }
 }
 
 const FOR_A_CONNECTION: u64 = 2;
@@ -167,7 +173,7 @@ const FOR_A_CONNECTION: u64 = 2;
 const FOR_A_POLLER: u64 = 2;
 
 /// How many descriptors a process may have open, its soft limit, and how many are in use.
-#[derive(Clone, Copy, PartialEq, Eq)]
+#[derive(Clone, Copy)]
 pub struct Descriptors {
     pub most: u64,
     pub in_use: u64,
@@ -193,12 +199,8 @@ pub fn read_descriptors<R: AllocGlobal + Files + Copy + Drop>(rt: &R) -> Option<
 /// The soft limit of open files in `/proc/self/limits` (proc(5)). None if there is no such line, or it says
 /// `unlimited`.
 fn soft_limit(text: &str) -> Option<u64> {
-    for line in text.lines() {
-        if let Some(rest) = line.strip_prefix("Max open files ") {
-            return rest.split_whitespace().next()?.parse::<u64>().ok();
-        }
-    }
-    None
+    let (_, rest) = text.split_once("\nMax open files ")?;
+    rest.split_whitespace().next()?.parse::<u64>().ok()
 }
 
 /// The most of these slots that there are descriptors for, with their pollers.

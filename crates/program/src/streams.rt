@@ -1,6 +1,6 @@
 //! What the log says of streams, of files and of scripts.
 
-use log::{Log, error};
+use log::{Level, Log, error, log};
 use script::{Explain, Fault};
 use settings::EndOfLine;
 use std::alloc::Global;
@@ -51,9 +51,25 @@ impl<W: Write, N: fmt::Display, L: Log> Write for Stream<'_, W, N, L> {
     }
 }
 
+/// Logs a text at a level.
+pub(crate) fn log_text<D: fmt::Display>(log: &impl Log, level: Level, text: &D) {
+    log!(log; target: "relayd", level, "{text}");
+}
+
 /// Logs what is wrong with a stream, or with what was read from it.
 pub fn log_error<N: fmt::Display, E: fmt::Display>(log: &impl Log, name: &N, error: &E) {
     error!(log; target: "relayd", "{name}: {error}");
+}
+
+/// What the log calls a file, with what it is for.
+#[derive(Clone, Copy)]
+pub(crate) struct FileName<'a>(pub(crate) &'static str, pub(crate) &'a str);
+
+impl fmt::Display for FileName<'_> {
+    fn fmt<W: fmt::Write>(&self, f: &mut fmt::Formatter<W>) -> fmt::Result {
+        let (purpose, path) = (self.0, EndOfLine(self.1));
+        write!(f, "{purpose}: {path}")
+    }
 }
 
 /// A file that could not be opened, and why.
@@ -85,7 +101,7 @@ pub struct LoggedCauses<'a, L> {
 impl<L: Log> Explain for LoggedCauses<'_, L> {
     fn explain(&self, text: &[u8], fault: Fault) {
         if let Some(cause) = script::cause(self.alloc, text, fault) {
-            error!(self.log; target: "relayd", "{cause}");
+            log_text(self.log, Level::Error, &cause);
         }
     }
 }

@@ -2,7 +2,8 @@
 ghost use Rattle.std.specs.Prelude.{◌≡◌, ◌⊎◌, IfErr};
 
 use crate::extras::Extras;
-use log::info;
+use crate::streams::log_text;
+use log::Level;
 use log_queue::{Direct, LogQueue, Queued};
 use relay_log::{ServerFault, log_no_thread};
 use settings::{LogLevel, Settings};
@@ -81,5 +82,5 @@ fn tell_every<R: Wait + Clock + Copy + Drop>(
 
 /// Logs the sums, at level info, whatever level the settings have.
 pub fn tell<R: Wait + Drop>(rt: R, statistics: &Statistics, queue: &LogQueue) {
-    info!(Queued { rt, queue }; target: "relayd", "{}", statistics.totals());
+    log_text(&Queued { rt, queue }, Level::Info, &statistics.totals());
 }

@@ -3,7 +3,8 @@
 ghost use Rattle.std.specs.Prelude.{◌≡◌, ◌⊎◌, IfErr};
 
 use crate::extras::Extras;
-use log::{LevelFilter, Logged, info, warn};
+use crate::streams::log_text;
+use log::{Level, LevelFilter, Logged};
 use log_queue::{Direct, LogQueue, Queued};
 use relay_log::{ServerFault, log_no_thread};
 use std::alloc::AllocGlobal;
@@ -50,11 +51,14 @@ where
 {
     let log = Logged::new(*rt, level, Queued { rt: *rt, queue });
     match io::copy(&mut input, &mut io::sink()) {
-        Ok(_) => {
-            info!(log; target: "relayd", "input: has ended, so no more clients are accepted");
-        }
+        Ok(_) => log_text(
+            &log,
+            Level::Info,
+            &"input: has ended, so no more clients are accepted",
+        ),
         Err(error) => {
-            warn!(log; target: "relayd", "input: {error}, so no more clients are accepted");
+            let text = format_args!("input: {error}, so no more clients are accepted");
+            log_text(&log, Level::Warn, &text);
         }
     }
 }

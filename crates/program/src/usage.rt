@@ -1,9 +1,9 @@
 //! What is printed of the command line: help, the version, and why it is refused.
-ghost use Rattle.std.specs.Prelude.{◌≡◌, ◌≢◌, ◌⊎◌};
+ghost use Rattle.std.specs.Prelude.{◌≡◌, ◌≢◌, ◌⊎◌, IfErr};
 ghost use Rattle.clap.specs.Values.{kind_of};
 ghost use Rattle.program.specs.Faults.{IsCarriedOut};
 
-use crate::acting::{report_fault, stream, texts};
+use crate::acting::{report_fault, stream};
 use crate::command_line::read_command;
 use crate::constants::{DONE, USAGE};
 use crate::faults::ProgramFault;
@@ -27,7 +27,7 @@ const MOST_INDENT: usize = 40;
 pub(crate) fn answer_usage<L: Log, O: Write, E: Write>(
     alloc: Global,
     log: &L,
-    arguments: &[&str],
+    arguments: &[String],
     error: &Error,
     writer: &mut O,
     errors: &mut E,
@@ -45,26 +45,34 @@ pub(crate) fn answer_usage<L: Log, O: Write, E: Write>(
         print_refused(alloc, arguments, error, errors);
         return USAGE;
     }
-    let mut writer = stream("output", writer, log);
-    let Ok(text) = format!(in alloc; "{error}") else {
-        return report_fault(errors, ProgramFault::from(AllocError));
-    };
+    match print_answer(alloc, error, &mut stream("output", writer, log)) {
+        Ok(()) => DONE,
+        Err(fault) => report_fault(errors, fault),
+    }
+}
+
+/// Prints help or the version.
+fn print_answer(alloc: Global, error: &Error, writer: &mut impl Write) -> Result<(), ProgramFault>
+    ensures { IfErr result (λ fault. status_of fault ≡ 1) }
+{
+    let text = format!(in alloc; "{error}")?;
     let text = Wrapped(text.as_str());
     if write!(writer, "{text}").is_err() || writer.flush().is_err() {
-        return report_fault(errors, ProgramFault::Write);
+        return Err(ProgramFault::Write);
     }
-    DONE
+    Ok(())
 }
 
 /// Prints why arguments are refused. Where one has control characters, the parser is asked again, with these escaped.
-fn print_refused(alloc: Global, arguments: &[&str], error: &Error, errors: &mut impl Write) {
-    if arguments.iter().any(|argument| has_control(argument)) {
+fn print_refused(alloc: Global, arguments: &[String], error: &Error, errors: &mut impl Write) {
+    if arguments
+        .iter()
+        .any(|argument| has_control(argument.as_str()))
+    {
         if let Ok(escaped) = escape_all(alloc, arguments) {
-            if let Ok(escaped) = texts(alloc, escaped.as_slice()) {
-                if let Err(error) = read_command(alloc, escaped.as_slice()) {
-                    print_error(alloc, &error, find_tip(escaped.as_slice()), errors);
-                    return;
-                }
+            if let Err(error) = read_command(alloc, escaped.as_slice()) {
+                print_error(alloc, &error, find_tip(escaped.as_slice()), errors);
+                return;
             }
         }
     }
@@ -75,10 +83,10 @@ fn has_control(text: &str) -> bool {
     text.chars().any(|character| character.is_control())
 }
 
-fn escape_all(alloc: Global, arguments: &[&str]) -> Result<Vec<String>, AllocError> {
+fn escape_all(alloc: Global, arguments: &[String]) -> Result<Vec<String>, AllocError> {
     let mut all = Vec::new(alloc);
     for argument in arguments {
-        let argument = Escaped(argument);
+        let argument = Escaped(argument.as_str());
         all.push(format!(in alloc; "{argument}")?)?;
     }
     Ok(all)
@@ -100,24 +108,17 @@ impl fmt::Display for Escaped<'_> {
 /// Prints why arguments are refused. What to type instead stands below the first paragraph, in place of a tip of the
 /// parser's.
 fn print_error(alloc: Global, error: &Error, tip: Option<Tip<'_>>, errors: &mut impl Write) {
-    // If this cannot be written, only the status is left to report it.
-    let Some(tip) = tip else {
-        let _ = write!(errors, "{error}");
-        return;
-    };
-    match format!(in alloc; "{error}") {
-        Ok(text) => {
-            let (why, rest) = text
-                .as_str()
-                .split_once("\n\n")
-                .unwrap_or((text.as_str(), ""));
+    if let Some(tip) = tip {
+        if let Ok(text) = format!(in alloc; "{error}") {
+            let text = text.as_str();
+            let (why, rest) = text.split_once("\n\n").unwrap_or((text, ""));
             let rest = without_tip(rest);
             let _ = write!(errors, "{why}\n\n  tip: {tip}\n\n{rest}");
-        }
-        Err(_) => {
-            let _ = write!(errors, "{error}");
+            return;
         }
     }
+    // If this cannot be written, only the status is left to report it.
+    let _ = write!(errors, "{error}");
 }
 
 fn without_tip(rest: &str) -> &str {
@@ -220,9 +221,12 @@ impl fmt::Display for Tip<'_> {
 }
 
 /// What to type in place of refused arguments, of which the first is the program's own name, if that is likely enough.
-fn find_tip<'a>(arguments: &[&'a str]) -> Option<Tip<'a>> {
-    let first = *arguments.get(1)?;
-    let second = arguments.get(2).copied();
+fn find_tip(arguments: &[String]) -> Option<Tip<'_>> {
+    let first = arguments.get(1)?.as_str();
+    let second = match arguments.get(2) {
+        Some(second) => Some(second.as_str()),
+        None => None,
+    };
     match first {
         "run" | "check" => match setting_in(arguments) {
             Some(option) => Some(Tip::Setting(option)),
@@ -250,12 +254,13 @@ fn no_option(word: Option<&str>) -> Option<&str> {
 }
 
 /// The first argument that gives a setting as `relayd forward` takes it. `--log` is an option of `relayd run`, too.
-fn setting_in<'a>(arguments: &[&'a str]) -> Option<&'a str> {
+fn setting_in(arguments: &[String]) -> Option<&str> {
     for argument in arguments {
+        let argument = argument.as_str();
         if let Some(option) = argument.strip_prefix("--") {
             let name = option.split('=').next()?;
             if name != "log" && is_setting(name) {
-                return Some(*argument);
+                return Some(argument);
             }
         }
     }
