@@ -47,7 +47,7 @@ impl<'a> TypedExtras<'a> {
 }
 
 /// An option whose value is a number of seconds.
-#[derive(Clone, Copy)]
+#[derive(Clone, Copy, Debug)]
 pub enum SecondsOption {
     Stats,
     ConnectTimeout,

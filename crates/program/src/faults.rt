@@ -10,58 +10,45 @@ use script::ScriptFault;
 use settings::SettingsFault;
 use std::alloc::AllocError;
 use std::env::{self, Env};
-use std::fmt::{self, Display};
 use std::io;
+use thiserror::Error;
 
 /// A fault of the program. Its text is what a person sees after `relayd: `.
-#[derive(Drop)]
+#[derive(Debug, Drop, Error)]
 pub enum ProgramFault {
     /// The settings have a fault, or memory ran out, for them or for anything else.
+    #[error(transparent)]
     Config(ConfigFault),
     /// The script could not be read, or its outcome could not be written.
+    #[error(transparent)]
     Script(ScriptFault),
     /// An argument of the command line has a value that its setting does not take.
+    #[error(transparent)]
     Argument(SettingsFault),
     /// This option has a value that is no number of seconds in its range.
+    #[error("options: {0}: out of range")]
     Seconds(SecondsOption),
     /// `--script` has a value that names no connection.
+    #[error("options: script: wrong kind")]
     Connection,
     /// The server could not start, or failed.
+    #[error(transparent)]
     Server(ServerFault),
     /// A recording could not be replayed.
+    #[error(transparent)]
     Replay(ReplayFault),
     /// The file to replay does not begin as a recording does.
+    #[error("recording: malformed")]
     NoRecording,
     /// The file to record into could not be created.
+    #[error("record: cannot be created")]
     Record,
     /// The process may have this many descriptors open, and with one connection it needs more.
+    #[error("descriptors: the limit is {limit}, and {needed} are needed for one connection (ulimit -n)")]
     Descriptors { limit: u64, needed: u64 },
     /// The requested output could not be written.
+    #[error("output: cannot be written")]
     Write,
-}
-
-impl fmt::Display for ProgramFault {
-    fn fmt<W: fmt::Write>(&self, f: &mut fmt::Formatter<W>) -> fmt::Result {
-        let text = match self {
-            ProgramFault::Config(fault) => return fault.fmt(f),
-            ProgramFault::Script(fault) => return fault.fmt(f),
-            ProgramFault::Argument(fault) => return fault.fmt(f),
-            ProgramFault::Server(fault) => return fault.fmt(f),
-            ProgramFault::Replay(fault) => return fault.fmt(f),
-            ProgramFault::Seconds(option) => return write!(f, "options: {option}: out of range"),
-            ProgramFault::Descriptors { limit, needed } => {
-                return write!(
-                    f,
-                    "descriptors: the limit is {limit}, and {needed} are needed for one connection (ulimit -n)"
-                );
-            }
-            ProgramFault::Connection => "options: script: wrong kind",
-            ProgramFault::NoRecording => "recording: malformed",
-            ProgramFault::Record => "record: cannot be created",
-            ProgramFault::Write => "output: cannot be written",
-        };
-        f.write_str(text)
-    }
 }
 
 // Running out of memory is one fault, wherever it happens.
@@ -105,27 +92,20 @@ impl ProgramFault {
 }
 
 /// A fault of the settings, in a file or in the arguments. Its text is what a person sees after `relayd: `.
-#[derive(Drop)]
+#[derive(Debug, Drop, Error)]
 pub enum ConfigFault {
     /// The settings file could not be opened or read.
+    #[error("config: cannot be read")]
     Read,
     /// There are more than 65,536 bytes.
+    #[error("config: too long")]
     Long,
     /// The text of the settings has a fault.
+    #[error(transparent)]
     Settings(SettingsFault),
     /// Memory ran out.
+    #[error("out of memory")]
     NoMemory,
-}
-
-impl fmt::Display for ConfigFault {
-    fn fmt<W: fmt::Write>(&self, f: &mut fmt::Formatter<W>) -> fmt::Result {
-        f.write_str(match self {
-            ConfigFault::Read => "config: cannot be read",
-            ConfigFault::Long => "config: too long",
-            ConfigFault::Settings(fault) => return fault.fmt(f),
-            ConfigFault::NoMemory => "out of memory",
-        })
-    }
 }
 
 impl From<AllocError> for ConfigFault {

@@ -10,7 +10,8 @@ loop-thread-preserved g c =
     record {
       fresh = made.fresh;
       left = omega (arith, was.left, c.in-Some.ensures.len, c.loop-thread.pollers.ok.0, c.pop.new.self.ok.0);
-      numbered = threads_more _ _ _ _ _ _ _ c.len-number.result _ pushed.items c.in-Some.ensures.items (omega (arith, c.len-number.ensures, c.pop.new.self.ok.0)) (rw (made.made.0, made.made.1)) was.numbered;
+      numbered = threads_more _ _ _ _ _ _ _ c.len-number.result _ pushed.items c.in-Some.ensures.items
+          (omega (arith, c.len-number.ensures, c.pop.new.self.ok.0)) (rw (made.made.0, made.made.1)) was.numbered;
       slots = all_pushed (λ thread. IsEndOf c.args.rest.now.free thread.number thread.own.free) _ pushed.items was.slots (was.ends.each _ _ made.slots);
       ends = left_of_left was.ends made.left;
       len = pushed.len ∙ ap (λ (n : ℕ). n + 1) was.len;
