@@ -1,7 +1,7 @@
 //! What is printed of the command line: help, the version, and why it is refused.
 ghost use Rattle.std.specs.Prelude.{◌≡◌, ◌≢◌, ◌⊎◌, IfErr};
 ghost use Rattle.clap.specs.Values.{kind_of};
-ghost use Rattle.program.specs.Faults.{IsCarriedOut};
+ghost use Rattle.program.specs.Faults.{IsCarriedOut, status_of};
 
 use crate::acting::{report_fault, stream};
 use crate::command_line::read_command;
