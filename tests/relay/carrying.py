@@ -76,25 +76,32 @@ def both_sides_stall():
 # refuses blocked_read_goes_on: a wire goes on reading after a read that would block
 # refuses option_unasked: a socket gets an option of `--connect-timeout` or `--keepalive` that nobody asked for
 # refuses wires_are_not_told: no wire is told of its socket's reports, so each reads where there is nothing to read
-def traced(calls, times):
-    """What strace(1) writes of these calls of a relay whose only client asks this often."""
+def traced(calls, times, many=1):
+    """What strace(1) writes of these calls of a relay whose clients, this many, ask at once, this often."""
     with tempfile.NamedTemporaryFile("r") as file:
         words = ["strace", "-f", "-e", f"trace={calls}", "-o", file.name, Relay.program, "forward", "127.0.0.1:0"]
-        words += [f"127.0.0.1:{target(echo)}", "--workers", "1", "--slots", "1", "--stop-after", "1"]
+        words += [f"127.0.0.1:{target(echo)}", "--workers", "1", "--slots", f"{many}", "--stop-after", f"{many}"]
         relay = start(words, stdout=subprocess.PIPE, stderr=subprocess.DEVNULL)
-        with connected(int(relay.stdout.readline().rpartition(":")[2])) as client:
-            assert all([asked(client) for _ in range(times)])
+        port = int(relay.stdout.readline().rpartition(":")[2])
+        clients = [connected(port) for _ in range(many)]
+        for _ in range(times):
+            for client in clients:
+                client.sendall(b"?")
+            assert all([client.recv(1) == b"?" for client in clients])
+        for client in clients:
+            client.close()
         assert relay.wait(WAIT) == 0
         return file.read()
 
 
-# refuses busy_poller_keeps_on: a poller that finds reports each time lets no other thread run
+# refuses busy_poller_keeps_on: a poller that finds several reports each time lets no other thread run
 def lets_others_run_under_load():
     if not shutil.which("strace"):
         return left_out("strace")
-    calls = traced("epoll_wait,sched_yield", 500)
-    polls = len(re.findall(r"epoll_wait.* = [1-9]", calls))
-    assert polls >= 500 and abs(calls.count("sched_yield(") - polls // 20) <= 1
+    for many, times in (1, 200), (32, 200):
+        calls = traced("epoll_wait,sched_yield", times, many)
+        polls = len(re.findall(r"epoll_wait.* = ([4-9]|\d\d)", calls))
+        assert (polls > 64) == (many > 1) and abs(calls.count("sched_yield(") - polls // 16) <= 1
 
 
 def makes_no_call_that_nobody_asked_for():

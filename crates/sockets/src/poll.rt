@@ -7,7 +7,7 @@ ghost use Rattle.dispatch.specs.{Splits.parts_of, declared.front.Unopened.TheVar
 use crate::bound::Bound;
 use crate::failure::{log_failure, log_failure_at};
 use crate::forwarding::{Dial, Forwarding};
-use crate::limits::{MAX_POLLERS, MOST_BUSY, MOST_LEFT, WAIT_MILLIS};
+use crate::limits::{MAX_POLLERS, MOST_BUSY, MOST_LEFT, SEVERAL, WAIT_MILLIS};
 use crate::loads::Loads;
 use crate::socket::Socket;
 use crate::stream::Stream;
@@ -53,7 +53,7 @@ pub struct Sockets<'r, R> {
     poller: usize,
     // How many times in a row it has left a client.
     left: u8,
-    // How many polls gave reports since it let other threads run.
+    // How many polls gave several reports since it let other threads run.
     busy: u8,
 }
 
@@ -183,7 +183,7 @@ fn millis_of(wait: Waiting, longest: u64) -> u64
     }
 }
 
-/// Lets other threads run after enough polls that gave reports (sched_yield(2)), and returns how many are counted then.
+/// Lets other threads run after enough such polls (sched_yield(2)), and returns how many are counted then.
 /// A poller under load never sleeps, and would keep the processor that it shares for a whole slice of the scheduler.
 fn let_others_run(busy: u8) -> u8 {
     if busy < MOST_BUSY {
@@ -386,7 +386,7 @@ impl<R: Dial> Front for Sockets<'_, R> {
         self.failed = has_failed(&answer);
         answer?;
         put_numbers(batch, &self.events, &self.told);
-        self.busy = self.busy.saturating_add(u8::from(!batch.is_empty()));
+        self.busy = self.busy.saturating_add(u8::from(batch.len() >= SEVERAL));
         if wait == Waiting::Brief && batch.is_empty() {
             self.left = MOST_LEFT;
         }
