@@ -19,7 +19,7 @@ pub enum Command<'a> {
     Replay(Replayed<'a>),
 }
 
-/// What a relay is told.
+/// What a relay is started with.
 #[derive(Drop)]
 pub struct Relay<'a> {
     pub settings: Source<'a>,

@@ -12,8 +12,8 @@ use std::alloc::AllocError;
 /// count, if the last record has not the greatest counts, or if a recording that says it is complete is not. Where one
 /// was stopped, threads lost what they had not handed over: then only the records before the first lost one are left.
 pub(crate) fn put_in_order(recording: &mut Recording) -> Result<(), ReplayFault> {
-    // The last list alone has the lines of several queues. Those of a slot, and of a poller, stand in the order of their
-    // counts: each is put into one queue by the thread that has the slot then, or is the poller.
+    // The last list alone has the lines of several queues. Those of a slot, and of a poller, stand in the order of
+    // their counts: each is put into one queue by the thread that has the slot then, or is the poller.
     if let Some(list) = recording.lists.last_mut() {
         sort(list)?;
     }

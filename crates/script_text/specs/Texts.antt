@@ -94,7 +94,7 @@ abbrev pub Takes : {X E : Type 0} → Option (Found X) → Result X E → List (
 Takes defined (Ok x) left = defined ≡ Some (record { value = x; words = left })
 Takes defined (Err wrong) left = defined ≡ None
 
--- The same as `Reads` for a whole line, whose end is still to be read behind the words that are left.
+-- The same as `Reads` for a whole line, whose end must still be read after the words that are left.
 abbrev pub Ends : {X E : Type 0} → Option X → Result X E → List (List ℕ) → Type 0
 Ends defined (Ok x) left = defined ≡ if_last x left
 Ends defined (Err wrong) left = defined ≡ None

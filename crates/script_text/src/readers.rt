@@ -236,8 +236,8 @@ pub(crate) fn value_after(key: &[u8], word: &[u8]) -> Option<usize>
     number(word.strip_prefix(key)?)
 }
 
-/// Puts the bytes that a text stands for in lower-case hexadecimal, 1 to 1,024 of them, to the front of `room`, and says
-/// how many they are, if it stands for any.
+/// Puts the bytes that a text stands for in lower-case hexadecimal, 1 to 1,024 of them, to the front of `room`, and
+/// says how many they are, if it stands for any.
 pub(crate) fn decode(text: &[u8], room: &mut [u8; MAX_BYTES]) -> Option<usize>
     ensures value { bytes_of text.now ≡ option_map (λ length. take length room.new) result }
     ensures range { IfSome result (λ length. length ≤ 1024) }

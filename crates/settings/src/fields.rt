@@ -74,9 +74,11 @@ impl Settings {
     /// What a document sets from `slots` on, in the order of the keys.
     fn from_slots(document: &Table) -> Result<(u32, u32, LogLevel, u32, bool), SettingsFault>
         ensures settings { IfOk result (λ s. let doc = table_view document.now in
-            Gives (row_of Key.Slots) doc (number s.0) × Gives (row_of Key.StopAfter) doc (number s.1) × Gives (row_of Key.Log) doc (level s.2)
-            × Gives (row_of Key.Idle) doc (number s.3) × Gives (row_of Key.Proxy) doc (truth s.4) × (1 ≤ s.0) × (s.0 ≤ 4096) × (s.3 ≤ 86400)) }
-        ensures fault { IfErr result (IsFirstFault (Key.Slots ∷ Key.StopAfter ∷ Key.Log ∷ Key.Idle ∷ Key.Proxy ∷ []) (table_view document.now)) }
+            Gives (row_of Key.Slots) doc (number s.0) × Gives (row_of Key.StopAfter) doc (number s.1)
+            × Gives (row_of Key.Log) doc (level s.2) × Gives (row_of Key.Idle) doc (number s.3)
+            × Gives (row_of Key.Proxy) doc (truth s.4) × (1 ≤ s.0) × (s.0 ≤ 4096) × (s.3 ≤ 86400)) }
+        ensures fault { IfErr result (IsFirstFault (Key.Slots ∷ Key.StopAfter ∷ Key.Log ∷ Key.Idle ∷ Key.Proxy ∷ [])
+            (table_view document.now)) }
     {
         let slots = number_at(document, SLOTS)?;
         let stop_after = number_at(document, STOP_AFTER)?;
