@@ -3,6 +3,7 @@ use crate::all_well;
 use program::act;
 use records::{Outcome, Replay, ReplayFault, Wanted};
 use relay_log::ServerFault;
+use script::Simulator;
 use std::alloc::{AllocError, Global};
 use std::io::{self, ErrorKind, IsTerminal, Read, Write};
 use std::test::Fail;
@@ -172,6 +173,7 @@ fn play(
         &mut errors,
         &|_settings, _bound, _extras, _file| Err(ServerFault::Worn),
         &NoPlayer,
+        &Simulator,
     );
     let output = sink.into_taken();
     let run = Run {

@@ -1,11 +1,14 @@
 //! Reads texts: an input up to a limit ([`read_at_most`]), as a script on standard input or a settings file; the
-//! pieces of a text that a separator is between ([`Pieces`]), as the words of a line; and numbers ([`number`]).
+//! pieces of a text that a separator is between ([`Pieces`]), as the words of a line; and numbers ([`number`]). Who
+//! runs a script need not know what it does ([`Simulate`]).
 #![tactic(auto)]
 
 mod numbers;
 mod pieces;
 mod reading;
+mod simulate;
 
 pub use numbers::{is, is_digit, number};
 pub use pieces::Pieces;
 pub use reading::{InputFault, read_at_most};
+pub use simulate::{Causes, MAX_SCRIPT, Outcome, ScriptFault, Simulate};

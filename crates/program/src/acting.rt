@@ -1,6 +1,5 @@
 //! What the program does, from its arguments to its status.
 ghost use Rattle.std.specs.Prelude.{◌≡◌, ◌⊎◌, IfSome, IfOk, IfErr, Ok};
-ghost use Rattle.script.specs.Runs.{WritesReport, WritesFault};
 ghost use Rattle.program.specs.Faults.{IsCarriedOut, status_of};
 
 use crate::command_line::{Command, Relay, Source, read_command};
@@ -14,10 +13,10 @@ use crate::replaying_file::replay;
 use crate::starting::{foresee, prepare};
 use crate::streams::{LoggedCauses, Stream};
 use crate::usage::answer_usage;
+use input::{Outcome, Simulate};
 use log::{LevelFilter, Log};
 use records::Replay;
 use relay_log::ServerFault;
-use script::Outcome;
 use settings::Settings;
 use sockets::{Bound, bind};
 use std::alloc::{AllocError, Global};
@@ -51,8 +50,8 @@ pub fn report_arguments_fault<E: Write>(errors: &mut E, fault: ArgumentsFault) -
 ///
 /// `serve` serves on a bound socket with the process's own handle: a thread can only be started with that one. It is
 /// given the other options and the file to record into, if there is one, and returns whether it could print where it
-/// listens. `player` plays a recording.
-pub fn act<R, S, P: Replay, I: Read + IsTerminal, O: Write, E: Write>(
+/// listens. `player` plays a recording, and `simulator` runs a script.
+pub fn act<R, S, P: Replay, M: Simulate, I: Read + IsTerminal, O: Write, E: Write>(
     rt: &R,
     arguments: &[String],
     reader: &mut I,
@@ -60,6 +59,7 @@ pub fn act<R, S, P: Replay, I: Read + IsTerminal, O: Write, E: Write>(
     errors: &mut E,
     serve: &S,
     player: &P,
+    simulator: &M,
 ) -> u8
 where
     R: AllocGlobal + Env + Files + Eprint + Net + Copy + Drop,
@@ -75,7 +75,7 @@ where
             if matches!(command, Command::Simulate { .. }) {
                 tell_if_typed(reader, errors);
             }
-            match carry_out(rt, &log, command, reader, writer, serve, player) {
+            match carry_out(rt, &log, command, reader, writer, serve, player, simulator) {
                 Ok(status) => status,
                 Err(fault) => report_fault(errors, fault),
             }
@@ -96,7 +96,7 @@ fn tell_if_typed<I: IsTerminal, E: Write>(reader: &I, errors: &mut E) {
 
 /// Carries out a command. The causes of faults, and warnings of `check`, go to `log`, whatever level a settings file
 /// sets: what it says about `log` is not yet known where it has a fault.
-fn carry_out<R, S, P: Replay, L: Log, I: Read, O: Write>(
+fn carry_out<R, S, P: Replay, M: Simulate, L: Log, I: Read, O: Write>(
     rt: &R,
     log: &L,
     command: Command<'_>,
@@ -104,6 +104,7 @@ fn carry_out<R, S, P: Replay, L: Log, I: Read, O: Write>(
     writer: &mut O,
     serve: &S,
     player: &P,
+    simulator: &M,
 ) -> Result<u8, ProgramFault>
 where
     R: AllocGlobal + Env + Files + Eprint + Net + Copy + Drop,
@@ -114,7 +115,9 @@ where
     ensures unwritten { IfErr result (λ fault. status_of fault ≡ 2 → O.contents writer.new ≡ O.contents writer.old) }
 {
     match command {
-        Command::Simulate { each } => simulate_by(rt.alloc(), log, each, reader, writer),
+        Command::Simulate { each } => {
+            simulate_by(rt.alloc(), log, each, simulator, reader, writer)
+        }
         Command::Check(path) => check(rt, log, path, writer),
         Command::Serve(relay) => run(rt, log, &relay, serve),
         Command::Replay(replayed) => replay(rt, log, replayed, writer, player),
@@ -152,10 +155,11 @@ where
     print(rt.alloc(), &settings, &mut stream("output", writer, log))
 }
 
-fn simulate_by<L: Log, I: Read, O: Write>(
+fn simulate_by<M: Simulate, L: Log, I: Read, O: Write>(
     alloc: Global,
     log: &L,
     each: bool,
+    simulator: &M,
     reader: &mut I,
     writer: &mut O,
 ) -> Result<u8, ProgramFault>
@@ -165,14 +169,9 @@ fn simulate_by<L: Log, I: Read, O: Write>(
     let mut reader = stream("input", reader, log);
     let mut writer = stream("output", writer, log);
     if !each {
-        return simulate(alloc, log, &mut reader, &mut writer);
+        return simulate(alloc, log, simulator, &mut reader, &mut writer);
     }
-    match script::run_each(
-        alloc,
-        &mut reader,
-        &mut writer,
-        &LoggedCauses { alloc, log },
-    ) {
+    match simulator.simulate_each(alloc, &mut reader, &mut writer, &LoggedCauses(log)) {
         Ok(Outcome::Report) => Ok(DONE),
         Ok(Outcome::Refused) => Ok(FAULT),
         Err(fault) => Err(ProgramFault::Script(fault)),
@@ -189,20 +188,21 @@ pub(crate) fn stream<'a, S, L>(
 }
 
 /// Returns 0 if the report was written, and 1 if the line of a fault was, whose cause is logged.
-fn simulate<L: Log, I: Read, O: Write>(
+fn simulate<M: Simulate, L: Log, I: Read, O: Write>(
     alloc: Global,
     log: &L,
+    simulator: &M,
     reader: &mut I,
     writer: &mut O,
 ) -> Result<u8, ProgramFault>
     ensures report { result ≡ Ok 0 → IfSome (I.remaining reader.old)
-        (λ text. WritesReport text (O.contents writer.old) (O.contents writer.new)) }
+        (λ text. M.reports simulator.now text (O.contents writer.old) (O.contents writer.new)) }
     ensures done { IfOk result (λ status. IsCarriedOut status) }
     ensures fault { IfErr result (λ fault. status_of fault ≡ 1) }
     ensures refused { result ≡ Ok 1 → IfSome (I.remaining reader.old)
-        (λ text. WritesFault text (O.contents writer.old) (O.contents writer.new)) }
+        (λ text. M.refuses simulator.now text (O.contents writer.old) (O.contents writer.new)) }
 {
-    match script::run(alloc, reader, writer, &LoggedCauses { alloc, log }) {
+    match simulator.simulate(alloc, reader, writer, &LoggedCauses(log)) {
         Ok(Outcome::Report) => Ok(DONE),
         Ok(Outcome::Refused) => Ok(FAULT),
         Err(fault) => Err(ProgramFault::Script(fault)),

@@ -4,9 +4,9 @@ ghost use Rattle.program.specs.{Faults.{settings_fault, argument_fault, status_o
 
 use crate::constants::{FAULT, USAGE};
 use crate::extras::SecondsOption;
+use input::ScriptFault;
 use records::ReplayFault;
 use relay_log::ServerFault;
-use script::ScriptFault;
 use settings::SettingsFault;
 use std::alloc::AllocError;
 use std::env::{self, Env};

@@ -8,9 +8,9 @@ use crate::constants::{DONE, FAULT};
 use crate::faults::ProgramFault;
 use crate::recording_file::is_recording;
 use crate::streams::{Stream, Unopened, log_error, log_text};
+use input::MAX_SCRIPT;
 use log::{Level, Log};
 use records::{Outcome, Replay, ReplayFault, Wanted};
-use script::MAX_BYTES;
 use settings::EndOfLine;
 use std::fs::{self, File};
 use std::io::{self, Write};
@@ -82,7 +82,7 @@ fn log_broken(log: &impl Log, name: &EndOfLine<'_>, fault: &ReplayFault) {
 
 /// Warns of a script that `sim` does not take.
 fn warn_if_long(log: &impl Log, bytes: usize) {
-    let most = MAX_BYTES;
+    let most = MAX_SCRIPT;
     if bytes > most {
         let text = format_args!(
             "output: the script has {bytes} bytes, and relayd sim takes at most {most}"

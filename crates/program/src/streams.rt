@@ -1,9 +1,8 @@
 //! What the log says of streams, of files and of scripts.
 
+use input::Causes;
 use log::{Level, Log, error, log};
-use script::{Explain, Fault};
 use settings::EndOfLine;
-use std::alloc::Global;
 use std::fmt;
 use std::io::{self, Read, Write};
 
@@ -89,19 +88,12 @@ impl fmt::Display for Unopened<'_> {
     }
 }
 
-/// Logs the cause of each fault, if one is known and there is memory for it.
+/// Logs the cause of a script's fault.
 #[derive(Drop)]
-pub struct LoggedCauses<'a, L> {
-    /// The memory for the text of a cause.
-    pub alloc: Global,
-    /// Where causes are logged.
-    pub log: &'a L,
-}
+pub struct LoggedCauses<'a, L>(pub &'a L);
 
-impl<L: Log> Explain for LoggedCauses<'_, L> {
-    fn explain(&self, text: &[u8], fault: Fault) {
-        if let Some(cause) = script::cause(self.alloc, text, fault) {
-            log_text(self.log, Level::Error, &cause);
-        }
+impl<L: Log> Causes for LoggedCauses<'_, L> {
+    fn add(&self, cause: &str) {
+        log_text(self.0, Level::Error, &cause);
     }
 }

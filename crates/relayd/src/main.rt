@@ -1,5 +1,5 @@
-//! The program: `program` says what it does, `server` serves, and `replaying` plays recordings. `main` passes to
-//! [`program::act`] the process's own arguments, streams and handle, with a closure that serves and the machine.
+//! The program: `program` says what it does, `server` serves, `replaying` plays recordings, and `script` runs scripts.
+//! `main` passes to [`program::act`] the process's own arguments, streams and handle, a closure that serves, and these.
 #![tactic(auto)]
 
 mod lent;
@@ -10,6 +10,7 @@ use log_queue::Queued;
 use program::logging::{self, Errors, Until};
 use program::{Extras, report_unheld, telling, until_eof};
 use replaying::OnMachine;
+use script::Simulator;
 use server::{Bound, Lent, ServerFault};
 use settings::Settings;
 use std::cell::Cell;
@@ -84,6 +85,7 @@ fn main(rt: HostRuntime) -> ExitCode {
             &mut errors,
             &serve,
             &OnMachine,
+            &Simulator,
         ),
         Err(fault) => program::report_arguments_fault(&mut errors, fault),
     };

@@ -1,15 +1,22 @@
 use crate::machine::Machine;
-use crate::running::{MAX_BYTES, MAX_SHOWN};
+use crate::running::MAX_SHOWN;
 use crate::{Fault, Script, parse};
-use input::Pieces;
+use input::{Causes, MAX_SCRIPT, Pieces};
 use script_text::{
     Header, Line, Lines, NotRead, Page, Piece, Wrong, read_event, read_header, read_step,
 };
 use std::alloc::Global;
 
+/// Adds the cause of a script's fault, if one is known and there is memory for it.
+pub(crate) fn add_cause<C: Causes>(alloc: Global, text: &[u8], fault: Fault, causes: &C) {
+    if let Some(cause) = cause(alloc, text, fault) {
+        causes.add(cause.as_str());
+    }
+}
+
 /// The cause of a fault, for a person, on one line: which word is malformed and what is expected there, or why the step
 /// is not allowed. `text` is the script. None if nothing more is known, or there is no memory for it.
-pub fn cause(alloc: Global, text: &[u8], fault: Fault) -> Option<String> {
+fn cause(alloc: Global, text: &[u8], fault: Fault) -> Option<String> {
     match fault {
         Fault::TooLong => String::from_str(alloc, "a script has at most 1048576 bytes").ok(),
         Fault::NoWorld => String::from_str(alloc, "no line begins with flow or world").ok(),
@@ -65,7 +72,7 @@ fn show(cause: &mut Page, word: &[u8]) {
 /// The line with this number, and what is wrong with it. It is read again: the first line is a header, which decides on
 /// what the others are.
 fn wrong_line(alloc: Global, text: &[u8], number: u64) -> Option<(&[u8], Wrong<'_>)> {
-    if text.len() > MAX_BYTES {
+    if text.len() > MAX_SCRIPT {
         return None;
     }
     let mut lines = Lines::new(text);

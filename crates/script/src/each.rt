@@ -3,9 +3,11 @@ ghost use Rattle.std.specs.Prelude.{◌≡◌, ◌≢◌, ◌+◌, Err};
 ghost use Rattle.input.specs.Texts.{TakesAtMost};
 ghost use Rattle.script.specs.Scripts.{most_bytes};
 
+use crate::causes::add_cause;
 use crate::machine::Machine;
-use crate::running::{MAX_BYTES, answer_unread, tell_fault};
-use crate::{Explain, Fault, Outcome, Script, ScriptFault, parse};
+use crate::running::{answer_unread, tell_fault};
+use crate::{Fault, Script, parse};
+use input::{Causes, MAX_SCRIPT, Outcome, ScriptFault};
 use script_text::Lines;
 use std::alloc::{AllocError, Global};
 use std::io::{Read, Write};
@@ -15,12 +17,12 @@ use std::io::{Read, Write};
 /// not in the report before. The step of a line is written before the next one is made.
 ///
 /// The faults are those of `run`. What is written before a step that is not allowed stands, and the line of the fault
-/// follows. `explain` is called once for a fault, before its line, also if memory runs out for what is to be written.
-pub fn run_each<R: Read, W: Write, X: Explain>(
+/// follows. `causes` is given a fault's cause before its line.
+pub fn run_each<R: Read, W: Write, C: Causes>(
     alloc: Global,
     reader: &mut R,
     writer: &mut W,
-    explain: &X,
+    causes: &C,
 ) -> Result<Outcome, ScriptFault>
     // If the script could not be read, nothing is written.
     ensures unread { result ≡ Err ScriptFault.Read → writer.new ≡ writer.old }
@@ -28,18 +30,18 @@ pub fn run_each<R: Read, W: Write, X: Explain>(
     // At most one byte more than a script may have is taken from the reader.
     ensures taken { TakesAtMost (most_bytes + 1) (R.remaining reader.old) (R.remaining reader.new) }
 {
-    match input::read_at_most(alloc, reader, MAX_BYTES + 1) {
-        Ok(text) => answer_each(alloc, text.as_slice(), writer, explain),
+    match input::read_at_most(alloc, reader, MAX_SCRIPT + 1) {
+        Ok(text) => answer_each(alloc, text.as_slice(), writer, causes),
         Err(fault) => answer_unread(writer, fault),
     }
 }
 
-/// Shows each step, or those before the script's fault, which `explain` is given, and then the line of the fault.
-fn answer_each<W: Write, X: Explain>(
+/// Shows each step, or those before the script's fault, whose cause `causes` is given, and then the line of the fault.
+fn answer_each<W: Write, C: Causes>(
     alloc: Global,
     text: &[u8],
     writer: &mut W,
-    explain: &X,
+    causes: &C,
 ) -> Result<Outcome, ScriptFault>
     ensures { result ≢ Err ScriptFault.Read }
 {
@@ -47,7 +49,7 @@ fn answer_each<W: Write, X: Explain>(
         Ok(true) => Ok(Outcome::Report),
         Ok(false) => Err(ScriptFault::Write),
         Err(fault) => {
-            explain.explain(text, fault);
+            add_cause(alloc, text, fault, causes);
             tell_fault(writer, fault)
         }
     }

@@ -5,8 +5,8 @@
 //! [`Reached::report`] is the report. [`run`] does all three, from a reader to a writer; [`run_each`] writes what is
 //! new in the report after each step.
 //!
-//! A script that has a fault gives one line in place of the report. [`cause`] says more, and [`run`] passes text and
-//! fault to its [`Explain`].
+//! A script that has a fault gives one line in place of the report, and [`run`] passes its cause, which says more, to its
+//! [`Causes`]. A [`Simulator`] does what `run` and `run_each` do.
 //!
 //! What a line says, and what is printed of a world, is the crate `script_text`. `specs/` has definitions: `Scripts`
 //! for the text, `Transfers` and `Runs` for the steps, what is written, and what holds for every run.
@@ -23,12 +23,12 @@ mod script;
 mod transfer;
 mod world_script;
 
-pub use causes::cause;
 pub use each::run_each;
 pub use fault::Fault;
 pub use flow_script::FlowScript;
+pub use input::{Causes, Outcome, ScriptFault};
 pub use parsing::parse;
-pub use running::{Explain, MAX_BYTES, Outcome, ScriptFault, answer, run};
+pub use running::{Simulator, answer, run};
 pub use script::{Reached, Script, print_transfer};
 pub use script_text::{Bytes, NumberedEvent, NumberedStep, Step, Word, print, word_of};
 pub use transfer::Transfer;

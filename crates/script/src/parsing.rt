@@ -2,8 +2,8 @@ ghost use Rattle.std.specs.Prelude.{◌<◌, IsErrOf, IsTrue, Some};
 ghost use Rattle.script_text.specs.{Headers.IsWithin, Events.{step_of, event_of}};
 ghost use Rattle.script.specs.{Faults.GivesBy, Scripts.{BeginsWell, begins_well, goes_on, headed, parsed, plan_of, steps_of, events_of, said_by, said_lines, starts_with}};
 
-use crate::running::MAX_BYTES;
 use crate::{Fault, FlowScript, Script, WorldScript};
+use input::MAX_SCRIPT;
 use script_text::{
     Header, Lines, NotRead, NumberedEvent, NumberedStep, read_event, read_header, read_step,
 };
@@ -16,7 +16,7 @@ pub fn parse(alloc: Global, text: &[u8]) -> Result<Script, Fault>
     ensures script { GivesBy said_by (parsed text.now) result }
     ensures memory { IsErrOf result Fault.NoMemory → BeginsWell text.now }
 {
-    if text.len() > MAX_BYTES {
+    if text.len() > MAX_SCRIPT {
         return Err(Fault::TooLong);
     }
     plan(alloc, Lines::new(text))

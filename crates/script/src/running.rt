@@ -2,46 +2,47 @@ ghost use Rattle.std.specs.{Prelude.{◌≡◌, ◌≢◌, ◌+◌, IfErr, IfSom
 ghost use Rattle.script.specs.{Scripts.most_bytes, Runs.{fault_line, LeadsTo, WritesReport, AnswersFault, WritesFault, EveryByte, EveryEnd, EveryRun, EveryRunIsSound, report_of}};
 ghost use Rattle.input.specs.Texts.{TakesAtMost};
 
-use crate::{Fault, Reached, parse};
-use input::InputFault;
+use crate::causes::add_cause;
+use crate::{Fault, Reached, parse, run_each};
+use input::{Causes, InputFault, MAX_SCRIPT, Outcome, ScriptFault, Simulate};
 use relay_core::laws::{
     answers_keep_place, failures_are_told, live_pairs_rest, only_overdue_pairs_expire,
 };
 use std::alloc::Global;
 use std::io::{Read, Write};
-use thiserror::Error;
 use world::laws::every_run_holds;
-
-/// Receives a script's fault, beside the line that is written for it.
-pub trait Explain {
-    /// `text` is what was read of the script, which is all of it unless it is too long.
-    fn explain(&self, text: &[u8], fault: Fault);
-}
-
-/// The most bytes of a script.
-pub const MAX_BYTES: usize = 1_048_576;
 
 /// The most bytes of a word that are shown to a person.
 pub(crate) const MAX_SHOWN: usize = 64;
 
-/// What a run wrote.
+/// Runs scripts, by [`run`] and [`run_each`].
 #[derive(Clone, Copy)]
-pub enum Outcome {
-    /// The report of the state after the whole script.
-    Report,
-    /// The one line of the script's fault.
-    Refused,
-}
+pub struct Simulator;
 
-/// Why a run could not write its outcome.
-#[derive(Clone, Copy, Debug, Error)]
-pub enum ScriptFault {
-    /// The script could not be read. Nothing was written.
-    #[error("input: cannot be read")]
-    Read,
-    /// The outcome could not be written. It is not known how much was.
-    #[error("output: cannot be written")]
-    Write,
+impl Simulate for Simulator {
+    ghost reports = { λ _. WritesReport };
+
+    ghost refuses = { λ _. WritesFault };
+
+    fn simulate<R: Read, W: Write, C: Causes>(
+        &self,
+        alloc: Global,
+        reader: &mut R,
+        writer: &mut W,
+        causes: &C,
+    ) -> Result<Outcome, ScriptFault> {
+        run(alloc, reader, writer, causes)
+    }
+
+    fn simulate_each<R: Read, W: Write, C: Causes>(
+        &self,
+        alloc: Global,
+        reader: &mut R,
+        writer: &mut W,
+        causes: &C,
+    ) -> Result<Outcome, ScriptFault> {
+        run_each(alloc, reader, writer, causes)
+    }
 }
 
 /// Reads a script to its end, or to one byte more than it may have, and then writes the report of the state after it or
@@ -51,14 +52,14 @@ pub enum ScriptFault {
 /// at once. If memory runs out, the line is `out of memory`: so never for an input without a byte, nor, once it was
 /// read, for one that is too long, or whose header or first line after it is malformed.
 ///
-/// `explain` is called once, before anything is written, if the script that was read has a fault; not if memory runs
-/// out before it was read, or for its output.
+/// `causes` is given the fault's cause, if one is known and there is memory for it, before anything is written; not if
+/// memory runs out before the script was read, or for its output.
 #[tactic(auto, using(crate::proofs::Telling::every_byte, crate::proofs::Telling::every_end, crate::proofs::Telling::every_run))]
-pub fn run<R: Read, W: Write, X: Explain>(
+pub fn run<R: Read, W: Write, C: Causes>(
     alloc: Global,
     reader: &mut R,
     writer: &mut W,
-    explain: &X,
+    causes: &C,
 ) -> Result<Outcome, ScriptFault>
     // What is written is the report of the script that was read, or the line of its fault, or that memory ran out, and
     // nothing else.
@@ -85,8 +86,8 @@ pub fn run<R: Read, W: Write, X: Explain>(
 {
     every_run_is_sound();
     // One byte too many is enough to know that a script is too long.
-    match input::read_at_most(alloc, reader, MAX_BYTES + 1) {
-        Ok(text) => answer(alloc, text.as_slice(), writer, explain),
+    match input::read_at_most(alloc, reader, MAX_SCRIPT + 1) {
+        Ok(text) => answer(alloc, text.as_slice(), writer, causes),
         Err(fault) => answer_unread(writer, fault),
     }
 }
@@ -107,13 +108,13 @@ pub(crate) fn answer_unread<W: Write>(
     }
 }
 
-/// Writes the report of the state after the script that a text stands for, or the one line of the script's fault, which
-/// `explain` is given first.
-pub fn answer<W: Write, X: Explain>(
+/// Writes the report of the state after the script that a text stands for, or the one line of the script's fault, whose
+/// cause `causes` is given first.
+pub fn answer<W: Write, C: Causes>(
     alloc: Global,
     text: &[u8],
     writer: &mut W,
-    explain: &X,
+    causes: &C,
 ) -> Result<Outcome, ScriptFault>
     ensures report { result ≡ Ok Outcome.Report → WritesReport text.now (W.contents writer.old) (W.contents writer.new) }
     ensures refused { result ≡ Ok Outcome.Refused → AnswersFault text.now (W.contents writer.old) (W.contents writer.new) }
@@ -122,7 +123,7 @@ pub fn answer<W: Write, X: Explain>(
     match compute(alloc, text) {
         Ok(reached) => tell_report(alloc, writer, &reached),
         Err(fault) => {
-            explain.explain(text, fault);
+            add_cause(alloc, text, fault, causes);
             tell_fault(writer, fault)
         }
     }

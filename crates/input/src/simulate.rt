@@ -1,0 +1,67 @@
+//! What a simulator of scripts is asked, and what it answers. Who hands a script on need not know the machine on which
+//! its steps are made.
+ghost use Rattle.std.specs.Prelude.{◌≡◌, ℕ, List, Option, IfSome, Ok};
+
+use std::alloc::Global;
+use std::io::{Read, Write};
+use thiserror::Error;
+
+/// The most bytes of a script.
+pub const MAX_SCRIPT: usize = 1_048_576;
+
+/// What a run wrote.
+#[derive(Clone, Copy)]
+pub enum Outcome {
+    /// The report of the state after the whole script.
+    Report,
+    /// The one line of the script's fault.
+    Refused,
+}
+
+/// Why a run could not write its outcome.
+#[derive(Clone, Copy, Debug, Error)]
+pub enum ScriptFault {
+    /// The script could not be read. Nothing was written.
+    #[error("input: cannot be read")]
+    Read,
+    /// The outcome could not be written. It is not known how much was.
+    #[error("output: cannot be written")]
+    Write,
+}
+
+/// Receives why a script is refused, beside the line that is written for it.
+pub trait Causes {
+    /// `cause` is for a person, on one line.
+    fn add(&self, cause: &str);
+}
+
+/// Runs scripts.
+pub trait Simulate {
+    // What it writes for a script: the report, or the line of the fault. By what was read, and the output before and after.
+    ghost reports: { Self → List ℕ → Option (List ℕ) → Option (List ℕ) → Type 0 };
+
+    ghost refuses: { Self → List ℕ → Option (List ℕ) → Option (List ℕ) → Type 0 };
+
+    /// Reads a script, and writes the report of the state after it, or the one line of its fault, whose cause `causes`
+    /// is given.
+    fn simulate<R: Read, W: Write, C: Causes>(
+        &self,
+        alloc: Global,
+        reader: &mut R,
+        writer: &mut W,
+        causes: &C,
+    ) -> Result<Outcome, ScriptFault>
+        ensures report { result ≡ Ok Outcome.Report → IfSome (R.remaining reader.old)
+            (λ text. reports self.now text (W.contents writer.old) (W.contents writer.new)) }
+        ensures refused { result ≡ Ok Outcome.Refused → IfSome (R.remaining reader.old)
+            (λ text. refuses self.now text (W.contents writer.old) (W.contents writer.new)) };
+
+    /// Does the same, and writes what each step changes in place of the report at the end.
+    fn simulate_each<R: Read, W: Write, C: Causes>(
+        &self,
+        alloc: Global,
+        reader: &mut R,
+        writer: &mut W,
+        causes: &C,
+    ) -> Result<Outcome, ScriptFault>;
+}
