@@ -2,10 +2,9 @@ use crate::machine::Machine;
 use crate::running::{MAX_BYTES, MAX_SHOWN};
 use crate::{Fault, Script, parse};
 use input::Pieces;
-use script_text::{
-    Header, Line, Lines, NotRead, Page, Piece, Wrong, read_event, read_header, read_step,
-};
+use script_text::{Header, Line, Lines, NotRead, Wrong, read_event, read_header, read_step};
 use std::alloc::Global;
+use world_text::{Page, Piece};
 
 /// The cause of a fault, for a person, on one line: which word is malformed and what is expected there, or why the step
 /// is not allowed. `text` is the script. None if nothing more is known, or there is no memory for it.
