@@ -3,10 +3,10 @@ ghost use Rattle.drill.specs.Sizes.{IsServerSize};
 use crate::sizes::Sizes;
 use kernel_model::{End, Kernel};
 use relay_core::{Call, Verdict};
-use script_text::{Counts, Page, Piece, put_event, put_header};
 use std::alloc::{AllocError, Global};
 use token::Side;
 use world::{Act, Event, Lead, Limits, Polling, Reported, World};
+use world_text::{Counts, Page, Piece, put_event, put_header};
 
 /// The machine beside one slot or one listener: the events to which the server's steps amount, each of which it makes
 /// at once. Its kernel gives the replies to the server's calls there.

@@ -9,9 +9,9 @@ use crate::reading::read_step;
 use crate::sizes::read_sizes;
 use crate::step::{Planned, Point, Step};
 use log::{Level, Log, Logged};
-use script_text::{Counts, Page};
 use std::io::{self, ErrorKind};
 use std::sync::Wait;
+use world_text::{Counts, Page};
 
 /// The counts of what was run, and the server of the script in progress.
 #[derive(Drop)]
@@ -172,7 +172,7 @@ fn show<R: Print>(rt: &R, outside: &Outside) -> io::Result<Outcome> {
 
 fn print_machine<R: Print>(rt: &R, machine: &Machine) -> io::Result<()> {
     let script = machine.script()?;
-    let report = script_text::print(machine.alloc, machine.world())?;
+    let report = world_text::print(machine.alloc, machine.world())?;
     print!(rt; "script\n{script}report\n{report}end\n")
 }
 

@@ -6,10 +6,10 @@ use kernel_model::End;
 use records::Wanted;
 use relay_core::Verdict;
 use relay_log::{Done, Failed};
-use script_text::Counts;
 use std::alloc::{AllocError, Global};
 use std::mem;
 use world::World;
+use world_text::Counts;
 
 /// Bytes that were read at clients and at targets, and bytes that were written there.
 pub(crate) type Moved = [u64; 4];

@@ -3,10 +3,10 @@ use crate::machine::{Flaw, Machine};
 use crate::recording::Recording;
 use crate::results::{Flawed, Results, Whose};
 use records::{ReplayFault, Wanted};
-use script_text::{Page, Piece, event_reason, put_event, put_header};
 use std::alloc::{AllocError, Global};
 use std::io::Write;
 use world::Event;
+use world_text::{Page, Piece, event_reason, put_event, put_header};
 
 const AT_ONCE: usize = 256;
 

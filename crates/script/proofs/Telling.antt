@@ -1,10 +1,10 @@
 -- From what was computed of the text that was read, and what was written of it, to the whole input.
 use Rattle.std.{proofs.{Common.{◌≡◌, ℕ, List, [], ◌∷◌, Option, Some, None, Ok, option_and_then, ◌≢◌, ◌⊎◌, ◌+◌, ◌<◌, ◌≤◌, ap, length, length-append, take, Result, Err, inl, inr, refl, sym, ◌∙◌, subst, arith}, lemmas.{Option.IfSome_then, List.{take_all, length-take-le}, Bool.{cases_lt, lt-ltb}}}, specs.{Prelude.IfSome, Io.KnownBytes.Appends}}
 use Rattle.world.specs.{States.{State, opening}, Steps.step, Runs.run}
-use Rattle.script_text.specs.{declared.steps.NumberedEvent.NumberedEvent, Events.event_word}
+use Rattle.script_text.specs.declared.steps.NumberedEvent.{NumberedEvent}
+use Rattle.world_text.specs.Words.{event_word}
 use Rattle.script.{specs.{Faults.{and_then, or_not_allowed, played, Gives}, Plans.events_in, Runs.{line_happened, EveryRunIsSound, EveryRun, reached_by, fault_line, LeadsTo, WritesReport, AnswersFault, WritesFault, EveryByte, EveryEnd}, declared.{fault.Fault.{Fault, TheVariants.{TooLong, NoMemory}}, script.{Script.Script, Reached.Reached}}, Scripts.{Plan, TakesMemory, most_bytes, parsed, said_by}}, proofs.Keeping.{keeps_bytes, keeps_end}}
-use Rattle.input.specs.declared.simulate.{Outcome.{Outcome, TheVariants.{Report, Refused}}, ScriptFault.ScriptFault}
-use Rattle.input.specs.Texts.{TakesSome}
+use Rattle.input.specs.{declared.simulate.{Outcome.{Outcome, TheVariants.{Report, Refused}}, ScriptFault.ScriptFault}, Texts.TakesSome}
 
 -- The headline of every run, for the events of a script.
 

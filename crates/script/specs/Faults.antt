@@ -1,6 +1,6 @@
 -- The faults of a script, and the one line of each. Part of the promises.
 use Rattle.std.specs.{Prelude.{◌≡◌, ℕ, Bool, IsTrue, List, [], ◌∷◌, ◌++◌, codes, take, slice_get, Option, Some, None, Result, Ok, Err}, Fmt.decimal}
-use Rattle.script_text.specs.{declared.word.Word.Word, Events.word_text}
+use Rattle.world_text.specs.{declared.word.Word.Word, Words.word_text}
 use Rattle.script.specs.declared.fault.Fault.{Fault, TheVariants.{TooLong, NoWorld, Malformed, NotAllowed, NoMemory}}
 
 abbrev pub fault_text : Fault → List ℕ

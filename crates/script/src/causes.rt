@@ -2,10 +2,9 @@ use crate::machine::Machine;
 use crate::running::MAX_SHOWN;
 use crate::{Fault, Script, parse};
 use input::{Causes, MAX_SCRIPT, Pieces};
-use script_text::{
-    Header, Line, Lines, NotRead, Page, Piece, Wrong, read_event, read_header, read_step,
-};
+use script_text::{Header, Line, Lines, NotRead, Wrong, read_event, read_header, read_step};
 use std::alloc::Global;
+use world_text::{Page, Piece};
 
 /// Adds the cause of a script's fault, if one is known and there is memory for it.
 pub(crate) fn add_cause<C: Causes>(alloc: Global, text: &[u8], fault: Fault, causes: &C) {

@@ -1,8 +1,8 @@
 ghost use Rattle.std.specs.Prelude.{◌≡◌, Some};
 
-use script_text::Word;
 use std::alloc::{AllocError, AllocFailed};
 use std::fmt;
+use world_text::Word;
 
 /// Why a script has no report. Its text is the line that a run writes in place of the report.
 #[derive(Clone, Copy)]

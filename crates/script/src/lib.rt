@@ -8,8 +8,8 @@
 //! A script that has a fault gives one line in place of the report, and [`run`] passes its cause, which says more, to its
 //! [`Causes`]. A [`Simulator`] does what `run` and `run_each` do.
 //!
-//! What a line says, and what is printed of a world, is the crate `script_text`. `specs/` has definitions: `Scripts`
-//! for the text, `Transfers` and `Runs` for the steps, what is written, and what holds for every run.
+//! What a line says is the crate `script_text`, and what is printed of a world `world_text`. `specs/` has definitions:
+//! `Scripts` for the text, `Transfers` and `Runs` for the steps, what is written, and what holds for every run.
 #![tactic(auto)]
 
 mod causes;
@@ -30,6 +30,7 @@ pub use input::{Causes, Outcome, ScriptFault};
 pub use parsing::parse;
 pub use running::{Simulator, answer, run};
 pub use script::{Reached, Script, print_transfer};
-pub use script_text::{Bytes, NumberedEvent, NumberedStep, Step, Word, print, word_of};
+pub use script_text::{Bytes, NumberedEvent, NumberedStep, Step};
 pub use transfer::Transfer;
 pub use world_script::WorldScript;
+pub use world_text::{Word, print, word_of};

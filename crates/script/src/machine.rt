@@ -1,12 +1,13 @@
 use crate::script::print_transfer;
 use crate::world_script::happen;
 use crate::{Fault, Transfer};
-use script_text::{
-    NOT_HERE, NumberedEvent, NumberedStep, Outline, Step, end_reason, ended_reason, event_reason,
-    print, read_reason, room_reason, wrote_reason,
-};
+use script_text::{NumberedEvent, NumberedStep, Step};
 use std::alloc::{AllocError, Global};
 use world::World;
+use world_text::{
+    NOT_HERE, Outline, end_reason, ended_reason, event_reason, print, read_reason, room_reason,
+    wrote_reason,
+};
 
 /// A state that steps are made on, and that has a report.
 pub(crate) trait Machine: Drop {

@@ -2,9 +2,9 @@ ghost use Rattle.std.specs.Prelude.{◌≡◌, string_bytes, IfOk};
 ghost use Rattle.script.specs.{Faults.Gives, Runs.{reached_by, report, report_of}};
 
 use crate::{Fault, FlowScript, Transfer, WorldScript};
-use script_text::{Page, Piece, print, put_stream};
 use std::alloc::{AllocError, Global};
 use world::World;
+use world_text::{Page, Piece, print, put_stream};
 
 /// A script, by what it covers.
 #[derive(Drop)]

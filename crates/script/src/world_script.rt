@@ -4,10 +4,11 @@ ghost use Rattle.script.specs.{Faults.{Gives, Carries, Plays}, Runs.{line_happen
 
 use crate::Fault;
 use kernel_model::Refusal;
-use script_text::{NumberedEvent, word_of};
+use script_text::NumberedEvent;
 use std::alloc::{AllocError, Global};
 use std::marker::Model;
 use world::{Limits, World};
+use world_text::word_of;
 
 /// A script of a world: its sizes, and its events.
 #[derive(Drop)]

@@ -2,5 +2,3 @@
 pub mod Texts
 pub mod Events
 pub mod Headers
-pub mod Pages
-pub mod WorldReports

@@ -3,7 +3,6 @@ ghost use Rattle.std.specs.Prelude.{◌≡◌, ◌≤◌, nat_lt, ◌∷◌, [],
 ghost use Rattle.script_text.specs.{Events.{said_of, accepting_of, change_event, put_event, act_event, plain_event, arrival, event_of, generation_of, end_of, name_of, are_names, names_of, reply_of, reported_of}, Texts.{word_then, if_last, Reads, ReadsBy, Ends}};
 ghost use Rattle.token.specs.Kinds.{kind_named};
 
-use crate::Word;
 use crate::readers::{
     MAX_SLOTS, MAX_WORKERS, NotRead, Wrong, count, first_word, is_full, last, last_bytes,
     number_below, side, slot, worker,
@@ -13,6 +12,7 @@ use kernel_model::{Accepting, MAX_POLLED, Reply};
 use std::alloc::{AllocError, Global};
 use token::{KIND_WANTED, Kind, MAX_GENERATION, Name, Side, Token};
 use world::{Act, Change, Event, Listening, Polling, Reported};
+use world_text::Word;
 
 /// The first words of a world's lines: what is expected in place of another one.
 const EVENTS: &str =

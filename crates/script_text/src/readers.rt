@@ -2,12 +2,14 @@
 //! a row of `tests/program/causes` tries each text with the last word that is taken and the first that is not.
 ghost use Rattle.std.specs.{Prelude.{◌≡◌, ◌≤◌, take, option_map, IfSome}, List.list_all};
 ghost use Rattle.token.specs.Sides.{side_named};
-ghost use Rattle.script_text.specs.{Events.{word_named, slot_of, worker_of}, Texts.{number_of, bytes_of, first_as, word_then, line_end, if_last, full_of, Reads, ReadsBy, Ends, Takes, number_below, value_after, is_lower_hex}};
+ghost use Rattle.world_text.specs.Words.{word_named};
+ghost use Rattle.script_text.specs.{Events.{slot_of, worker_of}, Texts.{number_of, bytes_of, first_as, word_then, line_end, if_last, full_of, Reads, ReadsBy, Ends, Takes, number_below, value_after, is_lower_hex}};
 
-use crate::{Bytes, Word};
+use crate::Bytes;
 use input::{Pieces, is, is_digit, number};
 use std::alloc::{AllocError, Global};
 use token::Side;
+use world_text::Word;
 
 /// Of a world: the most slots, workers, calls of one turn, and seconds of an idle limit.
 pub(crate) const MAX_SLOTS: usize = 64;

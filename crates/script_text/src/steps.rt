@@ -2,12 +2,12 @@
 ghost use Rattle.std.specs.Prelude.{◌≡◌, ◌≢◌};
 ghost use Rattle.script_text.specs.{Events.{word_of, step_by, step_of}, Texts.{ReadsBy, Ends}};
 
-use crate::Word;
 use crate::readers::{NotRead, Wrong, count, first_word, is_full, last, last_bytes};
 use input::Pieces;
 use std::alloc::Global;
 use std::marker::Model;
 use world::Event;
+use world_text::Word;
 
 /// The bytes that a step brings.
 #[derive(Drop)]

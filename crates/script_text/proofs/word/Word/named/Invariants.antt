@@ -1,7 +1,0 @@
-use Rattle.std.proofs.Common.{◌≡◌, drop}
-use Rattle.script_text.{specs.Events.word_named, proofs.FirstWords.word_in}
-use Rattle.script_text.proofs.word.Word.named.Given as goal
-
--- the text is what it is among the rows that are left
-abbrev pub invariant-loop-word : goal.invariant-loop-word
-invariant-loop-word l = word_named l.text ≡ word_in (drop l.word-index l.word-items) l.text
