@@ -20,8 +20,8 @@ pub(crate) const MARGIN_PART: usize = 8;
 /// A poller that has left a client this many times in a row takes the next one.
 pub(crate) const MOST_LEFT: u8 = 16;
 
-/// After this many polls that gave several reports a poller lets other threads run.
-pub(crate) const MOST_BUSY: u8 = 16;
+/// After this many more polls that gave several reports than that gave few a poller lets other threads run.
+pub(crate) const MOST_BUSY: u8 = 14;
 
 /// This many reports are several: a few connections with much to move give fewer.
 pub(crate) const SEVERAL: usize = 4;

@@ -53,7 +53,7 @@ pub struct Sockets<'r, R> {
     poller: usize,
     // How many times in a row it has left a client.
     left: u8,
-    // How many polls gave several reports since it let other threads run.
+    // How many more polls gave several reports than gave few, at least none, since it let other threads run.
     busy: u8,
 }
 
@@ -183,7 +183,7 @@ fn millis_of(wait: Waiting, longest: u64) -> u64
     }
 }
 
-/// Lets other threads run after enough such polls (sched_yield(2)), and returns how many are counted then.
+/// Lets other threads run after enough busy polls (sched_yield(2)), and returns how many are counted then.
 /// A poller under load never sleeps, and would keep the processor that it shares for a whole slice of the scheduler.
 fn let_others_run(busy: u8) -> u8 {
     if busy < MOST_BUSY {
@@ -191,6 +191,15 @@ fn let_others_run(busy: u8) -> u8 {
     }
     yield_now();
     0
+}
+
+/// Counts a poll that gave this many reports. One of few is of connections with much to move, or of little load: those who
+/// move much would have the processor for a whole slice.
+fn busy_after(busy: u8, reports: usize) -> u8 {
+    if reports < SEVERAL {
+        return busy.saturating_sub(1);
+    }
+    busy.saturating_add(1)
 }
 
 fn wait_of(pollers: usize) -> u64
@@ -386,7 +395,7 @@ impl<R: Dial> Front for Sockets<'_, R> {
         self.failed = has_failed(&answer);
         answer?;
         put_numbers(batch, &self.events, &self.told);
-        self.busy = self.busy.saturating_add(u8::from(batch.len() >= SEVERAL));
+        self.busy = busy_after(self.busy, batch.len());
         if wait == Waiting::Brief && batch.is_empty() {
             self.left = MOST_LEFT;
         }
