@@ -37,7 +37,7 @@ pub trait Causes {
 
 /// Runs scripts.
 pub trait Simulate {
-    // What it writes for a script: the report, or the line of the fault. By what was read, and the output before and after.
+    // The report that it writes for what was read, and the line of a fault, by the output before and after.
     ghost reports: { Self → List ℕ → Option (List ℕ) → Option (List ℕ) → Type 0 };
 
     ghost refuses: { Self → List ℕ → Option (List ℕ) → Option (List ℕ) → Type 0 };
@@ -56,7 +56,7 @@ pub trait Simulate {
         ensures refused { result ≡ Ok Outcome.Refused → IfSome (R.remaining reader.old)
             (λ text. refuses self.now text (W.contents writer.old) (W.contents writer.new)) };
 
-    /// Does the same, and writes what each step changes in place of the report at the end.
+    /// Does the same, but writes what each step has changed in place of the report at the end.
     fn simulate_each<R: Read, W: Write, C: Causes>(
         &self,
         alloc: Global,

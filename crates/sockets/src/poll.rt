@@ -193,8 +193,8 @@ fn let_others_run(busy: u8) -> u8 {
     0
 }
 
-/// Counts a poll that gave this many reports. One of few is of connections with much to move, or of little load: those who
-/// move much would have the processor for a whole slice.
+/// Counts a poll that gave this many reports. Few are of connections with much to move, or of little load: threads that
+/// move much would keep the processor for a whole slice.
 fn busy_after(busy: u8, reports: usize) -> u8 {
     if reports < SEVERAL {
         return busy.saturating_sub(1);
