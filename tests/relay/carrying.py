@@ -95,6 +95,7 @@ def traced(calls, times, many=1):
 
 
 # refuses busy_poller_keeps_on: a poller that finds several reports each time lets no other thread run
+# refuses few_reports_are_forgotten: polls of few reports do not count against those of several
 def lets_others_run_under_load():
     if not shutil.which("strace"):
         return left_out("strace")
