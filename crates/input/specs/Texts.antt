@@ -4,6 +4,10 @@ use Rattle.std.specs.{Prelude.{◌≡◌, ℕ, ◌+◌, ◌<◌, ◌≤◌, List
 -- What reads take from a reader whose bytes are known. `TakesAtMost` and `TakesSome` are part of the promises, the
 -- rest is for proofs alone.
 
+-- the most bytes of a script
+abbrev pub most_of_script : ℕ
+most_of_script = 1048576
+
 -- at most this many bytes
 abbrev pub TakesAtMost : ℕ → Option (List ℕ) → Option (List ℕ) → Type 0
 TakesAtMost most old new = (bytes : List ℕ) × (Consumes old new bytes × (length bytes ≤ most))

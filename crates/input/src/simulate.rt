@@ -1,6 +1,7 @@
 //! What a simulator of scripts is asked, and what it answers. Who hands a script on need not know the machine on which
 //! its steps are made.
-ghost use Rattle.std.specs.Prelude.{◌≡◌, ℕ, List, Option, IfSome, Ok};
+ghost use Rattle.std.specs.Prelude.{◌≡◌, ◌+◌, ℕ, List, Option, IfSome, Ok, Err};
+ghost use Rattle.input.specs.Texts.{TakesAtMost, most_of_script};
 
 use std::alloc::Global;
 use std::io::{Read, Write};
@@ -43,7 +44,7 @@ pub trait Simulate {
     ghost refuses: { Self → List ℕ → Option (List ℕ) → Option (List ℕ) → Type 0 };
 
     /// Reads a script, and writes the report of the state after it, or the one line of its fault, whose cause `causes`
-    /// is given.
+    /// is given; and nothing if the script cannot be read. It takes at most one byte more than a script may have.
     fn simulate<R: Read, W: Write, C: Causes>(
         &self,
         alloc: Global,
@@ -54,7 +55,9 @@ pub trait Simulate {
         ensures report { result ≡ Ok Outcome.Report → IfSome (R.remaining reader.old)
             (λ text. reports self.now text (W.contents writer.old) (W.contents writer.new)) }
         ensures refused { result ≡ Ok Outcome.Refused → IfSome (R.remaining reader.old)
-            (λ text. refuses self.now text (W.contents writer.old) (W.contents writer.new)) };
+            (λ text. refuses self.now text (W.contents writer.old) (W.contents writer.new)) }
+        ensures unread { result ≡ Err ScriptFault.Read → writer.new ≡ writer.old }
+        ensures taken { TakesAtMost (most_of_script + 1) (R.remaining reader.old) (R.remaining reader.new) };
 
     /// Does the same, but writes what each step has changed in place of the report at the end.
     fn simulate_each<R: Read, W: Write, C: Causes>(
@@ -63,5 +66,7 @@ pub trait Simulate {
         reader: &mut R,
         writer: &mut W,
         causes: &C,
-    ) -> Result<Outcome, ScriptFault>;
+    ) -> Result<Outcome, ScriptFault>
+        ensures unread { result ≡ Err ScriptFault.Read → writer.new ≡ writer.old }
+        ensures taken { TakesAtMost (most_of_script + 1) (R.remaining reader.old) (R.remaining reader.new) };
 }

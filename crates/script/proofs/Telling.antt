@@ -3,8 +3,8 @@ use Rattle.std.{proofs.{Common.{◌≡◌, ℕ, List, [], ◌∷◌, Option, Som
 use Rattle.world.specs.{States.{State, opening}, Steps.step, Runs.run}
 use Rattle.script_text.specs.declared.steps.NumberedEvent.{NumberedEvent}
 use Rattle.world_text.specs.Words.{event_word}
-use Rattle.script.{specs.{Faults.{and_then, or_not_allowed, played, Gives}, Plans.events_in, Runs.{line_happened, EveryRunIsSound, EveryRun, reached_by, fault_line, LeadsTo, WritesReport, AnswersFault, WritesFault, EveryByte, EveryEnd}, declared.{fault.Fault.{Fault, TheVariants.{TooLong, NoMemory}}, script.{Script.Script, Reached.Reached}}, Scripts.{Plan, TakesMemory, most_bytes, parsed, said_by}}, proofs.Keeping.{keeps_bytes, keeps_end}}
-use Rattle.input.specs.{declared.simulate.{Outcome.{Outcome, TheVariants.{Report, Refused}}, ScriptFault.ScriptFault}, Texts.TakesSome}
+use Rattle.script.{specs.{Faults.{and_then, or_not_allowed, played, Gives}, Plans.events_in, Runs.{line_happened, EveryRunIsSound, EveryRun, reached_by, fault_line, LeadsTo, WritesReport, AnswersFault, WritesFault, EveryByte, EveryEnd}, declared.{fault.Fault.{Fault, TheVariants.{TooLong, NoMemory}}, script.{Script.Script, Reached.Reached}}, Scripts.{Plan, TakesMemory, parsed, said_by}}, proofs.Keeping.{keeps_bytes, keeps_end}}
+use Rattle.input.specs.{declared.simulate.{Outcome.{Outcome, TheVariants.{Report, Refused}}, ScriptFault.ScriptFault}, Texts.{TakesSome, most_of_script}}
 
 -- The headline of every run, for the events of a script.
 
@@ -24,9 +24,9 @@ every_run law None = tt
 every_run law (Some text) = λ plan st is ran. law plan.limits (events_in plan.events) st (is_run plan.events (opening plan.limits) st ran)
 
 -- a text that is too long is no script
-long_is_none : (text : List ℕ) (p : Plan) → most_bytes < length text → parsed text ≡ Ok p → ⊥
+long_is_none : (text : List ℕ) (p : Plan) → most_of_script < length text → parsed text ≡ Ok p → ⊥
 long_is_none text p long is =
-    let clash : Err TooLong ≡ Ok p = rw (lt-ltb most_bytes (length text) long) at is in
+    let clash : Err TooLong ≡ Ok p = rw (lt-ltb most_of_script (length text) long) at is in
     absurd (cc)
 
 -- a text that is a script, and what that leads to
@@ -36,14 +36,14 @@ by_script text script (Err NoMemory) is to = inl (script, is)
 by_script text script _ is to = inr (script, (is, to))
 
 -- a front that is one byte longer than a script may be is as long as the input, or too long as the input is
-long_parsed : (input : List ℕ) → most_bytes < length input → parsed (take (most_bytes + 1) input) ≡ parsed input
+long_parsed : (input : List ℕ) → most_of_script < length input → parsed (take (most_of_script + 1) input) ≡ parsed input
 long_parsed input long =
-    let longer : most_bytes < length (take (most_bytes + 1) input) = omega (arith, length-take-le (most_bytes + 1) input (omega (arith, long))) in
-    rw (lt-ltb most_bytes (length (take (most_bytes + 1) input)) longer, lt-ltb most_bytes (length input) long) refl
+    let longer : most_of_script < length (take (most_of_script + 1) input) = omega (arith, length-take-le (most_of_script + 1) input (omega (arith, long))) in
+    rw (lt-ltb most_of_script (length (take (most_of_script + 1) input)) longer, lt-ltb most_of_script (length input) long) refl
 
-long_may : (input : List ℕ) → most_bytes < length input → TakesMemory (take (most_bytes + 1) input) → ⊥
+long_may : (input : List ℕ) → most_of_script < length input → TakesMemory (take (most_of_script + 1) input) → ⊥
 long_may input long (inl (script, is)) = long_is_none input (said_by script) long (sym (long_parsed input long) ∙ is)
-long_may input long (inr (short, well)) = omega (arith, short, length-take-le (most_bytes + 1) input (omega (arith, long)))
+long_may input long (inr (short, well)) = omega (arith, short, length-take-le (most_of_script + 1) input (omega (arith, long)))
 
 -- texts that are one script lead to the same
 leads_too : (text input : List ℕ) (r : Result Reached Fault) → parsed text ≡ parsed input → (TakesMemory text → TakesMemory input) → LeadsTo text r → LeadsTo input r
@@ -55,20 +55,20 @@ leads_too text input _ same may to = elim to [
 ]
 
 -- what was computed of the front holds of the whole input
-of_front : (input : List ℕ) (r : Result Reached Fault) → LeadsTo (take (most_bytes + 1) input) r → LeadsTo input r
-of_front input r to = by_length (cases_lt most_bytes (length input))
+of_front : (input : List ℕ) (r : Result Reached Fault) → LeadsTo (take (most_of_script + 1) input) r → LeadsTo input r
+of_front input r to = by_length (cases_lt most_of_script (length input))
   where
-    by_length : (most_bytes < length input) ⊎ (length input ≤ most_bytes) → LeadsTo input r
+    by_length : (most_of_script < length input) ⊎ (length input ≤ most_of_script) → LeadsTo input r
     by_length (inl long) =
-        leads_too (take (most_bytes + 1) input) input r (long_parsed input long) (λ may. absurd (long_may input long may)) to
-    by_length (inr short) = subst (λ (t : List ℕ). LeadsTo t r) (take_all (most_bytes + 1) input (omega (arith, short))) to
+        leads_too (take (most_of_script + 1) input) input r (long_parsed input long) (λ may. absurd (long_may input long may)) to
+    by_length (inr short) = subst (λ (t : List ℕ). LeadsTo t r) (take_all (most_of_script + 1) input (omega (arith, short))) to
 
-of_input : (text input : List ℕ) (r : Result Reached Fault) → text ≡ take (most_bytes + 1) input → LeadsTo text r → LeadsTo input r
+of_input : (text input : List ℕ) (r : Result Reached Fault) → text ≡ take (most_of_script + 1) input → LeadsTo text r → LeadsTo input r
 of_input text input r front to = of_front input r (subst (λ (t : List ℕ). LeadsTo t r) front to)
 
 -- what was written for the text that was read is what the whole input leads to
 module _ (a : Option (List ℕ)) (text front : List ℕ) (r : Result Outcome ScriptFault) (old new : Option (List ℕ)) (same : text ≡ front)
-    (cut : IfSome a (λ input. front ≡ take (most_bytes + 1) input)) where
+    (cut : IfSome a (λ input. front ≡ take (most_of_script + 1) input)) where
   pub reports : (r ≡ Ok Report → WritesReport text old new) → r ≡ Ok Report → IfSome a (λ input. WritesReport input old new)
   reports told is = IfSome_then a cut (λ input front_is.
       let (reached, found) = told is in

@@ -3,12 +3,9 @@ use Rattle.std.specs.Prelude.{ℕ, List, map, ◌≡◌, ◌⊎◌, nat_lt, Bool
 use Rattle.world.specs.declared.limits.Limits.{Limits}
 use Rattle.script_text.specs.{declared.{steps.{NumberedStep.NumberedStep, NumberedEvent.NumberedEvent}, header.Header.Header}, Texts.{NumberedLine, lines_of, telling_lines}, Headers.header_of, Events.{step_of, Said, said_of, event_of}}
 use Rattle.script.specs.{declared.{fault.Fault.{Fault, TheVariants.{TooLong, NoWorld, Malformed}}, script.Script.Script}, Plans.FlowPlan, Faults.and_then}
+use Rattle.input.specs.Texts.{most_of_script}
 use Rattle.script_text.specs.declared.header.Header.TheVariants as header
 use Rattle.script.specs.declared.script.Script.TheVariants as script
-
--- the most bytes of a script
-abbrev pub most_bytes : ℕ
-most_bytes = 1048576
 
 -- what was read from a line, or that the line is malformed
 abbrev pub or_malformed : {X : Type 0} → ℕ → Option X → Result X Fault
@@ -57,7 +54,7 @@ plan_of [] = Err NoWorld
 plan_of (l ∷ ls) = and_then (λ h. headed h ls) (or_malformed l.number (header_of l.text))
 
 abbrev pub parsed : List ℕ → Result Plan Fault
-parsed text = if nat_lt most_bytes (length text) then Err TooLong else plan_of (telling_lines 1 (lines_of text))
+parsed text = if nat_lt most_of_script (length text) then Err TooLong else plan_of (telling_lines 1 (lines_of text))
 
 abbrev pub IsScript : List ℕ → Type 0
 IsScript text = (script : Script) × (parsed text ≡ Ok (said_by script))
@@ -80,7 +77,7 @@ begins_well (l ∷ ls) = goes_on (header_of l.text) ls
 -- A text of a script's size that begins with a good header and a good line after it. Lines that follow may be
 -- malformed: a list is made of the lines as they are read.
 abbrev pub BeginsWell : List ℕ → Type 0
-BeginsWell text = (length text ≤ most_bytes) × IsTrue (begins_well (telling_lines 1 (lines_of text)))
+BeginsWell text = (length text ≤ most_of_script) × IsTrue (begins_well (telling_lines 1 (lines_of text)))
 
 -- What takes memory once it was read: a script, for which a machine is made, and what begins well. So memory can't run
 -- out for a text that is too long, has no line or a malformed header, or a malformed line right after that.

@@ -1,7 +1,6 @@
 //! A run that shows each step.
 ghost use Rattle.std.specs.Prelude.{◌≡◌, ◌≢◌, ◌+◌, Err};
-ghost use Rattle.input.specs.Texts.{TakesAtMost};
-ghost use Rattle.script.specs.Scripts.{most_bytes};
+ghost use Rattle.input.specs.Texts.{TakesAtMost, most_of_script};
 
 use crate::causes::add_cause;
 use crate::machine::Machine;
@@ -28,7 +27,7 @@ pub fn run_each<R: Read, W: Write, C: Causes>(
     ensures unread { result ≡ Err ScriptFault.Read → writer.new ≡ writer.old }
 
     // At most one byte more than a script may have is taken from the reader.
-    ensures taken { TakesAtMost (most_bytes + 1) (R.remaining reader.old) (R.remaining reader.new) }
+    ensures taken { TakesAtMost (most_of_script + 1) (R.remaining reader.old) (R.remaining reader.new) }
 {
     match input::read_at_most(alloc, reader, MAX_SCRIPT + 1) {
         Ok(text) => answer_each(alloc, text.as_slice(), writer, causes),

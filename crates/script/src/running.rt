@@ -1,6 +1,6 @@
 ghost use Rattle.std.specs.{Prelude.{◌≡◌, ◌≢◌, ◌+◌, IfErr, IfSome, Ok, Err}, Io.KnownBytes.Appends};
-ghost use Rattle.script.specs.{Scripts.most_bytes, Runs.{fault_line, LeadsTo, WritesReport, AnswersFault, WritesFault, EveryByte, EveryEnd, EveryRun, EveryRunIsSound, report_of}};
-ghost use Rattle.input.specs.Texts.{TakesAtMost};
+ghost use Rattle.script.specs.Runs.{fault_line, LeadsTo, WritesReport, AnswersFault, WritesFault, EveryByte, EveryEnd, EveryRun, EveryRunIsSound, report_of};
+ghost use Rattle.input.specs.Texts.{TakesAtMost, most_of_script};
 
 use crate::causes::add_cause;
 use crate::{Fault, Reached, parse, run_each};
@@ -73,7 +73,7 @@ pub fn run<R: Read, W: Write, C: Causes>(
     ensures unread { result ≡ Err ScriptFault.Read → writer.new ≡ writer.old }
 
     // At most one byte more than a script may have is taken from the reader.
-    ensures taken { TakesAtMost (most_bytes + 1) (R.remaining reader.old) (R.remaining reader.new) }
+    ensures taken { TakesAtMost (most_of_script + 1) (R.remaining reader.old) (R.remaining reader.new) }
 
     // In every script of one direction, the bytes that arrived are the sent bytes, then the ring, then the unread
     // bytes; and the end is passed on only after every byte.
