@@ -54,6 +54,7 @@ def uses_each_of_4096_slots():
 
 
 # refuses listener_watched_by_one_poller: only one front watches the listening socket
+# refuses busy_without_claim: a turn answers that its slot is held, without a claim
 def serves_all_slots_of_several_pollers():
     # Four pollers with 64 slots each. One client more waits, and is served whichever slot comes free.
     relay = Relay(target(echo), slots=256)
