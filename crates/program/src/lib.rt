@@ -32,6 +32,6 @@ mod usage;
 pub use acting::{act, report_arguments_fault};
 pub use extras::{Extras, SecondsOption};
 pub use faults::{ArgumentsFault, ConfigFault, ProgramFault, arguments};
-pub use logging::{level_filter, starting_filter};
+pub use logging::starting_filter;
 pub use standard_streams::{hold_closed, report_unheld};
 pub use starting::{foresee, log_start, prepare, print_listening};

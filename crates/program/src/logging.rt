@@ -64,7 +64,7 @@ fn is_named(name: &str, device: u64, inode: u64) -> bool {
 }
 
 /// The filter with the same name as a level of the settings.
-pub fn level_filter(level: LogLevel) -> LevelFilter
+pub(crate) fn level_filter(level: LogLevel) -> LevelFilter
     ensures { map to_ascii_lowercase (filter_name result) ≡ level_name level }
 {
     match level {

@@ -80,7 +80,14 @@ fn tell_every<R: Wait + Clock + Copy + Drop>(
     }
 }
 
+/// Logs the sums of a relay that ends, if it counts.
+pub fn tell_last<R: Wait + Drop>(rt: R, statistics: Option<&Arc<Statistics>>, queue: &LogQueue) {
+    if let Some(statistics) = statistics {
+        tell(rt, statistics, queue);
+    }
+}
+
 /// Logs the sums, at level info, whatever level the settings have.
-pub fn tell<R: Wait + Drop>(rt: R, statistics: &Statistics, queue: &LogQueue) {
+fn tell<R: Wait + Drop>(rt: R, statistics: &Statistics, queue: &LogQueue) {
     log_text(&Queued { rt, queue }, Level::Info, &statistics.totals());
 }

@@ -3,10 +3,12 @@
 ghost use Rattle.std.specs.Prelude.{◌≡◌, ◌⊎◌, IfErr};
 
 use crate::extras::Extras;
+use crate::logging::level_filter;
 use crate::streams::log_text;
 use log::{Level, LevelFilter, Logged};
 use log_queue::{Direct, LogQueue, Queued};
 use relay_log::{ServerFault, log_no_thread};
+use settings::LogLevel;
 use std::alloc::AllocGlobal;
 use std::io::{self, Eprint, Stdin};
 use std::sync::atomic::AtomicBool;
@@ -20,7 +22,7 @@ use std::thread::{Builder, Threads};
 pub fn watch<R>(
     rt: R,
     input: Stdin,
-    level: LevelFilter,
+    level: LogLevel,
     extras: Extras,
     queue: &Arc<LogQueue>,
 ) -> Result<Arc<AtomicBool>, ServerFault>
@@ -34,6 +36,7 @@ where
     }
     let lines = queue.clone()?;
     let sign = has_ended.clone()?;
+    let level = level_filter(level);
     let read = move || {
         read_to_end(&rt, input, level, &lines);
         sign.store(true, SeqCst);

@@ -37,7 +37,6 @@ fn main(rt: HostRuntime) -> ExitCode {
         ServerFault,
     > {
         let queue = logging::start(rt)?;
-        let level = program::level_filter(settings.log);
         // At level off, once all threads have been started, only the cause of a fault is logged.
         let is_off = AtomicBool::new(false);
         let lines = Until {
@@ -46,7 +45,7 @@ fn main(rt: HostRuntime) -> ExitCode {
         };
         let logged = Logged::new(rt, program::starting_filter(settings.log), lines);
         program::log_start(&logged, bound.text(), &settings);
-        let is_stopped = until_eof::watch(rt, rt.stdin(), level, extras, &queue)?;
+        let is_stopped = until_eof::watch(rt, rt.stdin(), settings.log, extras, &queue)?;
         let statistics = telling::start(rt, &settings, extras, &queue)?;
         let counted = statistics.as_ref();
         let gate = Announcing {
@@ -65,13 +64,8 @@ fn main(rt: HostRuntime) -> ExitCode {
             patience: extras.patience,
             log_clients: extras.log_clients,
         };
-        let served = match file {
-            None => server::serve(&logged, rt.alloc(), &settings, bound, lent),
-            Some(file) => server::serve_recorded(&logged, rt.alloc(), &settings, bound, lent, file),
-        };
-        if let Some(statistics) = &statistics {
-            telling::tell(rt, statistics, &queue);
-        }
+        let served = server::serve_recorded(&logged, rt.alloc(), &settings, bound, lent, file);
+        telling::tell_last(rt, counted, &queue);
         is_stuck.set(!logging::finish(&rt, &queue));
         served.into_result()?;
         Ok(!gate.is_unprinted.load(SeqCst))

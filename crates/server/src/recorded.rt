@@ -3,7 +3,7 @@ ghost use Rattle.settings.specs.Pollers.{pollers_for};
 ghost use Rattle.std.specs.Prelude.{◌≡◌, length};
 
 use crate::making::split_of;
-use crate::serving::{Lent, run_on, serve_into};
+use crate::serving::{Lent, run_on, serve, serve_into};
 use dispatch::{Clock, Front, Gate, ServerFault, Split};
 use log::Log;
 use recording::{
@@ -20,7 +20,7 @@ use std::sync::{Mutex, Wait};
 use std::thread::{self, Threads};
 use threads::Outcome;
 
-/// Serves as [`serve`](crate::serve) does, and records into the file what each thread does, until the server ends: then
+/// Serves as [`serve`] does. If there is a file, what each thread does is recorded into it until the server ends: then
 /// the last line says that all is recorded. A thread of its own writes the file, and the call returns once all is
 /// written. If records come faster than it can write, or the file cannot be written, the recording ends, a warning is
 /// logged, and the server serves on. By `NoMemory` or `Threads` it may also refuse to begin.
@@ -35,8 +35,11 @@ pub fn serve_recorded<
     settings: &Settings,
     bound: Bound,
     lent: Lent<'_, G, C>,
-    file: W,
+    file: Option<W>,
 ) -> Outcome {
+    let Some(file) = file else {
+        return serve(rt, alloc, settings, bound, lent);
+    };
     let queue = match RecordQueue::new(alloc, split_of(settings)) {
         Ok(queue) => queue,
         Err(AllocError) => return Outcome::refused(ServerFault::NoMemory),
