@@ -113,8 +113,9 @@ fn replay_of<'a>(path: &'a str, matches: &ArgMatches<'a>) -> Replayed<'a> {
 /// The program's command line.
 fn relayd<'a>(alloc: Global) -> Result<clap::Command<'a>, AllocError> {
     let mut subcommands = Vec::new(alloc);
-    add_subcommands(alloc, serving(), &mut subcommands)?;
-    add_subcommands(alloc, others(), &mut subcommands)?;
+    for row in commands() {
+        add_subcommand(alloc, *row, &mut subcommands)?;
+    }
     without_subcommands(alloc).subcommands(subcommands)
 }
 
@@ -125,17 +126,6 @@ fn without_subcommands<'a>(alloc: Global) -> clap::Command<'a> {
         .after_help(
             "Without a command, relayd does the same as `relayd sim`.\n\nExamples:\n  relayd forward 127.0.0.1:7000 127.0.0.1:7001\n  relayd run --config examples/relayd.toml\n  relayd sim < examples/one-direction.flow\n\nSee relayd(1) for details and relayd.toml(5) for the settings.",
         )
-}
-
-fn add_subcommands<'a>(
-    alloc: Global,
-    rows: &[CommandRow],
-    subcommands: &mut Vec<clap::Command<'a>>,
-) -> Result<(), AllocError> {
-    for row in rows {
-        add_subcommand(alloc, *row, subcommands)?;
-    }
-    Ok(())
 }
 
 /// A command of the program, as its help describes it.
@@ -271,8 +261,8 @@ const RECORDING: [ArgumentRow; 4] = [
     },
 ];
 
-/// The commands that serve, in the order of the help.
-static SERVING: [CommandRow; 2] = [
+/// The commands, in the order of the help.
+static COMMANDS: [CommandRow; 5] = [
     CommandRow {
         name: "forward",
         about: "Forwards connections from one address to another",
@@ -303,10 +293,6 @@ static SERVING: [CommandRow; 2] = [
             KEEPALIVE,
         ],
     },
-];
-
-/// The other commands, which follow in the help.
-static OTHERS: [CommandRow; 3] = [
     CommandRow {
         name: "check",
         about: "Reads a settings file and prints every setting, or what is wrong",
@@ -330,12 +316,8 @@ static OTHERS: [CommandRow; 3] = [
     },
 ];
 
-fn serving() -> &'static [CommandRow] {
-    &SERVING
-}
-
-fn others() -> &'static [CommandRow] {
-    &OTHERS
+fn commands() -> &'static [CommandRow] {
+    &COMMANDS
 }
 
 fn add_subcommand<'a>(

@@ -150,16 +150,7 @@ fn read_whole<F: Read>(alloc: Global, file: &mut F) -> Result<Vec<u8>, ConfigFau
     match read_at_most(alloc, file, MAX_CONFIG_BYTES + 1) {
         Ok(text) if text.len() > MAX_CONFIG_BYTES => Err(ConfigFault::Long),
         Ok(text) => Ok(text),
-        Err(fault) => Err(not_read(fault)),
-    }
-}
-
-fn not_read(fault: InputFault) -> ConfigFault
-    ensures unreadable { fault ≡ InputFault.Unreadable → result ≡ ConfigFault.Read }
-    ensures memory { fault ≡ InputFault.NoMemory → result ≡ ConfigFault.NoMemory }
-{
-    match fault {
-        InputFault::Unreadable => ConfigFault::Read,
-        InputFault::NoMemory => ConfigFault::NoMemory,
+        Err(InputFault::Unreadable) => Err(ConfigFault::Read),
+        Err(InputFault::NoMemory) => Err(ConfigFault::NoMemory),
     }
 }
