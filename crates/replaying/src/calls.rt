@@ -131,18 +131,13 @@ impl Machine {
         let mut left = count;
         for _piece in 0..count / MAX_ARRIVAL + 1 {
             let length = left.min(MAX_ARRIVAL);
-            self.arrive_at_once(side, length)?;
+            if length > 0 {
+                let stand_ins = vec![in self.alloc; 0u8; length]?;
+                self.change(side, Change::Arrive(stand_ins))?;
+            }
             left -= length;
         }
         Ok(())
-    }
-
-    fn arrive_at_once(&mut self, side: Side, length: usize) -> Result<(), Flaw> {
-        if length == 0 {
-            return Ok(());
-        }
-        let stand_ins = vec![in self.alloc; 0u8; length]?;
-        self.change(side, Change::Arrive(stand_ins))
     }
 }
 

@@ -18,17 +18,15 @@ pub(crate) fn put_in_order(recording: &mut Recording) -> Result<(), ReplayFault>
         sort(list)?;
     }
     check_sequences(recording)?;
-    match find_lost(recording)? {
-        None => Ok(()),
-        Some(lost) if !matches!(recording.last, Last::Ended) => {
-            leave_out(recording, lost);
-            Ok(())
-        }
-        Some(lost) => {
-            let text = format!(in recording.alloc; "the record with the count {lost} is missing");
-            Err(fault(text))
-        }
+    let Some(lost) = find_lost(recording)? else {
+        return Ok(());
+    };
+    if matches!(recording.last, Last::Ended) {
+        let text = format!(in recording.alloc; "the record with the count {lost} is missing");
+        return Err(fault(text));
     }
+    leave_out(recording, lost);
+    Ok(())
 }
 
 /// Finds the first count that is of no record, and the first one that is of a lost record.
@@ -43,7 +41,7 @@ fn find_lost(recording: &mut Recording) -> Result<Option<u64>, ReplayFault> {
 /// Refuses two acts at once at a slot, or of a poller, and lines in another order.
 fn check_sequences(recording: &Recording) -> Result<(), ReplayFault> {
     let sequences = recording.lists.len().saturating_sub(1);
-    for list in recording.lists.iter().take(sequences) {
+    for list in recording.lists.get(..sequences).unwrap_or(&[]) {
         let place = first_overlap(list.as_slice());
         if let Some(numbered) = list.get(place) {
             let why = disorder(list.get(place.saturating_sub(1)), numbered);
@@ -81,8 +79,8 @@ fn check_counts(recording: &Recording, counts: &[u64]) -> Result<(), ReplayFault
 /// All counts, in order. Reports have those of their poll.
 fn counts_of(recording: &Recording) -> Result<Vec<u64>, AllocError> {
     let mut counts = Vec::new(recording.alloc);
-    for (at, list) in recording.lists.iter().enumerate() {
-        for numbered in list.as_slice() {
+    for at in 0..recording.lists.len() {
+        for numbered in recording.list(at) {
             let record = &numbered.record;
             if !is_twice(at < recording.header.slots, &record.act) && !is_report(&record.act) {
                 counts.extend_from_slice(&[record.before, record.after])?;

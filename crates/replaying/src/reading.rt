@@ -192,7 +192,7 @@ fn cause(alloc: Global, number: u64, wrong: Wrong<'_>) -> Result<String, AllocEr
 /// Adds a word in quotes: bytes that are not printable ASCII are escaped, and what follows the 64th is left out.
 fn show(text: &mut String, word: &[u8]) -> Result<(), AllocError> {
     text.push_str("\"")?;
-    for byte in word.iter().take(MAX_SHOWN) {
+    for byte in word.get(..MAX_SHOWN).unwrap_or(word) {
         if byte.is_ascii_graphic() {
             text.push(char::from(*byte))?;
         } else {

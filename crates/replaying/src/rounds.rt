@@ -38,17 +38,18 @@ pub(crate) fn find_posts(
             poller,
             poll: None,
             missing: 0,
-            swept: Swept::at(clock.between(0, first_count(recording.poller(poller)))),
+            swept: Swept::at(clock.between(0, next_count(recording.poller(poller), 0))),
         };
         rounds.find(posts.as_mut_slice())?;
     }
     Ok(posts)
 }
 
-fn first_count(acts: &[Numbered]) -> u64 {
-    match acts.first() {
-        Some(first) => first.record.before,
-        None => 0,
+/// The count before the first of these acts that begins at this count or later.
+fn next_count(acts: &[Numbered], count: u64) -> u64 {
+    match acts.get(begun_before(acts, count).len()) {
+        Some(next) => next.record.before,
+        None => u64::MAX,
     }
 }
 
@@ -93,25 +94,18 @@ impl Rounds<'_> {
     }
 
     fn begin(&mut self, place: usize, record: &Record) -> Option<(usize, Post)> {
+        // What comes next and is no report of this poll ends what it may have posted.
+        let acts = self.recording.poller(self.poller);
         let poll = Post {
             place,
             generation: None,
             from: record.after,
-            to: self.next_count(record.before),
+            to: next_count(acts, record.before.saturating_add(1)),
             since: Some(record.after),
         };
         let sweep = self.sweep(&poll);
         self.poll = Some(poll);
         sweep
-    }
-
-    /// The count before the next act of the poller that is no report of this poll.
-    fn next_count(&self, poll: u64) -> u64 {
-        let acts = self.recording.poller(self.poller);
-        match acts.get(begun_before(acts, poll.saturating_add(1)).len()) {
-            Some(next) => next.record.before,
-            None => u64::MAX,
-        }
     }
 
     /// The round after a poll may have made a sweep, by the second that the round before it read. Where that is in

@@ -144,26 +144,21 @@ pub(crate) fn is_busy(acts: &[Numbered], from: u64, to: u64) -> bool {
 /// is the closing of a connection that came to nothing.
 fn spans_of(recording: &Recording, slot: usize) -> Result<Vec<Span>, AllocError> {
     let mut spans: Vec<Span> = Vec::new(recording.alloc);
-    let (failed, budget) = (recording.failed.is_some(), recording.header.budget);
+    let failed = recording.failed.is_some();
+    let poller = recording.split.poller_of(slot);
     let mut last = Act::Ended;
     for numbered in recording.slot(slot) {
         let act = numbered.record.act;
-        if begins_span(&last, &act, failed) {
-            let is_turn = matches!(act, Act::Begin(_));
-            if let (Act::End(_), true, Some(span)) = (last, is_turn, spans.last_mut()) {
-                span.is_pollers = span.calls == OWN_BUDGET && OWN_BUDGET < budget;
+        let begins = begins_span(&last, &act, failed);
+        if let Some(span) = spans.last_mut() {
+            if !begins {
+                span.go_on(&numbered.record);
+            } else if matches!((last, act), (Act::End(_), Act::Begin(_))) {
+                span.is_pollers = span.calls == OWN_BUDGET && OWN_BUDGET < recording.header.budget;
             }
-            spans.push(Span {
-                poller: recording.split.poller_of(slot),
-                is_pollers: !is_turn && !failed,
-                line: numbered.line,
-                from: numbered.record.before,
-                to: numbered.record.after,
-                calls: 0,
-                is_over: !is_turn,
-            })?;
-        } else if let Some(span) = spans.last_mut() {
-            span.go_on(&numbered.record);
+        }
+        if begins {
+            spans.push(Span::new(numbered, poller, failed))?;
         }
         last = act;
     }
@@ -182,6 +177,20 @@ fn begins_span(last: &Act, act: &Act, failed: bool) -> bool {
 }
 
 impl Span {
+    /// What this act begins at a slot of a poller.
+    fn new(first: &Numbered, poller: usize, failed: bool) -> Span {
+        let is_turn = matches!(first.record.act, Act::Begin(_));
+        Span {
+            poller,
+            is_pollers: !is_turn && !failed,
+            line: first.line,
+            from: first.record.before,
+            to: first.record.after,
+            calls: 0,
+            is_over: !is_turn,
+        }
+    }
+
     fn go_on(&mut self, record: &Record) {
         match record.act {
             Act::Poller(_, _) => return,

@@ -24,7 +24,7 @@ pub(crate) fn write_results<W: Write>(
     }
 }
 
-/// Writes which record can stand at no place and why, and the script that leads there.
+/// Writes which record can stand at no place and why, the script that leads there, and the event that was refused.
 pub(crate) fn write_flaw<W: Write>(
     output: &mut W,
     flawed: &Flawed,
@@ -33,11 +33,17 @@ pub(crate) fn write_flaw<W: Write>(
 ) -> Result<(), ReplayFault> {
     write(output, first_line(flawed, flaw, machine)?)?;
     write_script(output, machine)?;
-    write(output, refused(machine))
+    let mut page = Page::new(machine.alloc);
+    if let Some(event) = &machine.refused {
+        put_line(&mut page, event);
+    }
+    write(output, page)
 }
 
 fn write_script<W: Write>(output: &mut W, machine: &Machine) -> Result<(), ReplayFault> {
-    write(output, header(machine))?;
+    let mut header = Page::new(machine.alloc);
+    put_header(&mut header, &machine.history.limits());
+    write(output, header)?;
     for events in machine.history.events().chunks(AT_ONCE) {
         write(output, script_of(machine.alloc, events))?;
     }
@@ -93,24 +99,9 @@ fn put_left_out(page: &mut Page, recording: &Recording) {
     }
 }
 
-fn header(machine: &Machine) -> Page {
-    let mut page = Page::new(machine.alloc);
-    put_header(&mut page, &machine.history.limits());
-    page
-}
-
 fn script_of(alloc: Global, events: &[Event]) -> Page {
     let mut page = Page::new(alloc);
     for event in events {
-        put_line(&mut page, event);
-    }
-    page
-}
-
-/// The line of the event that was refused, if one was.
-fn refused(machine: &Machine) -> Page {
-    let mut page = Page::new(machine.alloc);
-    if let Some(event) = &machine.refused {
         put_line(&mut page, event);
     }
     page
