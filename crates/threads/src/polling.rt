@@ -154,10 +154,7 @@ where
             &mut self.poller,
             &context.timing,
         );
-        match Ended::on_fault(polled) {
-            Ok(()) => Ok(()),
-            Err(ended) => Err(ended),
-        }
+        Ended::on_fault(polled)
     }
 
     /// Runs the tickets in hand that stay, until a fault is recorded.
@@ -212,9 +209,6 @@ where
             is_closing,
             &context.timing,
         );
-        match Ended::on_fault(worked) {
-            Ok(worked) => Ok(worked),
-            Err(ended) => Err(ended),
-        }
+        Ended::on_fault(worked)
     }
 }

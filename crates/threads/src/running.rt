@@ -51,12 +51,13 @@ where
     F::Target: Send,
     F::Waker: Send + Sync + Drop,
 {
-    let ending = Ending::new(server.pollers.len());
+    let pollers = server.pollers.len();
     let (split, workers) = (server.split, server.workers);
     let threads = match threads_of(alloc, server) {
         Ok(threads) => Mutex::new(threads),
         Err(fault) => return Outcome::refused(fault),
     };
+    let ending = Ending::new(pollers);
     let startup = Startup {
         context: Context {
             rt,

@@ -1,4 +1,4 @@
-use Rattle.std.proofs.{Common.{◌≡◌, ap, ◌∙◌, ◌+◌, ℕ, length, arith}, lemmas.List.Elements.All-nil}
+use Rattle.std.proofs.{Common.{◌≡◌, length, arith}, lemmas.List.Elements.All-nil}
 use Rattle.threads.{specs.Divided.IsEndOf, proofs.Divided.{all_left, all_made, all_pushed, left_of_left, threads_more}}
 use Rattle.threads.proofs.dividing.pollers_of.Goals as goal
 
@@ -14,7 +14,7 @@ loop-thread-preserved g c =
           (omega (arith, c.len-number.ensures, c.pop.new.self.ok.0)) (rw (made.made.0, made.made.1)) was.numbered;
       slots = all_pushed (λ thread. IsEndOf c.args.rest.now.free thread.number thread.own.free) _ pushed.items was.slots (was.ends.each _ _ made.slots);
       ends = left_of_left was.ends made.left;
-      len = pushed.len ∙ ap (λ (n : ℕ). n + 1) was.len;
+      len = omega (arith, pushed.len, was.len);
       room = omega (arith, pushed.capacity, was.room);
     }
 

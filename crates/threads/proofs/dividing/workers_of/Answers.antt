@@ -1,4 +1,4 @@
-use Rattle.std.proofs.{Common.{◌≡◌, ap, refl, ◌∙◌, ◌∷◌, ◌+◌, ℕ, arith}, lemmas.List.Elements.All-nil}
+use Rattle.std.proofs.{Common.{◌≡◌, refl, ◌∷◌, arith}, lemmas.List.Elements.All-nil}
 use Rattle.claims.proofs.Seats.{fresh_holds_nothing}
 use Rattle.threads.{specs.Divided.HasOneOfEach, proofs.Divided.{all_left, all_pushed, left_of_left, numbers_more, one_of_all, one_of_each}}
 use Rattle.threads.proofs.dividing.workers_of.Goals as goal
@@ -20,7 +20,7 @@ loop-index-preserved g c =
       slots = all_pushed (λ worker. HasOneOfEach c.args.rest.now.free (worker.own.free ∷ worker.others.items)) _ pushed.items was.slots
           (one_of_all was.ends (c.in_ok-shared.own.free ∷ c.in_ok-others.others.items) (one_of_each _ _ others.ends others.all others.left owned.slots));
       ends = left_of_left ends owned.left;
-      len = pushed.len ∙ ap (λ (n : ℕ). n + 1) was.len;
+      len = omega (arith, pushed.len, was.len);
       room = omega (arith, pushed.capacity, was.room);
     }
 
