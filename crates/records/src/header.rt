@@ -3,8 +3,8 @@ ghost use Rattle.std.specs.Prelude.{Some};
 ghost use Rattle.records.specs.Texts.{header_text};
 
 use crate::act::yes_or_no;
-use crate::reading::{Wrong, end, one_of, said, word};
-use input::{Pieces, number};
+use crate::reading::{Wrong, end, number_after, one_of, said, word};
+use input::Pieces;
 use std::fmt::{self, Display};
 
 /// The sizes of the relay that was recorded.
@@ -91,14 +91,10 @@ fn sizes<'a>(words: &mut Pieces<'a>) -> Result<[usize; 6], Wrong<'a>> {
     for index in 0..6 {
         let (key, least, most, wanted) = SIZES[index];
         let word = word(words, wanted)?;
-        sizes[index] = match value_after(key, word) {
+        sizes[index] = match number_after(key, word) {
             Some(value) if least <= value && value <= most => value,
             _ => return said(None, word, wanted),
         };
     }
     Ok(sizes)
-}
-
-fn value_after(key: &str, word: &[u8]) -> Option<usize> {
-    number(word.strip_prefix(key.as_bytes())?)
 }

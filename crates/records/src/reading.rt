@@ -130,6 +130,22 @@ static CALLS: [(&str, Answers); 4] = [
     ("shut", SHUT),
 ];
 
+/// What a poller does.
+#[derive(Clone, Copy)]
+enum Task {
+    Poll,
+    Report,
+    Accept,
+    Open,
+}
+
+static TASKS: [(&str, Task); 4] = [
+    ("poll", Task::Poll),
+    ("report", Task::Report),
+    ("accept", Task::Accept),
+    ("open", Task::Open),
+];
+
 static ACCEPTED: [(&str, Accepted); 4] = [
     ("ok", Accepted::Taken),
     ("blocked", Accepted::Blocked),
@@ -173,20 +189,22 @@ fn act<'a>(words: &mut Pieces<'a>) -> Result<Act, Wrong<'a>> {
         Ok(Act::Second(number(words, "a number of seconds is wanted")? as u64))
     } else if let Some(token) = end_named(word) {
         Ok(Act::Wire(token, made(words)?))
-    } else if let Some(poller) = poller_named(word) {
+    } else if let Some(poller) = number_after("p", word) {
         match polling(words) {
             Ok(did) => Ok(Act::Poller(poller, did)),
             Err(wrong) => Err(wrong),
         }
     } else if let Some(slot) = input::number(word) {
-        turn(slot, words)
+        let turns = [("begin", Act::Begin(slot)), ("end", Act::End(slot))];
+        one_of(words, &turns, "begin or end is wanted")
     } else {
         said(None, word, wanted)
     }
 }
 
-fn poller_named(word: &[u8]) -> Option<usize> {
-    input::number(word.strip_prefix(b"p")?)
+/// The number that follows this text in a word.
+pub(crate) fn number_after(text: &str, word: &[u8]) -> Option<usize> {
+    input::number(word.strip_prefix(text.as_bytes())?)
 }
 
 /// The slot and the generation at the front of `S.G` or `S.G.SIDE`.
@@ -207,25 +225,15 @@ fn end_named(word: &[u8]) -> Option<Token> {
     Token::pack(slot, side, generation).ok()
 }
 
-fn turn<'a>(slot: usize, words: &mut Pieces<'a>) -> Result<Act, Wrong<'a>> {
-    let turns = [("begin", Act::Begin(slot)), ("end", Act::End(slot))];
-    one_of(words, &turns, "begin or end is wanted")
-}
-
 fn polling<'a>(words: &mut Pieces<'a>) -> Result<Polling, Wrong<'a>> {
-    let wanted = "poll, report, accept or open is wanted";
-    let word = word(words, wanted)?;
-    if is(word, "poll") {
-        polled(words)
-    } else if is(word, "report") {
-        reported(words)
-    } else if is(word, "accept") {
-        let wanted = "one of again, blocked, ok and starved is wanted";
-        Ok(Polling::Accept(one_of(words, &ACCEPTED, wanted)?))
-    } else if is(word, "open") {
-        opened(words)
-    } else {
-        said(None, word, wanted)
+    match one_of(words, &TASKS, "poll, report, accept or open is wanted")? {
+        Task::Poll => polled(words),
+        Task::Report => reported(words),
+        Task::Accept => {
+            let wanted = "one of again, blocked, ok and starved is wanted";
+            Ok(Polling::Accept(one_of(words, &ACCEPTED, wanted)?))
+        }
+        Task::Open => opened(words),
     }
 }
 
