@@ -37,7 +37,7 @@ impl ClientsAt {
 ///
 /// It is logged just before its `done` or `fail` as `gone s=3 g=1 from=192.0.2.7:50000 connected=yes up=120 down=0
 /// seconds=9 cause=Broken pipe (os error 32)`, and without `s=` and `g=` before its `drop`.
-#[derive(Clone, Copy)]
+#[derive(Drop)]
 pub struct Gone<'a, D, E> {
     /// Its slot and generation, if it was opened.
     pub opened: Option<(usize, u64)>,
