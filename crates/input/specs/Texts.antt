@@ -1,12 +1,12 @@
 -- How a text is cut into pieces, and which texts are numbers. Part of the promises.
 use Rattle.std.specs.{Prelude.{◌≡◌, ℕ, ◌+◌, ◌<◌, ◌≤◌, List, ◌++◌, length, Option, ◌-◌, ◌*◌, ◌^◌, ◌==◌, nat_lt, nat_le, Bool, true, false, not, ◌&&◌, if◌then◌else◌, [], ◌∷◌, fold, Some, None}, Io.KnownBytes.{Consumes, IsAtEnd}, List.{slice_split, list_all}}
 
--- What reads take from a reader whose bytes are known. `TakesAtMost` and `TakesSome` are part of the promises, the
--- rest is for proofs alone.
-
 -- the most bytes of a script
 abbrev pub most_of_script : ℕ
 most_of_script = 1048576
+
+-- What reads take from a reader whose bytes are known. `TakesAtMost` and `TakesSome` are part of the promises, the
+-- rest is for proofs alone.
 
 -- at most this many bytes
 abbrev pub TakesAtMost : ℕ → Option (List ℕ) → Option (List ℕ) → Type 0
