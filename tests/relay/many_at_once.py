@@ -17,6 +17,13 @@ FUTEX = "202"  # the number of the system call in which a worker sleeps
 PTRACE_SEIZE, PTRACE_INTERRUPT, PTRACE_DETACH, WALL = 0x4206, 0x4207, 17, 0x40000000  # ptrace(2), waitpid(2)
 
 
+def has_back(client, size):
+    """Whether a client gets this many bytes."""
+    while size > 0 and (piece := client.recv(size)):
+        size -= len(piece)
+    return size == 0
+
+
 def send_both(pairs):
     for client, end in pairs:
         client.sendall(b"u")
@@ -146,8 +153,10 @@ def halted(task):
         return
     trace(PTRACE_INTERRUPT, task, None, None)
     os.waitpid(task, WALL)
-    yield True
-    trace(PTRACE_DETACH, task, None, None)
+    try:
+        yield True
+    finally:
+        trace(PTRACE_DETACH, task, None, None)
 
 
 # refuses left_client_waits_long: a poller that leaves a client to others waits for reports as long as without one
@@ -228,6 +237,20 @@ def wakes_workers_for_what_is_over_16():
         # That the relay is stopped wakes each thread as often by either.
         few, many = [worked(16) for _ in range(5)], [worked(len(clients)) for _ in range(5)]
         assert len(others) >= workers and (sum(many) > 2 * sum(few)) == is_shared
+
+
+# refuses one_worker_runs_all: all tickets are run by one worker
+def goes_on_while_one_worker_stands_still():
+    # Only one thread polls, so two workers have what moves much. One that is woken while it stands still takes no ticket.
+    relay = Relay(target(echo), recorded=False, slots=64, workers=2, log="off")
+    clients = served(relay, 4)
+    time.sleep(0.1)
+    for task in [int(task) for task in relay.tasks() if relay.system_call(task) == FUTEX]:
+        with halted(task) as is_halted:
+            if not is_halted:
+                return left_out("ptrace")
+            move_much(relay, *clients)
+            assert all([has_back(client, 200_000) for client in clients])
 
 
 def runs_as_many_threads_as_are_set():

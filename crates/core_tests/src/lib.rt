@@ -1,12 +1,17 @@
-//! Tests of the crates below `dispatch`, and of `world` and its kernel: what threads do, what a log is handed, what a
-//! wire in memory plays, of which nothing is promised, calls that the programs do not make, and mutants that no row
-//! shows.
+//! The tests in Rattle: what threads do, what a log is handed, what fronts and wires over loopback answer, what a wire
+//! in memory plays, of which nothing is promised, what a full queue refuses, readers and writers that fail after any
+//! number of bytes, calls that the programs do not make, and mutants that no row shows.
 //!
-//! They are a crate of their own since the tests of a crate are proved together with all of its functions again.
+//! They are a crate of their own since the tests of a crate are proved together with all of its functions again. What
+//! the program prints, and how it serves, is shown by the repository's `tests/program` and `tests/relay`.
 #![tactic(auto)]
 
 #[cfg(test)]
+mod fronts;
+#[cfg(test)]
 mod messages;
+#[cfg(test)]
+mod putting;
 #[cfg(test)]
 mod queues;
 #[cfg(test)]
@@ -15,6 +20,8 @@ mod record_lines;
 mod replays;
 #[cfg(test)]
 mod session;
+#[cfg(test)]
+mod streams;
 #[cfg(test)]
 mod values;
 #[cfg(test)]

@@ -4,7 +4,7 @@ use log::sink::Discard;
 use log::{Level, Logged};
 use log_queue::LogLine;
 use relay_core::Fault;
-use relay_log::{ClientsAt, Done, Failed, log_peer};
+use relay_log::{ClientsAt, Done, Failed, ServerFault, log_peer};
 use std::alloc::{AllocError, Global};
 use std::cell::Cell;
 use std::fmt::{self, Write};
@@ -28,7 +28,8 @@ fn are_texts(alloc: Global) -> Result<bool, AllocError> {
     };
     Ok(
         is(format!(in alloc; "{done}"), "done s=3 g=1 up=12 down=4")?
-            && is(format!(in alloc; "{failed}"), "fail s=3 g=1 idle")?,
+            && is(format!(in alloc; "{failed}"), "fail s=3 g=1 idle")?
+            && is(format!(in alloc; "{}", ServerFault::Worn), "claims worn")?,
     )
 }
 

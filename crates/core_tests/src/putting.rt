@@ -32,5 +32,5 @@ fn what_a_full_queue_refuses(rt: HostRuntime) -> Result<(), Fail> {
     let mut ends = ReadyQueue::new(rt.alloc(), 1, 1)?;
     let hand = Hand::new(rt.alloc(), 2)?;
     let end = ends.first_mut().ok_or(AllocError)?;
-    all_well(keeps_the_second(&rt, end, hand))
+    all_well(Ok(keeps_the_second(&rt, end, hand)))
 }

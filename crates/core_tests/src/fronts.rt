@@ -162,8 +162,8 @@ fn wires_answer_as_their_sockets(rt: HostRuntime) -> Result<(), Fail> {
     let mut opened = fronts_to(&rt, holder.local_addr()?, Split::new(130, 2))?;
     let peer = TcpStream::connect(&rt, opened.address)?;
     match opened.fronts.first_mut() {
-        Some(front) => all_well(answer(&rt, front, &peer)?),
-        None => all_well(false),
+        Some(front) => all_well(Ok(answer(&rt, front, &peer)?)),
+        None => all_well(Ok(false)),
     }
 }
 
@@ -229,5 +229,5 @@ fn fronts_leave_clients_to_others(rt: HostRuntime) -> Result<(), Fail> {
         Some((front, others)) => leaves(&rt, address, front, others)?,
         None => [true; 5],
     };
-    all_well(left == [false, true, false, true, false])
+    all_well(Ok(left == [false, true, false, true, false]))
 }

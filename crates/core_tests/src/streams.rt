@@ -1,0 +1,227 @@
+// How a script ends with any reader and writer, which fail where a test wants it.
+use crate::all_well;
+use input::{Causes, Outcome, ScriptFault, Simulate};
+use script::Simulator;
+use std::alloc::{AllocError, Global};
+use std::io::{self, ErrorKind, Read, Write};
+use std::test::Fail;
+
+/// The room for what a run writes, which a test takes before the run.
+const ROOM: usize = 4096;
+
+/// The script of one direction from its first byte to its shutdown.
+const SCRIPT: &[u8] = b"flow ring=4\narrive 616263\nroom\nread 3\nfin\nwrote 3\nend\nshut";
+
+const REPORT: &[u8] = b"up sent=616263 ring=- unread=- end=yes shut=yes\n";
+
+/// A reader that hands over a byte a read, but for one that may fail.
+#[derive(Drop)]
+struct Source<'a> {
+    rest: &'a [u8],
+    reads: usize,
+    fails: usize,
+    kind: ErrorKind,
+}
+
+impl<'a> Source<'a> {
+    fn whole(bytes: &'a [u8]) -> Source<'a> {
+        Source::failing_once(bytes, usize::MAX, ErrorKind::Other)
+    }
+
+    /// The first bytes, this many; then one error; and then the rest.
+    fn failing_once(bytes: &'a [u8], length: usize, kind: ErrorKind) -> Source<'a> {
+        Source {
+            rest: bytes,
+            reads: 0,
+            fails: length,
+            kind,
+        }
+    }
+
+    /// With the one that failed.
+    fn reads(&self) -> usize {
+        self.reads
+    }
+}
+
+impl Read for Source<'_> {
+    fn read(&mut self, buffer: &mut [u8]) -> io::Result<usize> {
+        let read = self.reads;
+        self.reads = read.wrapping_add(1);
+        if read == self.fails {
+            return Err(io::Error::from(self.kind));
+        }
+        let count = self.rest.len().min(buffer.len()).min(1);
+        let (piece, rest) = self.rest.split_at(count);
+        buffer[..count].copy_from_slice(piece);
+        self.rest = rest;
+        Ok(count)
+    }
+}
+
+/// A writer into memory, which it has from the start, that fails once it took this many bytes: at its flush, or where
+/// it is to take more.
+#[derive(Drop)]
+struct Sink {
+    taken: Vec<u8>,
+    left: usize,
+}
+
+impl Sink {
+    /// Takes this many bytes, and then fails.
+    fn failing_after(alloc: Global, length: usize) -> Result<Sink, AllocError> {
+        Ok(Sink {
+            taken: Vec::with_capacity(alloc, length)?,
+            left: length,
+        })
+    }
+
+    fn into_taken(self) -> Vec<u8> {
+        self.taken
+    }
+}
+
+impl Write for Sink {
+    fn write(&mut self, bytes: &[u8]) -> io::Result<usize> {
+        if self.left == 0 && !bytes.is_empty() {
+            return Err(io::Error::from(ErrorKind::BrokenPipe));
+        }
+        let count = bytes.len().min(self.left);
+        self.taken.extend_from_slice(&bytes[..count])?;
+        self.left -= count;
+        Ok(count)
+    }
+
+    fn flush(&mut self) -> io::Result<()> {
+        if self.left == 0 {
+            return Err(io::Error::from(ErrorKind::StorageFull));
+        }
+        Ok(())
+    }
+}
+
+/// Causes that nobody is given.
+struct NoCauses;
+
+impl Causes for NoCauses {
+    fn add(&self, _cause: &str) {}
+}
+
+/// What a run came to, and what it wrote.
+#[derive(Drop)]
+struct Run {
+    ended: Result<Outcome, ScriptFault>,
+    output: Vec<u8>,
+}
+
+impl Run {
+    fn reports(&self) -> bool {
+        matches!(self.ended, Ok(Outcome::Report)) && self.output.as_slice() == REPORT
+    }
+
+    fn read_nothing(&self) -> bool {
+        matches!(self.ended, Err(ScriptFault::Read)) && self.output.is_empty()
+    }
+
+    /// Whether nothing more could be written after these bytes.
+    fn wrote_only(&self, bytes: &[u8]) -> bool {
+        matches!(self.ended, Err(ScriptFault::Write)) && self.output.as_slice() == bytes
+    }
+
+    /// Whether memory ran out, however much the writer took of the line that says so: no other line begins with its
+    /// first letter.
+    fn is_out_of_memory(&self) -> bool {
+        let mut last = b'\n';
+        for byte in self.output.as_slice() {
+            if last == b'\n' && *byte == b'o' {
+                return true;
+            }
+            last = *byte;
+        }
+        false
+    }
+}
+
+/// Runs a script on a reader and a writer, and shows each step if that is wanted. Where memory runs out, the test fails
+/// by that, and not by a text that it doesn't expect.
+fn play(
+    alloc: Global,
+    each: bool,
+    source: &mut Source<'_>,
+    mut sink: Sink,
+) -> Result<Run, AllocError> {
+    let ended = if each {
+        Simulator.simulate_each(alloc, source, &mut sink, &NoCauses)
+    } else {
+        Simulator.simulate(alloc, source, &mut sink, &NoCauses)
+    };
+    let run = Run {
+        ended,
+        output: sink.into_taken(),
+    };
+    if run.is_out_of_memory() {
+        Err(AllocError)
+    } else {
+        Ok(run)
+    }
+}
+
+/// Whether a reader that fails after this many bytes is reported at once, with nothing written and nothing more read.
+fn is_read_to(alloc: Global, length: usize, kind: ErrorKind) -> Result<bool, AllocError> {
+    let mut source = Source::failing_once(SCRIPT, length, kind);
+    let sink = Sink::failing_after(alloc, ROOM)?;
+    let run = play(alloc, false, &mut source, sink)?;
+    Ok(run.read_nothing() && source.reads() == length.saturating_add(1))
+}
+
+/// Whether each of these errors is reported where it comes after this many bytes.
+fn are_reported(alloc: Global, length: usize) -> Result<bool, AllocError> {
+    let mut all = true;
+    for kind in [
+        ErrorKind::Interrupted,
+        ErrorKind::OutOfMemory,
+        ErrorKind::Other,
+    ] {
+        all = all && is_read_to(alloc, length, kind)?;
+    }
+    Ok(all)
+}
+
+fn readers_fail(alloc: Global) -> Result<bool, AllocError> {
+    let mut all = true;
+    for length in 0..SCRIPT.len() + 1 {
+        all = all && are_reported(alloc, length)?;
+    }
+    Ok(all)
+}
+
+// Any error is reported at once, also a signal's, and one that leaves the rest to be read.
+#[test]
+fn a_reader_that_fails(rt: HostRuntime) -> Result<(), Fail> {
+    all_well(readers_fail(rt.alloc()))
+}
+
+/// What a script writes to a writer that fails after this many bytes.
+fn writes(alloc: Global, each: bool, length: usize) -> Result<Run, AllocError> {
+    let sink = Sink::failing_after(alloc, length)?;
+    play(alloc, each, &mut Source::whole(SCRIPT), sink)
+}
+
+/// Whether a writer that fails after any number of bytes is reported, also at the flush after the last one, and what
+/// it took stands.
+fn is_reported(alloc: Global, each: bool) -> Result<bool, AllocError> {
+    let whole = writes(alloc, each, ROOM)?;
+    let output = whole.output.as_slice();
+    let mut all = whole.reports() != each;
+    for length in 0..=output.len() {
+        all = all && writes(alloc, each, length)?.wrote_only(&output[..length]);
+    }
+    Ok(all)
+}
+
+// Of these two the second flushes each line that it writes.
+#[test]
+fn a_writer_that_fails(rt: HostRuntime) -> Result<(), Fail> {
+    all_well(is_reported(rt.alloc(), false))?;
+    all_well(is_reported(rt.alloc(), true))
+}
