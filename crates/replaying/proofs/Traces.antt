@@ -1,7 +1,8 @@
 -- A run with one event more, and the connections of records with one more.
-use Rattle.std.{proofs.{Common.{◌≡◌, ℕ, List, [], ◌∷◌, ◌++◌, drop, take, Option, Some, None, refl, sym, ◌∙◌, ap, arith, option_and_then, ◌-◌, ◌<◌, length, get_or, subst}, lemmas.{List.{append-nil, append_assoc, take-append-drop, Elements.{All-append, All-cons}}, Option.{get_or_from_slice_get, slice_get_read}}}, specs.Prelude.All}
+use Rattle.std.{proofs.{Common.{◌≡◌, ℕ, List, [], ◌∷◌, ◌++◌, drop, take, Option, Some, None, refl, sym, ◌∙◌, ap, arith, option_and_then}, lemmas.List.{append-nil, append_assoc, take-append-drop, Elements.{All-append, All-cons}}}, specs.Prelude.All}
 use Rattle.world.{proofs.Headline.run_and, specs.{declared.{event.Event.Event, limits.Limits.Limits}, States.{State, opening}, Steps.step, Runs.run}}
-use Rattle.replaying.specs.{declared.{action.Action.Action, recording.Numbered.Numbered}, Traces.{IsHistory, action_in, and_then, joined, trace_next, trace_of_run}, Sequences.{Follows, FollowsAt}}
+use Rattle.recorded.specs.declared.recording.Numbered.{Numbered}
+use Rattle.replaying.specs.{declared.action.Action.Action, Traces.{IsHistory, action_in, and_then, joined, trace_next, trace_of_run}}
 
 nothing_more : (o : Option State) → trace_next o (λ (q : State). []) ≡ []
 nothing_more None = refl
@@ -69,16 +70,3 @@ one_more P records rest n before is =
           ∙ ap (λ xs. joined done ++ xs) (take-append-drop n rest) ∙ before.1,
       All-append P done (connection ∷ []) before.2 (All-cons P connection [] is (λ k d below. absurd (omega arith))),
     )
-
--- Whether the act at a place follows, by the two acts themselves.
-
-pub follows_at : (list : List Numbered) (place : ℕ) (a b : Numbered) → a ≡ get_or list (place - 1) a → b ≡ get_or list place b → Follows a.record b.record → FollowsAt list place
-follows_at list place a b is_a is_b follows last next at_last at_next =
-    let first : a ≡ last = is_a ∙ get_or_from_slice_get list (place - 1) last a at_last in
-    let second : b ≡ next = is_b ∙ get_or_from_slice_get list place next b at_next in
-    subst (λ (x : Numbered). Follows x.record next.record) first (subst (λ (x : Numbered). Follows a.record x.record) second follows)
-
-pub follows_there : (list : List Numbered) (place : ℕ) (a b : Numbered) → place < length list → a ≡ get_or list (place - 1) a → b ≡ get_or list place b → FollowsAt list place
-    → Follows a.record b.record
-follows_there list place a b within is_a is_b at = at a b (slice_get_read list (length list) (place - 1) a refl (omega arith) is_a)
-    (slice_get_read list (length list) place b refl within is_b)

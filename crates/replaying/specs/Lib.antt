@@ -1,3 +1,2 @@
 -- The crate's definitions.
-pub mod Sequences
 pub mod Traces

@@ -1,12 +1,13 @@
 -- What records and runs of the machine have in common: openings, turns, calls with their answers, turns that end quiet,
 -- and closings. What else a run has, nobody recorded. Part of the promises.
-use Rattle.std.specs.{Prelude.{◌≡◌, ◌⊎◌, ◌+◌, ◌==◌, ◌&&◌, ℕ, Bool, true, false, if◌then◌else◌, List, [], ◌∷◌, ◌++◌, length, All, Option, Some, None, IsSome, slice_get, nat_lt, Vec}, Global.Global, Option.is_none}
+use Rattle.std.specs.{Prelude.{◌≡◌, ◌⊎◌, ◌+◌, ◌==◌, ◌&&◌, ℕ, Bool, true, false, if◌then◌else◌, List, [], ◌∷◌, ◌++◌, length, All, Option, Some, None, IsSome, slice_get}, Option.is_none}
 use Rattle.token.specs.{Names.EndName, declared.{side.Side.{Side, TheVariants.{Client, Target}}, kind.Kind.TheVariants.Zero}}
 use Rattle.kernel_model.specs.declared.reply.Reply.{Reply}
 use Rattle.relay_core.specs.{Order.{next_call, offer}, Pairs.PairState, declared.call.Call.{Call, TheVariants.{Write, Join, Shut, Read}}}
 use Rattle.world.specs.{States.{State, opening}, Slots.SlotState, Steps.{step, connection_at, is_worn}, Runs.run, declared.{connection.Connection.Connection, limits.Limits.Limits, event.Event.Event}}
 use Rattle.records.specs.declared.{act.{Act.Act, Made.Made, Opening.TheVariants.Opened as IsOpened, Answer.Answer}, header.Header.Header}
-use Rattle.replaying.specs.declared.{recording.{Numbered.Numbered, Recording.Recording}, action.Action.{Action, TheVariants.{Opened, Began, Called, Quiet, Closed}}}
+use Rattle.recorded.specs.declared.recording.Numbered.{Numbered}
+use Rattle.replaying.specs.declared.action.Action.{Action, TheVariants.{Opened, Began, Called, Quiet, Closed}}
 use Rattle.kernel_model.specs.declared.reply.Reply.TheVariants as reply
 use Rattle.world.specs.declared.event.Event.TheVariants as event
 use Rattle.world.specs.declared.event.Polling.TheVariants as poll
@@ -157,20 +158,6 @@ pub record AreRuns (header : Header) (failed : Option ℕ) (records : List Numbe
   pub connections : List (List Numbered)
   pub all : joined connections ≡ records
   pub each : All (IsConnection header failed) connections
-
--- The records of a slot
-
-abbrev pub items_of : Option (Vec Numbered Global) → List Numbered
-items_of (Some list) = list.items
-items_of None = []
-
--- the list with this number, where there is one
-abbrev pub records_at : Recording → ℕ → List Numbered
-records_at r at = items_of (slice_get r.lists.items at)
-
--- the lists of the slots come first
-abbrev pub records_of : Recording → ℕ → List Numbered
-records_of r slot = if nat_lt slot r.header.slots then records_at r slot else []
 
 -- What is kept of a machine on which records are played.
 

@@ -2,9 +2,9 @@
 //! just before the call that shows them, and room comes just before the write that takes it.
 use crate::action::offered;
 use crate::machine::{Flaw, Machine};
-use crate::recording::Numbered;
 use crate::slot_replay::{Phase, SlotReplay};
 use kernel_model::{End, Reply};
+use recorded::Numbered;
 use records::{Act as Recorded, Answer, Made};
 use relay_core::{Call, Pair};
 use token::{Kind, Side};

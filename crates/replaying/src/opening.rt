@@ -3,9 +3,9 @@ ghost use Rattle.std.specs.Prelude.{◌≤◌, IfSome};
 ghost use Rattle.world.specs.States.{IsWithinLimits};
 
 use crate::machine::{Flaw, Machine};
-use crate::recording::{Numbered, Recording, begun_before};
 use crate::results::Results;
 use crate::slot_replay::{Phase, SlotReplay, State};
+use recorded::{Numbered, Recording, begun_before};
 use records::{Act, Header, Made, Opening, Polling, Record};
 use std::mem;
 use token::{MAX_GENERATION, Side};

@@ -2,24 +2,10 @@
 //! which it can have been posted.
 use crate::machine::Flaw;
 use crate::slot_replay::{SlotReplay, State};
+use recorded::Post;
 use records::{Act, Polling};
 use token::{Name, Side, Token};
 use world::{Event, Polling as Polled, Reported};
-
-/// What a poller may have posted: by a report, or by the sweep of the round after a poll.
-#[derive(Clone, Copy)]
-pub(crate) struct Post {
-    /// The place of the report or of the poll among what the poller did.
-    pub place: usize,
-    /// The generation of which an end was reported. None for a sweep.
-    pub generation: Option<u64>,
-    /// The count when the poll had ended, and the one before the next thing that the poller did: it was made between
-    /// these.
-    pub from: u64,
-    pub to: u64,
-    /// If it is certain that it was made, or for a sweep one before it, that happened from this count on.
-    pub since: Option<u64>,
-}
 
 /// Posts in the order in which they were made, without those that were made in the world.
 #[derive(Clone, Copy)]
@@ -32,20 +18,18 @@ pub(crate) struct Posts<'a> {
     pub sweeps: Queue<'a>,
 }
 
-impl Post {
-    fn is_after(&self, state: &State) -> bool {
-        match self.since {
-            Some(since) => since >= state.taken_by && self.is_of(state),
-            None => false,
-        }
+fn is_after(post: &Post, state: &State) -> bool {
+    match post.since {
+        Some(since) => since >= state.taken_by && is_of(post, state),
+        None => false,
     }
+}
 
-    /// Whether it can be for the connection, and came after the last turn took its notes or was put off then.
-    fn is_of(&self, state: &State) -> bool {
-        match self.generation {
-            Some(generation) => generation == state.generation,
-            None => self.to > state.taken_from,
-        }
+/// Whether it can be for the connection, and came after the last turn took its notes or was put off then.
+fn is_of(post: &Post, state: &State) -> bool {
+    match post.generation {
+        Some(generation) => generation == state.generation,
+        None => post.to > state.taken_from,
     }
 }
 
@@ -66,7 +50,7 @@ impl Queue<'_> {
             if first.from >= before {
                 return None;
             }
-            if first.is_of(state) {
+            if is_of(first, state) {
                 return Some(*first);
             }
             self.0 = next;
@@ -88,7 +72,7 @@ impl Queue<'_> {
 
     fn first_after(&self, state: &State) -> Option<Post> {
         for post in self.0 {
-            if post.is_after(state) {
+            if is_after(post, state) {
                 return Some(*post);
             }
         }

@@ -1,20 +1,17 @@
 //! A whole recording.
 ghost use Rattle.std.specs.Prelude.{OnOk};
 ghost use Rattle.world.specs.States.{IsWithinLimits};
-ghost use Rattle.replaying.specs.Traces.{AreRuns, records_of};
+ghost use Rattle.recorded.specs.Sequences.{records_of};
+ghost use Rattle.replaying.specs.Traces.{AreRuns};
 
-use crate::clock::Clock;
 use crate::machine::{Flaw, Machine};
 use crate::opening::limits_of;
-use crate::order::put_in_order;
-use crate::reading::read;
-use crate::recording::{Last, Recording};
 use crate::results::{Results, Whose};
-use crate::round::check_rounds;
-use crate::rounds::find_posts;
 use crate::slot_replay::{Findings, SlotReplay};
-use crate::threads::check_threads;
 use crate::writing::{write_flaw, write_results};
+use recorded::{
+    Clock, Last, Recording, check_rounds, check_threads, find_posts, put_in_order, read,
+};
 use records::{Header, Outcome, Replay, ReplayFault, Wanted};
 use std::alloc::Global;
 use std::io::{Read, Write};

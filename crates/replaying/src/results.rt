@@ -1,8 +1,8 @@
 //! What came of the worlds in which slots and listeners were replayed.
 use crate::history::History;
 use crate::machine::{Flaw, Machine};
-use crate::recording::Numbered;
 use kernel_model::End;
+use recorded::Numbered;
 use records::Wanted;
 use relay_core::Verdict;
 use relay_log::{Done, Failed};

@@ -1,12 +1,11 @@
 ghost use Rattle.std.specs.Prelude.{OnOk};
 ghost use Rattle.replaying.specs.Traces.{AreRuns, IsConnection};
 
-use crate::clock::Clock;
 use crate::machine::{Flaw, Machine};
-use crate::posts::{Post, Posts, posts_at};
-use crate::recording::{Last, Numbered, Recording};
+use crate::posts::{Posts, posts_at};
 use crate::results::Results;
 use crate::trace::{connection_len, is_connection};
+use recorded::{Clock, Last, Numbered, Post, Recording};
 use records::{Act, Made, Polling, Record};
 use token::{Side, Token};
 

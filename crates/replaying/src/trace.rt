@@ -4,7 +4,7 @@ ghost use Rattle.replaying.specs.Traces.{HasNoTurn, HasSizes, IsConnection, MayC
 
 use crate::action::{Action, action_of, are_same};
 use crate::history::History;
-use crate::recording::{Numbered, Recording};
+use recorded::{Numbered, Recording};
 use records::{Act, Header, Polling};
 use std::alloc::{AllocError, Global};
 use world::Limits;

@@ -1,8 +1,7 @@
 //! The turns of a slot's connection.
 use crate::machine::Flaw;
-use crate::recording::Numbered;
 use crate::slot_replay::{Phase, SlotReplay, State};
-use crate::threads::{OWN_BUDGET, is_busy};
+use recorded::{Numbered, OWN_BUDGET, is_busy};
 use records::{Act as Recorded, Made, Record};
 use token::Side;
 use world::{Act, Event};

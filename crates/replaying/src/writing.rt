@@ -1,7 +1,7 @@
 //! What is written of a recording.
 use crate::machine::{Flaw, Machine};
-use crate::recording::Recording;
 use crate::results::{Flawed, Results, Whose};
+use recorded::Recording;
 use records::{ReplayFault, Wanted};
 use std::alloc::{AllocError, Global};
 use std::io::Write;

@@ -1,5 +1,6 @@
 use Rattle.std.{proofs.Common.{sym, subst, List, ◌≡◌, ◌++◌}, specs.Prelude.{All, take}}
-use Rattle.replaying.{specs.{declared.recording.Numbered.Numbered, Traces.{IsConnection, joined}}, proofs.Traces.one_more}
+use Rattle.recorded.specs.declared.recording.Numbered.{Numbered}
+use Rattle.replaying.{specs.Traces.{IsConnection, joined}, proofs.Traces.one_more}
 use Rattle.replaying.proofs.slot_replay.SlotReplay.run.Goals as goal
 
 pub loop-rest-preserved : goal.loop-rest-preserved

@@ -1,6 +1,7 @@
 -- The records before the rest are those of connections that were played.
 use Rattle.std.{proofs.Common.{◌≡◌, ◌++◌, List, length}, specs.Prelude.All}
-use Rattle.replaying.specs.{declared.recording.Numbered.Numbered, Traces.{IsConnection, joined}}
+use Rattle.recorded.specs.declared.recording.Numbered.{Numbered}
+use Rattle.replaying.specs.Traces.{IsConnection, joined}
 use Rattle.replaying.proofs.slot_replay.SlotReplay.run.Given as goal
 
 abbrev pub invariant-loop-rest : goal.invariant-loop-rest

@@ -1,6 +1,6 @@
 use Rattle.std.proofs.{Common.{arith, below_more}, lemmas.Bool.iff_false}
-use Rattle.replaying.proofs.Traces.{follows_at, follows_there}
-use Rattle.replaying.proofs.order.first_overlap.Goals as goal
+use Rattle.recorded.proofs.Sequences.{follows_at, follows_there}
+use Rattle.recorded.proofs.order.first_overlap.Goals as goal
 
 pub returns-then-not-follows-clause-found : goal.returns-then-not-follows-clause-found
 returns-then-not-follows-clause-found c =

@@ -1,6 +1,6 @@
 use Rattle.std.proofs.Common.{◌<◌, ℕ}
-use Rattle.replaying.specs.Sequences.{IsBegun, IsMissing}
-use Rattle.replaying.proofs.order.first_lost.Given as goal
+use Rattle.recorded.specs.Sequences.{IsBegun, IsMissing}
+use Rattle.recorded.proofs.order.first_lost.Given as goal
 
 abbrev pub invariant-loop-place : goal.invariant-loop-place
 invariant-loop-place l = (place : ℕ) → place < l.place → (count : ℕ) → IsMissing l.counts place count → IsBegun l.begun place count

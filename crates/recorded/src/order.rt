@@ -1,6 +1,6 @@
 //! Looks at the order of the records, and finds out where a recording is no longer complete.
 ghost use Rattle.std.specs.Prelude.{◌≡◌, ◌≢◌, ◌-◌, ◌<◌, ◌≤◌, ◌↔◌, ℕ, IfNone, IfSome, IsTrue, length, slice_index};
-ghost use Rattle.replaying.specs.Sequences.{IsBegun, IsMissing, Follows, FollowsAt, is_report};
+ghost use Rattle.recorded.specs.Sequences.{IsBegun, IsMissing, Follows, FollowsAt, is_report};
 
 use crate::reading::fault;
 use crate::recording::{Last, Numbered, Recording, begun_before, is_twice, sort};
@@ -11,7 +11,7 @@ use std::alloc::AllocError;
 /// of a slot or of a poller are in another order, if what one thread at a time does overlaps, if two acts have the same
 /// count, if the last record has not the greatest counts, or if a recording that says it is complete is not. Where one
 /// was stopped, threads lost what they had not handed over: then only the records before the first lost one are left.
-pub(crate) fn put_in_order(recording: &mut Recording) -> Result<(), ReplayFault> {
+pub fn put_in_order(recording: &mut Recording) -> Result<(), ReplayFault> {
     // The last list alone has the lines of several queues. Those of a slot, and of a poller, stand in the order of
     // their counts: each is put into one queue by the thread that has the slot then, or is the poller.
     if let Some(list) = recording.lists.last_mut() {

@@ -1,7 +1,7 @@
 -- What one thread at a time does is one act after another. Part of the promises.
-use Rattle.std.specs.Prelude.{◌≡◌, ◌⊎◌, ◌-◌, ◌<◌, ℕ, Bool, true, false, List, Some, slice_get, ◌≤◌, length, slice_index}
+use Rattle.std.specs.{Prelude.{◌≡◌, ◌⊎◌, ◌-◌, ◌<◌, ℕ, Bool, true, false, if◌then◌else◌, List, [], Option, Some, None, slice_get, ◌≤◌, length, nat_lt, slice_index, Vec}, Global.Global}
 use Rattle.records.specs.declared.act.{Record.Record, Act.{Act, TheVariants.Poller}}
-use Rattle.replaying.specs.declared.recording.Numbered.{Numbered}
+use Rattle.recorded.specs.declared.recording.{Numbered.Numbered, Recording.Recording}
 use Rattle.records.specs.declared.act.Polling.TheVariants as polling
 
 abbrev pub is_report : Act → Bool
@@ -29,3 +29,17 @@ pub record IsMissing (counts : List ℕ) (place count : ℕ) : Type 0 where
 -- is the act's at the place that this many others have which are missing before it
 abbrev pub IsBegun : List ℕ → ℕ → ℕ → Type 0
 IsBegun begun place count = (count - place < length begun) × (slice_index begun (count - place) ≤ count)
+
+-- The records of a slot
+
+abbrev pub items_of : Option (Vec Numbered Global) → List Numbered
+items_of (Some list) = list.items
+items_of None = []
+
+-- the list with this number, where there is one
+abbrev pub records_at : Recording → ℕ → List Numbered
+records_at r at = items_of (slice_get r.lists.items at)
+
+-- the lists of the slots come first
+abbrev pub records_of : Recording → ℕ → List Numbered
+records_of r slot = if nat_lt slot r.header.slots then records_at r slot else []

@@ -24,7 +24,7 @@ struct Round<'a> {
 }
 
 /// Refuses with `Broken` what a poller does not do in its round.
-pub(crate) fn check_rounds(recording: &Recording) -> Result<(), ReplayFault> {
+pub fn check_rounds(recording: &Recording) -> Result<(), ReplayFault> {
     for poller in 0..recording.header.pollers {
         let mut round = Round {
             recording,

@@ -1,12 +1,26 @@
 //! What the pollers were given in their rounds, and when they may have posted that.
 use crate::clock::Clock;
-use crate::posts::Post;
 use crate::reading::fault;
 use crate::recording::{Last, Numbered, Recording, add, begun_before, lists};
 use records::{Act, Polling, Record, ReplayFault};
 use token::Name;
 
 const MAX_REPORTS: usize = 256;
+
+/// What a poller may have posted: by a report, or by the sweep of the round after a poll.
+#[derive(Clone, Copy)]
+pub struct Post {
+    /// The place of the report or of the poll among what the poller did.
+    pub place: usize,
+    /// The generation of which an end was reported. None for a sweep.
+    pub generation: Option<u64>,
+    /// The count when the poll had ended, and the one before the next thing that the poller did: it was made between
+    /// these.
+    pub from: u64,
+    pub to: u64,
+    /// If it is certain that it was made, or for a sweep one before it, that happened from this count on.
+    pub since: Option<u64>,
+}
 
 /// The rounds of a poller, one after the other.
 #[derive(Clone, Copy)]
@@ -26,10 +40,7 @@ struct Rounds<'a> {
 /// connection.
 ///
 /// Refuses with `Broken` for a poll with other reports than it gave.
-pub(crate) fn find_posts(
-    recording: &Recording,
-    clock: &Clock,
-) -> Result<Vec<Vec<Post>>, ReplayFault> {
+pub fn find_posts(recording: &Recording, clock: &Clock) -> Result<Vec<Vec<Post>>, ReplayFault> {
     let mut posts = lists(recording.alloc, recording.lists.len())?;
     for poller in 0..recording.header.pollers {
         let mut rounds = Rounds {

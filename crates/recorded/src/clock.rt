@@ -7,7 +7,7 @@ use std::mem;
 /// The readings of the clock, by the counts around them. The lists `before` and `after` rise by their first numbers,
 /// and have with each the latest second up to there.
 #[derive(Drop)]
-pub(crate) struct Clock {
+pub struct Clock {
     before: Vec<(u64, u64)>,
     after: Vec<(u64, u64)>,
 }
@@ -23,7 +23,7 @@ struct Window {
 
 impl Clock {
     /// The readings of these records, which rise by the count before them.
-    pub(crate) fn new(alloc: Global, records: &[Numbered]) -> Result<Clock, AllocError> {
+    pub fn new(alloc: Global, records: &[Numbered]) -> Result<Clock, AllocError> {
         Ok(Clock {
             before: readings_of(alloc, records, false)?,
             after: readings_of(alloc, records, true)?,
@@ -32,7 +32,7 @@ impl Clock {
 
     /// The earliest and the latest second of a reading between these two counts, by a thread of which nothing else is
     /// recorded there. Without one these are the seconds that the clock can have shown.
-    pub(crate) fn between(&self, from: u64, to: u64) -> (u64, u64) {
+    pub fn between(&self, from: u64, to: u64) -> (u64, u64) {
         let readings = self.before.as_slice();
         let last = count_below(readings, to).saturating_sub(1);
         let latest = second_at(readings, last);
@@ -46,7 +46,7 @@ impl Clock {
 
     /// Refuses with `Broken` for the first act before which its thread made no reading of its own. Each window takes
     /// the last reading in it that is left, and those that begin last come first: no other choice leaves more.
-    pub(crate) fn check_readings(&self, recording: &Recording) -> Result<(), ReplayFault> {
+    pub fn check_readings(&self, recording: &Recording) -> Result<(), ReplayFault> {
         let windows = windows_of(recording)?;
         let mut left = vec![in recording.alloc; true; self.after.len()]?;
         for window in windows.as_slice().iter().rev() {
@@ -72,7 +72,7 @@ impl Clock {
     }
 
     /// The first record whose second is before one that was read before.
-    pub(crate) fn first_back(&self, records: &[Numbered]) -> Option<Numbered> {
+    pub fn first_back(&self, records: &[Numbered]) -> Option<Numbered> {
         for numbered in records {
             if let Act::Second(second) = numbered.record.act {
                 if second < self.last_read(numbered.record.before).unwrap_or(0) {

@@ -24,7 +24,7 @@ struct Lines {
 }
 
 /// Reads a recording to its end. Refuses with `Broken` for the first line that is none of a recording.
-pub(crate) fn read<R: Read>(alloc: Global, reader: &mut R) -> Result<Recording, ReplayFault> {
+pub fn read<R: Read>(alloc: Global, reader: &mut R) -> Result<Recording, ReplayFault> {
     let mut lines = Lines {
         alloc,
         recording: None,

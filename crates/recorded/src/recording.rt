@@ -1,6 +1,6 @@
 //! A recording, as it is read.
 ghost use Rattle.std.specs.Prelude.{◌≡◌};
-ghost use Rattle.replaying.specs.Traces.{records_at, records_of};
+ghost use Rattle.recorded.specs.Sequences.{records_at, records_of};
 
 use crate::reading::{fault_of, wanted};
 use dispatch::Split;
@@ -10,14 +10,14 @@ use std::alloc::{AllocError, Global};
 
 /// A record, and its line in the file, from 1.
 #[derive(Clone, Copy)]
-pub(crate) struct Numbered {
+pub struct Numbered {
     pub line: u64,
     pub record: Record,
 }
 
 /// How a recording ends.
 #[derive(Clone, Copy)]
-pub(crate) enum Last {
+pub enum Last {
     /// The relay was stopped: what is there is a beginning.
     Stopped,
     /// There was no room for a record: so it is then.
@@ -28,7 +28,7 @@ pub(crate) enum Last {
 
 /// What a file says.
 #[derive(Drop)]
-pub(crate) struct Recording {
+pub struct Recording {
     pub alloc: Global,
     pub header: Header,
     /// Which slots are which poller's.
@@ -114,12 +114,13 @@ impl Recording {
         }
     }
 
+    /// Refuses the line with this number, of which this is wanted.
     pub fn broken(&self, line: u64, text: &'static str) -> ReplayFault {
         fault_of(self.alloc, line, wanted(text))
     }
 
     /// Whether the relay had failed before this count.
-    pub(crate) fn has_failed(&self, count: u64) -> bool {
+    pub fn has_failed(&self, count: u64) -> bool {
         match self.failed {
             Some(failed) => failed < count,
             None => false,
@@ -127,7 +128,7 @@ impl Recording {
     }
 
     /// What happened at a slot.
-    pub(crate) fn slot(&self, slot: usize) -> &[Numbered]
+    pub fn slot(&self, slot: usize) -> &[Numbered]
         ensures { result.now ≡ records_of self.now slot }
     {
         if slot < self.header.slots {
@@ -138,17 +139,17 @@ impl Recording {
     }
 
     /// Which list is that of a poller.
-    pub(crate) fn at_poller(&self, poller: usize) -> usize {
+    pub fn at_poller(&self, poller: usize) -> usize {
         self.header.slots.saturating_add(poller)
     }
 
     /// What a poller did.
-    pub(crate) fn poller(&self, poller: usize) -> &[Numbered] {
+    pub fn poller(&self, poller: usize) -> &[Numbered] {
         self.list(self.at_poller(poller))
     }
 
     /// What is of no slot and of no poller.
-    pub(crate) fn others(&self) -> &[Numbered] {
+    pub fn others(&self) -> &[Numbered] {
         self.poller(self.header.pollers)
     }
 
@@ -185,7 +186,7 @@ pub(crate) fn sort(acts: &mut Vec<Numbered>) -> Result<(), AllocError> {
 }
 
 /// Those of these acts, which are in order, that had begun before this count.
-pub(crate) fn begun_before(acts: &[Numbered], count: u64) -> &[Numbered] {
+pub fn begun_before(acts: &[Numbered], count: u64) -> &[Numbered] {
     let begun = acts.partition_point(|act| act.record.before < count);
     acts.get(..begun).unwrap_or(&[])
 }

@@ -6,7 +6,7 @@ use records::{Act, Made, Record, ReplayFault};
 use std::alloc::AllocError;
 
 /// The most calls of a turn that a poller's own thread runs.
-pub(crate) const OWN_BUDGET: usize = 8;
+pub const OWN_BUDGET: usize = 8;
 
 /// What one thread did at a slot without a break: a turn, with the closing that follows it, or another closing.
 #[derive(Clone, Copy)]
@@ -33,7 +33,7 @@ struct Change {
 }
 
 /// Refuses with `Broken` a turn for which no thread is left.
-pub(crate) fn check_threads(recording: &Recording) -> Result<(), ReplayFault> {
+pub fn check_threads(recording: &Recording) -> Result<(), ReplayFault> {
     let spans = all_spans(recording)?;
     let acts = acts_of_pollers(recording, spans.as_slice())?;
     let changes = changes_of(recording, acts.as_slice(), spans.as_slice())?;
@@ -133,7 +133,7 @@ fn add(changes: &mut Vec<Change>, acts: &[Numbered], span: Span) -> Result<(), A
 }
 
 /// Whether a poller, which did these acts one after the other, did one between these two counts.
-pub(crate) fn is_busy(acts: &[Numbered], from: u64, to: u64) -> bool {
+pub fn is_busy(acts: &[Numbered], from: u64, to: u64) -> bool {
     match acts.get(ended_before(acts, from).len()) {
         Some(act) => act.record.before < to,
         None => false,
