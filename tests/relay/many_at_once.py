@@ -11,7 +11,7 @@ import threading
 import time
 
 from loopback import WAIT, Relay, echo, in_thread, port_of, target, unheard, until
-from shared import answer_and_read, asked, asking, having, is_silent, left_out, move_much, numbers_in, served
+from shared import MUCH, answer_and_read, asked, asking, having, is_silent, left_out, move_much, numbers_in, served
 
 FUTEX = "202"  # the number of the system call in which a worker sleeps
 PTRACE_SEIZE, PTRACE_INTERRUPT, PTRACE_DETACH, WALL = 0x4206, 0x4207, 17, 0x40000000  # ptrace(2), waitpid(2)
@@ -241,16 +241,18 @@ def wakes_workers_for_what_is_over_16():
 
 # refuses one_worker_runs_all: all tickets are run by one worker
 def goes_on_while_one_worker_stands_still():
-    # Only one thread polls, so two workers have what moves much. One that is woken while it stands still takes no ticket.
+    # One thread polls, and two workers have what moves much. If a put wakes the one that stands still, the next wakes the other.
     relay = Relay(target(echo), recorded=False, slots=64, workers=2, log="off")
     clients = served(relay, 4)
     time.sleep(0.1)
-    for task in [int(task) for task in relay.tasks() if relay.system_call(task) == FUTEX]:
+    sleepers = [int(task) for task in relay.tasks() if relay.system_call(task) == FUTEX]
+    assert len(sleepers) > 1
+    for task in sleepers:
         with halted(task) as is_halted:
             if not is_halted:
                 return left_out("ptrace")
             move_much(relay, *clients)
-            assert all([has_back(client, 200_000) for client in clients])
+            assert all([has_back(client, MUCH) for client in clients])
 
 
 def runs_as_many_threads_as_are_set():

@@ -10,6 +10,7 @@ import time
 from loopback import WAIT, Relay, echo, in_thread, port_of, read_all, target, until
 
 LONGEST = 100  # the longest that a check may take, in seconds
+MUCH = 200_000  # bytes that take more calls than a poller's own turn has
 OWN = "[WARN  relayd] target: the relay itself listens there, so a connection would go round without end"
 IDLE = "[WARN  relayd] fail s=0 g=1 idle"
 
@@ -120,7 +121,7 @@ def move_much(relay, *clients):
     """Has each connection move so much in one turn that the workers get its next turns, and that of its end."""
     with relay.stopped():
         for client in clients:
-            client.sendall(bytes(200_000))
+            client.sendall(bytes(MUCH))
     time.sleep(0.1)
 
 

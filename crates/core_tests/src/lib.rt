@@ -1,9 +1,9 @@
 //! The tests in Rattle: what threads do, what a log is handed, what fronts and wires over loopback answer, what a wire
-//! in memory plays, of which nothing is promised, what a full queue refuses, readers and writers that fail after any
+//! in memory (of which no clause speaks) plays, what a full queue refuses, readers and writers that fail after any
 //! number of bytes, calls that the programs do not make, and mutants that no row shows.
 //!
-//! They are a crate of their own since the tests of a crate are proved together with all of its functions again. What
-//! the program prints, and how it serves, is shown by the repository's `tests/program` and `tests/relay`.
+//! They are a crate of their own since the tests of a crate are proved together with all of its functions again. The
+//! repository's `tests/program`, `tests/relay` and `tests/drill` show what the program prints, and how it serves.
 #![tactic(auto)]
 
 #[cfg(test)]

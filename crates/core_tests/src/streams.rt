@@ -14,7 +14,7 @@ const SCRIPT: &[u8] = b"flow ring=4\narrive 616263\nroom\nread 3\nfin\nwrote 3\n
 
 const REPORT: &[u8] = b"up sent=616263 ring=- unread=- end=yes shut=yes\n";
 
-/// A reader that hands over a byte a read, but for one that may fail.
+/// A reader that gives one byte at each read. The read with the number `fails` fails.
 #[derive(Drop)]
 struct Source<'a> {
     rest: &'a [u8],
@@ -28,7 +28,7 @@ impl<'a> Source<'a> {
         Source::failing_once(bytes, usize::MAX, ErrorKind::Other)
     }
 
-    /// The first bytes, this many; then one error; and then the rest.
+    /// Gives this many bytes, then one error, and then the rest.
     fn failing_once(bytes: &'a [u8], length: usize, kind: ErrorKind) -> Source<'a> {
         Source {
             rest: bytes,
@@ -38,7 +38,7 @@ impl<'a> Source<'a> {
         }
     }
 
-    /// With the one that failed.
+    /// How many reads were made, with the one that failed.
     fn reads(&self) -> usize {
         self.reads
     }
@@ -115,8 +115,11 @@ struct Run {
 }
 
 impl Run {
-    fn reports(&self) -> bool {
-        matches!(self.ended, Ok(Outcome::Report)) && self.output.as_slice() == REPORT
+    /// Whether it wrote the report, after all steps if each was to be shown.
+    fn reports(&self, each: bool) -> bool {
+        matches!(self.ended, Ok(Outcome::Report))
+            && self.output.as_slice().ends_with(REPORT)
+            && (self.output.len() > REPORT.len()) == each
     }
 
     fn read_nothing(&self) -> bool {
@@ -143,7 +146,7 @@ impl Run {
 }
 
 /// Runs a script on a reader and a writer, and shows each step if that is wanted. Where memory runs out, the test fails
-/// by that, and not by a text that it doesn't expect.
+/// by that, and not by a text that it does not expect.
 fn play(
     alloc: Global,
     each: bool,
@@ -189,13 +192,13 @@ fn are_reported(alloc: Global, length: usize) -> Result<bool, AllocError> {
 
 fn readers_fail(alloc: Global) -> Result<bool, AllocError> {
     let mut all = true;
-    for length in 0..SCRIPT.len() + 1 {
+    for length in 0..=SCRIPT.len() {
         all = all && are_reported(alloc, length)?;
     }
     Ok(all)
 }
 
-// Any error is reported at once, also a signal's, and one that leaves the rest to be read.
+// Any error is reported at once, even an interruption, and one after which the reader would give the rest.
 #[test]
 fn a_reader_that_fails(rt: HostRuntime) -> Result<(), Fail> {
     all_well(readers_fail(rt.alloc()))
@@ -212,7 +215,7 @@ fn writes(alloc: Global, each: bool, length: usize) -> Result<Run, AllocError> {
 fn is_reported(alloc: Global, each: bool) -> Result<bool, AllocError> {
     let whole = writes(alloc, each, ROOM)?;
     let output = whole.output.as_slice();
-    let mut all = whole.reports() != each;
+    let mut all = whole.reports(each);
     for length in 0..=output.len() {
         all = all && writes(alloc, each, length)?.wrote_only(&output[..length]);
     }

@@ -1,9 +1,9 @@
-//! What a recording of a relay is once it is read ([`Recording`]), and whether threads can have done that.
+//! A recording of a relay that was read ([`Recording`]), and whether threads can have done what it says.
 //!
-//! `reading` reads the file into the lists of `recording`, and `order` sees that these are whole. `order`, `clock`,
-//! `round` and `threads` refuse what no thread does: two acts at once, a turn that read no second, what does not follow
-//! in a round, more turns at once than threads. `rounds` finds what was posted when, by the seconds and the times of
-//! sweeps.
+//! `reading` reads the file into the lists of `recording`, and `order` sees that these lists are whole. What no thread
+//! does is refused: two acts at once (`order`), a turn that read no second (`clock`), what does not follow in a round
+//! (`round`), more turns at once than threads (`threads`). `rounds` finds what was posted when, by the seconds and the
+//! times of sweeps.
 #![tactic(auto)]
 
 mod clock;

@@ -1,7 +1,7 @@
 //! What a recording of a relay comes to on the machine ([`OnMachine`]).
 //!
-//! It is read and put in order before, and what no thread does is refused (`recorded`). `slot_replay` replays a slot,
-//! with `opening`, `turns`, `calls` and `posts`, and what a poller did at its listener, both on the world of `machine`,
+//! `recorded` reads it, puts it in order, and refuses what no thread does. `slot_replay` replays a slot, with
+//! `opening`, `turns`, `calls` and `posts`, and what a poller did at its listener, both on the world of `machine`,
 //! whose `history` is kept. `trace` compares the records of a connection with its run, by what each record and each
 //! event is (`action`). `results` has what came of it, which `writing` writes.
 #![tactic(auto)]
