@@ -18,12 +18,12 @@ pub struct Berth<C, T> {
     pub target: T,
 }
 
-/// The place already held a berth. This is the one that was to be put there.
+/// The place already held a berth. This berth was refused.
 #[derive(Drop)]
 pub struct Occupied<B>(pub B);
 
-/// A place for each slot, empty or with one berth, which the threads share by `&`. A berth is some 460 bytes, and a
-/// turn hands it on several times, so it stays where it was made.
+/// A place for each slot, empty or with one berth. The threads share the places by `&`. A berth is boxed, since it has
+/// some 460 bytes, and a turn hands it on several times.
 ///
 /// In a clause it is the number of slots.
 #[derive(Drop)]
@@ -62,8 +62,8 @@ impl<C, T> Berths<C, T> {
         self.places.len()
     }
 
-    /// Puts a berth into the place of a slot that the caller's seat holds. Occupied gives it back, and the place is as
-    /// it was.
+    /// Puts a berth into the place of a slot that the caller's seat holds. If another is there, Occupied gives this one
+    /// back, and the place is as it was.
     pub fn put_in(
         &self,
         rt: &impl Wait,
@@ -105,7 +105,7 @@ impl<C, T> Berths<C, T> {
     }
 }
 
-// Its wires need not be droppable, so it cannot be lost here.
+// The wires need not be droppable, so the berth cannot be lost here.
 fn fill<C, T>(
     place: &mut Option<Box<Berth<C, T>>>,
     berth: Box<Berth<C, T>>,

@@ -9,15 +9,15 @@ IsWithin low high n = (low ≤ n) × (n ≤ high)
 abbrev pub IsOutside : ℕ → ℕ → ℕ → Type 0
 IsOutside low high n = (n < low) ⊎ (high < n)
 
--- Where these are all seats, the rule holds of words that are all 3, free and held with no note, and of no others
+-- if these are all the seats, the rule holds exactly of words that are all 3: free, held and without notes
 abbrev pub OpensLawful : ℕ → List SeatState → Type 0
 OpensLawful slots seats = (words : List ℕ) → ClaimRule slots words (map view_of seats) ↔ (words ≡ replicate slots 3)
 
--- how many tickets a slot needs: one while notes wait and nobody holds it
+-- how many tickets a slot needs: one while notes wait and it is not marked as held
 abbrev pub due : WordState → ℕ
 due w = if w.held then 0 else one (some_wait w.pending)
 
--- Who holds the slot knows of no more notes than wait. Who does not hold it knows of none
+-- the slot's holder knows of no more notes than wait, and any other seat knows of none
 abbrev pub Knows : ℕ → Account → Type 0
 Knows pending a = (a.known ≤ pending) × (a.holds ≡ false → a.known ≡ 0)
 
@@ -25,11 +25,11 @@ Knows pending a = (a.known ≤ pending) × (a.holds ≡ false → a.known ≡ 0)
 abbrev pub IsHolder : List Account → ℕ → Type 0
 IsHolder accounts seat = (slice_index_or accounts seat blank).holds ≡ true
 
--- what the word of a slot says, beside what all seats' accounts of it count
+-- the word of a slot agrees with what all seats' accounts of it count
 pub record Counts (state : WordState) (accounts : List Account) : Type 0 where
   -- the notes that wait are those that were posted and not taken
   pub notes : state.pending + sum_by (λ a. a.taken) accounts ≡ sum_by (λ a. a.posted) accounts
-  -- A free slot is held and nobody holds it. A slot that is held and not free has one holder, any other none
+  -- A free slot is held and nobody holds it. A slot that is held and not free has one holder, any other slot none
   pub holders : sum_by (λ a. one a.holds) accounts + one state.free ≡ one state.held
   -- the tickets that were made and not redeemed are those that the slot needs
   pub tickets : sum_by (λ a. a.minted) accounts ≡ sum_by (λ a. a.redeemed) accounts + due state
@@ -56,8 +56,7 @@ abbrev pub NotesAreKept : Type 0
 NotesAreKept = OfEachSlot (λ word accounts. (state : WordState) → word ≡ word_of state →
     state.pending + sum_by (λ a. a.taken) accounts ≡ sum_by (λ a. a.posted) accounts)
 
--- of the tickets that were made for a slot those that are still out are as many as it needs by its word: one while
--- notes wait and nobody holds it, otherwise none
+-- a slot's tickets that are out, made and not redeemed, are as many as the slot needs by its word
 abbrev pub TicketsAreNeeded : Type 0
 TicketsAreNeeded = OfEachSlot (λ word accounts. (state : WordState) → word ≡ word_of state →
     sum_by (λ a. a.redeemed) accounts + due state ≡ sum_by (λ a. a.minted) accounts)

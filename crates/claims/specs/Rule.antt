@@ -9,7 +9,7 @@ use lib.ListN.{get_elem?}
 abbrev pub History : Type 0
 History = List (ℕ × Exchange)
 
--- one after the other they lead a word from one state to another, and each answers what the word that it found says
+-- these exchanges lead a word from one state to another, and each answers what the word that it found says
 abbrev pub Leads : WordState → History → WordState → Type 0
 Leads w [] v = w ≡ v
 Leads w (s ∷ rest) v = (s.1 ≡ made (kind_of s.1) w) × Leads (word_after (kind_of s.1) w) rest v
@@ -35,8 +35,8 @@ Keeps a (e ∷ es) = NeedsHolder (kind_of e) a × Keeps (after e a) es
 abbrev pub unused : WordState
 unused = record { pending = 0; free = true; held = true }
 
--- One slot: its word, and the exchanges of each seat there. There is one history of them all. It leads from the word of
--- an unused slot to this one, and of each seat it has just its exchanges, in order
+-- One slot: its word, and the trace of each seat there. The traces make up one history. It leads from the word of an
+-- unused slot to this word, and has each seat's exchanges in the order of the seat's trace
 pub record SlotRule (word : ℕ) (traces : List (List Exchange)) : Type 0 where
   pub history : History
   pub state : WordState
@@ -53,9 +53,9 @@ pub record ClaimRule (slots : ℕ) (words : List ℕ) (views : List View) : Type
   pub unworn : All (λ v. sum_by (λ a. a.posted) (accounts_of v) ≤ 2 ^ 56) views
   pub few_seats : length views + sum_by (λ v. v.spare) views ≤ 32
 
--- In a state that met the rule the seat did one step of this kind at the slot's word, which it found so. Its trace of
--- the slot got the exchange that the kind makes by what the word said, and the rule was kept. The state is some state,
--- since no clause can name what other threads do, but the seat's own view stands in it, before and after
+-- In a state that met the rule the seat made one step of this kind at the slot's word, and found `found` there. Its
+-- trace of the slot got the exchange that the kind makes of that word, and the rule was kept. The state is some state,
+-- since no clause can name what other threads do. But the seat's own view stands in it, before and after
 pub record KeepsRule (kind : StepKind) (slots slot found : ℕ) (old new : View) : Type 0 where
   pub words : List ℕ
   pub views : List View

@@ -11,15 +11,15 @@ pub record SeatState : Type 0 where
 abbrev pub seat_state : TableId → View → SeatState
 seat_state table v = record { table = table; traces = v.traces }
 
--- the view of such a seat, which makes no other seats
+-- the view of this seat, which makes no other seats
 abbrev pub view_of : SeatState → View
 view_of s = record { traces = s.traces; spare = 0 }
 
--- its trace of this slot
+-- the seat's trace of this slot
 abbrev pub trace_at : SeatState → ℕ → List Exchange
 trace_at s slot = slice_index_or s.traces slot []
 
--- its account of this slot
+-- the seat's account of this slot
 abbrev pub account_at : SeatState → ℕ → Account
 account_at s slot = account_of (trace_at s slot)
 
@@ -51,7 +51,7 @@ pub record Adds (slot : ℕ) (exchanges : List Exchange) (old new : SeatState) :
   pub here : trace_at new slot ≡ trace_at old slot ++ exchanges
   pub only : OnlyAt slot old new
 
--- The seat did one step of this kind, by which the rule was kept. It is closed: proofs open it only if asked
+-- The seat made one step of this kind, and the rule was kept. This definition is closed: proofs open it only if asked
 unfoldable pub Stepped : StepKind → ℕ → SeatState → SeatState → Type 0
 Stepped kind slot old new = (found : ℕ) × KeepsRule kind old.table.words slot found (view_of old) (view_of new)
 

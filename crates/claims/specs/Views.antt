@@ -7,8 +7,8 @@ use Rattle.claims.specs.{declared.view.{Account.Account, Exchange.{Exchange, The
 abbrev pub blank : Account
 blank = record { posted = 0; taken = 0; minted = 0; redeemed = 0; holds = false; known = 0; adopts = 0; retires = 0 }
 
--- What each exchange makes of the account. A claim that finds notes redeems the ticket that they had, and a post by the
--- holder is one note more that it knows of
+-- What each exchange makes of the account. A claim that finds notes redeems their ticket, and a holder knows of each
+-- note that it posts
 abbrev pub after : Exchange → Account → Account
 after (Post woke) a = record a { posted = a.posted + 1; minted = a.minted + one woke; known = a.known + one a.holds }
 after Busy a = a
@@ -23,11 +23,11 @@ abbrev pub after_all : List Exchange → Account → Account
 after_all [] a = a
 after_all (e ∷ es) a = after_all es (after e a)
 
--- the account that these exchanges of one seat at one slot are
+-- the account that these exchanges of one seat at one slot lead to
 abbrev pub account_of : List Exchange → Account
 account_of trace = after_all trace blank
 
--- the tickets that they oblige the seat to put, one for each answer Wake
+-- how many tickets these exchanges oblige the seat to put: one for each answer Wake
 abbrev pub minted_by : List Exchange → ℕ
 minted_by exchanges = (account_of exchanges).minted
 
@@ -35,11 +35,11 @@ minted_by exchanges = (account_of exchanges).minted
 abbrev pub unused_view : ℕ → ℕ → View
 unused_view slots spare = record { traces = replicate slots []; spare = spare }
 
--- its account of each slot
+-- the seat's account of each slot
 abbrev pub accounts_of : View → List Account
 accounts_of v = map account_of v.traces
 
--- its trace of this slot
+-- the seat's trace of this slot
 abbrev pub trace_in : ℕ → View → List Exchange
 trace_in slot v = slice_index_or v.traces slot []
 

@@ -27,12 +27,12 @@ pub data StepKind : Type 0 where
   retire : StepKind
   adopt : StepKind
 
--- does a note wait
+-- whether a note waits
 abbrev pub some_wait : ℕ → Bool
 some_wait zero = false
 some_wait (suc n) = true
 
--- is a post the one that has to wake a holder: no note waits yet, and nobody holds the slot
+-- whether a post answers Wake: no note waits yet, and the slot is not marked as held
 abbrev pub wakes : WordState → Bool
 wakes w = if w.held then false else (if some_wait w.pending then false else true)
 

@@ -3,9 +3,9 @@
 /// What a post found.
 #[derive(Clone, Copy, PartialEq, Eq)]
 pub enum Posted {
-    /// No note waited and nobody held the slot. The caller has to put a ticket for the slot.
+    /// No note waited, and the slot was neither held nor free. The caller has to put a ticket for the slot.
     Wake,
-    /// A ticket for the slot is under way, or its holder will find the note.
+    /// A ticket for the slot is under way, or its present or next holder will find the note.
     Quiet,
     /// This seat has posted 2^56 times, and nothing was done.
     Worn,

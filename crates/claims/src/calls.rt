@@ -17,8 +17,8 @@ pub(crate) type Words = Table<(), View, (usize, usize), OneHolder, Global>;
 
 /// The claim words of a table of slots, which the threads share by `&`.
 ///
-/// Each call takes a seat of the same `open`, and a slot below the number of slots. In a clause it is the identity of
-/// its table, whose `words` is the number of slots.
+/// Each call takes a seat of the same `open`, and a slot below the number of slots. In a clause a `Claims` is the
+/// identity of its table, whose `words` is the number of slots.
 #[derive(Drop)]
 pub struct Claims {
     table: Words,
@@ -59,8 +59,8 @@ impl Claims {
 
     /// Leaves a note at the slot.
     ///
-    /// Wake obliges the caller to put a ticket for the slot. A post by the slot's holder answers Quiet. Worn is
-    /// answered once this seat has posted 2^56 times, and then nothing is done.
+    /// Wake obliges the caller to put a ticket for the slot. A post by the slot's holder answers Quiet. Worn: this seat
+    /// has posted 2^56 times before, and nothing was done.
     pub fn post(&self, seat: &mut ClaimSeat, slot: usize) -> Posted
         requires same { seat.old.table ≡ self.now }
         requires inside { slot < self.now.words }
@@ -96,7 +96,7 @@ impl Claims {
 
     /// Takes all notes of a slot that the caller's seat holds, and answers how many there were.
     ///
-    /// A seat takes at most 2^61 notes in all at one slot, so its answers can be added up.
+    /// A seat takes at most 2^61 notes in all at one slot, so the sum of its answers fits a `u64`.
     pub fn take(&self, seat: &mut ClaimSeat, slot: usize) -> u64
         requires same { seat.old.table ≡ self.now }
         requires inside { slot < self.now.words }

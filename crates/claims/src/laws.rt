@@ -19,8 +19,8 @@ pub fn notes_are_kept()
     ensures { NotesAreKept }
 {}
 
-/// The tickets that are out for a slot are those that its word needs: one while notes wait and nobody holds it,
-/// otherwise none.
+/// The tickets that are out for a slot are those that its word asks for: one while notes wait and it is not marked as
+/// held, otherwise none.
 pub fn tickets_are_needed()
     ensures { TicketsAreNeeded }
 {}

@@ -9,45 +9,45 @@
 //! # The rule
 //!
 //! The exchanges of all seats at a slot stand in one order, the slot's history. Between any two exchanges, in every
-//! schedule, it leads from the word of an unused slot to today's word, and each exchange has answered what the word
-//! that it found says. Of each seat it has just the exchanges that this seat made there, in order: the seat's trace.
-//! And each seat takes, releases and retires only what it holds by its trace. From this follows for each slot:
+//! schedule, the history leads from the word of an unused slot to the present word, and each exchange has answered what
+//! the word that it found says. The history has the exchanges of each seat in that seat's order: the seat's trace. And
+//! each seat takes, releases and retires only what it holds by its trace. From this follows for each slot:
 //!
 //! 1. The notes that wait are those that were posted and not taken. So none is dropped and none appears twice.
 //! 2. A slot that is held and not free has exactly one holder. Any other slot has none. A free slot is marked as held.
-//! 3. While notes wait at a slot that nobody holds, exactly one ticket for it is out. Otherwise none is. A ticket is
-//!    out from the answer Wake, which obliges its caller to put one, until the claim that finds the notes.
-//! 4. The holder knows of no more notes than wait, so a take answers at least as many as it knows of: those that its
-//!    claim or adopt found, and those that it has posted since.
+//! 3. While notes wait at a slot that is not marked as held, exactly one ticket for it is out. Otherwise none is. A
+//!    ticket is out from the answer Wake, which obliges the caller to put one, until the claim that finds the notes.
+//! 4. Until its take, a holder knows of the notes that its claim or adopt found, and of those that it has posted since.
+//!    At least as many wait, so the take answers at least that number.
 //! 5. A seat has posted at most 2^56 times, and there are at most 32 seats, so no word overflows.
-//! 6. A slot is free at the start and after each retire, until it is adopted. So before any call each slot is free,
-//!    held and without notes: its word is 3.
+//! 6. A slot is free at the start and after each retire, until it is adopted. So before any call its word is 3: free,
+//!    held and without notes.
 //!
 //! Each call makes exactly one exchange, whatever it answers, except that a post that answers Worn makes none. The
-//! call's contract says which exchange the caller's trace of the slot got, and that no other trace of it changed. So
-//! no call makes a second exchange, and none answers Busy or NotFree before it has made one. That is true of the
-//! source: in machine code an exchange may be a loop.
+//! call's contract says which exchange the caller's trace of the slot got, and that the caller's other traces stay. So
+//! no call makes a second exchange, and a call that answers Busy or NotFree has made one. That is true of the source:
+//! in machine code an exchange may be a loop.
 //!
 //! # The exchanges, and the race that each closes
 //!
 //! - `post` adds 4. Of two posts at once, one finds no note, and only that one answers Wake, so one ticket is made. If
 //!   the count were read and then written, one of the notes could be lost.
-//! - `claim` sets the bit `held`. Of two claims at once, one finds it clear. If it looked first and stored afterwards,
+//! - `claim` sets the bit `held`. Of two claims at once, one finds it clear. If a claim looked first and stored later,
 //!   both could get in.
-//! - `take` clears all but the two lowest bits, and answers what it cleared. A note that arrives after it stays in the
-//!   word, and no count was read before.
+//! - `take` clears all but the two lowest bits, and answers how many notes that were. A note that arrives later stays
+//!   in the word. No count is read in an earlier step.
 //! - `release` clears `held`, and answers by the word that it found. An earlier post is in that word, so the releaser
-//!   answers Wake. A later post finds the slot not held, and answers Wake itself. If it looked first and stored
-//!   afterwards, a post in between would find the slot held and answer Quiet, and nobody would come for its note.
+//!   answers Wake. A later post finds the slot not held, and answers Wake itself. If a release looked first and stored
+//!   later, a post in between would find the slot held and answer Quiet, and nobody would come for its note.
 //! - `retire` sets `free` and leaves `held`, in one step. No claim can come between the end of the old connection and
 //!   the mark that the slot is free, and a late post there answers Quiet, so that no ticket is made for it.
 //! - `adopt` clears `free` and leaves `held`. Of two adopts at once, one finds the slot free, and no claim can get in
-//!   before its holder has set up the new connection. Late notes of the old one are still there for it to take.
+//!   before the holder has set up the new connection. The holder can still take late notes of the old connection.
 //!
 //! # What is not promised
 //!
-//! That Busy or NotFree was necessary, any order between threads that never synchronized, or progress. A seat that is
-//! dropped while it holds a slot leaves the slot held. A [`Claims::peek`] is not an exchange, and in no trace.
+//! It is not promised that Busy or NotFree was necessary. Nor is any order between threads that never synchronized, or
+//! progress. A seat that is dropped while it holds a slot leaves the slot held. [`Claims::peek`] makes no exchange.
 //!
 //! [`laws`] says in plain words what follows from the rule, `specs/Calls.antt` which exchange each answer is, and
 //! `proofs/Seats.antt` how what a seat holds carries over from call to call.

@@ -18,5 +18,5 @@ pub(crate) const FREE: u64 = 2;
 /// What a word has for each note that waits.
 pub(crate) const NOTE: u64 = 4;
 
-/// The word of a slot that is free, at the start.
+/// The word of a slot at the start: free, and marked as held.
 pub(crate) const UNUSED: u64 = FREE + HELD;

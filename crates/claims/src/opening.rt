@@ -26,8 +26,7 @@ pub enum OpenFault {
 }
 
 impl Claims {
-    /// Makes a word for each slot, free and without notes, and the seats, which are the only ones that these words
-    /// ever have.
+    /// Makes a word for each slot, free and without notes, and all seats that these words ever have.
     ///
     /// Errors are checked in this order: a number of slots that is not from 1 to 32,768 (`SlotRange`), a number of
     /// seats that is not from 1 to 32 (`SeatRange`), and too little memory (`NoMemory`).
@@ -55,7 +54,6 @@ impl Claims {
     }
 }
 
-// The words, and all seats.
 fn words_and_seats(
     alloc: Global,
     slots: usize,

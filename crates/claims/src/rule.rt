@@ -1,5 +1,5 @@
-// The claim rule, as the rule of a table of words, and the six kinds of step, which are all that there are, with what
-// each shows the seat that made it.
+// The claim rule, as the rule of a table of words, and all six kinds of step, each with what it shows the seat that
+// made it.
 ghost use Rattle.std.specs.Prelude.{ℕ, ◌-◌, length};
 ghost use Rattle.claims.specs.{Rule.{ClaimRule, KeepsRule}, Views.unused_view, Words.{post, claim, take, release, retire, adopt}};
 

@@ -8,14 +8,14 @@ use std::marker::Model;
 
 /// A seat at the claim words of one `open`, with which one thread makes its calls.
 ///
-/// In a clause it is its table, and its trace of each slot: the exchanges that this seat has made there, in order.
-/// Only its own calls change them. A seat can be moved into a thread.
+/// In a clause a seat is its table, and its trace of each slot: the exchanges that it has made there, in order. Only
+/// its own calls change its traces. A seat can be moved into a thread.
 #[derive(Drop)]
 pub struct ClaimSeat {
     pub(crate) seat: Seat<(), View>,
     // How many times this seat has posted.
     pub(crate) posts: u64,
-    // Whether it holds the slot, for each slot: the words name no holder.
+    // For each slot, whether this seat holds it: the words name no holder.
     pub(crate) held: Vec<bool>,
 }
 

@@ -7,7 +7,7 @@ pub enum Exchange {
     Post(bool),
     /// A claim that found the slot held.
     Busy,
-    /// A claim that did not, and the notes that waited.
+    /// A claim that found it not held, and the notes that waited.
     Held(u64),
     /// A take, and its notes.
     Take(u64),
@@ -17,7 +17,7 @@ pub enum Exchange {
     Retire,
     /// An adopt that found the slot free, and the notes that waited.
     Adopted(u64),
-    /// An adopt that did not.
+    /// An adopt that found it not free.
     NotFree,
 }
 

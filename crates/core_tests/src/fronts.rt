@@ -12,14 +12,15 @@ use std::net::{SocketAddr, TcpListener, TcpStream};
 use std::test::Fail;
 use token::{Side, Token};
 
-/// Two fronts, and their address.
+/// Two fronts, and the address at which they listen.
 #[derive(Drop)]
 struct Fronts<'r> {
     fronts: Vec<Sockets<'r, HostRuntime>>,
     address: SocketAddr,
 }
 
-/// Fronts on loopback, at a port that the system picks, that connect clients to this target, for slots dealt so.
+/// Opens fronts on loopback, at a port that the system picks, for these parts of the slots. They connect clients to
+/// `target`.
 fn fronts_to(
     rt: &HostRuntime,
     target: SocketAddr,
@@ -38,7 +39,7 @@ fn fronts_to(
     Ok(Fronts { fronts, address })
 }
 
-/// Polls until each of these numbers was reported, many times at most.
+/// Polls until each of these numbers was reported, 100 times at most.
 fn reports<F: Front>(alloc: Global, front: &mut F, numbers: &[u64]) -> io::Result<()> {
     let mut seen = Vec::new(alloc);
     let mut batch = Vec::with_capacity(alloc, MAX_BATCH)?;
@@ -56,14 +57,14 @@ fn kind<T>(answer: io::Result<T>) -> Result<T, ErrorKind> {
     answer.map_err(|error| error.kind())
 }
 
-/// Whether a wire whose peer is silent would block, and has a broken pipe once it has shut its side.
+/// Whether a read would block, since the peer is silent, and a write after a shutdown gets a broken pipe.
 fn is_silent(wire: &mut SocketWire) -> bool {
     kind(wire.read(&mut [0; 4])) == Err(ErrorKind::WouldBlock)
         && wire.shut_write().is_ok()
         && kind(wire.write(b"a")) == Err(ErrorKind::BrokenPipe)
 }
 
-/// Whether a socket that has sent at once may wait for more after four full offers.
+/// Whether a settled socket, which sends at once, may wait for more after four full offers.
 fn may_wait_in_bulk(wire: &mut SocketWire) -> bool {
     wire.settle();
     for _offer in 0..4 {
@@ -72,7 +73,7 @@ fn may_wait_in_bulk(wire: &mut SocketWire) -> bool {
     kind(wire.stream().sends_at_once()) == Ok(false)
 }
 
-/// Opens the connection of a client in slot 3: the wire of its target.
+/// Opens a client's connection in slot 3. Returns the target's wire.
 fn opened(
     log: &impl Log,
     front: &mut Sockets<'_, HostRuntime>,
@@ -83,14 +84,13 @@ fn opened(
     Ok(front.open(log, client, near, far)?.target)
 }
 
-/// Whether a target that refused its connection reports it at the first call, and the system's number of that
-/// (ECONNREFUSED).
+/// Whether the first call says that the target refused the connection, with the system's number (ECONNREFUSED).
 fn is_refused(target: &mut SocketWire) -> bool {
     kind(target.joined()) == Err(ErrorKind::ConnectionRefused) && target.error() == Some(111)
 }
 
-/// Opens the connection of a client, and waits until both ends were reported. Answers whether its target refuses, and
-/// it cannot be opened again, since the client is registered already (EEXIST).
+/// Opens a client's connection, and waits until both ends were reported. Returns true if the target refuses, and a
+/// second opening fails since the client is registered already (EEXIST).
 fn opens_once(
     rt: &HostRuntime,
     log: &impl Log,
@@ -105,13 +105,13 @@ fn opens_once(
     Ok(is_refused(&mut target) && again == Some(Unopened::Register) && client.error() == Some(17))
 }
 
-/// Whether one line was logged, about a registration. A line for which there was no memory is missing.
+/// Whether exactly one line was logged, about a registration. Without a line, memory for it ran out.
 fn is_told(lines: &Lines) -> Result<bool, AllocError> {
     let line = lines.as_slice().first().ok_or(AllocError)?;
     Ok(line.as_str().starts_with("[DEBUG relayd] register: ") && lines.len() == 1)
 }
 
-/// Whether a byte of the peer is reported under the client's number alone, and then nothing any more.
+/// Whether a byte of the peer is reported under the client's number alone, and later polls come to report nothing.
 fn is_reported_once<F: Front>(
     alloc: Global,
     front: &mut F,
@@ -131,7 +131,7 @@ fn is_reported_once<F: Front>(
     Ok(false)
 }
 
-/// Whether a client's wire and that of its target, which refuses, answer so, and it is logged.
+/// Whether the wires of a client and of a target that refuses pass the checks above.
 fn answer(
     rt: &HostRuntime,
     front: &mut Sockets<'_, HostRuntime>,
@@ -149,12 +149,12 @@ fn answer(
 }
 
 // refuses pending_error_swallowed: the error that is pending on a socket is overlooked
-// refuses pending_error_without_its_number: such an error is logged without the system's number
+// refuses pending_error_without_its_number: a pending error is logged without the system's number
 // refuses registers_cause_is_not_kept: the log does not say why a socket cannot be reported
 // refuses poll_keeps_old_reports: the reports of the last poll stay in the batch
 // refuses watched_under_swapped_tokens: the two sockets are registered under each other's token
-// refuses sends_at_once_for_ever: a socket that has once sent at once does so in bulk, too
-// Nobody listens at the port of a client, so such a target refuses.
+// refuses sends_at_once_for_ever: a socket that sends at once goes on so in bulk
+// The target is the address of `holder`, at which nobody listens. So it refuses.
 #[test]
 fn wires_answer_as_their_sockets(rt: HostRuntime) -> Result<(), Fail> {
     let listener = TcpListener::bind(&rt, "127.0.0.1:0")?;
@@ -167,10 +167,10 @@ fn wires_answer_as_their_sockets(rt: HostRuntime) -> Result<(), Fail> {
     }
 }
 
-/// Clients, and what fronts have of them.
+/// The clients' sockets, and the fronts' wires to them.
 type Clients = Vec<(TcpStream, SocketWire)>;
 
-/// Has a front accept this many clients more. Answers whether it leaves the next one then.
+/// Has a front accept `more` clients. Returns whether it then leaves the next client to others.
 fn leaves_after(
     rt: &HostRuntime,
     address: SocketAddr,
@@ -195,7 +195,8 @@ fn open_first(
     }
 }
 
-/// Whether a front of one slot leaves clients to another: of two, of four; if that one is full, is not, takes no more.
+/// Whether a front leaves its next client to another, both of one slot: with 2 clients; with 4; with 4 while the other
+/// is full; while it is empty; once it takes no more.
 fn leaves(
     rt: &HostRuntime,
     address: SocketAddr,
@@ -219,7 +220,7 @@ fn leaves(
 }
 
 // refuses clients_count_twice: a client counts twice among those that its poller has
-// refuses full_pollers_are_left_clients: clients are left to pollers that have all that they can have, or take no more
+// refuses full_pollers_are_left_clients: clients are left to pollers that are full or take no more
 #[test]
 fn fronts_leave_clients_to_others(rt: HostRuntime) -> Result<(), Fail> {
     let target = SocketAddr::from(([127, 0, 0, 1], 1));

@@ -1,8 +1,8 @@
 //! The tests in Rattle: what threads do, what a log is handed, what fronts and wires over loopback answer, what a wire
-//! in memory (of which no clause speaks) plays, what a full queue refuses, readers and writers that fail after any
-//! number of bytes, calls that the programs do not make, and mutants that no row shows.
+//! in memory plays, which no clause says, what a full queue refuses, readers and writers that fail after any number of
+//! bytes, calls that the programs do not make, and mutants that no row shows.
 //!
-//! They are a crate of their own since the tests of a crate are proved together with all of its functions again. The
+//! They have a crate of their own, since to prove a crate's tests is to prove all its functions again. The
 //! repository's `tests/program`, `tests/relay` and `tests/drill` show what the program prints, and how it serves.
 #![tactic(auto)]
 
@@ -34,10 +34,10 @@ use std::process::Abort;
 #[cfg(test)]
 use std::test::Fail;
 
-// What a test answers by what its helpers found, which promise nothing and answer plain values, so that it is cheap to
-// prove.
+// The two functions below turn what helpers found into a test's result. Helpers promise nothing and return plain
+// values, so that a test is cheap to prove.
 
-/// Passes if all goes well. Where memory ran out, the test fails by that.
+/// Passes if all goes well. If memory ran out, the test fails with that error.
 #[cfg(test)]
 fn all_well(is_well: Result<bool, AllocError>) -> Result<(), Fail> {
     match is_well {
@@ -47,7 +47,7 @@ fn all_well(is_well: Result<bool, AllocError>) -> Result<(), Fail> {
     }
 }
 
-/// Passes if no row goes otherwise.
+/// Passes if no row is wrong. If one is, panics with its number.
 #[cfg(test)]
 fn no_row(rt: &impl Abort, wrong: Result<Option<usize>, AllocError>) -> Result<(), Fail> {
     if let Ok(Some(row)) = wrong {

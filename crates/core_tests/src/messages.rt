@@ -1,4 +1,4 @@
-// Texts of messages that are made for no log, the line in which one is printed, and one that is off.
+// The texts of messages, a line that is too long, and a message of a level that is off.
 use crate::all_well;
 use log::sink::Discard;
 use log::{Level, Logged};
@@ -39,7 +39,7 @@ fn texts_are_made(rt: HostRuntime) -> Result<(), Fail> {
     all_well(are_texts(rt.alloc()))
 }
 
-/// Whether a line that is longer than any of the program is cut where it is full.
+/// Whether a line that is longer than any line of the program is cut at its limit.
 fn is_cut(alloc: Global) -> Result<bool, AllocError> {
     let mut line = LogLine::new();
     for _ in 0..40 {
@@ -56,7 +56,7 @@ fn a_line_is_cut_where_it_is_full(rt: HostRuntime) -> Result<(), Fail> {
     all_well(is_cut(rt.alloc()))
 }
 
-/// An address that notes that it is printed.
+/// An address that records that it was printed.
 #[derive(Drop)]
 struct Noting(Cell<bool>);
 

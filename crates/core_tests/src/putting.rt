@@ -1,4 +1,4 @@
-// What stays in hand where a queue is full, which happens in no run.
+// What stays in hand if the ready queue is full, as it is in no run.
 use crate::all_well;
 use dispatch::{Hand, put_tickets};
 use ready::{ReadyQueue, Ticket};
@@ -6,7 +6,7 @@ use std::alloc::AllocError;
 use std::sync::Wait;
 use std::test::Fail;
 
-/// Whether of two tickets in hand the older one is put, and the other one stays.
+/// Whether the older of two tickets in hand is put, and the newer one stays.
 fn keeps_the_second(rt: &impl Wait, end: &mut ReadyQueue, mut hand: Hand) -> bool {
     for slot in 3..5 {
         if hand.has_room() {
@@ -26,7 +26,7 @@ fn keeps_the_second(rt: &impl Wait, end: &mut ReadyQueue, mut hand: Hand) -> boo
 }
 
 // refuses new_makes_room_for_one_more: a queue has room for one ticket more than was asked for
-// refuses older_ticket_dropped: a ticket in hand is lost where the queue refuses it
+// refuses older_ticket_dropped: a ticket in hand is lost if the queue refuses it
 #[test]
 fn what_a_full_queue_refuses(rt: HostRuntime) -> Result<(), Fail> {
     let mut ends = ReadyQueue::new(rt.alloc(), 1, 1)?;

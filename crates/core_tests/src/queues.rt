@@ -24,7 +24,7 @@ fn put_all(rt: &impl Wait, end: &mut ReadyQueue, slot: usize) {
     }
 }
 
-/// An end that takes, and which tickets it took of each slot, whose generations have to rise.
+/// An end that takes, and which tickets it took of each slot. A slot's generations have to rise.
 #[derive(Drop)]
 struct Taker {
     end: ReadyQueue,
@@ -58,7 +58,7 @@ fn begin(end: Option<ReadyQueue>) -> Result<Taker, AllocError> {
     })
 }
 
-/// Whether each ticket was taken by one of two.
+/// Whether exactly one taker took each ticket, and both took in order.
 fn are_all_taken_once([one, other]: &[Taker; 2]) -> bool {
     let mut all = one.is_rising && other.is_rising;
     for slot in 0..2 {
@@ -69,7 +69,7 @@ fn are_all_taken_once([one, other]: &[Taker; 2]) -> bool {
     all
 }
 
-// The ends that take, of the highest numbers, sleep while the queue is empty, and are woken by its end.
+// The two ends that take have the highest numbers. They sleep while the queue is empty, and its closing wakes them.
 #[test]
 fn each_ticket_is_taken_once(rt: HostRuntime) -> Result<(), Fail> {
     let mut ends = ReadyQueue::new(rt.alloc(), 8, 32)?;

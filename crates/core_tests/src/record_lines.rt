@@ -1,4 +1,4 @@
-// Every form of a line is read and printed as it was, and one that is spoilt at any word is refused.
+// Each form of a record's line is read, and printed as it was. A line with a wrong word is refused for it.
 use crate::no_row;
 use records::{MAX_RECORD, read_line};
 use std::alloc::{AllocError, Global};
@@ -44,7 +44,7 @@ static LINES: [&str; 36] = [
     "12 14 end",
 ];
 
-/// Lines that are wrong, and the word that is.
+/// Wrong lines, each with its wrong word, or `missing`.
 static WRONG: [(&str, &str); 16] = [
     ("", ""),
     ("1", "missing"),
@@ -72,7 +72,6 @@ fn is_printed(alloc: Global, line: &str) -> Result<bool, AllocError> {
     }
 }
 
-/// Whether a line is refused for this word.
 fn is_refused(line: &str, word: &str) -> bool {
     match read_line(line.as_bytes()) {
         Ok(_) => false,
@@ -80,7 +79,7 @@ fn is_refused(line: &str, word: &str) -> bool {
     }
 }
 
-/// The first line that goes otherwise, of the first list or the second.
+/// The first wrong row. The rows of `WRONG` follow those of `LINES`.
 fn first_wrong(alloc: Global) -> Result<Option<usize>, AllocError> {
     for (row, line) in LINES.iter().enumerate() {
         if !is_printed(alloc, line)? {
@@ -93,7 +92,7 @@ fn first_wrong(alloc: Global) -> Result<Option<usize>, AllocError> {
     Ok(wrong.map(|row| row.saturating_add(LINES.len())))
 }
 
-// refuses record_swaps_its_counts: a record prints the count after its act before the one before it
+// refuses record_swaps_its_counts: a record prints its second count before its first
 #[test]
 fn lines(rt: HostRuntime) -> Result<(), Fail> {
     no_row(&rt, first_wrong(rt.alloc()))

@@ -12,7 +12,7 @@ const LINES: &str =
     "connect; accept ok; open; put poller; pop 0; claim 0; take 0; arrive 0 client 616263; room 0 target; \
 call 0 wrote 2; call 0 blocked; call 0 read 3; call 0 wrote 3; call 0 blocked; post 0; tick 30; idle 0; close 0; retire 0; free 0";
 
-/// Puts the event of a line after others. Answers whether it is one.
+/// Adds the event of a line. Returns false if the line is no event.
 fn put(alloc: Global, events: &mut Vec<Event>, line: &str) -> Result<bool, AllocError> {
     match read_event(alloc, line.as_bytes()) {
         Ok(event) => events.push(event)?,
@@ -22,7 +22,7 @@ fn put(alloc: Global, events: &mut Vec<Event>, line: &str) -> Result<bool, Alloc
     Ok(true)
 }
 
-/// Five connections, one after the other: a hundred events. The one at `wrong`, if there is one, cannot happen.
+/// The hundred events of five connections, one after the other. If there is an event at `wrong`, it cannot happen.
 fn session(alloc: Global, wrong: usize) -> Result<Vec<Event>, AllocError> {
     let mut events = Vec::new(alloc);
     for _ in 0..5 {
@@ -48,7 +48,7 @@ fn limits() -> Limits
     }
 }
 
-/// Whether the events lead to their world, or it is reported that the one at `wrong` cannot happen.
+/// Whether the events lead to their world, or the replay refuses the event at `wrong`.
 fn goes(alloc: Global, wrong: usize) -> Result<bool, (usize, Refusal)> {
     let Ok(events) = session(alloc, wrong) else {
         return Err((0, Refusal::NoMemory));
@@ -61,8 +61,8 @@ fn goes(alloc: Global, wrong: usize) -> Result<bool, (usize, Refusal)> {
 }
 
 // refuses replay_blames_index_0: the first event is blamed for any event that fails
-// Where memory runs out, the index of the event that lacked it is reported: `tests/growths` looks that it rises with
-// the growth that is refused.
+// If memory runs out, the index of the event that lacked it is printed: `tests/growths` checks that the index rises
+// with the refused growth's number.
 #[test]
 fn a_replay_leads_to_its_world_or_tells_where_it_ends(rt: HostRuntime) -> Result<(), Fail> {
     for wrong in [100, 0, 49, 99] {

@@ -1,5 +1,5 @@
-// What a wire in memory plays, of which nothing is promised, over a session in which each side gives some bytes and
-// then its end, and takes what the other side gave; and what no program does with a pair.
+// What a wire in memory plays, which no clause says. In a session each side gives some bytes and then its end, and
+// takes what the other side gave. And what no program does with a pair.
 use crate::{all_well, no_row};
 use engine::{Class, Play, PlayList, ScriptWire, Turn, Wire, class_of, pending, turn};
 use relay_core::{Answer, Call, CallKind, Fault, Kind, Pair, Side, Verdict};
@@ -7,19 +7,19 @@ use std::alloc::{AllocError, Global};
 use std::io::ErrorKind;
 use std::test::Fail;
 
-/// What is seen of a session after a turn: what the pair reports, how many bytes the client and the target took, and
-/// how many plays are left to the target and how many faults it counted.
+/// What is seen of a session after a turn: the pair's verdict, how many bytes the client took and the target took, how
+/// many plays the target has left, and how many faults it counted.
 type Seen = (Verdict, usize, usize, usize, u64);
 
-/// It failed since a write took nothing.
+/// A write to the target took nothing.
 const TOOK_NONE: Verdict = Verdict::Failed(Fault::Broken {
     side: Side::Target,
     call: CallKind::Write,
     kind: Kind::Zero,
 });
 
-/// The number of the play that comes before the first write to the target, and what is seen then. The turn has as many
-/// calls as are needed with one play more.
+/// Each row: the number of a play that is put before the target's first write, and what is seen then. The turn has as
+/// many calls as a session with one more play needs.
 static ROWS: [(u8, Seen); 4] = [
     (0, (Verdict::Done, 2, 3, 0, 0)),
     (1, (Verdict::Done, 2, 3, 0, 0)),
@@ -27,7 +27,6 @@ static ROWS: [(u8, Seen); 4] = [
     (3, (TOOK_NONE, 0, 0, 3, 1)),
 ];
 
-/// The play of a number.
 fn play(number: u8) -> Play {
     match number {
         0 => Play::Interrupted,
@@ -37,19 +36,17 @@ fn play(number: u8) -> Play {
     }
 }
 
-/// A list of these plays.
 fn plays<const N: usize>(alloc: Global, plays: [Play; N]) -> Result<Vec<Play>, AllocError> {
     Ok(Vec::from_array(alloc, plays)?)
 }
 
-/// One side of the session: it gives these bytes and its end, and takes this many.
+/// One side of the session: it gives these bytes and then its end, and takes `takes` bytes.
 fn wire(alloc: Global, joined: bool, gives: &[u8], takes: usize) -> Result<ScriptWire, AllocError> {
     let reads = plays(alloc, [Play::Bytes(gives.to_vec(alloc)?), Play::End])?;
     let writes = plays(alloc, [Play::Take(takes)])?;
     ScriptWire::new(alloc, joined, reads, writes, plays(alloc, [Play::Shut])?)
 }
 
-/// What is seen of a session over these wires.
 fn seen(alloc: Global, mut client: ScriptWire, mut target: ScriptWire) -> Result<Seen, AllocError> {
     let mut pair = Pair::new(alloc, 0, 1, 4, 0, b"")?;
     let _outcome = turn(&mut pair, &mut client, &mut target, 9, 0, 0);
@@ -57,7 +54,7 @@ fn seen(alloc: Global, mut client: ScriptWire, mut target: ScriptWire) -> Result
     Ok((pair.verdict(), down, up, target.left(), target.faults()))
 }
 
-/// The first row that goes otherwise.
+/// The first wrong row.
 fn first_wrong(alloc: Global) -> Result<Option<usize>, AllocError> {
     for (row, (number, wanted)) in ROWS.iter().enumerate() {
         let client = wire(alloc, true, b"abc", 2)?;
@@ -75,7 +72,7 @@ fn goes_on_waits_or_fails_before_a_write(rt: HostRuntime) -> Result<(), Fail> {
     no_row(&rt, first_wrong(rt.alloc()))
 }
 
-/// A wire of which the first play for each call does not fit it.
+/// A wire whose first play for each call does not fit the call.
 fn unfit(alloc: Global) -> Result<ScriptWire, AllocError> {
     let unconnected = Play::Fault(Kind::NotConnected);
     let reads = plays(alloc, [Play::Take(1), Play::Blocked, unconnected])?;
@@ -84,7 +81,7 @@ fn unfit(alloc: Global) -> Result<ScriptWire, AllocError> {
     ScriptWire::new(alloc, false, reads, writes, plays(alloc, closings)?)
 }
 
-/// Why each call fails: a read, a write, a join, and a shutdown.
+/// The errors of a read, a write, a join and a shutdown. None for a call that succeeds.
 fn errors(wire: &mut ScriptWire) -> [Option<ErrorKind>; 4] {
     [
         wire.read(&mut [0]).map_err(|error| error.kind()).err(),
@@ -95,7 +92,7 @@ fn errors(wire: &mut ScriptWire) -> [Option<ErrorKind>; 4] {
 }
 
 /// Whether a play that does not fit is a fault, and connects nothing. Without a play a call would block, but a
-/// shutdown succeeds. Until the wire is connected, the error that it is not counts as "would block".
+/// shutdown succeeds. Until the wire is connected, the error `NotConnected` counts as "would block".
 fn answers(wire: &mut ScriptWire) -> bool {
     let (other, blocked) = (Some(ErrorKind::Other), Some(ErrorKind::WouldBlock));
     let unconnected = Some(ErrorKind::NotConnected);
@@ -111,8 +108,8 @@ fn answers_without_a_play_that_fits(rt: HostRuntime) -> Result<(), Fail> {
     all_well(Ok(answers(&mut wire)))
 }
 
-/// Whether a pair that moved at second 9, nine seconds before its limit, stays live at second 0, where its wires have
-/// nothing, and a write of it that is offered nothing takes nothing.
+/// Whether a pair that was made at second 9, with an idle limit of 9 seconds, stays quiet in a turn at second 0 over
+/// silent wires, and its write, which offers nothing, cannot take a byte.
 fn is_patient(
     alloc: Global,
     mut client: ScriptWire,
@@ -123,7 +120,6 @@ fn is_patient(
     Ok(outcome == Turn::Quiet && !pair.fits(Call::Write(Side::Target), Answer::Wrote(1)))
 }
 
-/// A wire without plays.
 fn silent(alloc: Global, joined: bool) -> Result<ScriptWire, AllocError> {
     ScriptWire::new(
         alloc,
@@ -134,7 +130,7 @@ fn silent(alloc: Global, joined: bool) -> Result<ScriptWire, AllocError> {
     )
 }
 
-/// Whether a broken pipe is a failure of that kind, and a pending error is one of any kind.
+/// Whether a broken pipe is a failure of that kind, and a pending `NotConnected` becomes `Other`.
 fn are_failures() -> bool {
     let shut = Call::Shut(Side::Client);
     class_of(&shut, ErrorKind::BrokenPipe, true) == Class::Failed(Kind::Pipe)
@@ -142,7 +138,7 @@ fn are_failures() -> bool {
 }
 
 // refuses class_swaps_two_kinds: two kinds of failure are exchanged
-// refuses clock_going_back_expires: a clock that goes back shows movement as silence
+// refuses clock_going_back_expires: a connection expires when the clock goes back
 // refuses fits_more_than_offered: a write may take more than it was offered
 // refuses pending_may_be_not_connected: a pending error may be reported as not connected, which is no failure
 #[test]

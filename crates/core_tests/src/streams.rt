@@ -1,4 +1,4 @@
-// How a script ends with any reader and writer, which fail where a test wants it.
+// How a script ends whose reader or writer fails, at a point that the test picks.
 use crate::all_well;
 use input::{Causes, Outcome, ScriptFault, Simulate};
 use script::Simulator;
@@ -6,7 +6,7 @@ use std::alloc::{AllocError, Global};
 use std::io::{self, ErrorKind, Read, Write};
 use std::test::Fail;
 
-/// The room for what a run writes, which a test takes before the run.
+/// How many bytes a run may write. A test allocates them before the run.
 const ROOM: usize = 4096;
 
 /// The script of one direction from its first byte to its shutdown.
@@ -28,7 +28,7 @@ impl<'a> Source<'a> {
         Source::failing_once(bytes, usize::MAX, ErrorKind::Other)
     }
 
-    /// Gives this many bytes, then one error, and then the rest.
+    /// A reader that gives this many bytes, then one error, and then the rest.
     fn failing_once(bytes: &'a [u8], length: usize, kind: ErrorKind) -> Source<'a> {
         Source {
             rest: bytes,
@@ -38,7 +38,7 @@ impl<'a> Source<'a> {
         }
     }
 
-    /// How many reads were made, with the one that failed.
+    /// How many reads were made, the failed one included.
     fn reads(&self) -> usize {
         self.reads
     }
@@ -59,8 +59,8 @@ impl Read for Source<'_> {
     }
 }
 
-/// A writer into memory, which it has from the start, that fails once it took this many bytes: at its flush, or where
-/// it is to take more.
+/// A writer into memory that it allocates at the start. It takes `left` more bytes. After these, a flush or a write
+/// fails.
 #[derive(Drop)]
 struct Sink {
     taken: Vec<u8>,
@@ -68,7 +68,7 @@ struct Sink {
 }
 
 impl Sink {
-    /// Takes this many bytes, and then fails.
+    /// A writer that takes this many bytes, and then fails.
     fn failing_after(alloc: Global, length: usize) -> Result<Sink, AllocError> {
         Ok(Sink {
             taken: Vec::with_capacity(alloc, length)?,
@@ -100,14 +100,13 @@ impl Write for Sink {
     }
 }
 
-/// Causes that nobody is given.
+/// Drops each cause.
 struct NoCauses;
 
 impl Causes for NoCauses {
     fn add(&self, _cause: &str) {}
 }
 
-/// What a run came to, and what it wrote.
 #[derive(Drop)]
 struct Run {
     ended: Result<Outcome, ScriptFault>,
@@ -115,7 +114,7 @@ struct Run {
 }
 
 impl Run {
-    /// Whether it wrote the report, after all steps if each was to be shown.
+    /// Whether the run wrote the report at its end, and more before it exactly if `each` step is shown.
     fn reports(&self, each: bool) -> bool {
         matches!(self.ended, Ok(Outcome::Report))
             && self.output.as_slice().ends_with(REPORT)
@@ -126,13 +125,13 @@ impl Run {
         matches!(self.ended, Err(ScriptFault::Read)) && self.output.is_empty()
     }
 
-    /// Whether nothing more could be written after these bytes.
+    /// Whether the run wrote these bytes, and then could not write.
     fn wrote_only(&self, bytes: &[u8]) -> bool {
         matches!(self.ended, Err(ScriptFault::Write)) && self.output.as_slice() == bytes
     }
 
-    /// Whether memory ran out, however much the writer took of the line that says so: no other line begins with its
-    /// first letter.
+    /// Whether memory ran out: whether a line begins with `o`, as only `out of memory` does. The writer may have cut
+    /// that line.
     fn is_out_of_memory(&self) -> bool {
         let mut last = b'\n';
         for byte in self.output.as_slice() {
@@ -145,8 +144,8 @@ impl Run {
     }
 }
 
-/// Runs a script on a reader and a writer, and shows each step if that is wanted. Where memory runs out, the test fails
-/// by that, and not by a text that it does not expect.
+/// Runs a script on a reader and a writer, and shows each step if `each`. If memory runs out, the test fails with that
+/// error, not by an unexpected text.
 fn play(
     alloc: Global,
     each: bool,
@@ -177,7 +176,6 @@ fn is_read_to(alloc: Global, length: usize, kind: ErrorKind) -> Result<bool, All
     Ok(run.read_nothing() && source.reads() == length.saturating_add(1))
 }
 
-/// Whether each of these errors is reported where it comes after this many bytes.
 fn are_reported(alloc: Global, length: usize) -> Result<bool, AllocError> {
     let mut all = true;
     for kind in [
@@ -198,20 +196,20 @@ fn readers_fail(alloc: Global) -> Result<bool, AllocError> {
     Ok(all)
 }
 
-// Any error is reported at once, even an interruption, and one after which the reader would give the rest.
+// Any error is reported at once, even an interruption, and even if the reader would give the rest afterwards.
 #[test]
 fn a_reader_that_fails(rt: HostRuntime) -> Result<(), Fail> {
     all_well(readers_fail(rt.alloc()))
 }
 
-/// What a script writes to a writer that fails after this many bytes.
+/// Runs the script with a writer that fails after this many bytes.
 fn writes(alloc: Global, each: bool, length: usize) -> Result<Run, AllocError> {
     let sink = Sink::failing_after(alloc, length)?;
     play(alloc, each, &mut Source::whole(SCRIPT), sink)
 }
 
-/// Whether a writer that fails after any number of bytes is reported, also at the flush after the last one, and what
-/// it took stands.
+/// Whether a writer's failure after any number of bytes is reported, also at the flush after the last byte, and what
+/// was written stays.
 fn is_reported(alloc: Global, each: bool) -> Result<bool, AllocError> {
     let whole = writes(alloc, each, ROOM)?;
     let output = whole.output.as_slice();
@@ -222,7 +220,7 @@ fn is_reported(alloc: Global, each: bool) -> Result<bool, AllocError> {
     Ok(all)
 }
 
-// Of these two the second flushes each line that it writes.
+// The second of these runs flushes each line that it writes.
 #[test]
 fn a_writer_that_fails(rt: HostRuntime) -> Result<(), Fail> {
     all_well(is_reported(rt.alloc(), false))?;

@@ -1,4 +1,4 @@
-// What no row and no clause shows of single values.
+// Facts about single values that no row and no clause shows.
 use crate::all_well;
 use kernel_model::{End, Reply};
 use readiness::{Attention, Reports, Told};
@@ -9,8 +9,8 @@ use std::cell::Cell;
 use std::test::Fail;
 use token::{Name, Side, Token, TokenFault, next_gen, unpack};
 
-/// Whether an arrival that is refused leaves both arms, and an error neither. A read and a write would have blocked
-/// before.
+/// Whether a refused arrival leaves both arms of an end, and an error clears both. A read and a write that would block
+/// set them.
 fn an_error_alone_clears(alloc: Global) -> Result<bool, AllocError> {
     let mut end = End::new(alloc, Side::Target);
     let blocked = end.read(4, Reply::Blocked).is_ok() && end.write(b"a", Reply::Blocked).is_ok();
@@ -27,7 +27,7 @@ fn an_error_clears_both_arms(rt: HostRuntime) -> Result<(), Fail> {
     all_well(an_error_alone_clears(rt.alloc()))
 }
 
-/// Two connections, of which the second is open. The first sent more bytes than 32 bits count.
+/// Two connections: the first is done, the second is open. The first sent 2^32 bytes, more than 32 bits can count.
 static EVENTS: [Event; 5] = [
     Event::Opened,
     Event::Moved { up: 3, down: 5 },
@@ -40,7 +40,7 @@ static EVENTS: [Event; 5] = [
     Event::Moved { up: 1, down: 2 },
 ];
 
-/// Whether the sums of two slots are twice these.
+/// Whether the sums over two slots are twice these events' counts.
 fn are_summed(alloc: Global) -> Result<bool, AllocError> {
     let statistics = Statistics::new(alloc, 2)?;
     for slot in 0..2 {
@@ -56,7 +56,7 @@ fn are_summed(alloc: Global) -> Result<bool, AllocError> {
     )
 }
 
-/// A place that changes between the first three times that it is read.
+/// A place whose first three reads differ.
 #[derive(Drop)]
 struct Changing(Cell<u64>);
 
@@ -74,7 +74,7 @@ impl Memory for Changing {
     fn store(&self, _counts: Counts) {}
 }
 
-/// Whether the sums are those of two looks that agree.
+/// Whether the sums are those of two reads that agree.
 fn are_settled(alloc: Global) -> Result<bool, AllocError> {
     let mut places = Vec::new(alloc);
     places.push(Changing(Cell::new(0)))?;
@@ -92,14 +92,14 @@ fn statistics_of_each_slot(rt: HostRuntime) -> Result<(), Fail> {
 
 const LAST: u64 = 140_737_488_355_327;
 
-/// The slot, the side and the generation of an end, and its number.
+/// Each row: an end's slot, side and generation, and the number of its token.
 static ENDS: [(usize, Side, u64, u64); 3] = [
     (32_767, Side::Target, LAST, 9_223_372_036_854_775_807),
     (0, Side::Client, 1, 65_536),
     (3, Side::Target, 2, 131_079),
 ];
 
-/// A slot and a generation that no end has.
+/// Each row: a slot and a generation that no end has, and why they are refused.
 static FAULTS: [(usize, u64, TokenFault); 3] = [
     (32_768, 1, TokenFault::SlotRange),
     (0, 0, TokenFault::GenRange),
@@ -160,7 +160,7 @@ fn is_taken_once(alloc: Global) -> Result<bool, AllocError> {
     )
 }
 
-/// Whether a wire reads that is new, and one whose call failed.
+/// Whether a new wire reads its socket, and so does a wire after a failed call.
 fn reads_at_first_and_after_a_failure() -> bool {
     let mut attention = Attention::new();
     let at_first = attention.reads();

@@ -1,4 +1,4 @@
-// One word, from an opening to the next; and eight threads that post while a ninth takes, of which no note is lost.
+// One claim word, through each call; and eight threads that post notes while a ninth takes them all.
 ghost use Rattle.std.specs.Prelude.{◌≡◌, ◌<◌, All};
 ghost use Rattle.claims.specs.Seats.{Holds};
 
@@ -9,7 +9,7 @@ use std::alloc::{AllocError, Global};
 use std::test::Fail;
 use std::thread;
 
-/// A call, and its answer.
+/// A call, and the answer that it must get.
 #[derive(Clone, Copy)]
 enum Call {
     Post(Posted),
@@ -20,7 +20,7 @@ enum Call {
     Adopt(Adopted),
 }
 
-/// Whether another seat than the first makes the call, the call, and the word after it.
+/// Each row: whether the second seat makes the call, the call, and the word after it.
 static ROWS: [(bool, Call, u64); 15] = [
     (false, Post(Posted::Quiet), 7),
     (false, Adopt(Adopted::Adopted), 5),
@@ -39,7 +39,7 @@ static ROWS: [(bool, Call, u64); 15] = [
     (false, Retire, 3),
 ];
 
-/// Makes a call at slot 0. Answers whether it may be made, and is answered so.
+/// Makes a call at slot 0, if it may be made. Returns true if it was made and got its answer.
 fn is_answered(claims: &Claims, seat: &mut ClaimSeat, call: Call) -> bool
     requires same { seat.old.table ≡ claims.now }
     requires inside { 1 < claims.now.words }
@@ -61,7 +61,7 @@ fn is_answered(claims: &Claims, seat: &mut ClaimSeat, call: Call) -> bool
     }
 }
 
-/// Whether each row goes so.
+/// Makes the calls of all rows. Returns true if each row is right.
 fn go(claims: &Claims, first: &mut ClaimSeat, second: &mut ClaimSeat) -> bool
     requires first { first.old.table ≡ claims.now }
     requires second { second.old.table ≡ claims.now }
@@ -80,8 +80,8 @@ fn go(claims: &Claims, first: &mut ClaimSeat, second: &mut ClaimSeat) -> bool
     true
 }
 
-/// Whether the rows go so at the first of two slots, with two of three seats, and the other slot stays free. There are
-/// no words for more slots than may be.
+/// Whether all rows are right at the first of two slots, with two of three seats, and the other slot stays free. For
+/// 32,769 slots no words are opened.
 fn goes_through_its_row(alloc: Global) -> Result<bool, AllocError> {
     let Ok((claims, mut seats)) = Claims::open(alloc, 2, 3) else {
         return Err(AllocError);
@@ -98,11 +98,11 @@ fn goes_through_its_row(alloc: Global) -> Result<bool, AllocError> {
     )
 }
 
-// refuses holds_looks_at_another_slot: whether a seat holds a slot is answered of slot 0
+// refuses holds_looks_at_another_slot: `holds` says of each slot whether the seat holds slot 0
 // refuses open_one_slot_too_many: words are opened for one slot more than may be
 // refuses retire_sets_nothing: a retired slot is not marked as free
 // refuses words_opened_otherwise: an unused word says held and not free
-// refuses slots_counts_values: the number of slots is answered as the number of values of the table
+// refuses slots_counts_values: `slots` returns how many values the table has
 #[test]
 fn one_word_goes_through_its_row(rt: HostRuntime) -> Result<(), Fail> {
     all_well(goes_through_its_row(rt.alloc()))
@@ -121,7 +121,7 @@ fn post_many(claims: &Claims, seat: &mut ClaimSeat)
     }
 }
 
-/// What this many takes answered, added up, and the seat.
+/// Makes this many takes. Returns the sum of their answers, and the seat.
 fn take_many(claims: &Claims, mut seat: ClaimSeat, takes: usize) -> (u64, ClaimSeat)
     requires same { seat.table ≡ claims.now }
     requires inside { 0 < claims.now.words }

@@ -3,10 +3,10 @@ use Rattle.std.specs.Prelude.{◌≡◌, ℕ, Bool, if◌then◌else◌, List, [
 
 -- `Claim`, `TakeNotes`, `Post`, `Release`, `Retire`, `Adopt` and `Discard` are exchanges of the slot's word; `Discard`
 -- is a take whose notes are thrown away. `TakeOut` and `PutIn` move the connection out of its place and back, `Call` is
--- its next call on a socket, and `Close` closes both sockets. `Give` puts the slot into the queue of free slots.
+-- the connection's next call on a socket, and `Close` closes both sockets. `Give` puts the slot into its free queue.
 -- `Register` starts the connection to the target, and registers both sockets for reports. `Enter` writes the generation
--- into the poller's table.
--- `Settle` has both sockets send what they held back, and `PutTicket` puts the slot's ticket into the ready queue
+-- into the poller's table. `Settle` has both sockets send what they held back, and `PutTicket` puts the slot's ticket
+-- into the ready queue
 pub data Act : Type 0 where
   Claim : Act
   TakeOut : Act
@@ -46,7 +46,7 @@ leaving woke = Release ∷ (if woke then PutTicket ∷ [] else [])
 abbrev pub busy_turn : List Act
 busy_turn = Claim ∷ []
 
--- another connection than the ticket's may have been in the place
+-- `other`: another connection than the ticket's was in the place
 abbrev pub gone_turn : Bool → Bool → List Act
 gone_turn other woke = Claim ∷ TakeOut ∷ (if other then PutIn ∷ Discard ∷ leaving woke else Discard ∷ leaving woke)
 
@@ -56,7 +56,7 @@ quiet_turn woke = Claim ∷ TakeOut ∷ TakeNotes ∷ Settle ∷ PutIn ∷ leavi
 abbrev pub again_turn : Bool → List Act
 again_turn woke = Claim ∷ TakeOut ∷ TakeNotes ∷ PutIn ∷ Post ∷ leaving woke
 
--- the slot is given back, or its last generation was used
+-- the slot is given back, unless its last generation was used
 abbrev pub giving : Bool → List Act
 giving given = if given then Give ∷ [] else []
 

@@ -3,7 +3,7 @@
 use Rattle.std.specs.Prelude.{◌≡◌, ℕ, ◌-◌, ◌<◌, ◌≤◌, List, [], length}
 use Rattle.ready.specs.declared.ticket.Ticket.{Ticket}
 
--- at most `capacity` of each
+-- at most `capacity` tickets, and as many slots
 pub record HandState : Type 0 where
   pub tickets : List Ticket
   pub slots : List ℕ

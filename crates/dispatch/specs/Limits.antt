@@ -1,15 +1,15 @@
 -- Numbers of the server that clauses name. Part of the promises.
 use Rattle.std.specs.Prelude.{ℕ}
 
--- the most turns of a poller's thread after a round
+-- the most own turns of a poller after a round
 abbrev pub own_turns : ℕ
 own_turns = 32
 
--- the most calls of such a turn
+-- the most calls of an own turn
 abbrev pub own_budget : ℕ
 own_budget = 8
 
--- how many of a connection's tickets go to the workers after a turn that spent it
+-- how many of a slot's next tickets go to the workers once its turn has spent the own budget
 abbrev pub heavy_marks : ℕ
 heavy_marks = 16
 

@@ -1,5 +1,5 @@
--- What a thread had to put into a queue so far: what its end of the queue has put, and then what is in hand for it.
--- Part of the promises. While this list stays the same, nothing of it is lost, doubled or moved.
+-- What a thread had to put into a queue so far: what its end of the queue has put, and then what is in hand for that
+-- queue. Part of the promises. While this list stays as it is, nothing of it is lost, doubled or moved.
 use Rattle.std.specs.Prelude.{◌≡◌, ◌⊎◌, ℕ, List, [], ◌∷◌, ◌++◌, drop, map}
 use Rattle.ready.specs.{declared.{history.History.History, ticket.Ticket.Ticket}, Steps.{EndState, PutLast, HeldOnce}}
 use Rattle.dispatch.specs.{Hands.HandState, declared.shared.Own.Own}
@@ -40,6 +40,6 @@ without_first own = record own { hand = record own.hand { tickets = drop 1 own.h
 abbrev pub KeepsTicket : Ticket → History Ticket → HandState → Type 0
 KeepsTicket ticket history hand = PutLast ticket history ⊎ ((before : List Ticket) × (hand.tickets ≡ before ++ ticket ∷ []))
 
--- the same of a free slot
+-- the slot is not lost: put last, or last in hand
 abbrev pub KeepsSlot : ℕ → History ℕ → HandState → Type 0
 KeepsSlot slot history hand = PutLast slot history ⊎ ((before : List ℕ) × (hand.slots ≡ before ++ slot ∷ []))

@@ -1,4 +1,4 @@
--- A thread's seat: fresh at first; turns and openings hold one slot, post there, and release it. Part of the promises.
+-- What is said of a thread's seat: it is fresh, worn or at rest, or holds one slot. Part of the promises.
 use Rattle.std.specs.Prelude.{◌≡◌, ◌≢◌, ℕ, ◌^◌, List, length, replicate}
 use Rattle.claims.specs.Seats.{SeatState, TableId, fresh_seat, posts_of, Holds, HoldsNot, HoldsNothing}
 use Rattle.relay_log.specs.declared.faults.ServerFault.{ServerFault}
@@ -13,7 +13,7 @@ pub record AreFresh (table : TableId) (seats : List SeatState) : Type 0 where
 abbrev pub IsWorn : SeatState → Type 0
 IsWorn seat = posts_of seat ≡ 2 ^ 56
 
--- a turn or a round is refused by this fault only if its seat is worn
+-- the fault is `Worn`, and the seat is worn: a turn or a round is refused for nothing else
 abbrev pub OnlyWorn : ServerFault → SeatState → Type 0
 OnlyWorn fault seat = (fault ≡ server_fault.Worn) × IsWorn seat
 

@@ -1,19 +1,32 @@
--- What the statistics count of a connection, and what is logged of one that could not be opened. Part of the promises.
+-- What the statistics count of a connection, what is logged of one that could not be opened, and what the errors of
+-- accept(2) mean to the relay. Part of the promises.
+use Rattle.std.specs.declared.io.ErrorKind.{ErrorKind, TheVariants.{Interrupted, ConnectionAborted, NetworkDown, NetworkUnreachable, HostUnreachable, WouldBlock}}
 use Rattle.relay_core.specs.Pairs.{PairState, verdict}
 use Rattle.statistics.specs.declared.event.Event.{Event, TheVariants.{Moved, Ended}}
 use Rattle.relay_log.specs.declared.cause.Cause.{Cause}
-use Rattle.dispatch.specs.declared.front.Unopened.{Unopened, TheVariants.{Connect, Register}}
+use Rattle.dispatch.specs.declared.front.{Unaccepted.{Unaccepted, TheVariants.{Again, Blocked, Starved}}, Unopened.{Unopened, TheVariants.{Connect, Register}}}
 use Rattle.relay_log.specs.declared.cause.Cause.TheVariants as cause
 
--- a turn has left it open: the bytes that writes took, each way
+-- a turn has left a connection open: the bytes that writes took, each way
 abbrev pub moved_by : PairState → Event
 moved_by p = Moved p.sent_up p.sent_down
 
--- it has ended: what has become of it, and the same bytes
+-- a connection has ended: its verdict, and these bytes
 abbrev pub ended_by : PairState → Event
 ended_by p = Ended (verdict p) p.sent_up p.sent_down
 
--- it could not be opened: the word for the log
+-- a connection could not be opened: the cause that is logged
 abbrev pub cause_of : Unopened → Cause
 cause_of Connect = cause.Connect
 cause_of Register = cause.Register
+
+-- After a signal, a connection that was given up, or an error that the new socket had pending, the next connection may
+-- be accepted at once. EAGAIN says that none waits. Anything else counts as a lack of descriptors or memory
+abbrev pub unaccepted_of : ErrorKind → Unaccepted
+unaccepted_of Interrupted = Again
+unaccepted_of ConnectionAborted = Again
+unaccepted_of NetworkDown = Again
+unaccepted_of NetworkUnreachable = Again
+unaccepted_of HostUnreachable = Again
+unaccepted_of WouldBlock = Blocked
+unaccepted_of error = Starved

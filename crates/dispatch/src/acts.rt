@@ -1,4 +1,3 @@
-//! The acts of a thread at a slot.
 ghost use Rattle.std.specs.Prelude.{◌≡◌, IfOk};
 
 use crate::front::{Front, Opened, Settle, Unopened};
@@ -13,10 +12,10 @@ use std::marker::Model;
 use std::sync::Wait;
 use token::Token;
 
-/// The acts of a thread at a slot's word, and those by which it hands on the slot. Each is one call on what all threads
-/// share, but for `enter`. A turn and an opening are generic over this trait, so that their clauses can say which acts
-/// they make, in which order: a proof has `made ..` only from a call. The product's `()` makes each act and nothing
-/// else.
+/// The acts of a thread at a slot's word, and those that hand on the slot or its ticket. Each act but `enter` is one
+/// call on what all threads share. A turn and an opening are generic over this trait, so that their clauses can say
+/// which acts they make, in which order: a proof has `made ..` only from a call. The server's `()` makes each act and
+/// nothing else.
 pub trait Acts {
     ghost use Rattle.std.specs.Prelude.{◌≡◌, ◌<◌, ℕ, [], ◌∷◌, length, slice_set, IfErr, OnOk, OnErr};
     ghost use Rattle.claims.specs.{Seats.{Holds, Adds}, Calls.{PostChange, ClaimChange, ReleaseChange, AdoptChange}};
@@ -42,7 +41,7 @@ pub trait Acts {
         ensures made { made act.TakeNotes slot self.old self.new }
         ensures change { Adds slot (exchange.Take result ∷ []) seat.old seat.new };
 
-    /// [`Claims::take`] of notes that are thrown away.
+    /// [`Claims::take`]: the notes are thrown away.
     fn discard(&mut self, claims: &Claims, seat: &mut ClaimSeat, slot: usize) -> u64
         requires same { seat.old.table ≡ claims.now }
         requires inside { slot < claims.now.words }
@@ -157,7 +156,7 @@ pub trait Moves<F: Front>: Acts {
     // The bytes of this pair were counted at a slot.
     ghost counted: { ℕ → PairState → Self → Type 0 };
 
-    /// [`Front::open`]. If it is refused, no act is made.
+    /// [`Front::open`]. If the front refuses, no act is made.
     fn register<N: Log>(
         &mut self,
         rt: &N,

@@ -1,33 +1,60 @@
 ghost use Rattle.std.specs.{Prelude.{◌≡◌, ◌≢◌, ◌≤◌, ℕ, Bool, true, false, List, [], IfOk, IfErr, OnErr, vec_len, vec_capacity}, IoError.error_kind, declared.io.ErrorKind.TheVariants.Interrupted};
+ghost use Rattle.dispatch.specs.Told.{unaccepted_of};
 
 use crate::limits::MAX_BATCH;
 use engine::Wire;
 use log::Log;
 use relay_log::Cause;
-use std::io;
+use std::io::{self, ErrorKind};
 use std::net::{SocketAddr, SocketAddrV4};
 use thiserror::Error;
 use token::Token;
 
 /// A wire that may hold bytes back.
 pub trait Settle: Wire {
-    // Whether it holds nothing back, if it says so.
+    // Whether the wire holds nothing back. The default promises nothing.
     ghost settled: { Self → Type 0 } = { λ _. Unit {0} };
 
-    /// A turn on this connection ended quiet: no call is worth trying before the next report. So what was held back is
-    /// sent now.
+    /// Sends now what was held back. It is called after a quiet turn: no call is worth trying before the next report.
     fn settle(&mut self)
         ensures same { Self.told self.new ≡ Self.told self.old }
         ensures settled { settled self.new };
 
-    /// The errno(3) of its last call that failed, if it keeps that. Only the log uses it.
+    /// The errno(3) of the last call that failed, if the wire keeps it. Only the log uses it.
     fn error(&self) -> Option<i32> {
         None
     }
 
-    /// Whether the system says that the socket is connected (getpeername(2)), if it is asked. Only the log uses it.
+    /// Whether the socket is connected, by getpeername(2). None if that is not known. Only the log uses it.
     fn is_connected(&self) -> Option<bool> {
         None
+    }
+}
+
+/// Why accept(2) gave no connection.
+#[derive(Clone, Copy, PartialEq, Eq)]
+pub enum Unaccepted {
+    /// The next connection may be accepted at once.
+    Again,
+    /// No connection waits.
+    Blocked,
+    /// Descriptors or memory are lacking. The connection keeps waiting.
+    Starved,
+}
+
+/// What an error of accept(2) means, by its kind. Linux passes on errors that are pending on the new socket. After such
+/// an error accept(2) is tried again.
+pub fn unaccepted_of(kind: ErrorKind) -> Unaccepted
+    ensures { result ≡ unaccepted_of kind }
+{
+    match kind {
+        ErrorKind::Interrupted
+        | ErrorKind::ConnectionAborted
+        | ErrorKind::NetworkDown
+        | ErrorKind::NetworkUnreachable
+        | ErrorKind::HostUnreachable => Unaccepted::Again,
+        ErrorKind::WouldBlock => Unaccepted::Blocked,
+        _ => Unaccepted::Starved,
     }
 }
 
@@ -56,8 +83,7 @@ impl From<Unopened> for Cause {
     }
 }
 
-/// The client's own address, and that on which it was accepted. One that is not known, not of IPv4, or not asked for,
-/// is None.
+/// The addresses of a client's connection. An address is None if it is not known, not of IPv4, or not asked for.
 #[derive(Clone, Copy)]
 pub struct Route {
     /// The client's own address.
@@ -74,7 +100,7 @@ impl Route {
     };
 }
 
-/// A connection to the target that was started, and the addresses of the client's connection.
+/// A connection to the target that was started.
 #[derive(Drop)]
 pub struct Opened<T> {
     /// The wire of the target.
@@ -90,7 +116,7 @@ pub enum Waiting {
     No,
     /// A millisecond at most.
     Brief,
-    /// For as long as the front waits.
+    /// For as long as the front ever waits.
     Long,
 }
 
@@ -101,22 +127,22 @@ pub trait Front {
     // What the last wait for reports gave.
     ghost reported: { Self → List ℕ };
 
-    // Whether that wait failed, and not by a signal, if it says so.
+    // Whether that wait failed, and not by a signal. This and the defaults below promise nothing.
     ghost failed: { Self → Bool } = { λ _. true };
 
-    // How many milliseconds its last wait could take, if it says so: 0 if it had to return at once.
+    // How many milliseconds the last wait could take at most: 0 if it had to return at once.
     ghost waited: { Self → ℕ } = { λ _. 0 };
 
-    // Whether clients can still come to it.
+    // Whether it still has a share of the listening socket.
     ghost listens: { Self → Bool };
 
-    // Which addresses it may give for a client's connection, if it says so.
+    // Which addresses it may give for a client's connection.
     ghost may_tell: { Self.Client → Route → Type 0 } = { λ _ _. Unit {0} };
 
-    // For which reasons it may refuse to open a client's connection, if it says so.
+    // For which reasons it may refuse to open a client's connection.
     ghost may_refuse: { Self.Client → Unopened → Type 0 } = { λ _ _. Unit {0} };
 
-    // Whether the wait of the thread that opens this slot was ended, if it says so.
+    // Whether the wait of the thread that opens this slot was ended.
     ghost woke: { Self.Waker → ℕ → Type 0 } = { λ _ _. Unit {0} };
 
     /// A client's wire.
@@ -141,7 +167,7 @@ pub trait Front {
         ensures failed { OnErr result (batch.new.items ≡ []) }
         ensures fault { IfErr result (λ error. error_kind error ≢ Interrupted → failed self.new ≡ true) };
 
-    /// Whether the next client is better left to another poller for now. By default none is.
+    /// Whether the next client is better left to another poller for now. The default is false.
     fn leaves(&mut self) -> bool
         ensures reported { reported self.new ≡ reported self.old }
         ensures failed { failed self.new ≡ failed self.old }
@@ -151,7 +177,7 @@ pub trait Front {
         false
     }
 
-    /// The next connection that waits (accept(2)).
+    /// Accepts the next connection that waits (accept(2)).
     fn accept(&mut self) -> io::Result<Self::Client>
         ensures reported { reported self.new ≡ reported self.old }
         ensures failed { failed self.new ≡ failed self.old }
@@ -167,8 +193,8 @@ pub trait Front {
 
     /// Starts the connection to the target (connect(2)), and has both sockets reported for reading and writing, each
     /// under its token. It gives the addresses of the client's connection, if targets are sent them. After an error no
-    /// target is left open, and the client may still be reported until it is closed; its wire may keep the cause for
-    /// the log, for which alone `rt` is.
+    /// target is left open. The client may still be reported until it is closed, and its wire may keep the cause for
+    /// the log. `rt` is only for the log.
     fn open<N: Log>(
         &mut self,
         rt: &N,
@@ -184,8 +210,8 @@ pub trait Front {
         ensures waited { waited self.new ≡ waited self.old }
         ensures listens { listens self.new ≡ listens self.old };
 
-    /// Ends the wait in progress of the thread that opens this slot, or else its next one, which then reports the
-    /// waker's number, 1.
+    /// Ends the wait of the thread that opens this slot, or its next wait if it does not wait now. That wait reports
+    /// the waker's number, 1.
     fn wake(waker: &Self::Waker, slot: usize)
         ensures { woke waker.now slot };
 

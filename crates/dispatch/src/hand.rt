@@ -1,4 +1,4 @@
-//! What a thread has in hand, and putting it into the queues, until a queue refuses it.
+//! What a thread has in hand, and how it puts that into the queues.
 ghost use Rattle.std.specs.Prelude.{◌≡◌, ◌+◌, ◌<◌, ◌≤◌, ◌↔◌, [], ◌∷◌, ◌++◌, length, drop, slice_get, IsTrue, IsSome, IfOk};
 ghost use Rattle.dispatch.specs.{Hands.{empty_hand, ticket_room, HasRoom, Shrank}, Outgoing.{outgoing, PutAll}};
 
@@ -29,7 +29,7 @@ impl Model for Hand {
 }
 
 impl Hand {
-    /// For at most `capacity` tickets and as many slots. No later call allocates memory.
+    /// Empty, for at most `capacity` tickets and as many slots. No later call allocates memory.
     pub fn new(alloc: Global, capacity: usize) -> Result<Hand, AllocError>
         ensures { IfOk result (λ hand. hand ≡ empty_hand capacity) }
     {
@@ -125,7 +125,7 @@ impl Hand {
     }
 }
 
-/// Puts the tickets in hand, oldest first, until one is refused.
+/// Puts the tickets in hand, oldest first. One that is refused stays in hand with all after it.
 pub fn put_tickets<R: Wait>(rt: &R, ready: &mut ReadyQueue, hand: &mut Hand)
     ensures tickets { outgoing ready.new.history hand.new.tickets ≡ outgoing ready.old.history hand.old.tickets }
     ensures took { ready.new.history.taken ≡ ready.old.history.taken }
@@ -144,7 +144,7 @@ pub fn put_tickets<R: Wait>(rt: &R, ready: &mut ReadyQueue, hand: &mut Hand)
     }
 }
 
-/// Gives back the slots in hand, oldest first, until one is refused.
+/// Gives back the slots in hand, oldest first. One that is refused stays in hand with all after it.
 pub fn give_slots<R: Wait>(rt: &R, free: &mut FreeQueue, hand: &mut Hand)
     ensures slots { outgoing free.new.history hand.new.slots ≡ outgoing free.old.history hand.old.slots }
     ensures took { free.new.history.taken ≡ free.old.history.taken }

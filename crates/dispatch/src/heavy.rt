@@ -21,7 +21,7 @@ impl Model for HeavyMarks {
 }
 
 impl HeavyMarks {
-    /// Fails only if there is no memory.
+    /// No slot has a mark. Fails only for want of memory.
     pub fn none(alloc: Global, slots: usize) -> Result<HeavyMarks, AllocError>
         ensures { IfOk result (λ marks. marks ≡ replicate slots 0) }
     {
@@ -29,7 +29,7 @@ impl HeavyMarks {
         Ok(HeavyMarks { marks })
     }
 
-    /// Whether the poller's own thread runs this slot's ticket. If not, one of the slot's marks is used up.
+    /// Whether this slot's ticket is light. If it is heavy, one of the slot's marks is used up.
     #[tactic(auto, using(crate::proofs::Slots::looked_at_light))]
     pub fn is_light(&mut self, slot: usize) -> bool
         ensures light { IsTrue result ↔ slice_index self.old slot ≡ 0 }
@@ -44,7 +44,7 @@ impl HeavyMarks {
         }
     }
 
-    /// The slot's connection spent the budget of a turn in the poller's thread.
+    /// Gives the slot 16 marks: its connection has spent the own budget.
     pub fn mark(&mut self, slot: usize)
         ensures { self.new ≡ slice_set self.old slot heavy_marks }
     {

@@ -6,10 +6,10 @@ use engine::Moment;
 /// A clock that counts whole seconds. It may stand still or go back: then no connection fails early, and no round
 /// sweeps early.
 pub trait Clock {
-    // Which seconds it may show, if it says so.
+    // Whether the clock may show this second. By default it may show any.
     ghost tells: { Self → ℕ → Type 0 } = { λ _ _. Unit {0} };
 
-    /// This never waits.
+    /// The present second. This never waits.
     fn second(&self) -> u64
         ensures { tells self.now result };
 }
@@ -17,15 +17,15 @@ pub trait Clock {
 /// A server's clock and idle limit.
 #[derive(Clone, Copy)]
 pub struct Timing<'a, C> {
-    /// From where the second is read.
+    /// The clock that shows the second.
     pub clock: &'a C,
-    /// After this many seconds in which it moved nothing a connection without a call worth trying fails. 0: it never
-    /// does.
+    /// The idle limit, in seconds. A connection fails if it has moved nothing for this long and no call is worth
+    /// trying. 0: there is no limit.
     pub limit: u64,
 }
 
 impl<'a, C: Clock> Timing<'a, C> {
-    /// The present moment. It is read here alone: once for a turn, and once for a round.
+    /// The present moment. Nothing else reads the clock: each turn and each round calls this once.
     pub fn moment(&self) -> Moment
         ensures told { C.tells self.now.clock.now result.second }
         ensures limit { result.limit ≡ self.now.limit }
@@ -37,7 +37,7 @@ impl<'a, C: Clock> Timing<'a, C> {
     }
 }
 
-/// What the threads call, so that a test can hold a turn back.
+/// What the threads call once all of them have been started, and around each turn.
 pub trait Gate {
     /// All threads have been started. The thread that serves calls this before it polls.
     fn all_started(&self) {}
@@ -47,13 +47,4 @@ pub trait Gate {
 
     /// A turn at this slot has ended.
     fn after_turn(&self, slot: usize);
-}
-
-/// It holds nothing back.
-pub struct OpenGate;
-
-impl Gate for OpenGate {
-    fn before_turn(&self, _slot: usize) {}
-
-    fn after_turn(&self, _slot: usize) {}
 }

@@ -3,13 +3,16 @@
 /// The most reports that one poll gives.
 pub const MAX_BATCH: usize = 256;
 
-/// The most turns of a poller's thread after one round.
+/// The most tries of accept(2) in one round. The tickets in hand wait for them.
+pub const MAX_ACCEPTS: usize = 4;
+
+/// The most own turns of a poller after one round.
 pub const MAX_OWN_TURNS: usize = 32;
 
-/// The most calls of one of these turns, for which the reports of other connections wait.
+/// The most calls of one own turn. The reports of other connections wait for them.
 pub const OWN_BUDGET: usize = 8;
 
-/// How many tickets of a connection go to the workers after a turn that spent that budget.
+/// How many of a slot's next tickets go to the workers once its turn has spent the own budget.
 pub const HEAVY_MARKS: u8 = 16;
 
 /// How many light tickets stay with the poller before it looks for a worker that sleeps.

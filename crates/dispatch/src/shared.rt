@@ -1,4 +1,3 @@
-//! What the threads of a server share, what each of them owns, and what they are made from.
 ghost use Rattle.std.specs.Prelude.{◌≡◌, ◌≤◌, IfOk, IfSome};
 ghost use Rattle.claims.specs.Seats.{fresh_seat};
 ghost use Rattle.dispatch.specs.{Hands.empty_hand, Posts.AreFresh, Told.{ended_by, moved_by}};
@@ -23,16 +22,16 @@ pub struct Shared<F: Front> {
     pub claims: Claims,
     /// The place of each slot's connection.
     pub places: Places<F::Client, F::Target>,
-    /// What ends the poller's wait.
+    /// What ends a poller's wait for reports.
     pub waker: F::Waker,
     /// The most calls that one turn makes, 1 to 1,024.
     pub budget: usize,
     /// Where connections are counted, with a place for each slot; None if they are not.
     pub statistics: Option<Arc<Statistics>>,
-    /// How many pollers found all their slots taken.
+    /// How many pollers are full.
     pub full: Fullness,
-    /// Whether workers that sleep run light tickets, too: not where at least two threads poll, and
-    /// no fewer than work.
+    /// Whether workers that sleep run light tickets, too. They do not if at least two threads poll, and at least as
+    /// many as work.
     pub shares_light: bool,
     /// Which lines the log gets about clients, and at which level.
     pub clients: ClientsAt,
@@ -41,7 +40,7 @@ pub struct Shared<F: Front> {
     pub ghost most_budget: { budget ≤ 1024 },
 }
 
-/// How many of a server's pollers found all their slots taken while a client waited.
+/// How many pollers are full: a client waited there while all their slots were taken.
 #[derive(Drop)]
 pub struct Fullness {
     pollers: usize,
@@ -49,7 +48,7 @@ pub struct Fullness {
 }
 
 impl Fullness {
-    /// None of this many pollers.
+    /// None of these pollers is full.
     pub fn new(pollers: usize) -> Fullness {
         Fullness {
             pollers,
@@ -57,27 +56,27 @@ impl Fullness {
         }
     }
 
-    /// One poller more. Returns whether it was the last, so that all are full.
+    /// Counts one more full poller. Returns true if now all are full.
     pub fn enter(&self) -> bool {
         self.full.fetch_add(1, SeqCst).saturating_add(1) == self.pollers
     }
 
-    /// One poller less.
+    /// Counts one full poller less.
     pub fn leave(&self) {
         self.full.fetch_sub(1, SeqCst);
     }
 }
 
-/// A front of a server whose threads count. The trait leaves open what was counted: over any such front a proof has a
-/// fact `counted ..` only from a call that was made. Every front implements it, and for one front alone the fact says
-/// nothing.
+/// A front of a server whose threads count. Every front implements this trait. It leaves open what `counted` means:
+/// over any such front a proof has a fact `counted ..` only from a call that was made. For one front alone the fact
+/// says nothing.
 pub trait Counting: Front {
     ghost use Rattle.std.specs.Prelude.{ℕ};
     ghost use Rattle.statistics.specs.declared.event.Event.{Event};
 
     ghost counted: { ℕ → Event → Type 0 } = { λ _ _. Unit {0} };
 
-    /// If the server has statistics.
+    /// Counts the event, if the server has statistics.
     fn count(statistics: Option<&Statistics>, slot: usize, event: Event)
         ensures { counted slot event };
 }
@@ -91,28 +90,28 @@ impl<F: Front> Counting for F {
 }
 
 impl<F: Front + Counting> Shared<F> {
-    /// A connection is opened in a slot, which the poller's thread holds.
+    /// Counts a connection that is opened. The poller's thread holds the slot.
     pub fn count_opened(&self, slot: usize)
         ensures { F.counted slot Event.Opened }
     {
         self.count(slot, Event::Opened);
     }
 
-    /// One was accepted for a free slot, which its poller has in hand, and closed unopened.
+    /// Counts a drop, at a free slot that the poller has in hand.
     pub fn count_dropped(&self, slot: usize)
         ensures { F.counted slot Event.Dropped }
     {
         self.count(slot, Event::Dropped);
     }
 
-    /// The thread that holds its slot has left a connection open after a turn.
+    /// Counts the bytes of a connection that a turn left open. The thread holds the slot.
     pub fn count_moved(&self, slot: usize, pair: &Pair)
         ensures { F.counted slot (moved_by pair.now) }
     {
         self.count(slot, moved_by(pair));
     }
 
-    /// The thread that holds its slot has ended a connection.
+    /// Counts a connection that has ended. The thread holds the slot.
     pub fn count_ended(&self, slot: usize, pair: &Pair)
         ensures { F.counted slot (ended_by pair.now) }
     {
@@ -151,7 +150,7 @@ pub struct Own {
     pub seat: ClaimSeat,
     /// Its end of the queue of tickets.
     pub ready: ReadyQueue,
-    /// Its end of a queue of free slots: a poller's own, and for a worker that of the poller to which its turn gives.
+    /// Its end of a free queue: a poller's own, or for a worker, that of the poller to which its turn gives.
     pub free: FreeQueue,
     /// What it has put into no queue yet.
     pub hand: Hand,
@@ -167,8 +166,8 @@ pub struct Parts {
 }
 
 impl Parts {
-    /// What the next thread owns, with a hand of this capacity and this end of a queue of free slots. None if the
-    /// parts are used up.
+    /// What the next thread owns, with a hand of this capacity and this end of a free queue. None if the parts are used
+    /// up.
     pub fn next_own<F: Front>(
         &mut self,
         alloc: Global,

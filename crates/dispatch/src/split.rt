@@ -1,8 +1,8 @@
-//! How the slots are dealt to the pollers, and the slots of one poller.
+//! How the slots are dealt to the pollers.
 ghost use Rattle.std.specs.Prelude.{◌≡◌, ◌+◌, ◌*◌, ◌<◌, ◌≤◌, ◌↔◌, IsTrue};
 ghost use Rattle.dispatch.specs.Splits.{part_of, parts_of, IsIn};
 
-/// The slots of one poller. It alone opens connections there and delivers their reports.
+/// A poller's `slots` slots, from `first` on. The poller alone opens connections there and delivers their reports.
 #[derive(Clone, Copy)]
 pub struct Part {
     pub first: usize,
@@ -10,7 +10,7 @@ pub struct Part {
 }
 
 impl Part {
-    /// Whether this slot is one of them.
+    /// Whether the slot is in this part.
     pub fn has(&self, slot: usize) -> bool
         ensures { IsTrue result ↔ IsIn self.now slot }
     {
@@ -31,7 +31,7 @@ pub struct Split {
 }
 
 impl Split {
-    /// A part for each of this many pollers: as many parts as they are, or fewer if they are many for the slots.
+    /// Deals a part to each poller. There may be fewer parts than `pollers` if the square of `pollers` exceeds `slots`.
     #[tactic(auto, using(crate::proofs::Slots::parts_of_size, crate::proofs::Slots::parts_le))]
     pub fn new(slots: usize, pollers: usize) -> Split
         requires slots { (1 ≤ slots) × (slots ≤ 4096) }

@@ -3,7 +3,7 @@ use Rattle.std.specs.Prelude.{◌<◌, ◌≤◌, ◌≡◌}
 use Rattle.token.specs.Names.{last_generation}
 use Rattle.drill.specs.declared.sizes.Sizes.{Sizes}
 
--- as a world's
+-- The bounds of a world's limits, and a split of exactly these slots.
 pub record IsServerSize (s : Sizes) : Type 0 where
   pub slots : s.limits.slots ≤ 64
   pub split : s.split.slots ≡ s.limits.slots

@@ -8,9 +8,9 @@ use std::collections::VecDeque;
 pub struct Checks {
     alloc: Global,
     expected: VecDeque<(Level, String)>,
-    /// All lines that were logged.
+    /// The logged lines, without lines `gone`.
     pub text: String,
-    /// What the first check that failed has found.
+    /// What the first failed check found. Empty if memory ran out.
     pub wrong: Option<String>,
 }
 
@@ -24,7 +24,7 @@ impl Checks {
         }
     }
 
-    /// Notes that a check has failed. An empty text means that memory ran out.
+    /// Keeps the text of a failed check, if this is the first one.
     pub fn fail(&mut self, text: &str) {
         if self.wrong.is_none() {
             let text = String::from_str(self.alloc, text);
@@ -32,7 +32,7 @@ impl Checks {
         }
     }
 
-    /// Expects a line, after the others.
+    /// Expects this line after those that are expected already.
     pub fn expect(&mut self, level: Level, text: Result<String, AllocError>) {
         let added = match text {
             Ok(text) => self.expected.push_back((level, text)).is_ok(),
@@ -43,7 +43,7 @@ impl Checks {
         }
     }
 
-    /// Expects the line about a connection that has ended.
+    /// Expects the line about a connection's end: none if its verdict is `Live`.
     pub fn expect_end(
         &mut self,
         slot: usize,
@@ -69,7 +69,7 @@ impl Checks {
         self.expected.is_empty()
     }
 
-    /// Adds a line that was logged, and is not compared.
+    /// Adds a logged line to the text, without comparing it.
     pub fn add(&mut self, text: &str) {
         let added = self.text.push_str(text).and(self.text.push_str("\n"));
         if added.is_err() {
@@ -77,7 +77,7 @@ impl Checks {
         }
     }
 
-    /// Compares a line that was logged with the one that is expected next.
+    /// Adds a logged line, and compares it with the next expected line.
     pub fn write(&mut self, level: Level, text: &str) {
         self.add(text);
         match &self.expected.pop_front() {
@@ -91,7 +91,7 @@ impl Checks {
         self.fail_with(format!(in self.alloc; "the log gets `{text}` in place of `{line}`"));
     }
 
-    /// Fails if a line that is expected was not logged.
+    /// Fails if an expected line was not logged.
     pub fn check(&mut self) {
         if let Some((_, line)) = self.expected.pop_front() {
             let text = line.as_str();

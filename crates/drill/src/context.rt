@@ -1,4 +1,4 @@
-// What the server's threads are passed in place of a system's: a clock, a gate and a logger.
+// The clock, the gate and the logger that the server's threads get in place of the system's.
 use crate::outside::OutsideCell;
 use dispatch::{Clock, Gate};
 use log::kv::Source;
@@ -11,7 +11,7 @@ use std::fmt::Display;
 /// The second at which the server begins. It is second 0 of the machines.
 pub const START: u64 = 1_000;
 
-/// A clock that only steps of the script advance.
+/// A clock that advances only by steps of the script.
 #[derive(Drop)]
 pub struct ScriptClock {
     second: Cell<u64>,
@@ -42,7 +42,7 @@ impl Clock for ScriptClock {
     }
 }
 
-/// Notes each turn, as it begins and after its last call.
+/// Has `outside` follow each turn: its start and the end of its calls.
 #[derive(Drop)]
 pub struct TurnGate<'a> {
     pub outside: &'a OutsideCell,
@@ -58,7 +58,7 @@ impl Gate for TurnGate<'_> {
     }
 }
 
-/// A logger that compares each line with what is expected.
+/// A logger that passes each line to `Outside::log`.
 #[derive(Drop)]
 pub struct Logger<'a> {
     pub alloc: Global,

@@ -37,11 +37,10 @@ pub struct Driver {
     pub workers: Vec<ThreadCell<Worker<KernelFront>>>,
 }
 
-/// What a thread is passed for a step.
 type StepContext<'a, R> = Context<'a, TurnGate<'a>, ScriptClock, R>;
 
 impl Driver {
-    /// Has all threads begin.
+    /// Has each poller's thread begin.
     pub fn begin<R: Wait + Log>(&self, rt: &R) {
         let gate = self.gate();
         let context = self.context(rt, &gate);
@@ -73,7 +72,7 @@ impl Driver {
         }
     }
 
-    /// Makes a step of a poller's thread, unless it has ended.
+    /// Makes a step of this poller's thread, unless the thread has ended.
     pub fn round<R: Wait + Log>(&self, rt: &R, poller: usize) {
         let Some(cell) = self.pollers.get(poller) else {
             return;
@@ -104,7 +103,7 @@ impl Driver {
         has_ended
     }
 
-    /// Makes a step of a worker's thread, unless it would wait or has ended.
+    /// Makes a step of this worker's thread, unless that would wait or the thread has ended.
     pub fn turn<R: Wait + Log>(&self, rt: &R, number: usize) {
         let Some(cell) = self.workers.get(number) else {
             return;
@@ -176,7 +175,7 @@ fn step_worker<R: Wait + Log>(
     }
 }
 
-/// Whether a ticket is queued: takes all out, and puts them back in the same order.
+/// Whether a ticket is queued. Takes all tickets out, and puts them back in the same order.
 fn has_ticket(rt: &impl Wait, alloc: Global, ready: &mut ReadyQueue) -> Result<bool, AllocError> {
     let mut tickets = Vec::with_capacity(alloc, MOST)?;
     for _ticket in 0..MOST {

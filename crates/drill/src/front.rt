@@ -10,7 +10,7 @@ use std::io::{self, ErrorKind};
 use std::net::SocketAddr;
 use token::{Name, Token};
 
-/// A poller's front over the modelled kernels of its slots' machines and its listener's.
+/// A poller's front over modelled kernels: those of the machines of its slots and its listener.
 #[derive(Drop)]
 pub struct KernelFront {
     outside: OutsideCell,
@@ -38,7 +38,7 @@ impl KernelFront {
     }
 }
 
-/// Puts the numbers of these names into two empty lists, as many as a poll may give.
+/// Puts the names' numbers into two empty lists, [`MAX_BATCH`] at most.
 fn fill(batch: &mut Vec<u64>, reported: &mut Vec<u64>, names: &[Name])
     requires batch { (vec_len batch.old ≡ 0) × (MAX_BATCH ≤ vec_capacity batch.old) }
     requires reported { (vec_len reported.old ≡ 0) × (MAX_BATCH ≤ vec_capacity reported.old) }

@@ -8,13 +8,13 @@ use token::Side;
 use world::{Act, Event, Lead, Limits, Polling, Reported, World};
 use world_text::{Counts, Page, Piece, put_event, put_header};
 
-/// The machine beside one slot or one listener: the events to which the server's steps amount, each of which it makes
-/// at once. Its kernel gives the replies to the server's calls there.
+/// The machine beside one slot, or beside a poller's listener and waker. It makes the events to which the server's
+/// steps amount, each at once. The kernel of a slot's machine replies to the calls on the slot's sockets.
 #[derive(Drop)]
 pub struct Machine {
     pub alloc: Global,
     made: world::Tape,
-    /// The server's event that it refused. After that it makes none.
+    /// The server's event that the machine refused. Afterwards it makes none.
     refused: Option<Event>,
 }
 
@@ -41,17 +41,17 @@ impl Machine {
         self.made.world()
     }
 
-    /// The kernel of this world.
     pub fn kernel(&self) -> &Kernel {
         self.world().kernel()
     }
 
-    /// Whether it refused an event of the server.
+    /// Whether the machine refused an event of the server.
     pub fn is_wrong(&self) -> bool {
         self.refused.is_some()
     }
 
-    /// Makes an event of the server, whose slot must be 0. Returns false if the machine refuses it now.
+    /// Makes an event of the server, at slot 0. Returns false if the machine refuses the event. Afterwards it makes
+    /// none, and returns true.
     pub fn put(&mut self, event: Event) -> bool {
         if self.is_wrong() {
             return true;
@@ -70,8 +70,8 @@ impl Machine {
         }
     }
 
-    /// Begins a turn: the ticket is put, unless it is in the ready queue, and taken. Returns false if the machine
-    /// refuses that, as where no ticket was made.
+    /// Begins a turn: puts the ticket, unless the ready queue has it, takes it, claims the slot and takes the notes.
+    /// Returns false if the machine refuses an event, as it does if no ticket was made.
     pub fn begin(&mut self) -> bool {
         let put = if !self.world().poller_hand().is_empty() {
             self.put(Event::Poll(Polling::Put))
@@ -83,7 +83,7 @@ impl Machine {
         put && self.act(Act::Pop) && self.act(Act::Claim) && self.act(Act::Take)
     }
 
-    /// `put` of an act of the worker.
+    /// Makes an act of the worker, as `put` does.
     pub fn act(&mut self, act: Act) -> bool {
         self.put(Event::Work(0, act))
     }
@@ -98,12 +98,12 @@ impl Machine {
         !self.world().free_slots().is_empty()
     }
 
-    /// The call that its connection makes next, if it has one to make.
+    /// The next call of the slot's connection, if it has one to make.
     pub fn next_call(&self) -> Option<Call> {
         self.world().connection(0)?.pair.next()
     }
 
-    /// An end of its connection.
+    /// The connection's end on this side.
     pub fn end(&self, side: Side) -> Option<&End> {
         let descriptor = self.world().connection(0)?.descriptor(side);
         Some(&self.kernel().end(descriptor)?.socket)
@@ -115,14 +115,13 @@ impl Machine {
         Some((pair.generation(), pair.verdict(), pair.counts()))
     }
 
-    /// Counts the events.
     pub fn count(&self, counts: &mut Counts) {
         for event in self.made.events() {
             counts.count(event);
         }
     }
 
-    /// The script of the events, and then the one that the machine refused.
+    /// The script of the machine's events. The event that it refused comes last.
     pub fn script(&self) -> Result<String, AllocError> {
         let mut page = Page::new(self.alloc);
         put_header(&mut page, &self.made.limits());
@@ -141,7 +140,7 @@ fn put_line(page: &mut Page, event: &Event) {
     page.put(&[Piece::Text("\n")]);
 }
 
-/// The same event at slot 0.
+/// This event at slot 0.
 pub fn at_first(event: Event) -> Event {
     match event {
         Event::Network(_, side, change) => Event::Network(0, side, change),

@@ -3,10 +3,10 @@
 //! `session.rt` runs the scripts. `reading.rt` reads their steps (`step.rt`, `sizes.rt` for the header), `making.rt`
 //! makes the server, and `driver.rt` makes its threads' steps.
 //!
-//! `outside.rt` has what the server's calls reach in place of a system: a `machine.rt` for each slot, a
-//! `poller_model.rt` for each poller, and what later calls get. `front.rt` is a poller's front, `wire.rt` one end of a
-//! connection with the calls of a turn, and `context.rt` has the gate of turns, the clock and the log. `round.rt` says
-//! to which events a poller's round amounts, `turn.rt` what must hold of turns, and `checks.rt` what must be logged.
+//! `outside.rt` has what the server's calls reach in place of a system: for each slot a machine (`machine.rt`), for
+//! each poller a model (`poller_model.rt`), and what is planned for later calls. `front.rt` is a poller's front,
+//! `wire.rt` one end of a connection, and `context.rt` has the gate of turns, the clock and the log. `round.rt` says
+//! to which events a poller's round amounts, `turn.rt` checks turns, and `checks.rt` the log.
 #![tactic(auto)]
 
 mod checks;

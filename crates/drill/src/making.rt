@@ -1,4 +1,4 @@
-// Makes the server of a script and its threads from settings, as the product makes them.
+// Makes a script's server and the server's threads from settings, as the product makes them.
 ghost use Rattle.std.specs.Prelude.{◌≤◌};
 ghost use Rattle.token.specs.Names.{last_generation};
 ghost use Rattle.drill.specs.Sizes.{IsServerSize};
@@ -41,7 +41,6 @@ pub fn driver_of<R: Wait>(rt: &R, alloc: Global, sizes: Sizes) -> Result<Driver,
     })
 }
 
-/// The threads of a server that has not begun.
 type ThreadCells = (
     Vec<ThreadCell<PollerThread<KernelFront>>>,
     Vec<ThreadCell<Worker<KernelFront>>>,
@@ -56,7 +55,7 @@ fn cells_of(alloc: Global, cast: ServerThreads<KernelFront>) -> Result<ThreadCel
     Ok((cells(alloc, pollers)?, cells(alloc, workers)?))
 }
 
-/// Puts each thread in a cell, the last one first.
+/// Puts each thread into a cell, in reverse order.
 fn cells<T: Drop>(alloc: Global, mut threads: Vec<T>) -> Result<Vec<ThreadCell<T>>, AllocError> {
     let mut cells = Vec::with_capacity(alloc, threads.len())?;
     for _thread in 0..threads.len() {

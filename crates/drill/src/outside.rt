@@ -14,26 +14,24 @@ use std::cell::RefCell;
 use std::rc::Rc;
 use world::{Event, Listening, Reported};
 
-/// What is outside of the server, and what is expected of it.
+/// What is outside of the server, and what the server must do.
 #[derive(Drop)]
 pub struct Outside {
     pub alloc: Global,
     pub sizes: Sizes,
     pub clock: Rc<ScriptClock>,
-    /// One for each poller.
     pub pollers: Vec<PollerModel>,
     /// One for each slot.
     pub machines: Vec<Machine>,
     pub plan: Plan,
-    /// The poller whose thread makes the step in progress. None: a worker's does.
+    /// The poller whose thread makes the step in progress. None if a worker's thread does.
     pub poller: Option<usize>,
-    /// The turn in progress.
     pub turn: Option<Turn>,
     pub checks: Checks,
     pub state: State,
 }
 
-/// What is expected of the whole server.
+/// State that belongs to no single machine or poller.
 #[derive(Clone, Copy)]
 pub struct State {
     /// How many clients wait outside of all machines.
@@ -44,7 +42,7 @@ pub struct State {
     pub is_stopped: bool,
 }
 
-/// A shared handle of what is outside, which one holder at a time can change.
+/// A handle on a shared [`Outside`]. One holder at a time can change the value.
 #[derive(Drop)]
 pub struct OutsideCell {
     cell: Rc<RefCell<Outside>>,
@@ -57,14 +55,14 @@ impl OutsideCell {
         })
     }
 
-    /// Another handle of the same.
+    /// Another handle on the same [`Outside`].
     pub fn share(&self) -> Result<OutsideCell, AllocError> {
         Ok(OutsideCell {
             cell: self.cell.clone()?,
         })
     }
 
-    /// Applies a change. From within another one it does nothing, and returns `otherwise`.
+    /// Applies a change. Within another change this does nothing, and returns `otherwise`.
     pub fn with<T: Drop, F: FnOnce(&mut Outside) -> T + Drop>(&self, otherwise: T, change: F) -> T
         requires { F.IsAlwaysCallable change }
     {
@@ -98,7 +96,7 @@ impl Outside {
         })
     }
 
-    /// Notes whether a machine has made an event of the server.
+    /// Fails a check if a machine has refused an event of the server.
     pub fn must(&mut self, is_made: bool) {
         if !is_made {
             self.checks.fail("an event that its machine refuses");
@@ -124,15 +122,14 @@ impl Outside {
         self.pollers.get_mut(self.sizes.split.poller_of(slot))
     }
 
-    /// How many connections this slot has had.
     pub fn generation(&self, slot: usize) -> u64 {
         self.machines
             .get(slot)
             .map_or(0, |machine| machine.generation())
     }
 
-    /// Compares a line that was logged. `tests/relay` alone compares the lines `gone`, since no error has a number
-    /// here, and `rows` those that a poller logs of itself.
+    /// Compares a logged line about a connection. Lines `gone` are left to `tests/relay`, since no error has a number
+    /// here, and a poller's lines about itself to `rows`.
     pub fn log(&mut self, level: Level, text: &str) {
         if text.starts_with("gone ") {
             return;
@@ -185,8 +182,8 @@ impl Outside {
         }
     }
 
-    /// Advances the clock and, if there is an idle limit, the second of each machine. Nothing happens while a turn that
-    /// has read the clock may still make calls: the server makes these at the second that it has read.
+    /// Advances the clock and, if there is an idle limit, the second of each machine. Nothing happens while a turn may
+    /// still make calls: the server makes these calls at the second that it has read before them.
     fn tick(&mut self, seconds: u64) {
         let is_calling = matches!(self.turn, Some(turn) if turn.calling);
         if is_calling || !self.clock.advance(seconds) || self.sizes.limits.idle == 0 {
@@ -200,12 +197,12 @@ impl Outside {
         }
     }
 
-    /// Whether any poller listens.
     pub fn is_listening(&self) -> bool {
         self.pollers.iter().any(|model| model.listens)
     }
 
-    /// A client connects: it waits outside of the machines, and pollers get a report. If none listens, it is refused.
+    /// A client connects: it waits outside of the machines, and pollers get a report. Nothing happens if no poller
+    /// listens, or if [`MAX_BACKLOG`] clients wait.
     fn connect(&mut self) {
         if self.state.waiting >= MAX_BACKLOG || !self.is_listening() {
             return;

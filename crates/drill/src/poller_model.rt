@@ -14,26 +14,25 @@ use world::{Event, Listening, Reported};
 /// The machine beside a poller, and the poller's expected state, which is not read from the server.
 #[derive(Drop)]
 pub struct PollerModel {
-    /// A machine of its listener and its waker, in which no connection is ever opened.
+    /// The machine of the poller's listener and waker, in which no connection is ever opened.
     pub machine: Machine,
-    /// The poller's slots.
     pub part: Part,
     /// How many connections the poller may still open.
     left: u64,
-    /// The seconds of its last round and its last sweep. At first that at which the server began.
+    /// The seconds of the poller's last round and its last sweep. Both begin as [`START`].
     second: u64,
     swept: u64,
-    /// Whether its front listens.
+    /// Whether the poller's front listens.
     pub listens: bool,
-    /// Whether a client was accepted that is neither opened nor closed yet.
+    /// Whether an accepted client is neither opened nor closed yet.
     pub has_accepted: bool,
     /// Whether a round has begun and not ended.
     pub in_round: bool,
-    /// Whether it has opened all that it may, and all its slots were free when its last round ended.
+    /// Whether, when its last round ended, the poller had opened all that it may and all its slots were free.
     pub is_over: bool,
     /// Whether a poll has failed.
     pub has_failed: bool,
-    /// How often it was woken in this step, and how often it must be.
+    /// How often the poller was woken in this step, and how often it must be.
     woken: u64,
     to_wake: u64,
 }
@@ -64,7 +63,6 @@ impl PollerModel {
         self.machine.kernel().is_queued(&Name::Listener)
     }
 
-    /// Wakes the poller.
     pub fn wake(&mut self) {
         self.machine.happen(Event::Spurious(Reported::Waker));
         self.woken = self.woken.saturating_add(1);
@@ -83,14 +81,14 @@ impl PollerModel {
         is_right
     }
 
-    /// A client that waits is reported if the last accept(2) would have blocked. If not, the next one follows anyway.
+    /// Reports a waiting client if the last accept(2) would have blocked. If not, another accept(2) follows anyway.
     pub fn report_client(&mut self) {
         if self.listens && self.machine.kernel().is_armed() {
             self.machine.happen(Event::Spurious(Reported::Listener));
         }
     }
 
-    /// Has accept(2) get this reply. Returns false if the machine refuses it.
+    /// Makes a call of accept(2) with this reply. Returns false if the machine refuses the reply.
     pub fn accept(&mut self, reply: Accepting) -> bool {
         self.has_accepted = reply == Accepting::Accepted;
         if self.has_accepted {
@@ -100,8 +98,8 @@ impl PollerModel {
         }
     }
 
-    /// Moves a client that waited outside into the machine, and accepts it. A report that this queues is withdrawn: the
-    /// client was reported when it connected, if the listener was armed then.
+    /// Moves a client that waited outside into the machine, accepts it and drops it. If this queues a report, the
+    /// report is withdrawn: the client was reported when it connected, if the listener was armed then.
     fn accept_client(&mut self) -> bool {
         let was_queued = self.is_queued();
         let is_made = self.machine.put(Event::Listen(Listening::Connect))
@@ -138,8 +136,8 @@ impl PollerModel {
         self.left = 0;
     }
 
-    /// Reads the clock in a round. Returns whether a sweep is due: if there is a limit, and it had passed at the
-    /// second of the round before, which becomes that of the last sweep.
+    /// Takes the second that a round reads. Returns true if a sweep is due: there is a limit, and it had passed at the
+    /// second of the round before. The sweep then counts as made at that second.
     pub fn falls_due(&mut self, second: u64, limit: u64) -> bool {
         let is_due = limit > 0 && self.second.saturating_sub(self.swept) >= limit;
         if is_due {
@@ -149,7 +147,7 @@ impl PollerModel {
         is_due
     }
 
-    /// Ends a round, after which all the poller's slots are free, or not.
+    /// Ends a round. `all_free`: whether all the poller's slots are free now.
     pub fn end_round(&mut self, all_free: bool) {
         self.in_round = false;
         self.is_over = self.has_opened_all() && all_free;

@@ -39,7 +39,6 @@ fn number(word: &str) -> Option<usize> {
     word.parse::<usize>().ok()
 }
 
-/// The value that a word has in a table.
 fn named<T: Copy>(table: &[(&str, T)], word: &str) -> Option<T> {
     for (name, value) in table {
         if *name == word {
@@ -58,7 +57,7 @@ fn later(point: Point, outer: Outer) -> Option<Step> {
     Some(Step::Later(point, Planned::Event(outer)))
 }
 
-/// Reads what a call of a round gets. The poller's number may come first, and is else 0.
+/// Reads a step for a point of a round. The poller's number may come first. If not, it is 0.
 fn in_round(alloc: Global, word: &str, rest: &str) -> Option<Step> {
     let (first, last) = cut(rest);
     let (poller, rest) = number(first).map_or((0, rest), |poller| (poller, last));
@@ -76,8 +75,8 @@ fn in_round(alloc: Global, word: &str, rest: &str) -> Option<Step> {
     }
 }
 
-/// Reads an event outside of the server, as a world's scripts have it. The number of the poller may follow `listener`
-/// and `waker`.
+/// Reads an event outside of the server, written as in a world's script. The poller's number may follow `listener` or
+/// `waker`. None for an event of the server.
 fn outside(alloc: Global, text: &str) -> Option<Outer> {
     let (poller, text) = match text.rsplit_once(' ') {
         Some((text, last)) if text.ends_with("listener") || text.ends_with("waker") => {

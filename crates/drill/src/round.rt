@@ -11,7 +11,7 @@ use token::{Name, Side, Token};
 use world::{Event, Listening, Polling};
 
 impl Outside {
-    /// Makes a poll, which must be the only one of its round. Returns the names that it gives.
+    /// Makes a poll, which must be the only poll of its round. Returns the names that the poll gives.
     pub fn poll(&mut self, poller: usize) -> io::Result<Vec<Name>> {
         if let Some(model) = self.pollers.get_mut(poller) {
             if model.in_round {
@@ -50,7 +50,7 @@ impl Outside {
         }
     }
 
-    /// The names that a poll gives of those in the machines of a poller and of its slots.
+    /// The names that a poll gives, from the queues of a poller's machine and of its slots' machines.
     fn queued(&self, poller: usize, polled: Option<Polled>) -> Result<Vec<Name>, AllocError> {
         let mut names = Vec::new(self.alloc);
         let Some(model) = self.pollers.get(poller) else {
@@ -66,7 +66,7 @@ impl Outside {
         Ok(names)
     }
 
-    /// Has the machines take the names of a poll. Behind what is planned there, the poller delivers them, and sweeps.
+    /// Has the machines poll these names, then makes the planned events, the deliveries, and a sweep if due.
     fn report_names(&mut self, poller: usize, names: &[Name]) -> Result<(), AllocError> {
         let own = own_names(self.alloc, names, None)?;
         self.record_at_poller(poller, Event::Poll(Polling::Poll(own)));
@@ -114,7 +114,7 @@ impl Outside {
         }
     }
 
-    /// Posts a note to each slot of a poller in which a connection was ever opened.
+    /// Posts a note at each of a poller's slots that ever had a connection.
     fn sweep(&mut self, part: Part) {
         for index in 0..part.slots {
             let slot = part.first.saturating_add(index);
@@ -140,7 +140,7 @@ impl Outside {
         reply
     }
 
-    /// Closes the listener of a poller's front. With the last one, the clients that wait are refused.
+    /// Closes the listener of a poller's front. If none is left open, the waiting clients are refused.
     pub fn stop_listening(&mut self, poller: usize) {
         if let Some(model) = self.pollers.get_mut(poller) {
             model.stop_listening();
@@ -162,7 +162,7 @@ impl Outside {
         }
     }
 
-    /// The planned outcome of an opening, before which a client must have been accepted.
+    /// The planned outcome of an opening. A client must have been accepted before.
     fn next_opening(&mut self, poller: usize) -> Opening {
         if let Some(model) = self.pollers.get_mut(poller) {
             if !model.has_accepted {
@@ -176,7 +176,7 @@ impl Outside {
         }
     }
 
-    /// Notes an opened connection, both of whose ends must be reported under their own names.
+    /// Makes the events of an opening. Each end must be reported under its own name.
     fn opened(&mut self, poller: usize, client: Token, target: Token) {
         let (slot, generation) = (client.slot(), client.generation());
         if let Some(model) = self.pollers.get_mut(poller) {
@@ -197,7 +197,6 @@ impl Outside {
         self.expect_open(slot, generation);
     }
 
-    /// Expects the lines about a connection that was opened.
     fn expect_open(&mut self, slot: usize, generation: u64) {
         let from = peer_of(slot, generation);
         let peer = format!(in self.alloc; "peer s={slot} g={generation} from={from}");
@@ -206,8 +205,8 @@ impl Outside {
         self.checks.expect(Level::Info, open);
     }
 
-    /// Begins a step of a poller's thread. Returns whether the thread must end with it. One that finds that no more
-    /// connections may be opened must wake all pollers.
+    /// Begins a step of a poller's thread. Returns true if the thread must end with this step. A thread that finds
+    /// that no more connections may be opened must wake all pollers.
     pub fn begin_step(&mut self, poller: usize) -> bool {
         self.poller = Some(poller);
         let Some(model) = self.pollers.get_mut(poller) else {
@@ -221,7 +220,7 @@ impl Outside {
         is_due
     }
 
-    /// Ends the step. The thread must have ended if it had to, or its poll has failed, and only then.
+    /// Ends the step. The thread must have ended exactly if its end was due, or if its poll has failed.
     pub fn end_step(&mut self, poller: usize, is_due: bool, has_ended: bool) {
         self.finish_turn();
         self.end_round();
@@ -261,7 +260,7 @@ impl Outside {
     }
 }
 
-/// The reply to a call of accept(2): what is planned, or else a client if one waits.
+/// The reply to accept(2): a planned `Again` or `Starved`, or else a client if one waits.
 fn next_reply(plan: &mut Plan, poller: usize, waiting: &mut usize) -> Accepting {
     match plan.next(Point::Accept(poller)) {
         Some(Planned::Accept(Accepting::Again)) => Accepting::Again,
@@ -274,7 +273,7 @@ fn next_reply(plan: &mut Plan, poller: usize, waiting: &mut usize) -> Accepting 
     }
 }
 
-/// Adds the names that are queued in a machine, with its slot's number.
+/// Adds the names of a machine's queue, under this slot's number.
 fn add_names(names: &mut Vec<Name>, queue: &[Name], slot: usize) -> Result<(), AllocError> {
     for name in queue {
         if let Some(name) = named_at(*name, slot) {
@@ -284,7 +283,7 @@ fn add_names(names: &mut Vec<Name>, queue: &[Name], slot: usize) -> Result<(), A
     Ok(())
 }
 
-/// The names of this slot, as its machine has them. None: those of the listener and the waker.
+/// The names of this slot's ends, at slot 0 as in its machine. For None, those of the listener and the waker.
 fn own_names(alloc: Global, names: &[Name], slot: Option<usize>) -> Result<Vec<Name>, AllocError> {
     let mut own = Vec::new(alloc);
     for name in names {
@@ -299,7 +298,7 @@ fn own_names(alloc: Global, names: &[Name], slot: Option<usize>) -> Result<Vec<N
     Ok(own)
 }
 
-/// The same name at this slot.
+/// An end's name, with this slot. Other names stay.
 fn named_at(name: Name, slot: usize) -> Option<Name> {
     match name {
         Name::End(token) => {
@@ -322,7 +321,7 @@ fn choose(names: &mut Vec<Name>, polled: Option<Polled>) {
     }
 }
 
-/// The address of the client of a connection, which differs for each connection of a script.
+/// The address of a connection's client. It differs for each connection of a script.
 pub fn peer_of(slot: usize, generation: u64) -> SocketAddr {
     let port = (generation % 65_536) as u16;
     let last = (slot % 256) as u8;

@@ -1,5 +1,5 @@
 // Runs the scripts of the input, one after the other: makes the server's step of each line, compares the server with
-// the machines after it, and counts what was run.
+// the machines after each step, and counts what was run.
 use crate::context::Logger;
 use crate::driver::Driver;
 use crate::machine::Machine;
@@ -20,7 +20,7 @@ struct Session {
     driver: Option<Driver>,
 }
 
-/// Runs all scripts, and prints how much was run. Returns whether the server and the machines agreed throughout.
+/// Runs all scripts, and prints how much was run. Returns false at the first malformed line or difference.
 pub fn run_all<R: Wait + AllocGlobal + Print>(rt: &R, text: &str) -> io::Result<bool> {
     let mut session = Session {
         totals: Totals::NONE,
@@ -50,7 +50,7 @@ impl Session {
         Ok(())
     }
 
-    /// Runs a line. Returns why no more lines are run after it, or None if they are.
+    /// Runs a line. Returns why the script must stop after it, or None.
     fn run_next<R: Wait + AllocGlobal + Print>(
         &mut self,
         rt: &R,
@@ -67,14 +67,14 @@ impl Session {
     }
 }
 
-/// Prints the line after which no more are run, and why.
+/// Prints at which line the script stops, and why. Returns false.
 fn stop<R: Print>(rt: &R, index: usize, fault: &str, line: &str) -> io::Result<bool> {
     let number = (index as u64).saturating_add(1);
     println!(rt; "line {number}: {fault}: {line}")?;
     Ok(false)
 }
 
-/// Makes the server of the script that begins with this header. None if it is no header.
+/// Makes the server of the script that begins with this header. None if the line is no header.
 fn begin<R: Wait + AllocGlobal>(rt: &R, header: &str) -> io::Result<Option<Driver>> {
     let Some(sizes) = read_sizes(header) else {
         return Ok(None);
@@ -107,11 +107,11 @@ fn run_on<R: Wait + AllocGlobal + Print>(
 enum Outcome {
     /// Nothing is compared after the line.
     Nothing,
-    /// The server and the machines agree after it.
+    /// The server and the machines agree after the line.
     Agreed,
-    /// They differ after it.
+    /// They differ after the line.
     Differs,
-    /// It is no step, or its script has no header.
+    /// The line is no step, or its script has no valid header.
     Malformed,
 }
 
@@ -199,7 +199,6 @@ fn print_wrong<R: Print>(rt: &R, machine: &Machine) -> io::Result<()> {
     Ok(())
 }
 
-/// How many scripts and steps were run, and how many events of each kind they made.
 #[derive(Clone, Copy)]
 struct Totals {
     scripts: u64,

@@ -6,13 +6,11 @@ use dispatch::Split;
 use script_text::{Header, read_header};
 use world::{Lead, Limits};
 
-/// The most pollers.
 const MAX_POLLERS: usize = 16;
 
-/// The sizes of a script's server.
 #[derive(Clone, Copy)]
 pub struct Sizes {
-    /// Without a lead.
+    /// These have no lead.
     pub limits: Limits,
     /// Which poller has which slots.
     pub split: Split,
@@ -32,8 +30,8 @@ impl Sizes {
     }
 }
 
-/// Reads a header: that of a world, whose lead is left out, and then perhaps ` with` and any of ` pollers=P`, at most,
-/// and ` stop=N`, connections after which the server ends.
+/// Reads a header: that of a world, whose lead is ignored, and perhaps ` with` and any of ` pollers=P` (at most P
+/// pollers, P is 1 to 16) and ` stop=N` (the server ends after N connections).
 pub fn read_sizes(line: &str) -> Option<Sizes>
     ensures { IfSome result IsServerSize }
 {

@@ -11,11 +11,11 @@ pub enum Step {
     Outside(Outer),
     /// A step of this poller's thread.
     Round(usize),
-    /// A step of this worker, if it would not wait.
+    /// A step of this worker, unless it would wait.
     Turn(usize),
-    /// What the server gets at one of the next such points, or what happens there.
+    /// What the server gets, or what happens, at a later point of this kind.
     Later(Point, Planned),
-    /// An event of this slot's machine alone.
+    /// An event that this slot's machine makes, and the server does not.
     Machine(usize, Event),
     /// No more connections may be opened.
     Stop,
@@ -23,32 +23,32 @@ pub enum Step {
     Show,
 }
 
-/// An event outside of the server. One of the listener or the waker is this poller's.
+/// An event outside of the server. If it is about a listener or a waker, that of `poller` is meant.
 #[derive(Drop)]
 pub struct Outer {
     pub poller: usize,
     pub event: Event,
 }
 
-/// A call of the server, or a place between two of them.
+/// A call of the server, or a moment between two calls.
 #[derive(Clone, Copy, PartialEq, Eq)]
 pub enum Point {
     /// A call of a turn.
     Call,
-    /// Calls of this poller's round.
+    /// This and the next two are calls of this poller's round.
     Accept(usize),
     Open(usize),
     Poll(usize),
-    /// Between a poll of this poller and the delivery of its names.
+    /// Between a poll of this poller and the delivery of the poll's names.
     Polled(usize),
 }
 
-/// What a call gets, if it may get that, or what happens before it.
+/// What a call gets, if the call may get that, or an event at the point.
 #[derive(Drop)]
 pub enum Planned {
     Event(Outer),
     Call(Wanted),
-    /// `Accepted` and `Blocked` mean what the kernel has.
+    /// `Accepted` and `Blocked` leave it to whether a client waits.
     Accept(Accepting),
     Open(Opening),
     Poll(Polled),
@@ -61,18 +61,17 @@ pub enum Wanted {
     Plain,
     /// At most this many bytes are moved.
     Short(usize),
-    /// The same, and a write leaves no room.
+    /// As `Short`, and a write leaves no room.
     Full(usize),
-    /// A signal interrupts it.
+    /// A signal interrupts the call.
     Interrupted,
-    /// It fails.
+    /// The call fails.
     Failed(Kind),
 }
 
 /// The outcome of opening a connection that was accepted.
 #[derive(Clone, Copy)]
 pub enum Opening {
-    /// It is opened.
     Plain,
     /// The target cannot be connected to.
     Connect,
@@ -93,7 +92,7 @@ pub enum Polled {
     Failed,
 }
 
-/// What the server gets at later points: at each what is planned for it, in order, or else what the kernel has.
+/// What is planned for later points. A point gets the oldest plan of its kind, or else what the kernel gives.
 #[derive(Drop)]
 pub struct Plan {
     planned: VecDeque<(Point, Planned)>,
@@ -112,14 +111,14 @@ impl Plan {
         Ok(())
     }
 
-    /// Removes what is planned next for a kind of point.
+    /// Removes and returns what is planned next for this kind of point.
     pub fn next(&mut self, point: Point) -> Option<Planned> {
         let index = self.planned.iter().position(|(at, _)| *at == point)?;
         let (_, planned) = self.planned.remove(index)?;
         Some(planned)
     }
 
-    /// Removes the event that is planned next for a kind of point.
+    /// As [`Plan::next`]. None for anything but an event.
     pub fn next_event(&mut self, point: Point) -> Option<Outer> {
         match self.next(point)? {
             Planned::Event(outer) => Some(outer),

@@ -4,17 +4,15 @@ use dispatch::OWN_BUDGET;
 use token::Token;
 use world::{Act, Event};
 
-/// A turn in progress.
 #[derive(Clone, Copy)]
 pub struct Turn {
     pub slot: usize,
-    /// How many calls it has made.
     calls: usize,
     /// Whether it may still make calls.
     pub calling: bool,
-    /// Whether it left its connection due.
+    /// Whether the turn left its connection due.
     again: bool,
-    /// Whether the end of its connection was logged, or need not be.
+    /// Whether the line about its connection's end, if any, was expected.
     logged: bool,
     /// How many ends of its connection were closed.
     closed: usize,
@@ -32,7 +30,7 @@ impl Turn {
         }
     }
 
-    /// Whether it made at most its budget of calls, and exactly that many if it left its connection due.
+    /// Whether the turn made at most `budget` calls, and exactly that many if it leaves its connection due.
     fn is_of(&self, budget: usize) -> bool {
         self.calls == budget || self.calls < budget && !self.again
     }
@@ -62,14 +60,13 @@ impl Outside {
         }
     }
 
-    /// Counts a call of the turn in progress.
     pub fn count_call(&mut self) {
         if let Some(turn) = &mut self.turn {
             turn.calls = turn.calls.saturating_add(1);
         }
     }
 
-    /// Ends the calls of the turn in progress, which must be of its budget.
+    /// Ends the calls of the turn in progress. Their number must fit the turn's budget.
     pub fn end_calls(&mut self) {
         let Some(turn) = &mut self.turn else {
             return;
@@ -89,7 +86,7 @@ impl Outside {
         }
     }
 
-    /// Expects the line about the turn's connection, if that has ended.
+    /// After the turn's calls, expects the line about its connection's end, if any.
     pub fn expect_ended(&mut self) {
         let Some(turn) = &mut self.turn else {
             return;
@@ -106,7 +103,7 @@ impl Outside {
         }
     }
 
-    /// Closes an end.
+    /// Closes an end. The second one closes the machine's connection.
     pub fn close(&mut self, token: Token) {
         match &mut self.turn {
             Some(turn) if turn.slot == token.slot() && turn.logged => {
@@ -119,7 +116,7 @@ impl Outside {
         }
     }
 
-    /// Has an end send what it held back.
+    /// Settles an end, after a turn that does not leave its connection due.
     pub fn settle(&mut self) {
         let is_resting = matches!(self.turn, Some(turn) if !turn.calling && !turn.again);
         if !is_resting {
@@ -128,7 +125,7 @@ impl Outside {
         }
     }
 
-    /// Ends the turn in progress: its slot is released, which may make a ticket, or given back.
+    /// Ends the turn in progress. Its slot is given back if both ends are closed, and else released.
     pub fn finish_turn(&mut self) {
         match self.turn {
             Some(turn) if turn.closed == 2 => self.give_back(turn.slot),
@@ -144,7 +141,7 @@ impl Outside {
     }
 
     /// Gives back the slot of a turn whose connection was closed. A worker must wake the slot's poller; the poller's
-    /// own thread must wake it only if it may open no more connections.
+    /// own thread must do so only if the poller may open no more connections.
     fn give_back(&mut self, slot: usize) {
         self.act(Act::Retire);
         self.act(Act::Free);
@@ -156,12 +153,11 @@ impl Outside {
         }
     }
 
-    /// Begins a step of a worker's thread.
     pub fn begin_work(&mut self) {
         self.poller = None;
     }
 
-    /// Ends a step of a worker's thread, which must have ended if it had to, and only then.
+    /// Ends a step of a worker's thread. The thread must have ended exactly if its end was due.
     pub fn end_work(&mut self, is_due: bool, has_ended: bool) {
         self.finish_turn();
         if has_ended != is_due {

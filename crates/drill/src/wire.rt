@@ -13,16 +13,16 @@ use std::net::SocketAddr;
 use token::{Kind, Side, Token};
 use world::Act;
 
-/// A wire over an end of the modelled kernel of its slot's machine. Its drop closes the end.
+/// A wire over an end in its slot's machine. Dropping the wire closes the end.
 pub struct EndWire {
     outside: OutsideCell,
-    /// None for a client that was accepted and is not open yet: closing this changes nothing.
+    /// None for an accepted client that is not open yet. Dropping its wire changes nothing.
     token: Option<Token>,
     tally: Tally,
 }
 
 impl EndWire {
-    /// A wire over the end with this token. A client's wire is joined, and a target's is not yet.
+    /// A wire over the end with this token. `joined`: the end is known to be connected.
     pub fn new(outside: OutsideCell, token: Option<Token>, joined: bool) -> EndWire {
         EndWire {
             outside,
@@ -38,13 +38,13 @@ impl EndWire {
         self.token = Some(token);
     }
 
-    /// The address of its client. None if it is not open.
+    /// The address of its client. None if no connection is open.
     pub fn peer(&self) -> Option<SocketAddr> {
         let token = self.token?;
         Some(peer_of(token.slot(), token.generation()))
     }
 
-    /// Makes a call. A write offers the bytes, and a read fills the front of the buffer.
+    /// Makes a call. A write offers `offer`, and a read fills the front of `buffer`.
     fn ask(&self, kind: CallKind, offer: &[u8], buffer: &mut [u8]) -> Result<usize, ErrorKind> {
         let token = self.token.ok_or(ErrorKind::Other)?;
         let asked = Asked {
@@ -140,7 +140,6 @@ impl Settle for EndWire {
     }
 }
 
-/// The call of this kind on a side. A read is of at most this many bytes.
 fn call_of(kind: CallKind, side: Side, most: usize) -> Call {
     match kind {
         CallKind::Read => Call::Read(side, most),
@@ -162,8 +161,8 @@ pub struct Asked<'a> {
 }
 
 impl Outside {
-    /// Makes a call, after the events that are planned before it. It must be the one that the connection in the slot's
-    /// machine makes next, with the same bytes, in the slot's turn. Returns how many bytes it moved.
+    /// Makes a call, after the events that are planned before it. It must be the next call of the connection in the
+    /// slot's machine, with the same bytes, in the slot's turn. Returns how many bytes it moved.
     pub fn call(&mut self, asked: Asked<'_>, buffer: &mut [u8]) -> Result<usize, ErrorKind> {
         let wanted = self.next_wanted();
         let Some(reply) = self.reply(asked, wanted, buffer) else {
@@ -179,7 +178,7 @@ impl Outside {
         given(reply, wanted)
     }
 
-    /// Makes the events that are planned before the next call, and returns what that gets.
+    /// Makes the events that are planned before the next call, and returns what the call gets.
     fn next_wanted(&mut self) -> Wanted {
         for _event in 0..MAX_POLLED {
             match self.plan.next(Point::Call) {
@@ -191,7 +190,7 @@ impl Outside {
         Wanted::Plain
     }
 
-    /// None if the call is not the next one of a turn.
+    /// The reply to this call. None if it is not the turn's next call.
     fn reply(&self, asked: Asked<'_>, wanted: Wanted, buffer: &mut [u8]) -> Option<Reply> {
         let turn = self.turn?;
         let machine = self.machines.get(asked.slot)?;
@@ -201,7 +200,7 @@ impl Outside {
         Some(answer(machine.end(asked.call.side())?, asked, wanted, buffer))
     }
 
-    /// Whether the machine's end took the bytes that a write took.
+    /// Whether the machine's end took the bytes that this reply to a write says. True of other replies.
     fn has_sent(&self, asked: Asked<'_>, reply: Reply) -> bool {
         let Reply::Wrote(count, _) = reply else {
             return true;
@@ -212,7 +211,7 @@ impl Outside {
     }
 }
 
-/// Whether some bytes end with the first of others, this many.
+/// Whether `taken` ends with the first `count` bytes of `offer`, as far as both reach.
 fn end_with(taken: &[u8], offer: &[u8], count: usize) -> bool {
     let count = count.min(offer.len()).min(taken.len());
     taken[taken.len() - count..] == offer[..count]
@@ -258,7 +257,7 @@ fn wrote(most: usize, wanted: Wanted) -> Reply {
     Reply::Wrote(limited(most, wanted), matches!(wanted, Wanted::Full(_)))
 }
 
-/// The count, or the wanted limit of it, if that is less. The limit is at least 1.
+/// The count, but at most the wanted limit, which is at least 1.
 fn limited(count: usize, wanted: Wanted) -> usize {
     match wanted {
         Wanted::Short(most) | Wanted::Full(most) => count.min(most.max(1)),
@@ -282,7 +281,7 @@ fn waits_for_connect(asked: Asked<'_>) -> bool {
     !asked.joined && !matches!(asked.call, Call::Shut(_))
 }
 
-/// What the caller gets for a reply.
+/// What the wire returns for a reply.
 fn given(reply: Reply, wanted: Wanted) -> Result<usize, ErrorKind> {
     match reply {
         Reply::Bytes(count) | Reply::Wrote(count, _) => Ok(count),

@@ -1,12 +1,10 @@
--- What the errors of read(2), write(2), connect(2) and shutdown(2) mean to the relay, and what a wire keeps about its
--- answers. Part of the promises.
+-- What errors of read(2), write(2), connect(2) and shutdown(2) mean, and what a wire counts. Part of the promises.
 use Rattle.std.specs.{Prelude.{Bool, true, false, not, ◌&&◌, if◌then◌else◌, ℕ, ◌+◌, ◌%◌, ◌^◌}, declared.io.ErrorKind.{ErrorKind, TheVariants.{ConnectionReset, BrokenPipe, ConnectionAborted, ConnectionRefused, NotConnected, TimedOut, WouldBlock, Interrupted, Other}}}
 use Rattle.relay_core.specs.{declared.{Kind.Kind, call.{Call.Call, CallKind.{CallKind, TheVariants.Shut}}}, Calls.kind_of}
 use Rattle.engine.specs.declared.class.Class.{Class}
 use Rattle.relay_core.specs.declared.Kind.TheVariants as kind
 use Rattle.engine.specs.declared.class.Class.TheVariants as class
 
--- how a call failed
 abbrev pub kind_of_error : ErrorKind → Kind
 kind_of_error ConnectionReset = kind.Reset
 kind_of_error BrokenPipe = kind.Pipe
@@ -16,7 +14,7 @@ kind_of_error NotConnected = kind.NotConnected
 kind_of_error TimedOut = kind.TimedOut
 kind_of_error error = kind.Other
 
--- the kind of failure that an error can mean; none means that a write took no byte
+-- the kind as an error can show it: no error means Zero, that a write took no byte
 abbrev pub kind_told : Kind → Kind
 kind_told kind.Zero = kind.Other
 kind_told kind = kind
@@ -25,7 +23,7 @@ abbrev pub is_interrupted : ErrorKind → Bool
 is_interrupted Interrupted = true
 is_interrupted error = false
 
--- the call would have to wait: EAGAIN, or on a socket that is not known to be connected, that it is not
+-- the call would have to wait: EAGAIN, or ENOTCONN on a socket that is not known to be connected
 abbrev pub would_wait : Bool → ErrorKind → Bool
 would_wait joined WouldBlock = true
 would_wait joined NotConnected = not joined
@@ -36,7 +34,7 @@ abbrev pub may_wait : CallKind → Bool
 may_wait Shut = false
 may_wait call = true
 
--- the class of an error of a call of this kind on a socket that is known to be connected, or not
+-- the class of a call's error; `joined` says whether the socket is known to be connected
 abbrev pub class_by : CallKind → Bool → ErrorKind → Class
 class_by call joined error =
     if is_interrupted error then class.Interrupted
@@ -46,7 +44,7 @@ class_by call joined error =
 abbrev pub class_of : Call → Bool → ErrorKind → Class
 class_of call = class_by (kind_of call)
 
--- a socket's pending error, reported under a kind that is a failure of every call
+-- the kind under which a pending error is reported: with it every call fails
 abbrev pub pending_kind : ErrorKind → ErrorKind
 pending_kind Interrupted = Other
 pending_kind WouldBlock = Other
@@ -64,7 +62,6 @@ tally joined faults blocks = record { joined = joined; faults = faults; blocks =
 abbrev pub connected : Tallied → Tallied
 connected t = record t { joined = true }
 
--- both counts wrap around at 2^64
 abbrev pub fault_more : Tallied → Tallied
 fault_more t = record t { faults = (t.faults + 1) % 2 ^ 64 }
 

@@ -3,14 +3,14 @@ use Rattle.std.specs.{Prelude.{◌≡◌, ℕ, true, if◌then◌else◌, List, 
 use Rattle.relay_core.specs.{declared.{Side.{Side, TheVariants.{Client, Target}}, Kind.Kind, call.Call.Call}, Calls.side_of, Pairs.PairState, Replies.{AnswerValue, Blocked, Interrupted, Failed, fits, after}, Runs.{answered, brought, carried}}
 use Rattle.engine.specs.{Wires.{Asked, Given, WireView, Rises}, Turns.{asked, made, is_failed, is_blocked, way_from, way_to, IsCalled}}
 
--- the answers that an error of this kind may be
+-- what an error can become: Blocked, Interrupted, or Failed of this kind
 abbrev pub IsErrorReply : Kind → AnswerValue → Type 0
 IsErrorReply kind Blocked = Unit {0}
 IsErrorReply kind Interrupted = Unit {0}
 IsErrorReply kind (Failed other) = other ≡ kind
 IsErrorReply kind reply = ⊥
 
--- what one answer to a call did to the wire that gave it
+-- what a call with this answer did to its wire
 pub record IsAnswered {S : Type 0} (told : S → WireView) (does : Asked → Given → S → S → Type 0) (call : Call) (p : PairState)
     (reply : AnswerValue) (old new : S) : Type 0 where
   pub read : Consumes (told old).remaining (told new).remaining (brought (way_from (side_of call)) call reply)
@@ -27,7 +27,7 @@ pub record IsStep {S : Type 0} (told : S → WireView) (does : Asked → Given �
   pub run : new ≡ after now old call reply
   pub served : IsAnswered told does call old reply wire wire_now
 
--- an error's answer, by what the wire counted
+-- an error became this answer, by what the wire counted
 pub record IsError (kind : Kind) (reply : AnswerValue) (faults faults_now blocks blocks_now : ℕ) : Type 0 where
   pub sort : IsErrorReply kind reply
   pub failed : Rises faults faults_now (if is_failed reply then 1 else 0)

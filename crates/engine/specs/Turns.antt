@@ -7,7 +7,7 @@ use Rattle.relay_core.specs.declared.verdict.Verdict.TheVariants as verdict
 use Rattle.engine.specs.Wires as ask
 use Rattle.engine.specs.declared.outcome.Turn.TheVariants as turn
 
--- Done and Failed by the verdict; of a live pair, Again while there is a next call, and else Quiet
+-- Done or Failed if the verdict is; for a live pair Again if there is a next call, else Quiet
 abbrev pub outcome : Verdict → Option Call → Turn
 outcome verdict.Done next = turn.Done
 outcome (verdict.Failed fault) next = turn.Failed
@@ -17,7 +17,7 @@ outcome verdict.Live None = turn.Quiet
 abbrev pub outcome_of : PairState → Turn
 outcome_of p = outcome (verdict p) (next_call p)
 
--- the direction of the bytes that reads on a side bring, and of those that writes on it carry
+-- the direction that reads on a side serve (`way_from`), and the direction that writes on it serve (`way_to`)
 abbrev pub way_from : Side → Direction
 way_from side = direction_of (call.Read side 1)
 
@@ -41,7 +41,7 @@ same_side Target Target = true
 abbrev pub one_if : (AnswerValue → Bool) → Side → Call → AnswerValue → ℕ
 one_if test side call reply = if same_side (side_of call) side && test reply then 1 else 0
 
--- how many answers of a list of one second are of a sort, of those to calls on one side
+-- how many answers of a list at one second pass a test and are to calls on one side
 abbrev pub count_on : (AnswerValue → Bool) → Side → ℕ → PairState → List AnswerValue → ℕ
 count_on test side now p [] = 0
 count_on test side now p (reply ∷ replies) =
@@ -55,7 +55,7 @@ asked p (call.Write side) = ask.Write (offer p side)
 asked p (call.Join side) = ask.Join
 asked p (call.Shut side) = ask.Shut
 
--- a call that was made, and the answer that the pair had
+-- a call that was made, and the answer that the pair got
 pub record Made : Type 0 where
   pub asked : Asked
   pub reply : AnswerValue
@@ -66,7 +66,7 @@ made asked reply = record { asked = asked; reply = reply }
 abbrev pub made_if : Side → PairState → Call → AnswerValue → List Made
 made_if side p call reply = if same_side (side_of call) side then made (asked p call) reply ∷ [] else []
 
--- the calls on one side along a list of answers of one second
+-- the calls on one side, with their answers, over a list of answers at one second
 abbrev pub made_on : Side → ℕ → PairState → List AnswerValue → List Made
 made_on side now p [] = []
 made_on side now p (reply ∷ replies) =
@@ -78,7 +78,7 @@ IsFailure (Took n) kind = (n ≡ 0) × (kind ≡ Zero)
 IsFailure (Refused error) kind = kind ≡ kind_of_error error
 IsFailure given kind = ⊥
 
--- this answer gives the pair what a call gave; which of the three an error is, its wire counts
+-- the pair's answer says what the call gave; which of three answers an error becomes, IsMade says
 abbrev pub IsToldBy : Given → AnswerValue → Type 0
 IsToldBy given (Bytes bytes) = given ≡ Brought bytes
 IsToldBy given End = given ≡ Brought []
@@ -89,26 +89,25 @@ IsToldBy given Blocked = (error : ErrorKind) × (given ≡ Refused error)
 IsToldBy given Interrupted = (error : ErrorKind) × (given ≡ Refused error)
 IsToldBy given (Failed kind) = IsFailure given kind
 
--- one call was made on a wire, by what the wire says of its calls
+-- one call was made on a wire: what it gave became the answer, and it did what the wire specifies
 pub record IsCalled {S : Type 0} (does : Asked → Given → S → S → Type 0) (call : Made) (old new : S) : Type 0 where
   pub given : Given
   pub told : IsToldBy given call.reply
   pub did : does call.asked given old new
 
--- and it counted the answer to this very call, where that is a fault or "would block"
+-- such a call, and the wire counted its answer if that is a fault or "would block"
 pub record IsMade {S : Type 0} (told : S → WireView) (does : Asked → Given → S → S → Type 0) (call : Made) (old new : S) : Type 0 where
   pub called : IsCalled does call old new
   pub faults : Rises (told old).faults (told new).faults (if is_failed call.reply then 1 else 0)
   pub blocks : Rises (told old).blocks (told new).blocks (if is_blocked call.reply then 1 else 0)
 
--- these were made, in order, each once, and nothing else
+-- exactly these calls were made, in order and each once
 abbrev pub AreMade : {S : Type 0} → (S → WireView) → (Asked → Given → S → S → Type 0) → List Made → S → S → Type 0
 AreMade told does [] old new = new ≡ old
 AreMade {S} told does (call ∷ calls) old new = (between : S) × IsMade told does call old between × AreMade told does calls between new
 
--- what the answers of a list did to the wire on one side: the bytes that they brought were read from it, and those that
--- they carried were written to it; it counted each fault and each "would block"; and the calls on its side were made on
--- it
+-- what a list of answers did to the wire on one side: bytes that came in were read from it, bytes that went out were
+-- written to it, it counted each fault and each "would block", and the calls on its side were made on it
 pub record IsServed {S : Type 0} (told : S → WireView) (does : Asked → Given → S → S → Type 0) (now : ℕ) (old new : S) (side : Side)
     (p : PairState) (replies : List AnswerValue) : Type 0 where
   pub read : Consumes (told old).remaining (told new).remaining (all_brought now p (way_from side) replies)
@@ -117,14 +116,14 @@ pub record IsServed {S : Type 0} (told : S → WireView) (does : Asked → Given
   pub blocks : Rises (told old).blocks (told new).blocks (count_on is_blocked side now p replies)
   pub made : AreMade told does (made_on side now p replies) old new
 
--- a turn fails a live pair by its last answer, or at its end, since the pair moved nothing for the limit
+-- why a turn fails a live pair: its last answer is a failed call, or after that answer the pair is overdue
 abbrev pub FailsBy : ℕ → ℕ → PairState → List AnswerValue → Fault → Type 0
 FailsBy now limit ran replies (Broken side call kind) = (front : List AnswerValue) × (replies ≡ front ++ Failed kind ∷ [])
 FailsBy now limit ran replies Idle = IsOverdue now limit ran
 
--- a turn of at most `budget` calls: there is a list of answers, all at the second `now`, over which the pair ran, and
--- each wire served its side of it, as `client` and `target` say. The pair that ran is then held against the idle limit.
--- The list is shorter than the budget only if there is no next call
+-- a turn of at most `budget` calls: the pair ran over a list of answers, all at the second `now`, and each wire served
+-- its side, as `client` and `target` say. Then the pair fails if it is overdue. The list is shorter than the budget only
+-- if there is no next call at the end
 pub record IsTurn (budget now limit : ℕ) (old new : PairState) (client target : Side → PairState → List AnswerValue → Type 0) : Type 0 where
   pub replies : List AnswerValue
   pub few : length replies ≤ budget

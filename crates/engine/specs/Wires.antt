@@ -1,8 +1,8 @@
--- What is asked of a wire, call by call, what it gives, and what that does to it. Part of the promises.
+-- What a call asks of a wire, what it gives, and what it does to the wire. Part of the promises.
 use Rattle.std.specs.{Prelude.{ℕ, List, ◌≡◌, ◌⊎◌, ◌+◌, ◌%◌, ◌^◌, ◌≤◌, [], length, take, MatchResult, Option, None, Result, Ok, Err, ◌∷◌, ◌++◌}, declared.io.{ErrorKind.ErrorKind, Error.Error}, IoError.error_kind, Io.KnownBytes.{Consumes, Keeps}}
 use Rattle.engine.specs.declared.scripted.Play.{Play, TheVariants.Bytes}
 
--- a read of at most this many bytes, a write that offers these, the question whether connect(2) has ended, or a
+-- a read of at most this many bytes, a write that offers these, the question whether connect(2) has completed, or a
 -- shutdown
 pub data Asked : Type 0 where
   Read : ℕ → Asked
@@ -10,23 +10,23 @@ pub data Asked : Type 0 where
   Join : Asked
   Shut : Asked
 
--- a read gave these bytes, none at the end of input; a write took this many; a join or a shutdown succeeded; or an
--- error
+-- a read gave these bytes, none at the end of input; a write took this many; a join or a shutdown succeeded; or a call
+-- gave an error
 pub data Given : Type 0 where
   Brought : List ℕ → Given
   Took : ℕ → Given
   Done : Given
   Refused : ErrorKind → Given
 
--- the bytes left to read and those written, where a wire shows them, and how many of its answers were faults, and how
--- many "would block"
+-- the bytes left to read and the bytes written, None if the wire does not show them; and how many of its answers were
+-- faults, and how many were "would block"
 pub record WireView : Type 0 where
   pub remaining : Option (List ℕ)
   pub written : Option (List ℕ)
   pub faults : ℕ
   pub blocks : ℕ
 
--- of a wire that shows no bytes
+-- the view of a wire that shows no bytes
 abbrev pub counts_alone : ℕ → ℕ → WireView
 counts_alone faults blocks = record { remaining = None; written = None; faults = faults; blocks = blocks }
 
@@ -34,7 +34,7 @@ abbrev pub ReadTakes : {E : Type 0} → Result ℕ E → List ℕ → WireView �
 ReadTakes result buffer old new =
     MatchResult result (λ n. Consumes old.remaining new.remaining (take n buffer)) (λ error. Keeps old.remaining new.remaining)
 
--- a count that goes round at 2^64 rose by n
+-- a count that wraps around at 2^64 rose by n
 abbrev pub Rises : ℕ → ℕ → ℕ → Type 0
 Rises old new n = new % 2 ^ 64 ≡ (old + n) % 2 ^ 64
 
@@ -45,14 +45,14 @@ CountsError faults faults_now blocks blocks_now =
     ⊎ ((Rises faults faults_now 1 × (blocks_now ≡ blocks))
     ⊎ ((faults_now ≡ faults) × Rises blocks blocks_now 1))
 
--- an answer without error leaves both
+-- an answer without error changes neither count
 abbrev pub CountsAnswer : {T E : Type 0} → Result T E → WireView → WireView → Type 0
 CountsAnswer result old new =
     MatchResult result
     (λ answer. (new.faults ≡ old.faults) × (new.blocks ≡ old.blocks))
     (λ error. CountsError old.faults new.faults old.blocks new.blocks)
 
--- n bytes of an offer were taken: none of an offer that isn't empty is a fault
+-- n bytes of an offer were taken: 0 bytes of an offer that is not empty are a fault
 pub record CountsTaken (n : ℕ) (offer : List ℕ) (old new : WireView) : Type 0 where
   pub none : n ≡ 0 → 1 ≤ length offer → Rises old.faults new.faults 1
   pub some : 1 ≤ n → new.faults ≡ old.faults
@@ -63,7 +63,7 @@ abbrev pub CountsWrite : {E : Type 0} → Result ℕ E → List ℕ → WireView
 CountsWrite result offer old new =
     MatchResult result (λ n. CountsTaken n offer old new) (λ error. CountsError old.faults new.faults old.blocks new.blocks)
 
--- a shutdown never has to wait: its error is a fault, or it is none
+-- a shutdown never has to wait: its error is a fault or an interruption
 abbrev pub CountsShut : {T E : Type 0} → Result T E → WireView → WireView → Type 0
 CountsShut result old new =
     MatchResult result
@@ -83,7 +83,7 @@ abbrev pub call_gave : {T : Type 0} → Result T Error → Given
 call_gave (Ok answer) = Done
 call_gave (Err error) = Refused (error_kind error)
 
--- the bytes that an in-memory wire has left to read
+-- the bytes that a play gives to reads
 abbrev pub bytes_in : Play → List ℕ
 bytes_in (Bytes bytes) = bytes.items
 bytes_in play = []

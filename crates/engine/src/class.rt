@@ -10,7 +10,7 @@ use std::io::ErrorKind;
 pub enum Class {
     /// A signal interrupted the call, and nothing moved (EINTR).
     Interrupted,
-    /// The call would have had to wait (EAGAIN).
+    /// The call would have had to wait (EAGAIN, or ENOTCONN if not yet connected).
     Blocked,
     /// The call failed.
     Failed(Kind),
@@ -24,7 +24,7 @@ pub fn class_of(call: &Call, kind: ErrorKind, joined: bool) -> Class
     class_by(call.kind(), kind, joined)
 }
 
-/// The same by the kind of the call.
+/// [`class_of`] for a call of this kind.
 pub fn class_by(call: CallKind, kind: ErrorKind, joined: bool) -> Class
     ensures { result ≡ class_by call joined kind }
 {
@@ -66,7 +66,7 @@ pub fn kind_of(kind: ErrorKind) -> Kind
     }
 }
 
-/// An error by which a call on a connected socket fails by this kind; `zero` becomes `other`.
+/// An error that on a connected socket means a failure of this kind; for `Zero`, of kind `Other`.
 pub fn error_of(kind: Kind) -> ErrorKind
     ensures { (call : Call) → class_of call true result ≡ Class.Failed (kind_told kind) }
 {

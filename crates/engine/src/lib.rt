@@ -2,8 +2,8 @@
 //! made on one of two [`Wire`]s, and the pair gets the answer, up to a budget of calls.
 //!
 //! A wire is a socket that never waits, or anything that answers like one. It counts its faults and its answers
-//! "would block" by the rule [`class_by`], as [`Tally`] does. [`ScriptWire`] is an in-memory wire that plays a list of
-//! answers. The definitions are in `specs/`: `Wires.antt`, `Classes.antt` and, of a turn, `Turns.antt`.
+//! "would block" by the rule [`class_by`]; [`Tally`] keeps these counts. [`ScriptWire`] is an in-memory wire that plays
+//! lists of answers. The definitions are in `specs/`: `Wires.antt`, `Classes.antt` and, of turns, `Turns.antt`.
 #![tactic(auto)]
 
 mod class;

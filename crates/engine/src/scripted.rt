@@ -1,4 +1,3 @@
-//! An in-memory wire that plays lists of answers, for tests.
 ghost use Rattle.std.specs.{Prelude.{◌≡◌, ◌≤◌, Some, [], ◌++◌, take, drop, length, vec_len, IfOk, IfErr}, IoError.error_kind};
 ghost use Rattle.engine.specs.{Classes.{class_by, counted}, Wires.bytes_of};
 
@@ -15,7 +14,7 @@ use std::marker::Model;
 /// One answer that a [`ScriptWire`] gives.
 #[derive(Drop)]
 pub enum Play {
-    /// A read gives these bytes, or the first ones that fit into its buffer; what is left is given next.
+    /// A read gives these bytes, or as many as fit into its buffer; the next read gives the rest.
     Bytes(Vec<u8>),
     /// A read meets the end of input.
     End,
@@ -31,7 +30,7 @@ pub enum Play {
     Interrupted,
     /// The call would have had to wait.
     Blocked,
-    /// The call fails by this kind.
+    /// The call gives the error that means this kind (`error_of`).
     Fault(Kind),
 }
 
@@ -46,9 +45,9 @@ pub enum PlayList {
     Closings,
 }
 
-/// An in-memory wire that plays lists of answers, for tests, which alone show what it plays.
+/// An in-memory wire that plays lists of answers, for tests. Only tests show which answers it plays.
 ///
-/// A play that does not fit its call is a fault of kind `other`, and is used up. With an empty list the answer is
+/// A play that does not fit its call is a fault of kind `other`, and is used up. If the list is empty, the answer is
 /// "would block", but a shutdown succeeds. The wire is joined from its first Bytes, End, Take or Joined on.
 #[derive(Drop)]
 pub struct ScriptWire {
@@ -74,8 +73,8 @@ impl Model for ScriptWire {
 }
 
 impl ScriptWire {
-    /// A wire with these answers, on a socket that is or is not known to be connected. This allocates the memory for
-    /// the bytes of every Take. Fails with [`AllocError`] if there is not enough; then the plays are dropped.
+    /// A wire with these answers. `joined`: the socket is known to be connected. This allocates the memory for the
+    /// bytes of every Take. Fails with [`AllocError`] if there is not enough; then the plays are dropped.
     pub fn new(
         alloc: Global,
         joined: bool,
@@ -101,7 +100,7 @@ impl ScriptWire {
         })
     }
 
-    /// Inserts a play before the one at `index` of a list, or after the last. What is left of a Bytes counts as a play.
+    /// Inserts a play before the play at `index` of a list, or after the last. The rest of a Bytes counts as a play.
     ///
     /// This allocates the memory for the play and for a Take's bytes. Fails with [`AllocError`] if there is not enough:
     /// then the play is dropped, and the wire is as it was.
@@ -138,7 +137,7 @@ impl ScriptWire {
     }
 }
 
-/// How many bytes every Take of a list and one more play take together.
+/// The bytes of all Takes of a list together, and `more`. Fails if the sum overflows.
 fn room_for(plays: &VecDeque<Play>, more: usize) -> Result<usize, AllocError> {
     let mut room = more;
     for play in plays {
@@ -181,7 +180,7 @@ fn refuse(tally: &mut Tally, call: CallKind, play: Option<Play>) -> io::Error
     io::Error::from(kind)
 }
 
-/// Gives the buffer what fits of the next play, if that is one of bytes. Any other, or none, is handed back.
+/// If the next play is Bytes, copies what fits into the buffer. Otherwise the error is that play, or None.
 fn read_next(reads: &mut VecDeque<Play>, buffer: &mut [u8]) -> Result<usize, Option<Play>>
     ensures most { IfOk result (λ count. count ≤ length buffer.new) }
     ensures given { IfOk result (λ count. bytes_of reads.old.items ≡ take count buffer.new ++ bytes_of reads.new.items) }
@@ -200,7 +199,7 @@ fn read_next(reads: &mut VecDeque<Play>, buffer: &mut [u8]) -> Result<usize, Opt
     Ok(count)
 }
 
-/// Copies what fits.
+/// Copies what fits, and returns how many bytes.
 fn copy_front(from: &[u8], to: &mut [u8]) -> usize
     ensures count { (result ≤ length from.now) × (result ≤ length to.new) }
     ensures bytes { take result to.new ≡ take result from.now }

@@ -24,7 +24,7 @@ impl Model for Tally {
 }
 
 impl Tally {
-    /// No answers yet, on a socket that is or is not known to be connected.
+    /// No answers yet. `joined`: the socket is known to be connected.
     pub fn new(joined: bool) -> Tally
         ensures { result ≡ tally joined 0 0 }
     {
@@ -63,7 +63,7 @@ impl Tally {
         self.joined = true;
     }
 
-    /// A call of this kind answered with an error, which is counted by its class.
+    /// Counts a call's error by its class: as a fault, as "would block", or not if it is an interruption.
     pub fn refuse(&mut self, call: CallKind, kind: ErrorKind)
         ensures { self.new ≡ counted (class_by call self.old.joined kind) self.old }
     {
@@ -74,7 +74,7 @@ impl Tally {
         }
     }
 
-    /// A write took no byte of an offer that is not empty, which is a fault.
+    /// Counts a fault: a write took no byte of an offer that is not empty.
     pub fn none_taken(&mut self)
         ensures { self.new ≡ fault_more self.old }
     {

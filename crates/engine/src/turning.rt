@@ -7,23 +7,23 @@ use crate::step::step;
 use crate::wire::Wire;
 use relay_core::{Call, MAX_READ, Pair, Side, Verdict};
 
-/// When a turn is made, by a clock that counts whole seconds, and the idle limit that it is made under.
+/// The second at which a turn is made, and the idle limit.
 #[derive(Clone, Copy)]
 pub struct Moment {
-    /// The second.
+    /// The second of the turn.
     pub second: u64,
-    /// How many seconds a connection may move nothing, while no call is worth trying, before it fails; 0 for ever.
+    /// A connection that moved nothing for this many seconds, and has no call worth trying, fails. 0: never.
     pub limit: u64,
 }
 
 /// Makes the calls that a pair asks for, at most `budget` of them, each on the wire of its side, and gives the pair the
 /// answers. It allocates no memory.
 ///
-/// The calls made on each wire are exactly those that come next along the answers, in order and once each: a read of
-/// as many bytes as the pair asks for, and a write of all that the pair offers that side ([`Pair::offer`]).
+/// Each wire gets exactly the calls that the pair asks for on its side, in order and once each. A read asks for as many
+/// bytes as the pair does, and a write offers all that the pair offers that side ([`Pair::offer`]).
 ///
-/// All its calls are made at the second `now`. A pair that is left without a call, and that has moved nothing for
-/// `limit` seconds, fails ([`Pair::expire`]); a limit of 0 is none.
+/// All calls count as made at the second `now`. A pair that is left without a call, and that has moved nothing for
+/// `limit` seconds, fails ([`Pair::expire`]). A limit of 0 never passes.
 ///
 /// An error is a failure if the wire counted a fault, "would block" if it counted that, and else an interruption.
 pub fn turn<A: Wire, B: Wire>(
@@ -44,8 +44,8 @@ pub fn turn<A: Wire, B: Wire>(
     turn_with(pair, client, target, budget, moment, &mut [0; MAX_READ])
 }
 
-/// [`turn`] at a moment, with an array into which the wires read. A thread keeps one for all its turns, and need not
-/// clear it.
+/// [`turn`] at a moment, with an array into which the wires read. A thread keeps one array for all its turns, and need
+/// not clear it.
 pub fn turn_with<A: Wire, B: Wire>(
     pair: &mut Pair,
     client: &mut A,
@@ -70,7 +70,7 @@ pub fn turn_with<A: Wire, B: Wire>(
     finish(pair, moment)
 }
 
-/// Makes the call that comes next on the wire of its side.
+/// Makes the pair's next call, on the wire of its side.
 fn advance<A: Wire, B: Wire>(
     pair: &mut Pair,
     call: Call,
@@ -90,7 +90,7 @@ fn advance<A: Wire, B: Wire>(
     }
 }
 
-/// Holds the pair against the idle limit, unless it has a next call.
+/// The outcome. A live pair without a next call fails here if the idle limit has passed.
 fn finish(pair: &mut Pair, moment: Moment) -> Turn
     ensures outcome { result ≡ outcome_of pair.new }
     ensures held { pair.new ≡ expired moment.second moment.limit pair.old }

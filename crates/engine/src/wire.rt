@@ -6,17 +6,17 @@ use std::io;
 
 /// A connection's socket, or something that stands for one. None of its calls waits.
 ///
-/// It counts its answers that are faults and those that are "would block", by [`class_of`](crate::class_of), and
-/// [`turn`](crate::turn) tells an error's class by which of the two counts rose: one of them by one, or neither if it
-/// is an interruption. A write of 0 bytes of an offer that is not empty is a fault, too. Both wrap around at 2^64.
+/// A wire counts its faults and its answers "would block", by [`class_of`](crate::class_of). An error raises one of
+/// the counts by one, or neither if it is an interruption. By that [`turn`](crate::turn) knows the error's class. A
+/// write that takes no byte of an offer that is not empty is a fault, too. Both counts wrap around at 2^64.
 pub trait Wire {
-    // The bytes left to read and those written, if the wire specifies them, as no socket does; and its two counts.
+    // The bytes left to read and written, if the wire specifies them (a socket does not), and both counts.
     ghost told: { Self → WireView };
 
-    // What one call may do, if the wire specifies it: what was asked, what was given, and the wire before and after.
+    // Relates what a call asked, what it gave, and the wire before and after, if the wire specifies that.
     ghost does: { Asked → Given → Self → Self → Type 0 } = { λ _ _ _ _. Unit {0} };
 
-    /// read(2): gives at most as many bytes as the buffer is long, and 0 at the end of input.
+    /// read(2): fills at most the whole buffer, and returns how many bytes; 0 at the end of input.
     fn read(&mut self, buffer: &mut [u8]) -> io::Result<usize>
         ensures most { WritesAtMost result buffer.new }
         ensures bytes { ReadTakes result buffer.new (told self.old) (told self.new) }
@@ -40,7 +40,7 @@ pub trait Wire {
         ensures blocks { (told self.new).blocks ≡ (told self.old).blocks }
         ensures did { does ask.Shut (call_gave result) self.old self.new };
 
-    /// Whether connect(2) has completed: an error while it is in progress, or if it failed.
+    /// Asks whether connect(2) has completed: an error if it is in progress, or failed.
     fn joined(&mut self) -> io::Result<()>
         ensures left { Keeps (told self.old).remaining (told self.new).remaining }
         ensures kept { Keeps (told self.old).written (told self.new).written }

@@ -6,15 +6,15 @@ use circular_buffer::HeapCircularBuffer;
 use std::alloc::{AllocError, Global};
 use std::marker::Model;
 
-/// One direction's ring of bytes, with a lead that goes out before them, its end of input and its shutdown.
+/// One direction: a lead, a ring of bytes, and whether the source's end of input was seen, and passed on.
 ///
-/// The buffer never wraps, so that one write(2) is offered the whole ring. Bytes that have left stay in it until others
-/// take their place: to overwrite bytes is a single copy, but the buffer appends bytes in a loop.
+/// The buffer never wraps, so one write(2) is offered the whole ring. Bytes that have left stay in the buffer until new
+/// bytes take their place: to overwrite bytes is a single copy, but the buffer appends bytes in a loop.
 #[derive(Drop)]
 pub struct Flow {
     lead: Vec<u8>,
     bytes: HeapCircularBuffer<u8>,
-    // How many of these have left. The ring is the rest.
+    // How many of `bytes` have left. The ring is the rest.
     gone: usize,
     end_seen: bool,
     shut: bool,
@@ -47,12 +47,12 @@ impl Flow {
     /// The most bytes that a lead has.
     pub const MAX_LEAD: usize = 107;
 
-    /// An empty ring for at most `capacity` bytes, after a lead. This allocates all the memory that they will ever use,
-    /// and fails only if there is not enough; then nothing is made.
+    /// A flow with this lead, and an empty ring for `capacity` bytes. This allocates all the memory that the flow will
+    /// ever use, and fails only if there is not enough; then nothing is made.
     pub fn new(alloc: Global, capacity: usize, lead: &[u8]) -> Result<Flow, AllocError>
         requires least { 1 ≤ capacity }
-        requires most { capacity ≤ 65536 }
-        requires short { length lead.now ≤ 107 }
+        requires most { capacity ≤ Flow.MAX }
+        requires short { length lead.now ≤ Flow.MAX_LEAD }
         ensures { IfOk result (λ flow. flow ≡ empty_stream capacity lead.now) }
     {
         Ok(Flow {
@@ -64,14 +64,14 @@ impl Flow {
         })
     }
 
-    /// How many bytes wait in the ring; those of the lead are not counted.
+    /// How many bytes wait in the ring, without the lead.
     pub fn len(&self) -> usize
         ensures { result ≡ length self.now.ring }
     {
         self.bytes.len() - self.gone
     }
 
-    /// Whether no byte waits.
+    /// Whether no byte waits, of the lead or in the ring.
     #[tactic(auto, using(crate::proofs::Front::waiting_ends))]
     pub fn is_drained(&self) -> bool
         ensures { IsTrue result ↔ (waiting self.now ≡ []) }
@@ -113,8 +113,8 @@ impl Flow {
         self.bytes.capacity() - self.len()
     }
 
-    /// What is offered to the next write(2): what is left of the lead, or if that is nothing, all bytes of the ring,
-    /// oldest first. They are lent to be read: if nothing is written into them, the flow stays as it was.
+    /// What the next write(2) is offered: the rest of the lead, or if none is left, the whole ring, oldest byte first.
+    /// These bytes are lent to be read: unless the caller writes into them, the flow stays as it was.
     pub fn front(&mut self) -> &mut [u8]
         ensures* lends { sem 𝓛 (LendsFront self.entry result) }
         ensures value { result.now ≡ front self.old }
@@ -138,7 +138,7 @@ impl Flow {
         Ok(bytes)
     }
 
-    /// The byte of the ring at index `i`, oldest first.
+    /// The byte at index `i` of the ring. The oldest is at 0.
     pub fn byte(&self, i: usize) -> u8
         requires { i < length self.now.ring }
         ensures { result ≡ slice_index self.now.ring i }
@@ -165,7 +165,7 @@ impl Flow {
         self.gone = 0;
     }
 
-    /// Drops the `n` first bytes of the front, which the destination took.
+    /// Drops the first `n` bytes of the front: they were written.
     pub fn drop_front(&mut self, n: usize)
         requires { n ≤ length (front self.old) }
         ensures { self.new ≡ dropped self.old n }
@@ -192,7 +192,7 @@ impl Flow {
         self.end_seen
     }
 
-    /// Marks the end as passed on to the destination, by shutdown(2) with `SHUT_WR`.
+    /// Marks the end of input as passed on, by shutdown(2) with `SHUT_WR`.
     pub fn mark_shut(&mut self)
         requires after_end { self.old.end_seen ≡ true }
         requires after_bytes { waiting self.old ≡ [] }
@@ -201,7 +201,7 @@ impl Flow {
         self.shut = true;
     }
 
-    /// Whether the end was passed on.
+    /// Whether the end of input was passed on.
     pub fn is_shut(&self) -> bool
         ensures { result ≡ self.now.shut }
     {

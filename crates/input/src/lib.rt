@@ -1,6 +1,6 @@
-//! Reads texts: an input up to a limit ([`read_at_most`]), as a script on standard input or a settings file; the
-//! pieces of a text that a separator is between ([`Pieces`]), as the words of a line; and numbers ([`number`]).
-//! [`Simulate`] is what a simulator of scripts is asked.
+//! Reads an input up to a limit ([`read_at_most`]), such as a script or a settings file; splits a text at a separator
+//! ([`Pieces`]), as a line into words; and reads numbers ([`number`]). [`Simulate`] is the trait of a simulator of
+//! scripts.
 #![tactic(auto)]
 
 mod numbers;

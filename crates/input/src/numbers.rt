@@ -1,4 +1,3 @@
-//! Words and numbers.
 ghost use Rattle.std.specs.{Prelude.◌≡◌, Str.bytes_eq};
 ghost use Rattle.input.specs.Texts.{number_of, is_digit, is_plain};
 
@@ -35,7 +34,6 @@ pub fn is_digit(byte: u8) -> bool
     b'0' <= byte && byte <= b'9'
 }
 
-/// Whether a text is not empty, and has no leading zero unless it is a single zero.
 fn is_plain(text: &[u8]) -> bool
     ensures { result ≡ is_plain text.now }
 {

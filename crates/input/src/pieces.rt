@@ -1,10 +1,9 @@
-//! The pieces of a text.
 ghost use Rattle.std.specs.{Prelude.{◌≡◌, ◌∷◌, ◌+◌, [], drop, MatchOption, position, ◌==◌}, Option.option_copied};
 ghost use Rattle.input.specs.Texts.{pieces_of, pieces_left};
 
 use std::marker::Model;
 
-/// A text that is split at each separator: the pieces that are left.
+/// The pieces of a text, split at each separator, that were not yet returned.
 #[derive(Drop)]
 pub struct Pieces<'a> {
     rest: Option<&'a [u8]>,
@@ -31,7 +30,7 @@ impl<'a> Pieces<'a> {
         }
     }
 
-    /// The next piece, if one is left, which stays.
+    /// Returns the next piece, if one is left, but does not remove it.
     pub fn peek(&self) -> Option<&'a [u8]>
         ensures { MatchOption result (self.now ≡ []) (λ piece. self.now ≡ piece.now ∷ drop 1 self.now) }
     {
@@ -39,7 +38,7 @@ impl<'a> Pieces<'a> {
         Some(piece)
     }
 
-    /// The next piece, if one is left.
+    /// Returns the next piece, if one is left, and removes it.
     pub fn next(&mut self) -> Option<&'a [u8]>
         ensures { MatchOption result ((self.old ≡ []) × (self.new ≡ [])) (λ piece. self.old ≡ piece.now ∷ self.new) }
     {
@@ -50,7 +49,7 @@ impl<'a> Pieces<'a> {
     }
 }
 
-/// The first piece, and what follows its separator, if there is one.
+/// The first piece, and the text after the separator that ends it. None if no separator follows.
 fn cut(text: &[u8], separator: u8) -> (&[u8], Option<&[u8]>)
     ensures { pieces_of separator text.now ≡ result.0.now ∷ pieces_left separator (option_copied result.1) }
 {
@@ -60,7 +59,7 @@ fn cut(text: &[u8], separator: u8) -> (&[u8], Option<&[u8]>)
     }
 }
 
-/// The index of the first such byte.
+/// The index of the first byte that is `sought`.
 fn first(text: &[u8], sought: u8) -> Option<usize>
     ensures { result ≡ position (λ byte. byte == sought) text.now }
 {

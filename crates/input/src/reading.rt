@@ -26,10 +26,10 @@ impl From<AllocError> for InputFault {
     }
 }
 
-/// Reads the start of an input: at most `most` bytes, and all of it if it has no more. A caller that allows n bytes
-/// asks for n + 1, and if it gets n + 1 knows that the input is too long.
+/// Reads the first `most` bytes of an input, or all of a shorter input. A caller that allows n bytes asks for n + 1:
+/// n + 1 bytes show that the input is too long.
 ///
-/// It makes at most `most` reads. The first error of the reader, even an interruption by a signal, ends it with
+/// Makes at most `most` reads. The first error of the reader, even an interruption by a signal, ends the call with
 /// [`InputFault::Unreadable`]. Memory runs out only for bytes that the reader gave. After a fault, the bytes that
 /// were read are lost.
 pub fn read_at_most<R: Read>(
@@ -59,7 +59,7 @@ pub fn read_at_most<R: Read>(
     Ok(text)
 }
 
-/// Makes one read and appends its bytes to the text.
+/// Makes one read, appends its bytes to the text, and returns their number.
 fn read_on<R: Read>(reader: &mut R, text: &mut Vec<u8>, most: usize) -> Result<usize, InputFault>
     requires { vec_len text.old ≤ most }
     ensures reads { IfOk result (λ count. ReadsOn most (R.remaining reader.old) (R.remaining reader.new) text.old.items

@@ -1,5 +1,4 @@
-//! What a simulator of scripts is asked, and what it answers. Who hands a script on need not know the machine on which
-//! its steps are made.
+//! The trait of a simulator of scripts. Whoever passes a script on need not know the machine that runs it.
 ghost use Rattle.std.specs.Prelude.{◌≡◌, ◌+◌, ℕ, List, Option, IfSome, Ok, Err};
 ghost use Rattle.input.specs.Texts.{TakesAtMost, most_of_script};
 
@@ -25,12 +24,12 @@ pub enum ScriptFault {
     /// The script could not be read. Nothing was written.
     #[error("input: cannot be read")]
     Read,
-    /// The outcome could not be written. It is not known how much was.
+    /// The outcome could not be written. How much of it was written is not known.
     #[error("output: cannot be written")]
     Write,
 }
 
-/// Receives why a script is refused, beside the line that is written for it.
+/// Receives the cause of a script's fault, besides the line that is written for the fault.
 pub trait Causes {
     /// `cause` is for a person, on one line.
     fn add(&self, cause: &str);
@@ -38,13 +37,14 @@ pub trait Causes {
 
 /// Runs scripts.
 pub trait Simulate {
-    // The report that it writes for what was read, and the line of a fault, by the output before and after.
+    // After a read text and between two states of the output: its report (`reports`) or its fault's line was written.
     ghost reports: { Self → List ℕ → Option (List ℕ) → Option (List ℕ) → Type 0 };
 
     ghost refuses: { Self → List ℕ → Option (List ℕ) → Option (List ℕ) → Type 0 };
 
-    /// Reads a script, and writes the report of the state after it, or the one line of its fault, whose cause `causes`
-    /// is given; and nothing if the script cannot be read. It takes at most one byte more than a script may have.
+    /// Reads a script and writes the report of the state after it, or the one line of its fault, whose cause it
+    /// passes to `causes`. Writes nothing if the script cannot be read. Takes at most one byte more than a script may
+    /// have.
     fn simulate<R: Read, W: Write, C: Causes>(
         &self,
         alloc: Global,
@@ -59,7 +59,7 @@ pub trait Simulate {
         ensures unread { result ≡ Err ScriptFault.Read → writer.new ≡ writer.old }
         ensures taken { TakesAtMost (most_of_script + 1) (R.remaining reader.old) (R.remaining reader.new) };
 
-    /// Does the same, but writes what each step has changed in place of the report at the end.
+    /// Does as `simulate`, but writes what each step changed in place of the report at the end.
     fn simulate_each<R: Read, W: Write, C: Causes>(
         &self,
         alloc: Global,

@@ -1,6 +1,6 @@
--- The exchanges of the slot's word with their answers, when a state of the threads and one of the machine are alike,
--- and the law. Part of the promises. The machine has one slot. It makes an opening in one event where the threads make
--- seven acts: it is ahead of them until the last of these.
+-- The exchanges of the slot's word with their answers; when a state of the threads and one of the machine are alike;
+-- and the law. Part of the promises. The machine has one slot. It makes an opening in one event, and the threads make
+-- seven acts: until the last of these the machine is ahead.
 use Rattle.std.specs.{Prelude.{◌≡◌, ◌≢◌, ℕ, ◌≤◌, ◌==◌, ◌&&◌, true, false, if◌then◌else◌, List, [], ◌∷◌, ◌++◌, map, replicate, slice_get, drop, Option, Some, None, option_map, option_and_then, unwrap_or, length}, List.flat_map}
 use Rattle.token.specs.declared.name.Name.{Name}
 use Rattle.kernel_model.specs.{declared.{reply.Reply.Reply, both.Descriptors.Descriptors}, Ends.is_nonempty}
@@ -21,7 +21,7 @@ use Rattle.world.specs.Runs as events
 
 -- Exchanges
 
--- the kind of exchange that an act is, if it is one
+-- the kind of exchange that an act makes, if it makes one
 abbrev pub kind_of : Act → Option StepKind
 kind_of Claim = Some word.claim
 kind_of TakeNotes = Some word.take
@@ -32,12 +32,12 @@ kind_of Retire = Some word.retire
 kind_of Adopt = Some word.adopt
 kind_of act = None
 
--- the kind that comes first in the rest of a program
+-- the kind of exchange that the first act of these makes, if any
 abbrev pub first_kind : List Act → Option StepKind
 first_kind [] = None
 first_kind (act ∷ rest) = kind_of act
 
--- a report of an end of the table's generation is posted
+-- a report of an end is posted if it has the table's generation
 abbrev pub posts : System → List Name → Option StepKind
 posts st [] = None
 posts st (name.Listener ∷ rest) = None
@@ -50,7 +50,7 @@ kind_in st Deliver = posts st st.batch
 kind_in st Sweep = Some word.post
 kind_in st s = None
 
--- the exchange of this kind, by what the word says
+-- the exchange of this kind, if any, with the answer that the word gives
 abbrev pub exchange : WordState → Option StepKind → List Exchange
 exchange w None = []
 exchange w (Some kind) = exchange_made kind w ∷ []
@@ -60,7 +60,7 @@ abbrev pub exchanges : System → List Step → List Exchange
 exchanges st [] = []
 exchanges st (s ∷ rest) = exchange st.word (kind_in st s) ++ unwrap_or (option_map (λ (q : System). exchanges q rest) (step st s)) []
 
--- some steps of the word, one after the other
+-- the exchanges of these kinds, made one after the other
 abbrev pub made_all : List StepKind → WordState → List Exchange
 made_all [] w = []
 made_all (kind ∷ kinds) w = exchange_made kind w ∷ made_all kinds (word_after kind w)
@@ -73,7 +73,7 @@ abbrev pub exchanges_in : State → List Event → List Exchange
 exchanges_in st [] = []
 exchanges_in st (e ∷ es) = exchanges_of st e ++ unwrap_or (option_map (λ (q : State). exchanges_in q es) (machine_step st e)) []
 
--- what is left of a program, if nobody else changes the word
+-- the exchanges of the rest of a program, if nobody else changes the word
 abbrev pub word_then : WordState → Option StepKind → WordState
 word_then w None = w
 word_then w (Some kind) = word_after kind w
@@ -88,16 +88,17 @@ left_of (act ∷ rest) w = exchange w (kind_of act) ++ left_of rest (word_then w
 abbrev pub ticket : ℕ → Ticket
 ticket g = record { slot = 0; generation = g }
 
--- The thread i, whose ticket is of the generation g, holds the slot, of which the machine has p there, with this
--- connection, or with none once it has closed it
+-- The thread i, with a ticket of generation g, holds the slot, whose state in the machine is p. The slot has this
+-- connection, or none once the thread has closed it
 pub record Held (p : SlotState) (i g : ℕ) (connection : Option Connection) : Type 0 where
   pub holder : p.holder ≡ By i
   pub there : p.connection ≡ connection
   pub generation : p.generation ≡ g
 
--- A thread t that holds the slot p, with this rest of its program, is where the machine's worker is, which has `more`
--- calls left, if `place` is what the threads have in the slot's place. Its connection c is in its place; it has c out;
--- has taken the notes too, and goes by its plan; has c back in its place, and is to post, or to release the slot
+-- The thread t, which holds the slot, is as far as the machine's worker by the rest of its program. `place` is what
+-- the threads have in the slot's place, p is the machine's slot, and the worker has `more` calls left. In order, the
+-- cases are: the connection c is in its place; t has c out; t has taken the notes too, and goes by its plan; c is
+-- back, and t is to post; c is back, and t is to release the slot
 pub data HolderLike (budget : ℕ) (place : Option Connection) (p : SlotState) (t : Thread) (c : Connection) (more : ℕ)
     : List Act → Type 0 where
   Holds : place ≡ Some c → t.left ≤ budget → more ≡ budget → HolderLike budget place p t c more (drop 1 turn)
@@ -106,8 +107,7 @@ pub data HolderLike (budget : ℕ) (place : Option Connection) (p : SlotState) (
   Stays : place ≡ Some c → is_live (verdict c.pair) ≡ true → HolderLike budget place p t c more (drop 1 again)
   Leaves : place ≡ Some c → may_release c (is_nonempty p.notes) ≡ true → HolderLike budget place p t c more (drop 2 again)
 
--- The thread i, with this rest of its program, is where the machine's worker i is. It has nothing to do; is to open a
--- connection; has a ticket; holds the slot; has closed the connection; has retired the slot
+-- The thread i, which is t, is as far as the machine's worker i, which is k, by the rest of its program
 pub data ThreadLike (budget : ℕ) (place : Option Connection) (p : SlotState) (i : ℕ) (t : Thread) (k : WorkerState)
     : List Act → Type 0 where
   Rests : k ≡ machine.resting → ThreadLike budget place p i t k []
@@ -118,14 +118,13 @@ pub data ThreadLike (budget : ℕ) (place : Option Connection) (p : SlotState) (
   HasClosed : Held p i t.generation None → place ≡ None → k ≡ busy (doing.Closed 0) → ThreadLike budget place p i t k (drop 1 ended)
   HasRetired : p.generation ≡ t.generation → k ≡ busy (doing.Retired 0) → ThreadLike budget place p i t k (drop 2 ended)
 
--- the machine has a worker that is where the thread is
+-- the machine has a worker i that is as far as the thread i
 pub record WorkerFor (budget : ℕ) (place : Option Connection) (p : SlotState) (workers : List WorkerState) (i : ℕ) (t : Thread)
     : Type 0 where
   pub worker : WorkerState
   pub there : slice_get workers i ≡ Some worker
   pub like : ThreadLike budget place p i t worker t.todo
 
--- for each thread
 abbrev pub WorkersFor : ℕ → Option Connection → SlotState → List WorkerState → List Thread → Type 0
 WorkersFor budget place p workers threads =
     (i : ℕ) (t : Thread) → slice_get threads i ≡ Some t → WorkerFor budget place p workers i t
@@ -133,7 +132,7 @@ WorkersFor budget place p workers threads =
 abbrev pub ends_of : SlotState → Option Descriptors
 ends_of p = option_map (λ (c : Connection). c.ends) p.connection
 
--- The machine that has what the threads have, with the slot p, this entry in its table, the tickets of these
+-- The machine that has what the threads have, and in it this slot p, this entry in its table, tickets of these
 -- generations, and these workers
 abbrev pub machine_of : System → SlotState → ℕ → List ℕ → List WorkerState → State
 machine_of st p entry tickets workers = record {
@@ -152,8 +151,8 @@ machine_of st p entry tickets workers = record {
   past = st.past;
 }
 
--- No opening is half way: the word and the place are those of the slot p, and each thread is where its worker is. A
--- place is empty while its connection is out with the holder of the slot
+-- No opening is half way: the word and the place are those of the slot p, and each thread is as far as its worker.
+-- While the connection is out with the holder of the slot, the place is empty
 pub record Settled (st : System) (p : SlotState) (workers : List WorkerState) : Type 0 where
   pub ends : st.ends ≡ ends_of p
   pub word : st.word ≡ word_at p
@@ -164,9 +163,9 @@ pub record Settled (st : System) (p : SlotState) (workers : List WorkerState) : 
 abbrev pub taken_word : ℕ → WordState
 taken_word notes = record { pending = notes; free = false; held = true }
 
--- How far the poller's thread t is with the opening of c, by the word, the place, the table's entry and the rest of its
--- program: both sockets are registered; the slot is adopted; the table has its generation; the old notes are gone; the
--- connection is in its place; the note of the opening is posted
+-- How far the poller's thread t is with the opening of c, by the word, the place, the table's entry and the rest of
+-- its program. Each name says what t has done last: Entered that the entry is made, Emptied that the old notes are
+-- gone
 pub data Stage (word : WordState) (place : Option Connection) (entry : ℕ) (t : Thread) (c : Connection) : List Act → Type 0 where
   Registered : (notes : ℕ) → word ≡ record { pending = notes; free = true; held = true } → place ≡ None → t.out ≡ Some c
       → Stage word place entry t c (drop 1 open_slot)
@@ -177,11 +176,11 @@ pub data Stage (word : WordState) (place : Option Connection) (entry : ℕ) (t :
   Placed : word ≡ taken_word 0 → place ≡ Some c → entry ≡ t.generation → Stage word place entry t c (drop 5 open_slot)
   Posted : word ≡ taken_word 1 → place ≡ Some c → entry ≡ t.generation → Stage word place entry t c (drop 6 open_slot)
 
--- what the machine has of the slot once it has made the opening
+-- the slot in the machine once the machine has made the opening
 abbrev pub opened_slot : ℕ → Connection → SlotState
 opened_slot g c = record { generation = g; connection = Some c; holder = Nobody; notes = g ∷ [] }
 
--- each thread but the poller's rests, and so does its worker
+-- each thread but the poller's rests, and its worker rests too
 abbrev pub OthersRest : List Thread → List WorkerState → Type 0
 OthersRest threads workers =
     (i : ℕ) (t : Thread) → i ≢ 0 → slice_get threads i ≡ Some t → (t.todo ≡ []) × (slice_get workers i ≡ Some machine.resting)
@@ -201,12 +200,12 @@ pub data Like (st : System) (w : State) : Type 0 where
   IsHalfOpen : (t : Thread) (c : Connection) (workers : List WorkerState)
       → w ≡ machine_of st (opened_slot t.generation c) t.generation (t.generation ∷ []) workers → HalfOpen st t c workers → Like st w
 
--- What the machine is ahead by: the exchanges of an opening that is half way which the threads have not yet made
+-- What the machine is ahead by: if an opening is half way, those of its exchanges that the threads have not made yet
 abbrev pub ahead : (st : System) (w : State) → Like st w → List Exchange
 ahead st w (IsSettled p workers is set) = []
 ahead st w (IsHalfOpen t c workers is half) = left_of t.todo st.word
 
--- the calls of the threads and those of the machine's workers: by which, and with which reply
+-- the calls of the threads, and those of the machine's workers: who makes each, and its reply
 abbrev pub call_of : Step → List (ℕ × Reply)
 call_of (Calls i r) = (i, r) ∷ []
 call_of s = []
@@ -221,9 +220,9 @@ call_in e = []
 abbrev pub calls_in : List Event → List (ℕ × Reply)
 calls_in = flat_map call_in
 
--- What a thread with a ticket of this generation finds, if this is the rest of its program: where it claims the slot,
--- nobody holds it; where it takes the connection out, the ticket's own is in the place; where it puts one in, the
--- place is empty; where it adopts the slot, the slot is free
+-- What a thread with a ticket of this generation finds at its next act. If it claims the slot, nobody holds the slot;
+-- if it takes the connection out, the ticket's own is in the place; if it puts one in, the place is empty; if it
+-- adopts the slot, the slot is free
 abbrev pub Finds : WordState → Option Connection → ℕ → List Act → Type 0
 Finds word place g (Claim ∷ rest) = word.held ≡ false
 Finds word place g (TakeOut ∷ rest) = (c : Connection) × (place ≡ Some c) × (c.pair.generation ≡ g)
@@ -231,14 +230,14 @@ Finds word place g (PutIn ∷ rest) = place ≡ None
 Finds word place g (Adopt ∷ rest) = word.free ≡ true
 Finds word place g acts = Unit {0}
 
--- Each thread finds this. There is at most one ticket of the slot, and it is free at most once
+-- Each thread finds what it needs. There is at most one ticket of the slot, and the slot is free at most once
 pub record NoActInVain (st : System) : Type 0 where
   pub finds : (i : ℕ) (t : Thread) → slice_get st.threads i ≡ Some t → Finds st.word st.place t.generation t.todo
   pub one_ticket : length st.tickets ≤ 1
   pub free_once : st.free ≤ 1
 
--- What the clock, the network and the kernel do, and what the poller does at its listener and with a poll, as the
--- machine's events: those of the steps, and those among the events
+-- What clock, network and kernel do, and the poller at its listener and with a poll, as events of the machine: first
+-- by the steps of the threads, then among the machine's events
 
 abbrev pub here : Reported → Reported
 here reported.Listener = reported.Listener
@@ -271,10 +270,10 @@ outside_in e = []
 abbrev pub outside_among : List Event → List Event
 outside_among = flat_map outside_in
 
--- These steps of threads are a run of the machine: there are events, allowed one after the other from its opening,
--- that lead to a like state. They have the same calls and replies in the same order; clock, network, kernel, listener
--- and polls do the same in the same order; and so do the exchanges of the slot's word, with the same answers, but for
--- what the machine is ahead by. So the headline holds of it
+-- These steps of threads are a run of the machine: events, allowed one after the other from its opening, lead to a
+-- like state. Of the steps and of the events these are the same, in the same order: calls and replies; what clock,
+-- network, kernel, listener and polls do; and exchanges of the slot's word with their answers, but for those that the
+-- machine is ahead by. So the headline holds
 pub record IsARun (l : Limits) (steps : List Step) (st : System) : Type 0 where
   pub made : List Event
   pub world : State

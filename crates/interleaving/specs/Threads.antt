@@ -1,6 +1,6 @@
--- The threads of the server at one slot. Part of the promises. First the programs of a turn and of an opening, as
--- lists of atomic acts; then what the threads share, which is the slot's word, its place, the queues and the kernel,
--- and what each act does to it. Acts of different threads come in any order.
+-- The threads of the server at one slot. Part of the promises. First come the programs of a turn and of an opening, as
+-- lists of atomic acts; then what the threads share (the slot's word, its place, the queues and the kernel), and what
+-- each act does to that. Acts of different threads come in any order.
 use Rattle.std.specs.{Global.Global, Prelude.{◌≡◌, Vec, ℕ, zero, suc, ◌+◌, ◌-◌, ◌==◌, Bool, true, false, not, ◌&&◌, nat_lt, nat_le, if◌then◌else◌, List, [], ◌∷◌, ◌++◌, length, replicate, slice_get, slice_set, Option, Some, None, option_map, option_and_then}, Option.is_none}
 use Rattle.token.specs.{declared.{side.Side.{Side, TheVariants.{Client, Target}}, name.Name.Name}, Names.EndName}
 use Rattle.kernel_model.specs.{declared.{reply.Reply.Reply, watched.Watched.Watched, accepting.Accepting.{Accepting, TheVariants.{Accepted, Blocked, Again, Starved}}, both.{Descriptors.Descriptors, Sockets.Sockets}}, Outcome.{guard, Told}, Kernel.KernelState}
@@ -18,27 +18,27 @@ use Rattle.dispatch.specs.Acts as server
 
 -- Programs
 
--- a turn begins so
+-- how a turn begins
 abbrev pub turn : List Act
 turn = Claim ∷ TakeOut ∷ TakeNotes ∷ []
 
--- it ends so where the slot has no connection of the ticket's generation
+-- how a turn ends if the slot has no connection of the ticket's generation
 abbrev pub gone : List Act
 gone = Discard ∷ Release ∷ []
 
--- where the connection has no call to make
+-- how a turn ends if the connection has no call to make
 abbrev pub quiet : List Act
 quiet = PutIn ∷ Release ∷ []
 
--- where the budget of calls is spent
+-- how a turn ends if the budget of calls is spent
 abbrev pub again : List Act
 again = PutIn ∷ Post ∷ Release ∷ []
 
--- and where the connection is done or failed
+-- how a turn ends if the connection is done or failed
 abbrev pub ended : List Act
 ended = Close ∷ Retire ∷ Give ∷ []
 
--- what comes next in a turn with this many calls left, by the pair
+-- what comes next in a turn, by the pair and by the calls that are left
 abbrev pub plan : ℕ → PairState → List Act
 plan left p = if is_live (verdict p) then (if is_none (next_call p) then quiet else (if left == 0 then again else Call ∷ [])) else ended
 
@@ -46,15 +46,15 @@ plan left p = if is_live (verdict p) then (if is_none (next_call p) then quiet e
 abbrev pub open_slot : List Act
 open_slot = Register ∷ Adopt ∷ Enter ∷ Discard ∷ PutIn ∷ Post ∷ Release ∷ []
 
--- Two acts change nothing here: after `Settle` the sockets hold nothing back, and whether a ticket is in the queue or
--- in a hand does not matter
+-- The acts without the two that change nothing here: after `Settle` the sockets hold nothing back, and a ticket counts
+-- alike in the queue and in a hand
 abbrev pub seen : List Act → List Act
 seen [] = []
 seen (Settle ∷ acts) = seen acts
 seen (PutTicket ∷ acts) = seen acts
 seen (act ∷ acts) = act ∷ seen acts
 
--- the acts that a turn of the server makes are these programs, but for its calls; and so are those of an opening
+-- the acts of the server's turns, without calls, are these programs; and so are those of its opening
 pub record ProgramsAreThese : Type 0 where
   pub gone : (woke : Bool) → seen (gone_turn false woke) ≡ Claim ∷ TakeOut ∷ gone
   pub quiet : (woke : Bool) → seen (quiet_turn woke) ≡ turn ++ quiet
@@ -65,19 +65,19 @@ pub record ProgramsAreThese : Type 0 where
 -- What the threads share
 
 -- A thread: the generation of its ticket or of the connection that it opens, the connection that it has out of its
--- place, the calls that are left, and the rest of its program. Without one it rests
+-- place, how many calls are left, and the rest of its program. It rests if no program is left
 pub record Thread : Type 0 where
   pub generation : ℕ
   pub out : Option Connection
   pub left : ℕ
   pub todo : List Act
 
--- `second` is the second that it is, and `kernel` has the sockets. The poller has `flag`, which says that an accept is
--- worth a try, perhaps an `accepted` client, the rest of its `batch`, and in its table the slot's `entry`. `ends` are
--- the sockets of the slot's connection. `word` is the slot's word, `place` the connection in its place, `tickets` are
--- the generations of its tickets in the ready queue and in hands, oldest first, and `free` is how often the slot
--- stands in the queue of free slots or in the poller's hand. The first of the `threads` is the poller's, and `past`
--- are the closed connections, in order
+-- `second` is how many seconds have passed, and `kernel` has the sockets. The poller has the accept flag (`flag`),
+-- perhaps a client that was `accepted`, the rest of its `batch`, and the slot's `entry` in its table. `ends` are the
+-- sockets of the slot's connection, `word` is the slot's word, and `place` the connection in its place. `tickets` are
+-- the generations of the slot's tickets in the ready queue and in hands, oldest first. `free` is how often the slot is
+-- in the queue of free slots or in the poller's hand. The first of the `threads` is the poller's. `past` has the
+-- closed connections, in order
 pub record System : Type 0 where
   pub limits : Limits
   pub second : ℕ
@@ -97,7 +97,7 @@ pub record System : Type 0 where
 abbrev pub resting : Thread
 resting = record { generation = 0; out = None; left = 0; todo = [] }
 
--- how it begins, with the threads that the limits name
+-- how it begins, with a thread for each worker of the limits
 abbrev pub start : Limits → System
 start l = record {
   limits = l;
@@ -152,24 +152,22 @@ abbrev pub rests_at : Option Thread → Bool
 rests_at None = false
 rests_at (Some t) = rests t
 
--- the poller's thread rests
 abbrev pub poller_rests : System → Bool
 poller_rests st = rests_at (slice_get st.threads 0)
 
--- the same over another kernel
 abbrev pub over_kernel : System → Option KernelState → Option System
 over_kernel st k = option_map (λ (q : KernelState). record st { kernel = q }) k
 
 -- Exchanges of the slot's word
 
--- a note is posted, and a ticket of this generation is in hand where the post wakes
+-- a note is posted; if the post answers Wake, a ticket of this generation is in hand
 abbrev pub posted : System → ℕ → System
 posted st g = record st {
   word = word_after word.post st.word;
   tickets = if wakes st.word then st.tickets ++ g ∷ [] else st.tickets;
 }
 
--- a release, and a ticket of this generation is in hand where notes wait
+-- a release; if notes wait, a ticket of this generation is in hand
 abbrev pub released : System → ℕ → System
 released st g = record st {
   word = word_after word.release st.word;
@@ -180,25 +178,25 @@ released st g = record st {
 abbrev pub exchanged : System → word.StepKind → System
 exchanged st kind = record st { word = word_after kind st.word }
 
--- The acts of a thread i, which is t, with this rest of its program
+-- The acts of the thread i, which is t, with this rest of its program after the act
 
 abbrev pub goes_on : Thread → List Act → Thread
 goes_on t rest = record t { todo = rest }
 
--- it holds the slot, or drops its ticket where the slot is held
+-- the thread holds the slot; or drops its ticket, if the slot is held
 abbrev pub claimed : System → ℕ → Thread → List Act → System
 claimed st i t rest =
     if st.word.held then with_thread st i resting
     else with_thread (exchanged st word.claim) i (goes_on t rest)
 
--- It has the connection, if that is the ticket's own. Another one, which is never found, stays in its place
+-- The thread has the connection out, if it is the ticket's own. Another one, which is never found, stays in its place
 abbrev pub taken_out : System → ℕ → Thread → List Act → Option Connection → System
 taken_out st i t rest None = with_thread st i (goes_on t gone)
 taken_out st i t rest (Some c) =
     if c.pair.generation == t.generation then with_thread (record st { place = None }) i (record t { out = Some c; todo = rest })
     else with_thread st i (goes_on t gone)
 
--- a turn goes on with a connection that is out, and with this many calls left; it fails where the idle limit has passed
+-- a turn goes on with the connection c out and `left` calls left; c fails if the idle limit has passed
 abbrev pub planned : System → Thread → ℕ → Connection → Thread
 planned st t left c =
     let p : PairState = expired st.second st.limits.idle c.pair in
@@ -208,7 +206,7 @@ planned st t left c =
 abbrev pub heard : ℕ → Connection → Connection
 heard notes c = if some_wait notes then record c { pair = noted c.pair } else c
 
--- without a connection out, which never happens, the notes are thrown away
+-- all notes are taken; that no connection is out never happens
 abbrev pub taking : System → ℕ → Thread → List Act → Option Connection → System
 taking st i t rest None = with_thread (exchanged st word.take) i (goes_on t rest)
 taking st i t rest (Some c) = with_thread (exchanged st word.take) i (planned st t t.left (heard st.word.pending c))
@@ -239,7 +237,7 @@ registered st i t rest free g told = with_thread
       todo = rest;
     })
 
--- with a free slot, an accepted client, and a generation after the table's
+-- an opening needs a free slot, an accepted client, and a generation after the table's
 abbrev pub registering : System → ℕ → Thread → List Act → ℕ → Option System
 registering st i t rest zero = None
 registering st i t rest (suc free) = when st.accepted (option_and_then
@@ -248,7 +246,7 @@ registering st i t rest (suc free) = when st.accepted (option_and_then
     (token_of 0 Target (st.entry + 1)))
     (token_of 0 Client (st.entry + 1)))
 
--- the slot is the thread's; or, which never happens, it was not free and is no longer used
+-- the thread holds the slot; or, which never happens, the slot was not free and is no longer used
 abbrev pub adopted : System → ℕ → Thread → List Act → System
 adopted st i t rest =
     if st.word.free then with_thread (exchanged st word.adopt) i (goes_on t rest)
@@ -296,7 +294,7 @@ begun st i most [] = None
 begun st i most (g ∷ rest) =
     Some (with_thread (record st { tickets = rest }) i (record { generation = g; out = None; left = most; todo = turn }))
 
--- a turn makes at most the budget of calls, and fewer in the poller's thread
+-- a turn has at most as many calls as the budget; the server gives a poller's thread at most 8
 abbrev pub begins : System → ℕ → ℕ → Thread → Option System
 begins st i most t = when (rests t && nat_le most st.limits.budget) (begun st i most st.tickets)
 

@@ -3,10 +3,10 @@ ghost use Rattle.interleaving.specs.{Likeness.EveryInterleavingIsARun, Threads.P
 
 use relay_core::laws;
 
-/// For each list of steps that threads make by their programs, in any order, there is a list of events of the machine,
-/// allowed one after the other from its opening, that leads to a like state. Calls and replies, exchanges of the slot's
-/// word with their answers, and what clock, network, kernel, listener and polls do are the same, in the same order. And
-/// no act of a thread is in vain.
+/// For each list of steps that threads make by their programs, in any order, there is a list of events, allowed one
+/// after the other from the machine's opening, that leads to a like state. Calls and replies, exchanges of the slot's
+/// word with their answers, and what clock, network, kernel, listener and polls do are the same, in the same order,
+/// but that the machine may be ahead in an opening. And no act of a thread is in vain.
 pub fn every_interleaving_is_a_run()
     ensures { EveryInterleavingIsARun }
 {
@@ -17,8 +17,8 @@ pub fn every_interleaving_is_a_run()
     world::laws::every_run_holds();
 }
 
-/// The acts that a turn of the server makes, by the contract of `turns`, are the program of that turn here, but for its
-/// calls, and for acts that change nothing here; and those of an opening, by the contract of `rounds`, are its program.
+/// The acts of a turn of the server, by the contract of `turns`, are the program of that turn here, but for its calls
+/// and for acts that change nothing here. The acts of an opening, by the contract of `rounds`, are its program.
 #[tactic(auto, using(crate::proofs::Runs::programs_are_these))]
 pub fn programs_are_these()
     ensures { ProgramsAreThese }

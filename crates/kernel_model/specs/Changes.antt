@@ -1,16 +1,16 @@
--- A change of the network as one value, by which private functions make any of the four. Not part of the promises.
+-- A change of the network as one value, so that one private function makes any of the four. Not part of the promises.
 use Rattle.std.specs.Prelude.{Bool, true, false, nat_lt, List, length, Option, Some, None, option_map}
 use Rattle.token.specs.declared.name.Name.{Name, TheVariants.End}
 use Rattle.kernel_model.specs.{declared.change.Change.{Change, TheVariants.{Arrive, Fin, Reset, Room}}, Outcome.Told, Ends.{EndState, arrival, finish, failure, new_room}, Kernel.{Registered, reported}}
 
--- what it does to an end
+-- what a change does to an end
 abbrev pub change_of : Change → EndState → Option (Told EndState Bool)
 change_of (Arrive bytes) e = arrival e bytes.now
 change_of Fin e = finish e
 change_of Reset e = failure e
 change_of Room e = new_room e
 
--- bytes come with it
+-- the change brings bytes
 abbrev pub brings_bytes : Change → Bool
 brings_bytes (Arrive bytes) = true
 brings_bytes change = false
@@ -23,7 +23,7 @@ pub record Watch : Type 0 where
 abbrev pub watch : Registered → List Name → Watch
 watch registered queue = record { registered = registered; queue = queue }
 
--- what it does to both
+-- what a change does to an open end and to the queue
 abbrev pub told : Change → Watch → Option Watch
 told change w = option_map
     (λ (t : Told EndState Bool). record {
@@ -32,7 +32,7 @@ told change w = option_map
     })
     (change_of change w.registered.socket)
 
--- it makes the queue longer
+-- the change is allowed, and makes the queue longer
 abbrev pub lengthens : Watch → Option Watch → Bool
 lengthens w None = false
 lengthens w (Some after) = nat_lt (length w.queue) (length after.queue)

@@ -5,20 +5,20 @@ use Rattle.token.specs.declared.side.Side.{Side, TheVariants.{Client, Target}}
 use Rattle.kernel_model.specs.Outcome.{guard, Told}
 
 pub record EndState : Type 0 where
-  -- every byte that ever came, those that were not read yet, and every byte that writes took
+  -- every byte that ever arrived, those that were not read yet, and every byte that writes took
   pub arrived : List ℕ
   pub unread : List ℕ
   pub taken : List ℕ
-  -- the peer's end of input came; an error did; writes have room; sending was shut down
+  -- the peer's end of input arrived; an error arrived; there is room for writes; sending was shut down
   pub fin : Bool
   pub err : Bool
   pub room : Bool
   pub shut : Bool
-  -- the next report of this kind is due, since a call of the kind answered blocked
+  -- the next change of this kind must be reported, since a call of the kind answered blocked
   pub read_armed : Bool
   pub write_armed : Bool
 
--- these bytes end in those
+-- `bytes` end in `tail`
 abbrev pub IsTailOf : List ℕ → List ℕ → Type 0
 IsTailOf bytes tail = (front : List ℕ) × (bytes ≡ front ++ tail)
 
@@ -49,8 +49,8 @@ is_readable e = is_nonempty e.unread || (e.fin || e.err)
 abbrev pub is_writable : EndState → Bool
 is_writable e = e.room || e.err
 
--- Each change of the network has the end after it, and says whether it must be reported: the arm of its kind was set,
--- and is cleared. What can't happen has no value.
+-- Each change of the network gives the end after it, and says whether it must be reported: it must if the arm of its
+-- kind was set. The arm is cleared. None if the change cannot happen.
 
 -- bytes come, at least one
 abbrev pub arrival : EndState → List ℕ → Option (Told EndState Bool)
@@ -62,7 +62,7 @@ abbrev pub finish : EndState → Option (Told EndState Bool)
 finish e = guard (not e.fin && not e.err)
     (record { value = record e { fin = true; read_armed = false }; told = e.read_armed })
 
--- an error comes, as the peer's reset: it is of both kinds
+-- an error comes, such as the peer's reset: it counts as both kinds
 abbrev pub failure : EndState → Option (Told EndState Bool)
 failure e = guard (not e.err)
     (record { value = record e { err = true; read_armed = false; write_armed = false }; told = e.read_armed || e.write_armed })

@@ -10,9 +10,8 @@ pub record Registered : Type 0 where
   pub token : EndName
   pub socket : EndState
 
--- `ends` has a place for each descriptor from 0 on. `queue` are the names that the next poll may report. `backlog`
--- connections wait at the listener, and `armed` says that the next one must be reported, since an accept answered
--- blocked
+-- `ends` has an entry for each descriptor from 0 on. `queue` has the names that the next poll may give. `backlog`
+-- connections wait at the listener. If `armed`, the next one must be reported, since an accept answered blocked
 pub record KernelState : Type 0 where
   pub ends : List (Option Registered)
   pub queue : List Name
@@ -34,7 +33,7 @@ lowest_free ends = unwrap_or (position is_none ends) (length ends)
 abbrev pub with_end : List (Option Registered) → ℕ → Registered → List (Option Registered)
 with_end ends descriptor r = if nat_lt descriptor (length ends) then slice_set ends descriptor (Some r) else ends ++ Some r ∷ []
 
--- an end is opened and registered under its token; its descriptor is the answer
+-- an end is opened and registered under its token; the answer is its descriptor
 abbrev pub open_end : KernelState → EndName → Told KernelState ℕ
 open_end k token = record {
   value = record k { ends = with_end k.ends (lowest_free k.ends) (record { token = token; socket = opened token.side }) };
@@ -48,7 +47,7 @@ open_both k client target = record {
   told = record { client = (open_end k client).told; target = (open_end (open_end k client).value target).told };
 }
 
--- an end is closed (close(2)): its name leaves the queue, and what it was is the answer
+-- an end is closed (close(2)): its name leaves the queue, and the answer is the end as it was
 abbrev pub close : KernelState → ℕ → Option (Told KernelState EndState)
 close k descriptor = option_map
     (λ (r : Registered). record {
@@ -65,7 +64,7 @@ close_both k ends = option_and_then
     (close one.value ends.target))
     (close k ends.client)
 
--- a call that is allowed makes the queue longer
+-- a call is allowed, and makes the queue longer
 abbrev pub queues_more : KernelState → Option KernelState → Bool
 queues_more k None = false
 queues_more k (Some after) = nat_lt (length k.queue) (length after.queue)
@@ -127,7 +126,7 @@ abbrev pub is_quiet_end : Option Registered → Bool
 is_quiet_end None = true
 is_quiet_end (Some r) = not (is_readable r.socket || is_writable r.socket)
 
--- nothing could be done there now, so that a report would be without cause
+-- no call could do anything there now, so a report has no cause
 abbrev pub is_quiet : KernelState → Watched → Bool
 is_quiet k watched.Listener = k.backlog == 0
 is_quiet k watched.Waker = true
@@ -137,7 +136,7 @@ is_quiet k (watched.End descriptor) = is_quiet_end (end_at k.ends descriptor)
 abbrev pub spurious : KernelState → Watched → Option KernelState
 spurious k who = option_map (λ (name : Name). record k { queue = with_name name k.queue }) (name_of k who)
 
--- a report is taken back, which can happen only while nothing could be done there
+-- a report is withdrawn, which happens only while no call could do anything there
 abbrev pub vanish : KernelState → Watched → Option KernelState
 vanish k who = option_and_then
     (λ (name : Name). guard (has name k.queue && is_quiet k who) (record k { queue = without_name name k.queue }))
@@ -153,8 +152,8 @@ abbrev pub connect_in : KernelState → Option KernelState
 connect_in k = guard (nat_lt k.backlog 4096)
     (record k { backlog = k.backlog + 1; queue = reported k.queue Listener k.armed; armed = false })
 
--- accept(2): it takes a connection; it would block, and the next connection must be reported; it is worth another try
--- at once; or what it needs is used up
+-- accept(2) takes a connection; or would block, and then the next connection must be reported; or is worth another try
+-- at once; or lacks descriptors or memory
 abbrev pub accept : KernelState → Accepting → Option KernelState
 accept k Accepted = guard (nat_lt 0 k.backlog) (record k { backlog = k.backlog - 1 })
 accept k Blocked = guard (k.backlog == 0) (record k { armed = true })

@@ -14,7 +14,7 @@ same a b = false
 abbrev pub has : Name → List Name → Bool
 has name names = list_any (same name) names
 
--- the names with one more, which stands there once
+-- the names and this one, which is in the list once
 abbrev pub with_name : Name → List Name → List Name
 with_name name names = if has name names then names else names ++ name ∷ []
 
@@ -24,7 +24,7 @@ without_name name names = filter (λ other. not (same name other)) names
 abbrev pub without_names : List Name → List Name → List Name
 without_names taken names = filter (λ other. not (has other taken)) names
 
--- no name stands there twice
+-- no name is in the list twice
 abbrev pub are_distinct : List Name → Bool
 are_distinct [] = true
 are_distinct (name ∷ names) = not (has name names) && are_distinct names

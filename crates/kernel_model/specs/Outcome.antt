@@ -1,4 +1,4 @@
--- How a call of the model ends, compared with the value that its definition gives, if any. Part of the promises.
+-- How the result of a call fits the value that a definition gives, if it gives one. Part of the promises.
 use Rattle.std.specs.Prelude.{◌≡◌, Bool, Option, Some, None, IsSome, Result, Ok, Err, if◌then◌else◌}
 use Rattle.kernel_model.specs.declared.refusal.Refusal.{Refusal, TheVariants.{NotAllowed, NoMemory}}
 
@@ -10,7 +10,7 @@ pub record Told (X Y : Type 0) : Type 0 where
   pub value : X
   pub told : Y
 
--- The call made the value that is defined. It answers NotAllowed only where none is, and NoMemory only where one is.
+-- The call made the defined value. It answers NotAllowed only if none is defined, and NoMemory only if one is.
 abbrev pub Meets : {X : Type 0} → Option X → X → X → Result (Unit {0}) Refusal → Type 0
 Meets defined old new (Ok x) = defined ≡ Some new
 Meets defined old new (Err NotAllowed) = (defined ≡ None) × (new ≡ old)

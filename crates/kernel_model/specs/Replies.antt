@@ -1,5 +1,5 @@
--- Which replies an end may give to each call, and the end after it. Part of the promises. A reply that it may not give
--- has no value. Interrupted and a failure leave the end as it is. Only a write can fail by taking 0 bytes.
+-- Which replies an end may give to each call, and the end after the call. Part of the promises. None for a reply that
+-- the end may not give. Interrupted and a failure leave the end as it is. Only a write can fail by taking 0 bytes.
 use Rattle.std.specs.Prelude.{ℕ, Bool, true, false, not, ◌&&◌, nat_lt, nat_le, List, ◌++◌, length, take, drop, Option, Some, None}
 use Rattle.token.specs.declared.kind.Kind.{Kind, TheVariants.Zero}
 use Rattle.kernel_model.specs.{declared.reply.Reply.{Reply, TheVariants.{Bytes, End, Wrote, Joined, Shut, Blocked, Interrupted, Failed}}, Outcome.guard, Ends.{EndState, is_nonempty, is_readable, is_writable}}
@@ -11,7 +11,7 @@ is_zero _ = false
 abbrev pub is_count : ℕ → ℕ → Bool
 is_count n most = nat_lt 0 n && nat_le n most
 
--- the bytes that a read of at most `most` hands over where it answers with n of them
+-- the bytes that a read of at most `most` gives if it answers with n bytes
 abbrev pub bytes_read : EndState → ℕ → ℕ → Option (List ℕ)
 bytes_read e most n = guard (is_count n most && nat_le n (length e.unread)) (take n e.unread)
 
@@ -23,7 +23,7 @@ failed e kind = guard (not (is_zero kind)) e
 abbrev pub blocked_write : EndState → Option EndState
 blocked_write e = guard (not (is_writable e)) (record e { write_armed = true })
 
--- the room is gone where the write filled it
+-- no room is left if the write filled it
 abbrev pub wrote : EndState → List ℕ → ℕ → Bool → Option EndState
 wrote e offer n full = guard (e.room && is_count n (length offer)) (record e { taken = e.taken ++ take n offer; room = not full })
 
@@ -44,7 +44,7 @@ after_write e offer Interrupted = Some e
 after_write e offer (Failed kind) = Some e
 after_write e offer _ = None
 
--- the replies that a call needs memory for: those by which a write takes bytes
+-- the replies for which a call needs memory: the write takes bytes
 abbrev pub needs_memory : Reply → Bool
 needs_memory (Wrote n full) = true
 needs_memory _ = false

@@ -1,4 +1,4 @@
-/// What the network does to an end, as one value.
+/// A change that the network makes at an end.
 #[derive(Clone, Copy)]
 pub enum Change<'b> {
     /// These bytes arrive.

@@ -1,4 +1,4 @@
-// Both ends of a connection, opened and closed at once.
+// Opens or closes both ends of a connection in one call.
 ghost use Rattle.std.specs.Prelude.{◌≡◌, ◌<◌, ◌+◌, ◌≤◌, ◌↔◌, IsTrue, IsSome, Some, vec_len, vec_capacity};
 ghost use Rattle.kernel_model.specs.{Outcome.{Tells, TellsAlways}, Ends.opened, Kernel.{lowest_free, with_end, open_both, close_both}};
 
@@ -11,8 +11,8 @@ use token::Token;
 
 #[tactic(auto, using(std::proofs::lemmas::Option::gets, std::proofs::lemmas::Grind::common_steps))]
 impl Kernel {
-    /// Opens both ends of a connection, the client's first, as [`Kernel::open_end`] does. Refuses with `NoMemory`, and
-    /// opens neither, if the table of descriptors cannot grow.
+    /// Opens both ends of a connection, the client's first, as [`Kernel::open_end`] does. If the table of descriptors
+    /// cannot grow, refuses with `NoMemory` and opens neither.
     pub fn open_both(&mut self, client: Token, target: Token) -> Result<Descriptors, Refusal>
         ensures { Tells (Some (open_both self.old client target)) self.old self.new result }
     {
@@ -31,8 +31,8 @@ impl Kernel {
             && self.end(ends.target).is_some()
     }
 
-    /// Closes both ends of a connection, as [`Kernel::close`] does, and returns them. Refuses with `NotAllowed`, and
-    /// closes neither, if a descriptor is not open, or both are the same.
+    /// Closes both ends of a connection, as [`Kernel::close`] does, and returns them. If a descriptor is not open, or
+    /// both are equal, refuses with `NotAllowed` and closes neither.
     pub fn close_both(&mut self, ends: Descriptors) -> Result<Sockets, Refusal>
         ensures { TellsAlways (close_both self.old ends) self.old self.new result }
     {
@@ -45,7 +45,7 @@ impl Kernel {
     }
 }
 
-/// Opens an end at the lowest free descriptor, and returns that. The caller has made room.
+/// Opens an end at the lowest free descriptor, which it returns. The caller has made room in `ends`.
 pub fn place(alloc: Global, ends: &mut Vec<Option<Open>>, token: Token) -> usize
     requires { vec_len ends.old < vec_capacity ends.old }
     ensures descriptor { result ≡ lowest_free ends.old.items }

@@ -12,7 +12,7 @@ use token::{Kind, Side};
 #[derive(Drop)]
 pub struct End {
     arrived: Vec<u8>,
-    // How many of these were read.
+    // How many bytes of `arrived` were read.
     read: usize,
     taken: Vec<u8>,
     fin: bool,
@@ -45,7 +45,8 @@ impl Model for End {
 }
 
 impl End {
-    /// An end as its connection opens. The client's has room; the target's gets it once the connect has completed.
+    /// An end as it is when its connection opens. The client's end has room; the target's gets room when the connect
+    /// completes.
     pub fn new(alloc: Global, side: Side) -> End
         ensures { result ≡ opened side }
     {
@@ -112,14 +113,14 @@ impl End {
         self.shut
     }
 
-    /// Whether something to read must be reported, as after a read that answered blocked.
+    /// Whether the next bytes, end of input or error must be reported, since a read answered blocked.
     pub fn is_read_armed(&self) -> bool
         ensures { result ≡ self.now.read_armed }
     {
         self.read_armed
     }
 
-    /// Whether room must be reported, as after a write or a join that answered blocked.
+    /// Whether room or an error must be reported, since a write or a join answered blocked.
     pub fn is_write_armed(&self) -> bool
         ensures { result ≡ self.now.write_armed }
     {
@@ -147,10 +148,10 @@ impl End {
         !bytes.is_empty() && !self.fin && !self.err
     }
 
-    /// Bytes arrive from the peer. Returns whether that must be reported.
+    /// Bytes arrive from the peer. Returns whether their arrival must be reported.
     ///
-    /// Refuses with `NotAllowed` if there are none, or after the end of input or an error, and with `NoMemory` if the
-    /// list of what arrived cannot grow. A refusal changes nothing.
+    /// Refuses with `NotAllowed` if `bytes` is empty, or after the end of input or an error, and with `NoMemory` if
+    /// the list of what arrived cannot grow. A refusal changes nothing.
     pub fn arrive(&mut self, bytes: &[u8]) -> Result<bool, Refusal>
         ensures { Tells (arrival self.old bytes.now) self.old self.new result }
     {
@@ -162,7 +163,7 @@ impl End {
     }
 
     /// The peer's end of input arrives. Returns whether that must be reported. Refuses with `NotAllowed`, and changes
-    /// nothing, if it has arrived before, or after an error.
+    /// nothing, if the end of input or an error arrived before.
     pub fn fin(&mut self) -> Result<bool, Refusal>
         ensures { TellsAlways (finish self.old) self.old self.new result }
     {
@@ -174,7 +175,7 @@ impl End {
     }
 
     /// An error arrives, such as a reset by the peer. Returns whether that must be reported. Refuses with
-    /// `NotAllowed`, and changes nothing, if one has arrived before.
+    /// `NotAllowed`, and changes nothing, if an error arrived before.
     pub fn reset(&mut self) -> Result<bool, Refusal>
         ensures { TellsAlways (failure self.old) self.old self.new result }
     {
@@ -188,7 +189,7 @@ impl End {
     }
 
     /// The end gets room for writes. Returns whether that must be reported. Refuses with `NotAllowed`, and changes
-    /// nothing, if it has room, or after an error.
+    /// nothing, if the end has room, or after an error.
     pub fn room(&mut self) -> Result<bool, Refusal>
         ensures { TellsAlways (new_room self.old) self.old self.new result }
     {
@@ -235,8 +236,8 @@ impl End {
         }
     }
 
-    /// The bytes that a read of at most `most` gives if it answers with `count` of them. None if it may not, because
-    /// `count` is 0, or more than `most` or than are unread.
+    /// The bytes that a read of at most `most` bytes gives if it returns `count` of them. None if `count` is 0, or
+    /// more than `most` or than the unread bytes.
     pub fn bytes_read(&self, most: usize, count: usize) -> Option<&[u8]>
         ensures { option_copied result ≡ bytes_read self.now most count }
     {
@@ -248,9 +249,9 @@ impl End {
 
     /// A read of at most `most` bytes gets this reply (read(2)).
     ///
-    /// Refuses with `NotAllowed`, and changes nothing, if a read may not be answered so: with no bytes, or more than
-    /// `most` or than are unread; with the end of input before it has arrived or while bytes are unread; with blocked
-    /// if the end is readable; with a failure of the kind `Zero`; or with a reply to another call.
+    /// Refuses with `NotAllowed`, and changes nothing, if a read may not get this reply: no bytes, or more than `most`
+    /// or than are unread; the end of input before it has arrived or while bytes are unread; blocked while the end is
+    /// readable; a failure of the kind `Zero`; or a reply to another call.
     pub fn read(&mut self, most: usize, reply: Reply) -> Result<(), Refusal>
         ensures { MeetsAlways (after_read self.old most reply) self.old self.new result }
     {
@@ -266,9 +267,9 @@ impl End {
 
     /// A write of `offer` gets this reply (write(2)).
     ///
-    /// Refuses with `NotAllowed` if a write may not be answered so: with a count when there is no room, or one that
-    /// is 0 or more than were offered; with blocked if the end is writable; or with a reply to another call. Refuses
-    /// with `NoMemory` if the write takes bytes and their list cannot grow. A refusal changes nothing.
+    /// Refuses with `NotAllowed` if a write may not get this reply: a count without room, or a count that is 0 or more
+    /// than was offered; blocked while the end is writable; or a reply to another call. Refuses with `NoMemory` if the
+    /// write takes bytes and their list cannot grow. A refusal changes nothing.
     pub fn write(&mut self, offer: &[u8], reply: Reply) -> Result<(), Refusal>
         ensures outcome { Meets (after_write self.old offer.now reply) self.old self.new result }
         ensures memory { IsErrOf result Refusal.NoMemory → IsTrue (needs_memory reply) }
@@ -283,8 +284,8 @@ impl End {
 
     /// The question whether the connect has completed gets this reply (connect(2)).
     ///
-    /// Refuses with `NotAllowed`, and changes nothing, if it may not be answered so: with joined when there is no
-    /// room; with blocked if the end is writable; with a failure of the kind `Zero`; or with a reply to another call.
+    /// Refuses with `NotAllowed`, and changes nothing, if the question may not get this reply: joined without room;
+    /// blocked while the end is writable; a failure of the kind `Zero`; or a reply to another call.
     pub fn join(&mut self, reply: Reply) -> Result<(), Refusal>
         ensures { MeetsAlways (after_join self.old reply) self.old self.new result }
     {
@@ -299,8 +300,8 @@ impl End {
 
     /// A shutdown of sending gets this reply (shutdown(2) with `SHUT_WR`).
     ///
-    /// Refuses with `NotAllowed`, and changes nothing, if it may not be answered so: with blocked, with a failure of
-    /// the kind `Zero`, or with a reply to another call.
+    /// Refuses with `NotAllowed`, and changes nothing, if a shutdown may not get this reply: blocked, a failure of the
+    /// kind `Zero`, or a reply to another call.
     pub fn shut(&mut self, reply: Reply) -> Result<(), Refusal>
         ensures { MeetsAlways (after_shut self.old reply) self.old self.new result }
     {
@@ -315,7 +316,6 @@ impl End {
         }
     }
 
-    /// Whether a read must be reported. Clears the arm.
     fn report_read(&mut self) -> bool
         ensures told { result ≡ self.old.read_armed }
         ensures cleared { self.new ≡ record self.old { read_armed = false } }
@@ -323,7 +323,6 @@ impl End {
         mem::replace(&mut self.read_armed, false)
     }
 
-    /// Whether room must be reported. Clears the arm.
     fn report_write(&mut self) -> bool
         ensures told { result ≡ self.old.write_armed }
         ensures cleared { self.new ≡ record self.old { write_armed = false } }
@@ -374,7 +373,7 @@ impl End {
     }
 }
 
-/// A reply that changes nothing, if it is allowed.
+/// Accepts or refuses a reply that changes nothing.
 fn allowed(is_allowed: bool) -> Result<(), Refusal>
     ensures { result ≡ (if is_allowed then Ok tt else Err Refusal.NotAllowed) }
 {

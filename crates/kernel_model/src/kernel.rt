@@ -138,8 +138,8 @@ impl Kernel {
         Ok(())
     }
 
-    /// A queued report is withdrawn before it is polled. Refuses with `NotAllowed`, and changes nothing, if it is not
-    /// queued, or if something could be done there.
+    /// A queued report is withdrawn before a poll gives it. Refuses with `NotAllowed`, and changes nothing, if the
+    /// report is not queued, or if a call could do something there.
     pub fn vanish(&mut self, who: Watched) -> Result<(), Refusal>
         ensures { MeetsAlways (vanish self.old who) self.old self.new result }
     {
@@ -161,7 +161,7 @@ impl Kernel {
     }
 
     /// A poll gives these names, and they leave the queue (epoll_wait(2)). Refuses with `NotAllowed`, and changes
-    /// nothing, if there are more than [`MAX_POLLED`], or one that is not queued, or one twice.
+    /// nothing, if there are more than [`MAX_POLLED`], or if a name is not queued or is there twice.
     pub fn poll(&mut self, names: &[Name]) -> Result<(), Refusal>
         ensures { MeetsAlways (poll self.old names.now) self.old self.new result }
     {
@@ -191,8 +191,8 @@ impl Kernel {
         Ok(())
     }
 
-    /// The listener replies to accept(2) in this way. Refuses `Accepted` if nobody waits, and `Blocked` if somebody
-    /// does, with `NotAllowed`, and then changes nothing.
+    /// The listener gives this reply to accept(2). Refuses with `NotAllowed`, and changes nothing, if the reply is
+    /// `Accepted` and nobody waits, or `Blocked` and somebody does.
     pub fn accept(&mut self, reply: Accepting) -> Result<(), Refusal>
         ensures { MeetsAlways (accept self.old reply) self.old self.new result }
     {

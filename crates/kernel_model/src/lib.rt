@@ -2,13 +2,12 @@
 //! call, and which reports a readiness queue gives.
 //!
 //! An [`End`] is one stream socket in non-blocking mode, as plain values. A [`Kernel`] has the open ends of a process
-//! by descriptor, each with the token under which it is registered, the queue of the names to report, and a listening
-//! socket.
+//! by descriptor, each with its token; the queue of the names to report; and a listening socket.
 //!
-//! Nothing here happens by itself. Each call is given the change or the reply that is to happen and makes it happen, or
-//! refuses it with [`Refusal::NotAllowed`] because no kernel could do that (`specs/Ends.antt`, `specs/Replies.antt`,
-//! `specs/Kernel.antt`), or with [`Refusal::NoMemory`], if its comment says so; a refused call changes nothing. A call
-//! that is not allowed never answers `NoMemory`.
+//! Nothing here happens by itself. Each call is given a change or a reply, and makes it happen. It refuses one that no
+//! kernel could make or give with [`Refusal::NotAllowed`] (`specs/Ends.antt`, `specs/Replies.antt`,
+//! `specs/Kernel.antt`), never with [`Refusal::NoMemory`]. It refuses others with `NoMemory` only if its comment says
+//! so. A refused call changes nothing.
 //!
 //! The rules follow epoll(7), read(2), write(2), shutdown(2), connect(2) and accept(2).
 #![tactic(auto)]

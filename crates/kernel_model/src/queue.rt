@@ -1,4 +1,4 @@
-// A set of names, as a list in which no two are equal.
+// A set of names is a list in which no two are equal.
 ghost use Rattle.std.specs.Prelude.{◌≡◌, false, OnOk, OnErr};
 ghost use Rattle.kernel_model.specs.Names.{same, has, with_name, without_name, without_names, are_distinct, are_among};
 
@@ -18,7 +18,7 @@ pub fn has(name: &Name, names: &[Name]) -> bool
     names.iter().any(|other| same(name, other))
 }
 
-/// Adds a name if it is not there, which alone needs memory. An error changes nothing.
+/// Adds a name if it is not there. Only then does it need memory. An error changes nothing.
 pub fn add(names: &mut Vec<Name>, name: Name) -> Result<(), AllocError>
     ensures added { OnOk result (names.new.items ≡ with_name name names.old.items) }
     ensures kept { OnErr result (names.new.items ≡ names.old.items) }

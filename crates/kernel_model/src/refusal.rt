@@ -4,7 +4,7 @@ ghost use Rattle.kernel_model.specs.declared.refusal.Refusal.TheVariants.{NoMemo
 use std::alloc::AllocError;
 use thiserror::Error;
 
-/// Why a call of the model was refused. A refused call has changed nothing.
+/// Why a call of the model was refused. A refusal changes nothing.
 #[derive(Clone, Copy, Debug, PartialEq, Eq, Error)]
 pub enum Refusal {
     /// No socket could do that in this state.

@@ -1,13 +1,13 @@
 use token::Kind;
 
-/// What a socket replies to a call, with sizes in place of bytes (`specs/Replies.antt`).
+/// What a socket replies to a call: counts stand for the bytes (`specs/Replies.antt`).
 #[derive(Clone, Copy, PartialEq, Eq)]
 pub enum Reply {
     /// To a read: this many bytes, at least one (read(2)).
     Bytes(usize),
     /// To a read: end of input.
     End,
-    /// To a write: it took this many bytes, at least one. With `true` there is no room left (write(2)).
+    /// To a write: it took this many bytes, at least one; if `true`, no room is left (write(2)).
     Wrote(usize, bool),
     /// To the question whether the connect has completed: it has (connect(2)).
     Joined,

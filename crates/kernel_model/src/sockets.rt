@@ -23,8 +23,8 @@ impl Kernel {
 
     /// The peer's end of input arrives at an end, and is reported if reads are armed there.
     ///
-    /// Refuses with `NotAllowed` if the descriptor is not open, if it has arrived before, and after an error; and
-    /// with `NoMemory` if the queue has to grow and cannot. A refusal changes nothing.
+    /// Refuses with `NotAllowed` if the descriptor is not open, and if the end of input or an error arrived before;
+    /// and with `NoMemory` if the queue has to grow and cannot. A refusal changes nothing.
     pub fn fin(&mut self, descriptor: usize) -> Result<(), Refusal>
         ensures outcome { Meets (fin self.old descriptor) self.old self.new result }
         ensures memory { IsErrOf result Refusal.NoMemory → IsTrue (queues_more self.old (fin self.old descriptor)) }
@@ -34,8 +34,8 @@ impl Kernel {
 
     /// An error arrives at an end, such as a reset by the peer, and is reported if reads or writes are armed there.
     ///
-    /// Refuses with `NotAllowed` if the descriptor is not open, and if an error has arrived before; and with
-    /// `NoMemory` as [`Kernel::fin`]. A refusal changes nothing.
+    /// Refuses with `NotAllowed` if the descriptor is not open, and if an error arrived before; and with `NoMemory` as
+    /// [`Kernel::fin`]. A refusal changes nothing.
     pub fn reset(&mut self, descriptor: usize) -> Result<(), Refusal>
         ensures outcome { Meets (reset self.old descriptor) self.old self.new result }
         ensures memory { IsErrOf result Refusal.NoMemory → IsTrue (queues_more self.old (reset self.old descriptor)) }
@@ -127,7 +127,7 @@ impl Kernel {
     }
 }
 
-/// A change at an open end, whose name is queued if the end is armed for it.
+/// Makes a change at an open end, and queues its name if the change must be reported.
 fn tell(registered: &mut Open, queue: &mut Vec<Name>, change: Change<'_>) -> Result<(), Refusal>
     ensures outcome { Meets (told change.entry (watch registered.old queue.old.items)) (watch registered.old queue.old.items)
         (watch registered.new queue.new.items) result }

@@ -3,7 +3,7 @@ use Rattle.std.specs.{Prelude.{◌≡◌, ℕ, ◌+◌, ◌-◌, ◌<◌, ◌≤
 use Rattle.log.specs.declared.level.Level.{Level, TheVariants.{Error, Warn, Info}}
 use Rattle.log_queue.specs.declared.sink.Form.{Form, TheVariants.{Plain, Journal}}
 
--- a line's text, and whether more was to follow that did not fit
+-- a line's text, and whether the line is cut: more was added than fits
 pub record LineState : Type 0 where
   pub text : List ℕ
   pub cut : Bool
@@ -17,7 +17,7 @@ ending false = []
 abbrev pub shown : LineState → List ℕ
 shown line = line.text ++ ending line.cut
 
--- the first characters of a text that take at most this many bytes, as many as there are
+-- the longest start of a text that takes at most this many bytes and ends between two characters
 pub record IsFirst (most : ℕ) (text part : List ℕ) : Type 0 where
   pub end : ℕ
   pub is : part ≡ take end text
@@ -25,7 +25,7 @@ pub record IsFirst (most : ℕ) (text part : List ℕ) : Type 0 where
   pub boundary : IsCharBoundary text end
   pub nearest : (i : ℕ) → end < i → i ≤ most → ¬ (IsCharBoundary text i)
 
--- as much of a text was added as fits, and the line is cut there
+-- as much of a text as fits was added, in whole characters, and the line is now cut
 pub record IsCut (room : ℕ) (text : List ℕ) (old new : LineState) : Type 0 where
   pub part : List ℕ
   pub first : IsFirst room text part
@@ -38,7 +38,7 @@ pub record IsAdded (old : LineState) (text : List ℕ) (new : LineState) : Type 
   pub part : old.cut ≡ false → 240 < length old.text + length text → IsCut (240 - length old.text) text old new
   pub cut : old.cut ≡ true → new ≡ old
 
--- how many lines were left out
+-- the text for this many lines left out
 abbrev pub left_out_text : ℕ → List ℕ
 left_out_text count = codes "log: " ++ (decimal count ++ codes " lines left out")
 

@@ -1,20 +1,19 @@
-// How many lines were left out, and are counted in no line yet.
 ghost use Rattle.log_queue.specs.Lines.{CountStep, Added, Taken};
 
 use std::sync::atomic::{AtomicU64, Ordering};
 
-/// A count that threads share. Each method is one step: what is added between a load of the count and a store of 0
-/// would be lost. What a count holds no clause can name, so the trait leaves open what a step does; what is proved of
-/// any such count says which steps are made on it.
+/// A count that threads share. Each method is one atomic step: what is added between a load of the count and a store
+/// of 0 would be lost. No clause can name what a count holds, so the trait leaves open what a step does (`did`). A
+/// clause over any count says which steps were made on it.
 pub(crate) trait Count {
-    // What a step may do: the step with its answer, and the count.
+    // This step, with its answer, was made on this count.
     ghost did: { CountStep → Self → Type 0 };
 
     /// Adds 1.
     fn add(&self)
         ensures { did Added self.now };
 
-    /// Sets it to 0. Returns what was there.
+    /// Sets the count to 0. Returns what it was.
     fn take(&self) -> u64
         ensures { did (Taken result) self.now };
 }
@@ -31,7 +30,7 @@ impl Count for AtomicU64 {
     }
 }
 
-/// How many lines were left out since that was last logged.
+/// How many lines were left out since the last `take`.
 #[derive(Drop)]
 pub(crate) struct Missing<C = AtomicU64>(C);
 
@@ -42,14 +41,14 @@ impl Missing {
 }
 
 impl<C: Count> Missing<C> {
-    /// One more was left out.
+    /// Counts a line that was left out.
     pub(crate) fn add(&self)
         ensures { C.did Added self.now.0 }
     {
         self.0.add();
     }
 
-    /// How many were, since the last call.
+    /// How many lines were left out since the last call.
     pub(crate) fn take(&self) -> u64
         ensures { C.did (Taken result) self.now.0 }
     {

@@ -12,11 +12,10 @@
 //!
 //! # Inside
 //!
-//! [`ParkedQueue`] is what the log and a recording have in common: bounded queues for a thread that writes. It sleeps
-//! only after it has announced that and then found them open and empty, is woken only once there is something for it
-//! (`There`), and ends only with a value that it gets once they were closed and then empty ([`Drained`]). A line that
-//! was taken cannot be dropped unwritten (`Unwritten`). Lines left out are counted by a type with no other step
-//! (`Missing`).
+//! [`ParkedQueue`] is what the log and a recording have in common: bounded queues for a thread that writes. The
+//! thread sleeps only after it has announced its sleep and then found the queues open and empty. Only something to
+//! write (`There`) or a close wakes it. It ends only after it found the queues closed and then empty ([`Drained`]). A
+//! line that was taken cannot be dropped unwritten (`Unwritten`). `Missing` counts lines left out.
 #![tactic(auto)]
 
 mod left_out;

@@ -1,4 +1,3 @@
-// The texts of lines.
 ghost use Rattle.std.specs.Prelude.{◌≡◌, ◌↔◌, ◌<◌, ◌≤◌, ◌++◌, ◌+◌, ◌-◌, Some, true, false, [], length, take, IsOk, IsTrue};
 ghost use Rattle.log_queue.specs.Lines.{LineState, IsFirst, IsCut, IsAdded, shown, left_out_text, ending as ending_of};
 
@@ -33,12 +32,12 @@ impl LogLine {
         }
     }
 
-    /// Nothing is added to a line that is cut.
+    /// Adds a text. If not all of it fits, the line is cut. Nothing is added to a line that is cut.
     pub fn add(&mut self, text: &str)
-        ensures whole { self.old.cut ≡ false → length self.old.text + length text.now ≤ 240
+        ensures whole { self.old.cut ≡ false → length self.old.text + length text.now ≤ MAX_LINE
             → self.new ≡ record { text = self.old.text ++ text.now; cut = false } }
-        ensures part { self.old.cut ≡ false → 240 < length self.old.text + length text.now
-            → IsCut (240 - length self.old.text) text.now self.old self.new }
+        ensures part { self.old.cut ≡ false → MAX_LINE < length self.old.text + length text.now
+            → IsCut (MAX_LINE - length self.old.text) text.now self.old self.new }
         ensures cut { self.old.cut ≡ true → self.new ≡ self.old }
     {
         if self.is_cut || self.text.try_push_str(text).is_ok() {
@@ -49,7 +48,7 @@ impl LogLine {
         self.is_cut = true;
     }
 
-    /// Whether the text begins so.
+    /// Returns true if the text begins with `start`.
     pub fn begins_with(&self, start: &str) -> bool
         ensures { IsTrue result ↔ (take (length start.now) self.now.text ≡ start.now) }
     {
@@ -63,7 +62,7 @@ fn first_of(text: &str, most: usize) -> &str
     &text[..text.floor_char_boundary(most)]
 }
 
-/// A line that was taken to be written. It can be neither copied nor dropped, so it is.
+/// A line that was taken from the queue. It can be neither copied nor dropped, so it is written.
 pub(crate) struct Unwritten(LogLine);
 
 impl Unwritten {
@@ -71,7 +70,7 @@ impl Unwritten {
         Unwritten(line)
     }
 
-    /// Writes the line to standard error, by one write. One that cannot be written is lost.
+    /// Writes the line to standard error, by one write. A failed write loses it.
     pub(crate) fn write(self, rt: &impl Eprint) {
         let Unwritten(line) = self;
         let _ = rt.eprintln(line);
@@ -81,7 +80,7 @@ impl Unwritten {
 impl Write for LogLine {
     ghost write_str_gives = { IsAdded };
 
-    /// It never fails, so that what prints into a line goes on to its end.
+    /// Never fails: a value that does not fit is still printed to its end.
     fn write_str(&mut self, text: &str) -> fmt::Result
         ensures ok { IsOk result }
         ensures added { IsAdded self.old text.now self.new }
@@ -109,7 +108,7 @@ fn ending(is_cut: bool) -> &'static str
     }
 }
 
-/// This many lines were left out.
+/// Prints that this many lines were left out.
 #[derive(Clone, Copy)]
 pub struct LeftOut(pub u64);
 

@@ -9,12 +9,12 @@ use std::sync::atomic::{AtomicBool, Ordering};
 use std::thread::Parker;
 use std::time::Duration;
 
-/// A look at the marks before the queues are looked at. If it shows that they were closed, every item that was put
-/// before the close is found after it.
+/// What the marks show before the queues are looked at. If the queues were closed by then, the look at them finds
+/// every item put before the close.
 #[derive(Drop)]
 struct Look {
     is_closed: bool,
-    /// Whether the writer had announced before that it goes to sleep. An item that is put after such a look wakes it.
+    /// Whether the writer had announced its sleep before this look. Then an item that is put after the look wakes it.
     is_last: bool,
 }
 
@@ -22,8 +22,8 @@ struct Look {
 #[derive(Drop)]
 struct FoundEmpty(Look);
 
-/// There is something for the writer: an item, or a count of those that were left out. A writer that is woken before
-/// could find nothing, and go to sleep beside it. It cannot be dropped, so a writer that sleeps is woken.
+/// There is something for the writer: an item, or a count of items left out. A writer that is woken earlier could
+/// find nothing, and sleep while the item waits. A `There` cannot be dropped, so a sleeping writer is woken.
 struct There(());
 
 /// The queues were closed, and then found empty. Only [`ParkedQueue::drain`] makes one.
@@ -33,14 +33,14 @@ pub struct Drained {
     ghost closed: { empty.0.is_closed ≡ true },
 }
 
-/// Bounded queues of items, each oldest first, between the threads that put them and one that writes them. That one
-/// sleeps while there are none, and ends only after it found them closed and then empty. In a clause it is the
-/// capacities of the queues.
+/// Bounded queues of items, each oldest first, between the threads that put items and a writer. The writer sleeps
+/// while there are no items, and ends only after it found the queues closed and then empty. In a clause a
+/// `ParkedQueue` is its queues' capacities.
 #[derive(Drop)]
 pub struct ParkedQueue<T: Drop, const QUEUES: usize> {
     queues: [ArrayQueue<T>; QUEUES],
     is_closed: AtomicBool,
-    /// The writer sleeps, or looks for the last time before it does, and nobody has woken it yet.
+    /// The writer sleeps, or makes its last look before it sleeps, and nobody has woken it yet.
     is_asleep: AtomicBool,
     writer: Parker,
 }
@@ -63,7 +63,7 @@ impl<T: Drop, const QUEUES: usize> Model for ParkedQueue<T, QUEUES> {
 }
 
 impl<T: Drop, const QUEUES: usize> ParkedQueue<T, QUEUES> {
-    /// Queues that nothing else uses.
+    /// The queues, open and with a writer that is awake.
     pub fn new(queues: [ArrayQueue<T>; QUEUES]) -> ParkedQueue<T, QUEUES>
         ensures { result ≡ map queue_capacity queues }
     {
@@ -75,8 +75,8 @@ impl<T: Drop, const QUEUES: usize> ParkedQueue<T, QUEUES> {
         }
     }
 
-    /// Puts an item into a queue, and wakes a writer that sleeps. One that has found items a moment ago looks by
-    /// itself, so that most items cost no system call. Returns whether there was room.
+    /// Puts an item into the queue `at`, and wakes the writer if it sleeps. A writer that has just found items looks
+    /// again by itself, so most items cost no system call. Returns false if there was no room.
     pub fn put(&self, rt: &impl Wait, at: usize, item: T) -> bool
         requires { at < QUEUES }
     {
@@ -104,17 +104,17 @@ impl<T: Drop, const QUEUES: usize> ParkedQueue<T, QUEUES> {
         }
     }
 
-    /// Wakes the writer if it sleeps. Only one of those who put items meanwhile does.
+    /// Wakes the writer if it sleeps. Of several threads that put items meanwhile only one wakes it.
     fn wake(&self, there: There) {
         let There(()) = there;
-        // Pairs with `look`. A put pushes and then reads the mark; the writer sets it and then looks. So one of
+        // Pairs with `look`. A put pushes and then reads the mark; the writer sets the mark and then looks. So one of
         // the two sees the other's step.
         if self.is_asleep.load(Ordering::SeqCst) && self.is_asleep.swap(false, Ordering::SeqCst) {
             self.writer.unpark();
         }
     }
 
-    /// The oldest item of a queue.
+    /// Takes the oldest item of the queue `at`.
     pub fn take(&self, rt: &impl Wait, at: usize) -> Option<T>
         requires { at < QUEUES }
     {
@@ -127,7 +127,8 @@ impl<T: Drop, const QUEUES: usize> ParkedQueue<T, QUEUES> {
         self.writer.unpark();
     }
 
-    /// Has a writer drain the queues until they are closed and then empty. After it found items it rests for so long.
+    /// Has a writer drain the queues until they were closed and then found empty. After a drain that found items,
+    /// rests for `rest`.
     pub fn drain<R: Wait, W: Drain>(
         &self,
         rt: &R,
@@ -154,7 +155,7 @@ impl<T: Drop, const QUEUES: usize> ParkedQueue<T, QUEUES> {
         unreachable!()
     }
 
-    /// Looks whether the queues were closed, after the writer has announced, if it does, that it goes to sleep.
+    /// Looks whether the queues are closed. If `is_last`, first announces that the writer goes to sleep.
     fn look(&self, is_last: bool) -> Look
         ensures { result.is_last ≡ is_last }
     {
@@ -178,8 +179,8 @@ impl<T: Drop, const QUEUES: usize> ParkedQueue<T, QUEUES> {
         Some(FoundEmpty(look))
     }
 
-    /// Sleeps until an item is put or the queues are closed. Before that the writer has announced it and then found
-    /// them open and empty: else it could sleep beside an item.
+    /// Sleeps until there is something to write or the queues are closed. The writer has announced its sleep and then
+    /// found the queues open and empty: else it could sleep while an item waits.
     fn sleep(&self, rt: &impl Wait, empty: FoundEmpty)
         requires last { empty.0.is_last ≡ true }
         requires open { empty.0.is_closed ≡ false }

@@ -1,4 +1,3 @@
-// The lines that wait.
 ghost use Rattle.std.specs.Prelude.{◌≡◌, [], ◌∷◌, IfOk};
 
 use crate::left_out::Missing;
@@ -28,7 +27,7 @@ pub struct Written(());
 impl LogQueue {
     /// An empty queue. It takes memory for all its lines; no later call takes any.
     pub fn new(alloc: Global, form: Form) -> Result<LogQueue, AllocError>
-        ensures room { IfOk result (λ made. made.lines ≡ 4096 ∷ []) }
+        ensures room { IfOk result (λ made. made.lines ≡ MAX_LINES ∷ []) }
     {
         Ok(LogQueue {
             lines: ParkedQueue::new([ArrayQueue::new(alloc, MAX_LINES)?]),
@@ -50,7 +49,7 @@ impl LogQueue {
         }
     }
 
-    /// The oldest line, to be written.
+    /// Takes the oldest line, to be written.
     pub(crate) fn take(&self, rt: &impl Wait) -> Option<Unwritten> {
         match self.lines.take(rt, 0) {
             Some(line) => Some(Unwritten::new(line)),
@@ -73,7 +72,7 @@ impl LogQueue {
         self.is_written.load(Ordering::SeqCst)
     }
 
-    /// The writer has found the queue closed and then empty, and ends.
+    /// Marks all as written: the writer found the queue closed and then empty.
     pub(crate) fn end(&self, _drained: Drained) -> Written {
         self.is_written.store(true, Ordering::SeqCst);
         Written(())

@@ -1,4 +1,3 @@
-// How lines begin, and the sinks that they are logged to.
 ghost use Rattle.std.specs.Prelude.{◌≡◌, Some, true, []};
 ghost use Rattle.log_queue.specs.Lines.{mark_of};
 
@@ -16,7 +15,7 @@ use std::sync::Wait;
 pub enum Form {
     /// With the level.
     Plain,
-    /// With the priority before that, by which the journal of systemd files a line (sd-daemon(3)).
+    /// With the priority for the journal of systemd (sd-daemon(3)), and then the level.
     Journal,
 }
 
@@ -52,7 +51,7 @@ impl<'q, R: Wait> Log for Queued<'q, R> {
 
     fn log<D: Display, K: Source, S: Spans>(&self, record: &Record<'_, D, K, S>) {
         let mut line = LogLine::new();
-        // Only a value whose own printing fails can fail here. What was printed of it is kept.
+        // This can fail only if a value's own printing fails. What was printed of the value is kept.
         let mark = self.queue.form().mark(record.level());
         let _ = write!(line, "{mark}{}", Line::new(record));
         self.queue.put(&self.rt, line);
@@ -65,7 +64,7 @@ impl<'q, R: Wait> Log for Queued<'q, R> {
     }
 }
 
-/// Writes each record to standard error at once, by one write, in a form. It may wait for whoever reads there.
+/// Writes each record to standard error at once, by one write. This may wait for whoever reads there.
 #[derive(Clone, Copy, Drop)]
 pub struct Direct<R> {
     pub rt: R,

@@ -1,4 +1,3 @@
-// The thread that writes.
 use crate::limits::soon;
 use crate::line::LeftOut;
 use crate::parked::Drain;
@@ -9,8 +8,8 @@ use std::convert::Infallible;
 use std::io::Eprint;
 use std::sync::Wait;
 
-/// Writes the queue's lines to standard error, each by one write, until the queue is closed and all are written. How
-/// many were left out is logged once a write has ended after the loss. A line that cannot be written is lost.
+/// Writes the queue's lines to standard error, each by one write, until the queue is closed and all are written.
+/// After a write, logs how many lines were left out, if any were. A line that cannot be written is lost.
 pub fn write_lines<R: Eprint + Wait>(rt: &R, queue: &LogQueue) -> Written {
     match queue.lines.drain(rt, &mut Writer { rt, queue }, soon()) {
         Ok(drained) => queue.end(drained),

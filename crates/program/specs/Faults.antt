@@ -9,37 +9,37 @@ use Rattle.program.specs.declared.faults.ConfigFault.TheVariants as config
 abbrev pub most_bytes : ℕ
 most_bytes = 65536
 
--- the file is no longer than it may be, and all of it sets this
+-- the file is not too long, and all of it sets this
 abbrev pub FileSets : List ℕ → Settings → Type 0
 FileSets bytes s = (length bytes ≤ most_bytes) × IsSettingsOf bytes s
 
--- the file has this fault; reading that failed and memory that ran out say nothing of it
+-- the file has this fault; a read that failed and memory that ran out say nothing of the file
 abbrev pub HasFault : List ℕ → ConfigFault → Type 0
 HasFault bytes config.Read = Unit {0}
 HasFault bytes config.Long = most_bytes < length bytes
 HasFault bytes (config.Settings fault) = (length bytes ≤ most_bytes) × IsFaultOf bytes fault
 HasFault bytes config.NoMemory = Unit {0}
 
--- the fault of a file whose text has this one: memory that ran out is the same fault wherever it did
+-- the fault of a file whose text has this fault; running out of memory is one fault, wherever it happens
 abbrev pub settings_fault : SettingsFault → ConfigFault
 settings_fault settings.NoMemory = config.NoMemory
 settings_fault fault = config.Settings fault
 
--- By which fault the program ends with which status.
+-- Which fault ends the program with which status.
 
--- a value that an argument of the command line gives, and its setting does not take, is a fault of the command line
+-- the fault of settings that arguments gave: a value that its setting does not take is a fault of the command line
 abbrev pub argument_fault : ConfigFault → ProgramFault
 argument_fault (config.Settings fault) = Argument fault
 argument_fault fault = Config fault
 
--- 2 where the command line is refused, and else 1
+-- 2 if the command line is refused, else 1
 abbrev pub status_of : ProgramFault → ℕ
 status_of (Argument fault) = 2
 status_of (Seconds option) = 2
 status_of Connection = 2
 status_of _ = 1
 
--- the status of a command that the program began to carry out: 0 where it did, or 1
+-- the command line was not refused: 0 if the command was carried out, 1 if not
 abbrev pub IsCarriedOut : ℕ → Type 0
 IsCarriedOut status = (status ≡ 0) ⊎ (status ≡ 1)
 

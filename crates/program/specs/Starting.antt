@@ -4,24 +4,24 @@ use Rattle.std.specs.{Prelude.{◌≡◌, ◌⊎◌, ℕ, ◌+◌, ◌*◌, ◌�
 use Rattle.settings.specs.{Addresses.SocketAddress, Pollers.pollers_for}
 use Rattle.program.specs.declared.{extras.SecondsOption.{SecondsOption, TheVariants.{Stats, ConnectTimeout, Keepalive}}, standard_streams.StandardStream.{StandardStream, TheVariants.{Input, Output, Errors}}}
 
--- what this many slots and workers need beside what is open: two descriptors for each connection, and two for each
--- poller
+-- how many more descriptors this many slots and workers need: two for each slot, and two for each poller
 abbrev pub needed : ℕ → ℕ → ℕ
 needed slots workers = 2 * slots + 2 * pollers_for slots workers
 
--- a process that may have `most` descriptors open, and has `used`, has those that this many slots need
+-- a process that may have `most` descriptors open, and has `used`, can open those that this many slots need
 abbrev pub HasFor : ℕ → ℕ → ℕ → ℕ → Type 0
 HasFor most used slots workers = used + needed slots workers ≤ most
 
--- every address of the machine, and the one that a connection to this goes to
+-- the address that means every address of the machine; a connection to it goes to `loopback`
 abbrev pub every : List ℕ
 every = 0 ∷ 0 ∷ 0 ∷ 0 ∷ []
 
 abbrev pub loopback : List ℕ
 loopback = 127 ∷ 0 ∷ 0 ∷ 1 ∷ []
 
--- One port, and one address; or the relay listens on every address, and the target's is of loopback (127.0.0.0/8) or
--- one that the system says is of this machine; or it listens on loopback, and a connection to every address goes there
+-- The relay is its own target. The ports are equal, and one of these holds: the addresses are equal; the relay listens
+-- on every address, and the target's is in 127.0.0.0/8 or, as the system says, of this machine; it listens on
+-- loopback, and the target is every address
 abbrev pub Meets : SocketAddress → SocketAddress → Bool → Type 0
 Meets listen target here =
     (listen.1 ≡ target.1)
@@ -31,7 +31,7 @@ Meets listen target here =
 
 -- The options whose values are numbers of seconds.
 
--- the most that each may be
+-- the most seconds that an option may have
 abbrev pub most : SecondsOption → ℕ
 most Stats = 86400
 most ConnectTimeout = 3600
@@ -45,8 +45,7 @@ number Input = pos 0
 number Output = pos 1
 number Errors = pos 2
 
--- a file that is opened so refuses what is done with the stream, as the closed one would: read(2) and write(2) give
--- EBADF
+-- a file that is opened in this way refuses what the closed stream would: read(2) or write(2) gives EBADF
 abbrev pub Refuses : StandardStream → OpenOptions → Type 0
 Refuses Input how = asks_read how ≡ false
 Refuses _ how = (asks_write how ≡ false) × (asks_append how ≡ false)

@@ -25,8 +25,8 @@ use std::io::{Eprint, IsTerminal, Read, Write};
 use std::net::Net;
 use std::rt::Files;
 
-/// Writes to `errors` why the arguments cannot be read, and returns the exit status: 1 if memory ran out, and 2, a
-/// usage error, if one is not UTF-8.
+/// Writes to `errors` why the arguments cannot be read, and returns the exit status: 1 if memory ran out; 2, a usage
+/// error, if an argument is not UTF-8.
 pub fn report_arguments_fault<E: Write>(errors: &mut E, fault: ArgumentsFault) -> u8
     ensures memory { fault ≡ ArgumentsFault.NoMemory → result ≡ 1 }
     ensures not_text { fault ≡ ArgumentsFault.NotText → result ≡ 2 }
@@ -40,16 +40,17 @@ pub fn report_arguments_fault<E: Write>(errors: &mut E, fault: ArgumentsFault) -
     }
 }
 
-/// Runs the program by the arguments of the command line, of which the first is the program's own name (`relayd(1)`). A
-/// script comes from `reader`, and what a command has to print goes to `writer`; but what a relay prints and logs goes
-/// to the process's own streams.
+/// Runs the program by the arguments of the command line; the first is the program's own name (`relayd(1)`). A script
+/// is read from `reader`, and what a command prints goes to `writer`. What a relay prints and logs goes to the
+/// process's own streams.
 ///
-/// Returns the exit status: 0 if the command was carried out, or help or the version printed; 1 for a fault, which is
-/// written to `errors` after `relayd: ` unless it is a fault of the script itself; 2 for a usage error, which is
-/// written to `errors`. Where the command line is refused, nothing has been read from `reader` or written to `writer`.
+/// Returns the exit status: 0 if the command was carried out, or help or the version printed; 1 for a fault; 2 for a
+/// usage error. A fault of the script itself, or a recording that is no run, is written to `writer`, any other fault
+/// to `errors` after `relayd: `, and a usage error to `errors`. If the command line is refused, nothing has been read
+/// from `reader` or written to `writer`.
 ///
-/// `serve` serves on a bound socket with the process's own handle: a thread can only be started with that one. It is
-/// given the other options and the file to record into, if there is one, and returns whether it could print where it
+/// `serve` serves on a bound socket, with the process's own handle: only this handle can start a thread. It is given
+/// the other options and the file to record into, if there is one, and returns true if it could print where the relay
 /// listens. `player` plays a recording, and `simulator` runs a script.
 pub fn act<R, S, P: Replay, M: Simulate, I: Read + IsTerminal, O: Write, E: Write>(
     rt: &R,
@@ -86,7 +87,7 @@ where
 
 fn tell_if_typed<I: IsTerminal, E: Write>(reader: &I, errors: &mut E) {
     if reader.is_terminal() {
-        // Without this the script is read all the same.
+        // If this line cannot be written, the script is read all the same.
         let _ = writeln!(
             errors,
             "relayd: waiting for a script; Ctrl-D ends it (see relayd --help)"
@@ -95,7 +96,7 @@ fn tell_if_typed<I: IsTerminal, E: Write>(reader: &I, errors: &mut E) {
 }
 
 /// Carries out a command. The causes of faults, and warnings of `check`, go to `log`, whatever level a settings file
-/// sets: what it says about `log` is not yet known where it has a fault.
+/// sets: if the file has a fault, its level is not known.
 fn carry_out<R, S, P: Replay, M: Simulate, L: Log, I: Read, O: Write>(
     rt: &R,
     log: &L,
@@ -187,7 +188,7 @@ pub(crate) fn stream<'a, S, L>(
     Stream { name, inner, log }
 }
 
-/// Returns 0 if the report was written, and 1 if the line of a fault was, whose cause is logged.
+/// Returns 0 if the report was written. Returns 1, and logs the cause, if the line of the script's fault was.
 fn simulate<M: Simulate, L: Log, I: Read, O: Write>(
     alloc: Global,
     log: &L,
@@ -248,7 +249,7 @@ where
     }
 }
 
-/// Writes all of a text, and flushes it. Answers whether that was done.
+/// Writes all of a text, and flushes it. Returns true if both succeed.
 pub(crate) fn write(writer: &mut impl Write, text: &str) -> bool {
     writer.write_all(text.as_bytes()).is_ok() && writer.flush().is_ok()
 }
@@ -257,7 +258,7 @@ pub(crate) fn write(writer: &mut impl Write, text: &str) -> bool {
 pub(crate) fn report_fault(errors: &mut impl Write, fault: ProgramFault) -> u8
     ensures { result ≡ status_of fault }
 {
-    // Where this fails, too, only the status is left to report it.
+    // If this fails, too, only the status is left to report the fault.
     let _ = writeln!(errors, "relayd: {fault}");
     fault.status()
 }

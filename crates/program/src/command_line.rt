@@ -9,7 +9,7 @@ use std::alloc::{AllocError, Global};
 /// A command of the program.
 #[derive(Drop)]
 pub enum Command<'a> {
-    /// Run the script on standard input, and show each step if this says so.
+    /// Run the script on standard input, and show each step if `each`.
     Simulate { each: bool },
     /// Read this settings file and print what it sets.
     Check(&'a str),
@@ -31,7 +31,7 @@ pub struct Relay<'a> {
 /// Where settings come from.
 #[derive(Drop)]
 pub enum Source<'a> {
-    /// This file, with the messages of another level if one is named.
+    /// This file, and the level in place of the file's `log`, if one is named.
     File(&'a str, Option<&'a str>),
     /// The text that the arguments give.
     Arguments(String),
@@ -40,20 +40,19 @@ pub enum Source<'a> {
 /// What is replayed, and what is printed of it.
 #[derive(Clone, Copy)]
 pub struct Replayed<'a> {
-    /// The file.
     pub path: &'a str,
     /// The slot and generation of the connection whose script is wanted.
     pub script: Option<&'a str>,
     /// Whether the end of each connection is wanted.
     pub ends: bool,
-    /// Whether nothing may be left to do.
+    /// Whether the relay must have come to rest, with nothing left to do.
     pub rests: bool,
 }
 
 /// The command that the arguments name; the first argument is the program's own name.
 ///
-/// An error is a usage text: the requested help or version, or why the arguments are refused; or it has the kind
-/// `OutOfMemory`. Nothing has been printed then.
+/// An error is a usage text, or has the kind `OutOfMemory`. The text is the requested help or version, or why the
+/// arguments are refused. Nothing has been printed then.
 pub fn read_command<'a>(alloc: Global, arguments: &'a [String]) -> Result<Command<'a>, Error> {
     let matches = relayd(alloc)?.try_get_matches_from(arguments)?;
     command_of(alloc, &matches)
@@ -77,7 +76,7 @@ fn relay_of<'a>(settings: Source<'a>, matches: &ArgMatches<'a>) -> Command<'a> {
     })
 }
 
-/// The chosen command, if it is not `forward`; without one, the simulator.
+/// The chosen command, which is not `forward`; the simulator if none is chosen.
 fn chosen<'a>(matches: &ArgMatches<'a>) -> Command<'a> {
     if let Some(run) = matches.subcommand_matches("run") {
         if let Some(path) = run.get_str("config") {
@@ -110,7 +109,6 @@ fn replay_of<'a>(path: &'a str, matches: &ArgMatches<'a>) -> Replayed<'a> {
     }
 }
 
-/// The program's command line.
 fn relayd<'a>(alloc: Global) -> Result<clap::Command<'a>, AllocError> {
     let mut subcommands = Vec::new(alloc);
     for row in commands() {
@@ -134,12 +132,12 @@ struct CommandRow {
     name: &'static str,
     about: &'static str,
     details: &'static str,
-    /// Whether it takes each setting.
+    /// Whether it takes an argument for each setting.
     settings: bool,
     arguments: &'static [ArgumentRow],
 }
 
-/// An argument of a command, after the settings.
+/// An argument of a command, other than a setting.
 #[derive(Clone, Copy)]
 struct ArgumentRow {
     name: &'static str,
@@ -147,12 +145,11 @@ struct ArgumentRow {
     help: &'static str,
 }
 
-/// How an argument is given.
 #[derive(Clone, Copy)]
 enum Form {
     /// `--NAME`.
     Flag,
-    /// `--NAME` and a value, which help calls so.
+    /// `--NAME` and a value, with what help calls the value.
     Value(&'static [&'static str]),
     /// `--NAME` and a number of seconds.
     Seconds,
@@ -237,7 +234,7 @@ const EACH: ArgumentRow = ArgumentRow {
     form: Form::Flag,
     help: "Print each step, and what it changes in the report",
 };
-/// A recording, and what is printed of it.
+/// The arguments of `replay`.
 const RECORDING: [ArgumentRow; 4] = [
     ArgumentRow {
         name: "script",
@@ -303,7 +300,7 @@ static COMMANDS: [CommandRow; 5] = [
     CommandRow {
         name: "sim",
         about: "Runs the script on standard input and prints its report",
-        details: "A script is a header and steps, one per line: what comes from the network, and what the sockets reply to the relay. The report says where every byte is after the last step. For a script with a fault, one line that names the fault is printed, and the status is 1.\n\nExamples:\n  relayd sim < examples/one-direction.flow\n  relayd sim --each < examples/half-close.world\n\nrelayd(1) lists the steps.",
+        details: "A script is a header and steps, one per line: what comes from the network, and what the sockets reply to the relay. The report says where every byte is after the last step. For a script with a fault, one line that names the fault is printed, and the status is 1.\n\nExamples:\n  relayd sim < examples/one-direction.flow\n  relayd sim --each < examples/half-close.world\n\nFORMATS.md lists the steps (relayd(1), FILES).",
         settings: false,
         arguments: &[EACH],
     },
@@ -356,13 +353,13 @@ fn argument_of<'a>(alloc: Global, row: ArgumentRow) -> Arg<'a> {
     match row.form {
         Form::File => argument,
         Form::NeededFile => argument.long(row.name).short('c'),
-        // A negative number is a value that is out of range, and no option that is unknown.
+        // A negative number is refused as out of range, not as an unknown option.
         Form::Seconds => argument.long(row.name).allow_negative_numbers(true),
         _ => argument.long(row.name),
     }
 }
 
-/// A row's argument, but for how it is known.
+/// A row's argument, without its option.
 fn described<'a>(alloc: Global, row: ArgumentRow) -> Arg<'a> {
     Arg::new(alloc, row.name)
         .help(row.help)

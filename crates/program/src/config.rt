@@ -15,8 +15,8 @@ use std::fs::{self, File};
 use std::io::Read;
 use std::rt::Files;
 
-/// The settings of the file at a path, which is closed in each case. Refuses with `Read` if it cannot be opened or
-/// read, and else as [`read`] does. The cause is logged: what the system or the parser says about it.
+/// The settings of the file at a path. The file is closed in each case. Refuses with `Read` if it cannot be opened or
+/// read, and otherwise as [`read`] does. Logs the cause: what the system or the parser says.
 pub fn load<R: AllocGlobal + Files, L: Log>(
     rt: &R,
     log: &L,
@@ -43,7 +43,7 @@ pub fn load<R: AllocGlobal + Files, L: Log>(
     }
 }
 
-/// Logs the length of a file that is too long, if the system says it.
+/// Logs that a file is too long, with its length if the system says it.
 fn log_length(rt: &impl Files, log: &impl Log, path: &str, name: &FileName<'_>) {
     match fs::metadata(rt, path) {
         Ok(found) if found.len() > MAX_CONFIG_BYTES as u64 => {
@@ -62,9 +62,9 @@ fn log_length(rt: &impl Files, log: &impl Log, path: &str, name: &FileName<'_>) 
     }
 }
 
-/// The settings of a file, from all of its bytes. Refuses with `Read` if the reader gives an error, `Long` if there are
-/// more than 65,536 bytes, whatever their text, `Settings` if the text has a fault, whose cause is logged with the
-/// path, and `NoMemory`. The bytes that were read are then lost.
+/// The settings of a file, from all of its bytes. Refuses with `Read` if the reader gives an error, with `Long` if
+/// there are more than 65,536 bytes, whatever their text, with `Settings` if the text has a fault, and with
+/// `NoMemory`. Logs the cause of a fault of the text, with the path. The bytes that were read are then lost.
 pub fn read<F: Read, L: Log>(
     log: &L,
     alloc: Global,
@@ -84,8 +84,8 @@ pub fn read<F: Read, L: Log>(
     }
 }
 
-/// The settings of a text that the arguments of the command line gave. Refuses with `Settings` if the text has a fault,
-/// whose cause is logged by the argument's own name, and `NoMemory`.
+/// The settings of a text that the arguments of the command line gave. Refuses with `Settings` if the text has a
+/// fault, and logs the cause by the argument's own name. Refuses with `NoMemory`.
 pub fn parse_arguments<L: Log>(log: &L, alloc: Global, text: &[u8]) -> Result<Settings, ConfigFault>
     ensures settings { IfOk result (λ s. IsSettingsOf text.now s) }
 {
@@ -141,7 +141,7 @@ fn log_cause(log: &impl Log, alloc: Global, path: &str, text: &[u8], fault: &Set
     }
 }
 
-/// The file is read to its end, or to one byte past the most, which shows that it is too long.
+/// Reads the file to its end, or to one byte past the most, which shows that the file is too long.
 fn read_whole<F: Read>(alloc: Global, file: &mut F) -> Result<Vec<u8>, ConfigFault>
     ensures most { IfOk result (λ text. vec_len text ≤ 65536) }
     ensures whole { IfOk result (λ text. IfSome (F.remaining file.old) (λ bytes. text.items ≡ bytes)) }

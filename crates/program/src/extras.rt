@@ -13,17 +13,18 @@ use std::fmt;
 /// What a relay does beside what its settings say.
 #[derive(Clone, Copy)]
 pub struct Extras {
-    /// How many seconds apart lines of statistics are logged, 1 to 86,400; none: nothing is counted.
+    /// The seconds between two lines of statistics, 1 to 86,400. None: nothing is counted.
     pub stats: Option<u32>,
-    /// It opens no more connections once standard input has ended.
+    /// The relay opens no more connections once standard input has ended.
     pub until_eof: bool,
-    /// For how long it waits for peers that do not answer: up to 3,600 seconds to connect, and 32,767 of silence.
+    /// How long the relay waits for a peer that does not answer: up to 3,600 seconds to connect, and 32,767 of
+    /// silence.
     pub patience: Patience,
     /// The log has each client at level info, as it comes and as it goes.
     pub log_clients: bool,
 }
 
-/// The same, as it was typed.
+/// The options that [`Extras`] is made of, as they were typed.
 #[derive(Clone, Copy)]
 pub(crate) struct TypedExtras<'a> {
     stats: Option<&'a str>,
@@ -34,7 +35,6 @@ pub(crate) struct TypedExtras<'a> {
 }
 
 impl<'a> TypedExtras<'a> {
-    /// As the arguments of a command say.
     pub(crate) fn of(matches: &ArgMatches<'a>) -> TypedExtras<'a> {
         TypedExtras {
             stats: matches.get_str(SecondsOption::Stats.name()),
@@ -80,7 +80,7 @@ impl fmt::Display for SecondsOption {
     }
 }
 
-/// Refuses with `Seconds` what is no number of seconds in its option's range, whose cause is logged.
+/// Refuses with `Seconds`, and logs the cause, if a value is no number of seconds in its option's range.
 pub(crate) fn extras_of(log: &impl Log, typed: TypedExtras<'_>) -> Result<Extras, ProgramFault>
     ensures stats { IfOk result (λ extras. IfSome extras.stats (λ n. (1 ≤ n) × (n ≤ 86400))) }
     ensures connect { IfOk result (λ extras. IfSome extras.patience.connect (λ n. (1 ≤ n) × (n ≤ 3600))) }

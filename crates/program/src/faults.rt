@@ -1,4 +1,3 @@
-//! What the program reports on standard error.
 ghost use Rattle.std.specs.{Prelude.◌≡◌, IoError.error_kind};
 ghost use Rattle.program.specs.{Faults.{settings_fault, argument_fault, status_of, arguments_fault}, declared.faults.{ConfigFault.TheVariants.NoMemory, ProgramFault.TheVariants.Config}};
 
@@ -43,7 +42,7 @@ pub enum ProgramFault {
     /// The file to record into could not be created.
     #[error("record: cannot be created")]
     Record,
-    /// The process may have this many descriptors open, and with one connection it needs more.
+    /// The process may have `limit` descriptors open, and needs more, `needed`, for one connection.
     #[error("descriptors: the limit is {limit}, and {needed} are needed for one connection (ulimit -n)")]
     Descriptors { limit: u64, needed: u64 },
     /// The requested output could not be written.
@@ -69,7 +68,7 @@ impl From<ConfigFault> for ProgramFault {
 }
 
 impl ProgramFault {
-    /// That of settings which the arguments of the command line gave.
+    /// The fault of settings that the arguments of the command line gave.
     pub(crate) fn of_arguments(fault: ConfigFault) -> ProgramFault
         ensures { result ≡ argument_fault fault }
     {
@@ -79,7 +78,7 @@ impl ProgramFault {
         }
     }
 
-    /// The exit status: that of a refused command line, or of any other fault.
+    /// The exit status: 2 if the command line is refused, else 1.
     pub(crate) fn status(&self) -> u8
         ensures { result ≡ status_of self.now }
     {
@@ -147,7 +146,7 @@ impl From<AllocError> for ArgumentsFault {
     }
 }
 
-// The system provides the arguments as bytes.
+// The system gives the arguments as bytes, which may not be UTF-8.
 impl From<io::Error> for ArgumentsFault {
     ghost from_gives = { λ error fault. fault ≡ arguments_fault (error_kind error) };
 

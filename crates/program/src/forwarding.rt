@@ -14,7 +14,7 @@ pub fn add_settings<'a>(alloc: Global, arguments: &mut Vec<Arg<'a>>) -> Result<(
     Ok(())
 }
 
-/// Help shows the default of a setting.
+/// The argument of a setting. Help shows its default.
 fn argument<'a>(alloc: Global, row: Row) -> Arg<'a> {
     let argument = without_default(alloc, row);
     match row.key.default() {
@@ -28,13 +28,12 @@ fn without_default<'a>(alloc: Global, row: Row) -> Arg<'a> {
         .value_name(row.value_name)
         .help(row.help);
     match row.option {
-        // A negative number is a value that is out of range, and no option that is unknown.
+        // A negative number is refused as out of range, not as an unknown option.
         Some(option) => argument.long(option).allow_negative_numbers(true),
         None => argument.required(true),
     }
 }
 
-/// The arguments of all settings.
 pub(crate) fn all_arguments() -> &'static [Row] {
     &ROWS
 }
@@ -56,14 +55,14 @@ fn add_line(alloc: Global, text: &mut String, key: Key, value: &str) -> Result<(
     text.push('\n')
 }
 
-/// One line of such a text.
+/// One line of a settings file.
 pub fn setting_text(alloc: Global, key: Key, value: &str) -> Result<String, AllocError> {
     let line = Assignment { key, value };
     format!(in alloc; "{line}")
 }
 
-/// A key with a value as it was typed. A whole number without leading zeros stands for itself, and so do `true` and
-/// `false` for a key that takes them; anything else stands for a text.
+/// Prints a key and its typed value as TOML. A whole number without leading zeros stays a number, and `true` and
+/// `false` stay as they are for a key that takes them. Anything else becomes a text in quotes.
 #[derive(Clone, Copy)]
 struct Assignment<'a> {
     key: Key,

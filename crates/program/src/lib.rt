@@ -1,12 +1,12 @@
 //! What the program does: it forwards connections by a settings file, checks such a file, runs the relay's simulator on
 //! standard input and output, and replays recordings.
 //!
-//! [`act`] does all of that: from its arguments ([`arguments`]), a reader, two writers and a closure that serves, to a
-//! status. `command_line` finds the command, with the settings (`forwarding`) and the other options (`extras`) that it
-//! may give; `usage` prints help, and why words are refused. Before a relay serves, [`config`] reads its settings, and
-//! `starting` looks at what they need; what it logs goes through [`logging`], and through `streams` what is wrong with
-//! an input, an output, a file or a script. [`telling`] has its statistics, and [`until_eof`] the end of standard
-//! input.
+//! [`act`] does all of that: it gets the arguments ([`arguments`]), a reader, two writers and a closure that serves,
+//! and returns a status. `command_line` reads the command; `forwarding` the settings, and `extras` the other options,
+//! that arguments give; `usage` prints help, and why words are refused. Before a relay serves, [`config`] reads its
+//! settings, and `starting` looks at what they need. [`logging`] has the relay's log, [`telling`] its statistics, and
+//! [`until_eof`] the end of its standard input. `streams` logs what is wrong with an input, an output, a file or a
+//! script.
 //!
 //! `report_fault` (`status_of` of `specs/Faults.antt`) and `answer_usage` give the statuses that `relayd(1)` names
 //! (EXIT STATUS); `simulate` says by the status whether the report or a fault's line was written (`report`, `refused`).

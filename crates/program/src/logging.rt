@@ -1,7 +1,7 @@
 //! The log of a relay that serves: a queue, and a thread that writes it to standard error.
 //!
-//! The thread is never waited for but at the end, and then for a second: a write to a pipe that nobody reads may not
-//! end.
+//! Only the end of the program waits for the thread, and for a second at most: a write to a pipe that nobody reads
+//! may not end.
 ghost use Rattle.std.specs.{Prelude.{◌≡◌, ◌≢◌, ◌⊎◌, IfErr, map}, Char.to_ascii_lowercase};
 ghost use Rattle.log.specs.Level.{filter_name};
 ghost use Rattle.settings.specs.Table.{level_name};
@@ -29,7 +29,7 @@ use std::time::Duration;
 /// How many milliseconds the end of the program waits for the log.
 const LAST_WAIT: u64 = 1_000;
 
-/// Where systemd says which stream goes to the journal, as `DEVICE:INODE` (systemd.exec(5)).
+/// The variable that says which stream systemd sends to the journal, as `DEVICE:INODE` (systemd.exec(5)).
 const STREAM: &str = "JOURNAL_STREAM";
 
 const ERRORS: &str = "/proc/self/fd/2";
@@ -89,8 +89,8 @@ pub fn starting_filter(level: LogLevel) -> LevelFilter
     }
 }
 
-/// Starts the thread that writes the queue, until that is closed or the program ends. Refuses with `NoMemory`, and with
-/// `Threads` if the thread cannot be started, whose cause is logged.
+/// Starts a thread that writes the lines of a new queue until the queue is closed or the program ends. Refuses with
+/// `NoMemory`. Refuses with `Threads`, and logs the cause, if the thread cannot be started.
 pub fn start<R>(rt: R) -> Result<Arc<LogQueue>, ServerFault>
 where
     R: AllocGlobal + Threads + Eprint + Wait + Env + Files + Send + Copy + Drop + 'static,
@@ -109,7 +109,7 @@ where
     Ok(queue)
 }
 
-/// Closes the queue, and waits for a second at most until all of it is written. Answers whether it was.
+/// Closes the queue, and waits a second at most until all of it is written. Returns true if all was written.
 pub fn finish(rt: &impl Wait, queue: &LogQueue) -> bool {
     queue.close();
     let clock = Parker::new();
@@ -122,10 +122,10 @@ pub fn finish(rt: &impl Wait, queue: &LogQueue) -> bool {
     queue.is_written()
 }
 
-/// How the message begins of what ends a relay that serves (epoll_wait(2)).
+/// The start of a message about a fault that ends a serving relay (epoll_wait(2)).
 const ENDS_IT: &str = "poll: ";
 
-/// A log, until this is set. From then on nothing is logged but the cause of a fault that ends the relay.
+/// A log. Once `is_off` is set, only the cause of a fault that ends the relay is logged.
 #[derive(Drop)]
 pub struct Until<'a, L> {
     pub inner: L,
@@ -153,15 +153,15 @@ impl<L: Log> Log for Until<'_, L> {
     }
 }
 
-/// Whether a message is the cause of a fault that ends a relay which serves. Only at level error is that asked.
+/// Whether a message is the cause of a fault that ends a serving relay: an error that begins with [`ENDS_IT`].
 fn ends_the_relay<D: Display, K, S>(record: &Record<'_, D, K, S>) -> bool {
     let mut line = LogLine::new();
-    // Only a value whose own printing fails can fail here. It is the system's error, after what is asked for.
+    // This can fail only if a value's own printing fails. That value, the system's error, stands after [`ENDS_IT`].
     let _ = write!(line, "{}", record.args());
     record.level() == Level::Error && line.begins_with(ENDS_IT)
 }
 
-/// Standard error, until it is known that a write to it may not end. From then on nothing is written.
+/// Standard error. Once `is_stuck` is set, since a write to it may not end, nothing is written.
 #[derive(Drop)]
 pub struct Errors<'a, W> {
     pub inner: W,

@@ -20,11 +20,9 @@ const MOST_KEPT: u32 = 9_999;
 /// Why a file cannot be recorded into.
 #[derive(Drop)]
 enum Unmade {
-    /// The system gave an error.
     System(io::Error),
     /// A file is there that is neither empty nor a recording.
     Taken,
-    /// Memory ran out.
     NoMemory,
 }
 
@@ -40,8 +38,8 @@ impl From<AllocError> for Unmade {
     }
 }
 
-/// The file to record into at a path, if one is given. Refuses with `Record` if it cannot be made, or if a file is
-/// there that is neither empty nor a recording, whose cause is logged; and with `NoMemory`.
+/// Opens the file at a path to record into, if one is given. Refuses with `Record`, and logs the cause, if it cannot
+/// be opened, or if a file is there that is neither empty nor a recording. Refuses with `NoMemory`.
 pub(crate) fn create<R: AllocGlobal + Files>(
     rt: &R,
     log: &impl Log,
@@ -58,7 +56,7 @@ pub(crate) fn create<R: AllocGlobal + Files>(
     }
 }
 
-/// The fault, after its cause was logged.
+/// Logs the cause, and returns the fault.
 fn refused(log: &impl Log, path: &str, why: Unmade) -> ProgramFault
     ensures { status_of result ≡ 1 }
 {
@@ -90,8 +88,8 @@ fn open_new<R: AllocGlobal + Files>(rt: &R, log: &impl Log, path: &str) -> Resul
     Ok(how_to_open(is_there).open(rt, path)?)
 }
 
-/// How a file is opened that is there, or one that is not, which is then made. Whatever is there by now, it is not
-/// emptied (open(2), `O_APPEND` and `O_EXCL`).
+/// How to open a file that is there, or make one that is not. Even if a file has come or gone since, none is emptied
+/// (open(2), `O_APPEND` and `O_EXCL`).
 fn how_to_open(is_there: bool) -> OpenOptions
     ensures whole { (asks_truncate result ≡ false) × (asks_create result ≡ false) }
     ensures behind { (asks_append result ≡ true) × (asks_write result ≡ false) × (asks_read result ≡ false) }
@@ -109,7 +107,7 @@ fn keep<R: AllocGlobal + Files>(rt: &R, log: &impl Log, path: &str) -> Result<()
         return Err(Unmade::Taken);
     }
     let kept = free_name(rt, rt.alloc(), path)?;
-    // What has that name is the empty file that was just made.
+    // This replaces the empty file that `free_name` has made.
     fs::rename(rt, path, kept.as_str())?;
     log_kept(log, path, kept.as_str());
     Ok(())
@@ -131,7 +129,7 @@ pub(crate) fn is_recording(rt: &impl Files, path: &str) -> io::Result<bool> {
     Ok(length == first.len() && first == FIRST_WORDS)
 }
 
-/// The first free name after a path. An empty file has it now, so that nobody else takes it.
+/// The first free name after a path. An empty file has this name now, so that nobody else takes the name.
 fn free_name(rt: &impl Files, alloc: Global, path: &str) -> Result<String, Unmade> {
     for number in 1..=MOST_KEPT {
         let name = format!(in alloc; "{path}.{number}")?;

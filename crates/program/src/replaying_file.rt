@@ -1,4 +1,3 @@
-//! A recording that is replayed.
 ghost use Rattle.std.specs.Prelude.{◌≡◌, IfOk, IfErr};
 ghost use Rattle.program.specs.Faults.{IsCarriedOut, status_of};
 
@@ -16,8 +15,8 @@ use std::fs::{self, File};
 use std::io::{self, Write};
 use std::rt::Files;
 
-/// Returns 0 if the recording in a file is of runs of the machine, and 1 if not. What is wrong with the file is logged.
-/// Refuses with `Connection` if a script is wanted of what is no name of a connection. Then nothing was written.
+/// Returns 0 if the recording in a file is of runs of the machine, and 1 if not. Logs what is wrong with the file.
+/// Refuses with `Connection`, before anything is written, if `--script` names no connection.
 pub(crate) fn replay<R: AllocGlobal + Files, L: Log, O: Write, P: Replay>(
     rt: &R,
     log: &L,
@@ -45,7 +44,7 @@ pub(crate) fn replay<R: AllocGlobal + Files, L: Log, O: Write, P: Replay>(
     }
 }
 
-/// Refuses a file that is no recording.
+/// Opens a recording. Refuses, and logs the cause, if the file cannot be opened or is no recording.
 fn open<R: AllocGlobal + Files>(rt: &R, log: &impl Log, path: &str) -> Result<R::File, ProgramFault>
     ensures { IfErr result (λ fault. status_of fault ≡ 1) }
 {
@@ -63,7 +62,7 @@ fn open<R: AllocGlobal + Files>(rt: &R, log: &impl Log, path: &str) -> Result<R:
     Ok(file)
 }
 
-/// The status after this many bytes were written, of which a script may be too long.
+/// Returns the status. Warns if the `bytes` that were written are a script that is too long for `sim`.
 fn status_after(log: &impl Log, outcome: Outcome, wanted: Wanted, bytes: usize) -> u8
     ensures { IsCarriedOut result }
 {
@@ -80,7 +79,6 @@ fn log_broken(log: &impl Log, name: &EndOfLine<'_>, fault: &ReplayFault) {
     }
 }
 
-/// Warns of a script that `sim` does not take.
 fn warn_if_long(log: &impl Log, bytes: usize) {
     let most = MAX_SCRIPT;
     if bytes > most {
@@ -109,7 +107,7 @@ impl<W: Write> Write for Counted<W> {
     }
 }
 
-/// Whether a file does not begin as a recording does. Of a pipe nothing is read for that.
+/// Whether a file does not begin as a recording does. A pipe is not read, and counts as a recording.
 fn is_other_file(rt: &impl Files, path: &str) -> bool {
     match fs::metadata(rt, path) {
         Ok(found) => found.is_file() && matches!(is_recording(rt, path), Ok(false)),
@@ -117,7 +115,7 @@ fn is_other_file(rt: &impl Files, path: &str) -> bool {
     }
 }
 
-/// What is wanted of a recording. Refuses with `Connection` the script of what is no name of a connection.
+/// What is wanted of a recording. Refuses with `Connection`, and logs the cause, if `--script` names none.
 fn find_wanted(log: &impl Log, replayed: Replayed<'_>) -> Result<Wanted, ProgramFault>
     ensures { IfErr result (λ fault. fault ≡ ProgramFault.Connection) }
 {

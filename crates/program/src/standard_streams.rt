@@ -1,5 +1,5 @@
-//! Standard streams that are closed when the program starts. A file or a socket that it opens gets the lowest number
-//! that is not open (open(2), socket(2)), and would be read, written or logged to in the place of such a stream.
+//! Standard streams that are closed when the program starts. A file or a socket that the program opens gets the
+//! lowest number that is not open (open(2), socket(2)), and would be used in the place of a closed stream.
 ghost use Rattle.std.specs.Prelude.{◌≡◌, IfOk, IfSome};
 ghost use Rattle.program.specs.Starting.{number, Refuses};
 
@@ -35,7 +35,7 @@ impl StandardStream {
         }
     }
 
-    /// How the file is opened that stands in for it: each use of the stream fails as that of a closed one.
+    /// How the file is opened that stands in for the stream: each use fails as that of a closed stream.
     fn refusing(self) -> OpenOptions
         ensures { Refuses self result }
     {
@@ -73,8 +73,8 @@ pub struct Held<F> {
     errors: Option<F>,
 }
 
-/// Has a file stand in for each standard stream that is closed. The program has opened nothing before. Refuses where
-/// `/dev/null` cannot be opened, or does not get the number of the stream.
+/// Has a file stand in for each standard stream that is closed. The program must have opened nothing before. Refuses
+/// if `/dev/null` cannot be opened, or does not get the number of the stream.
 pub fn hold_closed<R, I: AsFd, O: AsFd, E: AsFd>(
     rt: &R,
     input: &I,
@@ -85,7 +85,7 @@ where
     R: Files,
     R::File: AsRawFd,
 {
-    // In this order: the lowest number that is not open is always that of the first that is left.
+    // In this order each file gets the lowest number that is not open, which is its stream's.
     Ok(Held {
         input: stand_in(rt, StandardStream::Input, input)?,
         output: stand_in(rt, StandardStream::Output, output)?,
@@ -93,7 +93,7 @@ where
     })
 }
 
-/// What stands in for a stream, if it is closed: a file with its number.
+/// A file with the number of a stream that is closed. None if the stream is open.
 fn stand_in<R, S: AsFd>(rt: &R, stream: StandardStream, open: &S) -> Result<Option<R::File>, Unheld>
 where
     R: Files,
@@ -111,7 +111,7 @@ where
     Err(Unheld { stream, cause })
 }
 
-/// Of a closed stream no copy can be made (fcntl(2), `F_DUPFD`).
+/// True if no copy of a stream can be made: it is closed (fcntl(2), `F_DUPFD`).
 fn is_closed(stream: &impl AsFd) -> bool {
     match stream.as_fd().try_clone_to_owned() {
         Ok(_) => false,
@@ -119,7 +119,7 @@ fn is_closed(stream: &impl AsFd) -> bool {
     }
 }
 
-/// Writes to an open standard stream that nothing can stand in for a closed one, and returns the exit status.
+/// Writes to `errors`, or else to `output`, that nothing can stand in for a closed stream. Returns the exit status.
 pub fn report_unheld(output: &mut impl Write, errors: &mut impl Write, fault: &Unheld) -> u8
     ensures { result ≡ 1 }
 {

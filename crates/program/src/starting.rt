@@ -1,4 +1,4 @@
-//! What is looked at once before a relay serves, and logged if it cannot work as it is set; and that it listens.
+//! Checks before a relay serves whether it can work as it is set, and warns if not; and says where it listens.
 ghost use Rattle.std.specs.Prelude.{◌≡◌, ◌≤◌, ◌↔◌, IsTrue, IfOk, IfErr, ◌<◌, ◌+◌};
 ghost use Rattle.program.specs.{Faults.status_of, Starting.{Meets, HasFor, needed}};
 
@@ -21,15 +21,14 @@ const EVERY: [u8; 4] = [0, 0, 0, 0];
 
 const LOOPBACK: [u8; 4] = [127, 0, 0, 1];
 
-/// The descriptor of the listening socket.
+/// How many descriptors the listening socket takes.
 const LISTENER: u64 = 1;
 
-/// The settings to serve with: those that are set, with no more slots than there are descriptors for, or with all
-/// slots if the system does not say how many there are. This many descriptors more are opened before the relay
-/// serves: it listens by now. A warning says that there are too few, another that the relay is its own target, and
-/// another that its idle limit is too short.
+/// The settings to serve with. `slots` is lowered if there are too few descriptors for all, and stays if the system
+/// does not say how many there are. The relay listens by now, and opens `more` other descriptors before it serves.
+/// Warns if there are too few descriptors, if the relay is its own target, and if its idle limit is too short.
 ///
-/// Refuses with `Descriptors` where there are not enough for one connection.
+/// Refuses with `Descriptors` if there are not enough for one connection.
 pub fn prepare<R: AllocGlobal + Files + Net + Copy + Drop>(
     rt: &R,
     log: &impl Log,
@@ -44,8 +43,7 @@ pub fn prepare<R: AllocGlobal + Files + Net + Copy + Drop>(
     Ok(settings)
 }
 
-/// Warns of what [`prepare`] would warn of with these settings, and refuses what it would refuse. There is no relay
-/// yet, and no recording.
+/// Warns and refuses as [`prepare`] would with these settings. No relay listens yet, and none records.
 pub fn foresee<R: AllocGlobal + Files + Net + Copy + Drop>(
     rt: &R,
     log: &impl Log,
@@ -96,7 +94,7 @@ fn warn_of_itself(rt: &impl Net, log: &impl Log, listen: Address, target: Addres
     }
 }
 
-/// Warns of an idle limit of a second. The clock counts whole seconds, so it may pass at once after a byte was moved.
+/// Warns of an idle limit of a second. The clock counts whole seconds, so the limit may pass just after a byte moved.
 fn warn_of_short_idle(log: &impl Log, idle: u32) {
     if idle == 1 {
         let text =
@@ -112,7 +110,7 @@ fn warn_of_few(log: &impl Log, slots: usize, set: usize, most: u64, needs: u64) 
     log_text(log, Level::Warn, &text);
 }
 
-/// Logs how a relay serves that listens at this address.
+/// Logs where a relay listens, and its target, slots, workers and pollers.
 pub fn log_start(log: &impl Log, listen: SocketAddr, settings: &Settings) {
     let (target, slots, workers) = (
         SocketAddr::from(settings.target),
@@ -126,7 +124,7 @@ pub fn log_start(log: &impl Log, listen: SocketAddr, settings: &Settings) {
     log_text(log, Level::Info, &text);
 }
 
-/// Whether connections to the target reach the relay itself. `is_here`: its address is one of this machine.
+/// Whether connections to the target reach the relay itself. `is_here`: the target's address is of this machine.
 fn meets(listen: Address, target: Address, is_here: bool) -> bool
     ensures { IsTrue result ↔ Meets listen target is_here }
 {
@@ -151,7 +149,7 @@ fn source_for(rt: &impl Net, address: SocketAddr) -> io::Result<SocketAddr> {
     socket.local_addr()
 }
 
-/// Prints `listening A.B.C.D:PORT`. Answers whether it was printed; if not, the cause is logged.
+/// Prints `listening A.B.C.D:PORT`. Returns false if the line was not printed, and logs the system's error, if any.
 pub fn print_listening<R>(rt: &R, address: SocketAddr, output: &mut impl Write) -> bool
 where
     R: AllocGlobal + Env + Files + Eprint + Copy + Drop,
@@ -172,7 +170,7 @@ const FOR_A_CONNECTION: u64 = 2;
 /// What each poller opens before its first connection: an epoll instance and its waker.
 const FOR_A_POLLER: u64 = 2;
 
-/// How many descriptors a process may have open, its soft limit, and how many are in use.
+/// How many descriptors the process may have open (its soft limit), and how many it has open.
 #[derive(Clone, Copy)]
 pub struct Descriptors {
     pub most: u64,
@@ -203,7 +201,7 @@ fn soft_limit(text: &str) -> Option<u64> {
     rest.split_whitespace().next()?.parse::<u64>().ok()
 }
 
-/// The most of these slots that there are descriptors for, with their pollers.
+/// The most slots, up to this many, that there are descriptors for, pollers included.
 fn covered(slots: usize, workers: usize, descriptors: Descriptors) -> usize
     requires slots { (1 ≤ slots) × (slots ≤ 4096) }
     requires workers { (1 ≤ workers) × (workers ≤ 16) }
@@ -219,7 +217,7 @@ fn covered(slots: usize, workers: usize, descriptors: Descriptors) -> usize
     covered
 }
 
-/// How many descriptors a relay opens beside its listening socket.
+/// How many descriptors a relay opens for its slots and pollers.
 pub(crate) fn needed(slots: usize, workers: usize) -> u64
     requires slots { (1 ≤ slots) × (slots ≤ 4096) }
     requires workers { (1 ≤ workers) × (workers ≤ 16) }

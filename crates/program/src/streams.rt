@@ -50,7 +50,6 @@ impl<W: Write, N: fmt::Display, L: Log> Write for Stream<'_, W, N, L> {
     }
 }
 
-/// Logs a text at a level.
 pub(crate) fn log_text<D: fmt::Display>(log: &impl Log, level: Level, text: &D) {
     log!(log; target: "relayd", level, "{text}");
 }
@@ -60,7 +59,7 @@ pub fn log_error<N: fmt::Display, E: fmt::Display>(log: &impl Log, name: &N, err
     error!(log; target: "relayd", "{name}: {error}");
 }
 
-/// What the log calls a file, with what it is for.
+/// What the log calls a file: what the file is for, and the end of its path.
 #[derive(Clone, Copy)]
 pub(crate) struct FileName<'a>(pub(crate) &'static str, pub(crate) &'a str);
 

@@ -14,9 +14,9 @@ use std::sync::{Arc, Wait};
 use std::thread::{self, Builder, Threads};
 use std::time::{Clock, Duration};
 
-/// The statistics in which the threads of a relay count, if the options ask for any, and a thread that logs the sums at
-/// the interval that they give, until the program ends. Where nothing is logged, nothing is counted. Refuses with
-/// `NoMemory`, and with `Threads` if the thread cannot be started, whose cause is logged.
+/// If the options ask for statistics, returns those in which the threads of a relay count, and starts a thread that
+/// logs the sums at the interval of the options until the program ends. At level `off`, nothing is counted. Refuses
+/// with `NoMemory`. Refuses with `Threads`, and logs the cause, if the thread cannot be started.
 pub fn start<R>(
     rt: R,
     settings: &Settings,

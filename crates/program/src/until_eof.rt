@@ -1,5 +1,5 @@
-//! Standard input as a sign: a relay with `--until-eof` opens no more connections once it has ended. The thread that
-//! reads is never waited for: standard input may never end.
+//! Standard input as a sign: a relay with `--until-eof` opens no more connections once its standard input has ended.
+//! Nothing waits for the thread that reads: standard input may never end.
 ghost use Rattle.std.specs.Prelude.{◌≡◌, ◌⊎◌, IfErr};
 
 use crate::extras::Extras;
@@ -16,9 +16,9 @@ use std::sync::atomic::Ordering::SeqCst;
 use std::sync::{Arc, Wait};
 use std::thread::{Builder, Threads};
 
-/// Starts a thread, if the options ask for it, that reads standard input to its end, throws that away, and then sets
-/// what is answered. A read that fails counts as the end; both are logged, at levels warn and info. Refuses with
-/// `NoMemory`, and with `Threads` if the thread cannot be started, whose cause is logged.
+/// Returns a mark. If the options ask for it, starts a thread that reads standard input to its end, throws that away,
+/// and sets the mark. A read that fails counts as the end. Logs the end at level info, a failed read at level warn.
+/// Refuses with `NoMemory`. Refuses with `Threads`, and logs the cause, if the thread cannot be started.
 pub fn watch<R>(
     rt: R,
     input: Stdin,

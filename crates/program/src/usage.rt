@@ -19,7 +19,7 @@ use std::io::Write;
 /// The most columns of a line of help.
 const COLUMNS: usize = 80;
 
-/// The most columns that the lines after the first are indented by.
+/// The most columns by which the rest of a broken line is indented.
 const MOST_INDENT: usize = 40;
 
 /// Prints what the parser answers in place of a command: help and the version to `writer`, and to `errors` why the
@@ -63,7 +63,7 @@ fn print_answer(alloc: Global, error: &Error, writer: &mut impl Write) -> Result
     Ok(())
 }
 
-/// Prints why arguments are refused. Where one has control characters, the parser is asked again, with these escaped.
+/// Prints why arguments are refused. If one has control characters, the parser is asked again, with these escaped.
 fn print_refused(alloc: Global, arguments: &[String], error: &Error, errors: &mut impl Write) {
     if arguments
         .iter()
@@ -105,8 +105,8 @@ impl fmt::Display for Escaped<'_> {
     }
 }
 
-/// Prints why arguments are refused. What to type instead stands below the first paragraph, in place of a tip of the
-/// parser's.
+/// Prints why arguments are refused. What to type instead stands below the first paragraph, in place of the parser's
+/// own tip.
 fn print_error(alloc: Global, error: &Error, tip: Option<Tip<'_>>, errors: &mut impl Write) {
     if let Some(tip) = tip {
         if let Ok(text) = format!(in alloc; "{error}") {
@@ -131,7 +131,7 @@ fn without_tip(rest: &str) -> &str {
     }
 }
 
-/// A text whose long lines are broken between words. What is broken off stands below the description of an option.
+/// A text whose long lines are broken between words. The rest of a line stands below an option's description.
 #[derive(Clone, Copy)]
 struct Wrapped<'a>(&'a str);
 
@@ -200,7 +200,7 @@ pub(crate) enum Tip<'a> {
     Forward(&'a str, &'a str),
     /// `relayd sim` with this script as its standard input.
     Script(&'a str),
-    /// An option of `relayd forward`, which stands in the settings file.
+    /// An option of `relayd forward` that `run` and `check` take from the settings file.
     Setting(&'a str),
 }
 
@@ -220,7 +220,7 @@ impl fmt::Display for Tip<'_> {
     }
 }
 
-/// What to type in place of refused arguments, of which the first is the program's own name, if that is likely enough.
+/// What to type in place of refused arguments, if that is likely enough. The first is the program's own name.
 fn find_tip(arguments: &[String]) -> Option<Tip<'_>> {
     let first = arguments.get(1)?.as_str();
     let second = match arguments.get(2) {

@@ -1,5 +1,5 @@
--- The same connection in the machine that knows no such wire (`kernel_model`). Part of the promises. While the wire
--- does not read and no report was passed on to it, what comes to be read is late there: it comes with the report.
+-- The same connection "there": in the machine without such a wire (`kernel_model`). Part of the promises. While the
+-- wire does not read and no report was passed on to it, what comes to be read is late there: it comes with the report.
 use Rattle.std.specs.{Prelude.{◌≡◌, ◌≢◌, ◌⊎◌, Bool, true, false, not, ◌&&◌, ◌||◌, if◌then◌else◌, List, [], ◌∷◌, ◌++◌, map, Contains, Option, Some, option_map, option_and_then, unwrap_or}, List.flat_map}
 use Rattle.token.specs.declared.side.Side.{Side}
 use Rattle.kernel_model.specs.{Outcome.{guard, Told}, Ends.{EndState, opened, is_readable, new_room}, declared.reply.Reply.Reply}
@@ -11,9 +11,9 @@ pub record Seen : Type 0 where
   pub socket : EndState
   pub queued : Bool
 
--- What may happen to it: a change of the network (`arrive`, `fin`, `reset`), room for writes (`room`), a report without
--- cause (`spurious`), one that is taken back (`vanish`), a poll that hands its name over (`poll`), and a call with its
--- reply
+-- What may happen to the end: a change of the network (`arrive`, `fin`, `reset`), room for writes (`room`), a report
+-- without cause (`spurious`), a report that is taken back (`vanish`), a poll that hands the end's name over (`poll`),
+-- and a call with its reply
 pub data Event : Type 0 where
   Came : Change → Event
   GotRoom : Event
@@ -45,20 +45,19 @@ unseen side = record { socket = opened side; queued = false }
 abbrev pub is_late : Way → Bool
 is_late w = not w.reads && not w.told
 
--- what a report does there when it is passed on: what is late comes, if the report names reading, and its name is
--- queued
+-- what happens there when a report is passed on: what is late comes, if the report names reading; the name is queued
 abbrev pub at_telling : List Bool → List Change → List Event
 at_telling [] late = []
 at_telling (true ∷ rest) late = map Came late ++ Stray ∷ []
 at_telling (false ∷ rest) late = Stray ∷ []
 
--- an error that a call is given is not late
+-- what happens there at a call: an error is not late, and what was late comes before it
 abbrev pub at_call : List Change → Call → Reply → List Event
 at_call late call (reply.Failed kind) = map Came late ++ Called call (reply.Failed kind) ∷ []
 at_call late call r = Called call r ∷ []
 
--- What happens there at a step. A report vanishes there, too, even if its name was not queued; but what is still owed
--- stays queued
+-- What happens there at a step. If a report vanishes, one also vanishes there, and is queued before; but if a report is
+-- still owed, the name stays queued
 abbrev pub meanwhile : Way → List Change → Step → List Event
 meanwhile w late (Comes change) = if is_late w then [] else Came change ∷ []
 meanwhile w late HasRoom = GotRoom ∷ []
@@ -121,9 +120,9 @@ IsOnItsWay w = (w.queued ≡ true) ⊎ ((w.taken ≢ []) ⊎ (w.owed ≡ true))
 abbrev pub WillBeTold : Way → Type 0
 WillBeTold w = (w.queued ≡ true) ⊎ Contains w.taken true
 
--- Every run of the steps is a run of the machine: all that happens there may happen there. Its wire has the same
--- answers, in order. The same comes to its end, in order, and what has not come yet are the last changes. Its name is
--- queued only while a report is on its way
+-- A run of these steps is a run of the machine: the machine allows all that happens there. Its wire has the same
+-- answers, in order. The same changes come to its end, in order; the last ones may still be late. Its name is queued
+-- only while a report is on its way
 pub record IsDelayed (from to : Way) (steps : List Step) (side : Side) : Type 0 where
   pub seen : Seen
   pub allowed : events (unseen side) (happened from [] steps) ≡ Some seen

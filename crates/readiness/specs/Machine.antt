@@ -24,7 +24,7 @@ pub data Call : Type 0 where
   Join : Call
   Shut : Call
 
--- the end after a call that is given this reply, if it may be
+-- the end after a call, if this reply may be given
 abbrev pub after_call : EndState → Call → Reply → Option EndState
 after_call e (Read most) r = after_read e most r
 after_call e (Write offer) r = after_write e offer r
@@ -87,7 +87,7 @@ abbrev pub may_call : Bool → Call → Bool
 may_call reads (Read most) = reads
 may_call reads call = true
 
--- a read that would block ends that the wire reads, and an error of any call begins it
+-- whether the wire reads after a call: no more after a read that would block, again after any error
 abbrev pub reads_after : Bool → Call → Reply → Bool
 reads_after reads (Read most) reply.Blocked = false
 reads_after reads call (reply.Failed kind) = true

@@ -8,7 +8,7 @@ pub record WordName : Type 0 where
   pub slot : ℕ
   pub side : Side
 
--- the word of an end, where there are this many slots
+-- the word of an end, if its slot is one of this many
 abbrev pub word_of : ℕ → ℕ → Side → Option WordName
 word_of slots slot side = if nat_lt slot slots then Some (record { slot = slot; side = side }) else None
 
@@ -20,7 +20,6 @@ both_of slot = (record { slot = slot; side = Client }, record { slot = slot; sid
 abbrev pub words_of : ℕ → List (WordName × WordName)
 words_of slots = map both_of (range_with_len 0 slots)
 
--- one of both
 abbrev pub of_side : Side → WordName × WordName → WordName
 of_side Client both = both.0
 of_side Target both = both.1

@@ -40,14 +40,14 @@ impl Attention {
         self.reads = self.reads || told;
     }
 
-    /// The socket answered a read that it would block: nothing is there until the next report that names reading.
+    /// A read of the socket would block: nothing is there until the next report that names reading.
     pub fn rest(&mut self)
         ensures { self.new ≡ false }
     {
         self.reads = false;
     }
 
-    /// A call failed. What follows is asked of the socket.
+    /// A call failed. The wire reads its socket from now on.
     pub fn wake(&mut self)
         ensures { self.new ≡ true }
     {

@@ -1,13 +1,13 @@
 //! What a wire knows of its socket by the reports that the poller took: whether a read is worth a system call.
 //!
-//! Where a read would block, the system reports the socket again when something can be read there (epoll(7),
+//! After a read that would block, the system reports the socket again when something can be read there (epoll(7),
 //! edge-triggered), and the report names reading. Until then a read would give the same answer. So a wire keeps an
-//! [`Attention`]: it ends with a read that would block, and begins again when the poller passes on a report that
-//! names reading ([`Reports`]). In between the wire answers "would block" without a system call.
+//! [`Attention`]: the wire stops reading after a read that would block, and reads again when the poller passes on a
+//! report that names reading ([`Reports`]). In between it answers "would block" without a system call.
 //!
-//! [`laws`] says that nothing is missed by this: over an end of the modelled kernel, in every order of the steps of
-//! the network, the system, the poller and the wire, such a wire gives the answers that the end could give if what
-//! comes came when its report is passed on.
+//! [`laws`] says that this misses nothing: over an end of the modelled kernel, in every order of the steps of the
+//! network, the system, the poller and the wire, such a wire gives the answers that the end could give if its input
+//! came only when a report of it is passed on.
 #![tactic(auto)]
 
 mod attention;

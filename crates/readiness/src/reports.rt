@@ -41,8 +41,7 @@ impl Model for Ends {
     ghost view = { λ e. (arc_value e.client, arc_value e.target) };
 }
 
-/// What is reported of one end. It has the word of that end and no other, so a look finds and clears what was
-/// reported of that end.
+/// A wire's handle on the word of its end, and on no other: a look finds and clears what was reported of that end.
 ///
 /// In a clause it is the name of the word.
 #[derive(Drop)]
@@ -60,7 +59,7 @@ impl Model for Told {
 }
 
 impl Reports {
-    /// For this many slots; nothing is reported yet. No later call allocates memory.
+    /// The words of this many slots; nothing is reported yet. No later call allocates memory.
     #[tactic(auto, using(crate::proofs::Words::one_more))]
     pub fn new(alloc: Global, slots: usize) -> Result<Reports, AllocError>
         ensures { IfOk result (λ reports. reports ≡ slots) }
@@ -72,8 +71,8 @@ impl Reports {
         Ok(Reports { ends })
     }
 
-    /// Passes on a report that names reading, at the word of that end alone. A slot that it does not have is left
-    /// alone: its wires always read.
+    /// Passes on a report that names reading, at the word of that end alone. None if there is no such slot: the wires
+    /// of such a slot always read.
     pub fn tell(&self, slot: usize, side: Side) -> Option<Heard>
         ensures { result ≡ word_of self.now slot side }
     {
@@ -116,7 +115,7 @@ impl Ends {
 }
 
 impl Told {
-    /// What is reported of the end on a side of a slot's connection, if there is such a slot.
+    /// The handle for the end on a side of a slot's connection. None if there is no such slot.
     pub fn new(reports: &Reports, slot: usize, side: Side) -> Result<Option<Told>, AllocError>
         ensures { IfOk result (λ told. told ≡ word_of reports.now slot side) }
     {
@@ -128,7 +127,7 @@ impl Told {
         }
     }
 
-    /// Whether a report that names reading was passed on since the last look, which this is.
+    /// Looks whether a report that names reading was passed on since the last look.
     pub fn take(&self) -> bool {
         self.word.take()
     }

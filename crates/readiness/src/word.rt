@@ -1,5 +1,5 @@
-// What is reported of one end, and the two steps on it, which are sequentially consistent, as are those of the claim
-// words. A word knows whose it is, so that a clause can say at which word a step was made.
+// What is reported of one end, and the two steps on it. They are sequentially consistent, like those on claim words. A
+// word has its end's name, so that a clause can say at which word a step was made.
 ghost use Rattle.std.specs.Prelude.{◌≡◌};
 
 use std::marker::Model;
@@ -7,7 +7,7 @@ use std::sync::atomic::AtomicBool;
 use std::sync::atomic::Ordering::SeqCst;
 use token::Side;
 
-/// Whether a report was passed on of the end on a side of a slot's connection. In a clause it is its name.
+/// Whether a report of the end on a side of a slot's connection was passed on. In a clause it is the end's name.
 #[derive(Drop)]
 pub(crate) struct Word {
     slot: usize,
@@ -23,7 +23,7 @@ impl Model for Word {
     ghost view = { λ w. record { slot = w.slot; side = w.side } };
 }
 
-/// A report was passed on at the word of the end on this side of this slot's connection. Only that step makes one.
+/// A report was passed on at the word of the end on this side of this slot's connection. Only that makes this value.
 #[derive(Drop)]
 pub struct Heard {
     slot: usize,
@@ -49,12 +49,11 @@ impl Word {
         }
     }
 
-    /// Passes on a report.
     pub(crate) fn tell(&self) -> Heard
         ensures { result ≡ self.now }
     {
-        // Pairs with `take`. The poller does so before it hands its reports over, and so before the report becomes a
-        // note: a holder who takes that note finds what was passed on.
+        // Pairs with `take`. The poller sets the word before it hands its reports over, so before the report becomes a
+        // note: a holder who takes that note finds the word set.
         self.told.store(true, SeqCst);
         Heard {
             slot: self.slot,
@@ -62,10 +61,10 @@ impl Word {
         }
     }
 
-    /// Whether a report was passed on since the last look, which this is.
+    /// Looks whether a report was passed on since the last look.
     pub(crate) fn take(&self) -> bool {
-        // Pairs with `tell`. A report that is passed on after the exchange stands until the next look. Most looks find
-        // nothing, and a load is cheaper than an exchange.
+        // Pairs with `tell`. A report that is passed on after the swap stands until the next look. Most looks find
+        // nothing, and a load is cheaper than a swap.
         self.told.load(SeqCst) && self.told.swap(false, SeqCst)
     }
 }

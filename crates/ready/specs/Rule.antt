@@ -19,18 +19,18 @@ module _ {T : Type 0} where
     pub there : All (λ e. get_elem? line e.0 ≡ some e.1) entries
     pub rising : AllPairs (λ a b. a.0 < b.0) entries
 
-  -- an end beside which no other was made yet has put all that was put
+  -- an end that is still the only one has put all that was put. Of several, none is `alone`
   abbrev pub FirstPutAll : ℕ → List (History T) → Type 0
   FirstPutAll count (v ∷ []) = v.alone ≡ true → length v.put ≡ count
   FirstPutAll count views = All (λ v. v.alone ≡ false) views
 
-  -- such entries of all ends make up this line: over all ends each of its places stands once, and each has its item
+  -- the entries of all ends make up this line: each of its places stands in one entry, with its item
   pub record MakeUp (line : List T) (entries : History T → List (ℕ × T)) (views : List (History T)) : Type 0 where
     pub once : (place : ℕ) → sum_by (λ v. times place (entries v)) views ≡ once_below (length line) place
     pub fit : All (λ v. Fits line (entries v)) views
 
-  -- A place counts the items that were put before. All that was ever put, in order, is what was taken and then what the
-  -- queue holds. Over all ends each place was put once, and each place below the first that is left was taken once
+  -- A place counts the items that were put before. All that was ever put, in order, is what was taken (`gone`) and then
+  -- what the queue holds. Over all ends, each place got an item once, and each place of `gone` was taken once
   pub record QueueRule (items : List T) (views : List (History T)) : Type 0 where
     pub gone : List T
     pub put : MakeUp (gone ++ items) (λ v. v.put) views

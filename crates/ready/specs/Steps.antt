@@ -1,5 +1,5 @@
--- What a call shows the end that made it: of some state that meets the rule, in which its own history stands, since no
--- clause can name what other threads do. Part of the promises.
+-- What a call shows the end that made it. No clause can name what other threads do. So the call shows some state that
+-- meets the rule and has the end's own history. Part of the promises.
 use Rattle.std.specs.{Prelude.{◌≡◌, ℕ, ◌+◌, ◌^◌, ◌==◌, Bool, not, bit_and, true, false, List, [], ◌∷◌, ◌++◌, length, map, slice_set}, List.range_with_len}
 use Rattle.ready.specs.{declared.history.History.History, Rule.QueueRule}
 use mathlib.Core.Option.{some}
@@ -11,11 +11,11 @@ pub record EndState (T : Type 0) : Type 0 where
   pub history : History T
 
 module _ {T : Type 0} where
-  -- of an end that has done nothing yet
+  -- the history of an end that has done nothing yet
   abbrev pub blank : History T
   blank = record { alone = false; put = []; taken = [] }
 
-  -- of the first end, before any other is made
+  -- the history of the first end, before any other is made
   abbrev pub opener : History T
   opener = record { alone = true; put = []; taken = [] }
 
@@ -32,7 +32,7 @@ module _ {T : Type 0} where
   abbrev pub unused : ℕ → EndState T
   unused capacity = record { capacity = capacity; history = blank }
 
-  -- the queue held these items at a moment at which the end had this history
+  -- some state that meets the rule has these items in the queue, and this history of the end
   pub record Saw (history : History T) (items : List T) : Type 0 where
     pub views : List (History T)
     pub end_number : ℕ
@@ -45,7 +45,7 @@ module _ {T : Type 0} where
     pub held : length items ≡ count
     pub saw : Saw history items
 
-  -- the item joined at the back, and the end has its place
+  -- the item joined at the back, and the end's history has its place
   pub record PutOne (old : History T) (item : T) (new : History T) : Type 0 where
     pub items : List T
     pub views : List (History T)
@@ -59,7 +59,7 @@ module _ {T : Type 0} where
   abbrev pub PutLast : T → History T → Type 0
   PutLast item h = (place : ℕ) × (before : List (ℕ × T)) × (h.put ≡ before ++ (place, item) ∷ [])
 
-  -- the item left at the front, and the end has its place
+  -- the item left at the front, and the end's history has its place
   pub record TookOne (old : History T) (item : T) (new : History T) : Type 0 where
     pub items : List T
     pub views : List (History T)
@@ -77,7 +77,7 @@ in_order first slots = map (λ (place : ℕ). (place, first + place)) (range_wit
 abbrev pub opened : ℕ → ℕ → EndState ℕ
 opened first slots = record { capacity = slots; history = record blank { put = in_order first slots } }
 
--- One step on the bits of the idle ends: the bits; or bits that were set or cleared, and what was there before
+-- One step on the bits of the idle ends: the bits that were read; or those set or cleared, and all bits before
 pub data BitStep : Type 0 where
   ReadBits : ℕ → BitStep
   SetBits : ℕ → ℕ → BitStep
@@ -87,6 +87,6 @@ pub data BitStep : Type 0 where
 abbrev pub bit_of : ℕ → ℕ
 bit_of end = 2 ^ end
 
--- whether it is set
+-- whether an end's bit is set
 abbrev pub has_bit : ℕ → ℕ → Bool
 has_bit end bits = not (bit_and bits (bit_of end) == 0)

@@ -1,4 +1,4 @@
-// What one end of the queue of tickets keeps, and the steps whose clauses name that.
+// One end of the ready queue: what it keeps, and the steps whose clauses name that.
 ghost use Rattle.std.specs.{Prelude.{◌≡◌, ◌≢◌, true, false, IfOk, OnOk, IfErr, OnErr, IfSome, IfNone, IsNone, IsTrue, ◌↔◌}, Arc.arc_value};
 ghost use Rattle.crossbeam_queue.specs.Passes.{view, IsPassOf, ruled_capacity};
 ghost use Rattle.ready.specs.Steps.{HeldOnce, PutOne, TookOne};
@@ -42,7 +42,7 @@ impl End {
         }
     }
 
-    // The wake that the ticket needs: none if this end will come back for it itself.
+    // Puts a ticket, and returns the wake that it needs. None: this end will come back for a ticket itself.
     pub(crate) fn push(
         &mut self,
         rt: &impl Wait,
@@ -71,7 +71,7 @@ impl End {
         pop(rt, &self.shared.line, &mut self.pass)
     }
 
-    // Gives none only as the value that says that the queue was closed, and then found empty.
+    // An error shows that the queue was closed, and then found empty.
     pub(crate) fn take(&mut self, rt: &impl Wait) -> Result<Ticket, FoundEmpty>
         ensures taken { IfOk result (λ ticket. TookOne (view self.old.pass) ticket (view self.new.pass)) }
         ensures empty { OnErr result ((view self.new.pass ≡ view self.old.pass) × HeldOnce 0 (view self.old.pass)) }
@@ -100,7 +100,7 @@ impl End {
         unreachable!()
     }
 
-    // Announces that it is idle, looks again, and parks if there was nothing.
+    // Announces that the end is idle, looks again, and parks if there is no ticket.
     fn look_or_park(&mut self, rt: &impl Wait, empty: FoundEmpty) -> Option<Ticket>
         requires open { empty.0.closed ≢ true }
         ensures taken { IfSome result (λ ticket. TookOne (view self.old.pass) ticket (view self.new.pass)) }
@@ -116,7 +116,7 @@ impl End {
         self.shared.ends.withdraw(rt, awake, found)
     }
 
-    // An end that has just taken a ticket may not park: it would sleep on it.
+    // An end that has just taken a ticket may not park: the ticket would wait.
     fn park(&self, rt: &impl Wait, looked: LookedInVain) -> Awake
         requires empty { HeldOnce 0 (view self.now.pass) }
         requires mine { looked.0.end ≡ self.now.sleeper.number }

@@ -11,22 +11,21 @@ use std::sync::Wait;
 use std::sync::atomic::Ordering::SeqCst;
 use std::sync::atomic::{AtomicBool, AtomicU64};
 
-/// A word of bits that threads share. Each method is one step, and there is no other: none reads the bits in one step
-/// and writes them in another, between which a second thread's step could be lost. The trait leaves open what a step
-/// does.
+/// A word of bits that threads share. Each method is one step, and there are no others. So no thread reads the bits in
+/// one step and writes them in another, which could lose a step in between. The trait leaves open what a step does.
 pub(crate) trait Bits {
-    // What a step may do: the step with its answer, and the word.
+    // This step, with its answer, was made on this word.
     ghost did: { BitStep → Self → Type 0 };
 
-    /// The bits.
+    /// Returns the bits.
     fn read(&self) -> u64
         ensures { did (ReadBits result) self.now };
 
-    /// What was there before.
+    /// Sets these bits. Returns the bits before.
     fn set(&self, bits: u64) -> u64
         ensures { did (SetBits bits result) self.now };
 
-    /// The same.
+    /// Clears these bits. Returns the bits before.
     fn clear(&self, bits: u64) -> u64
         ensures { did (ClearedBits bits result) self.now };
 }
@@ -47,12 +46,12 @@ impl Bits for AtomicU64 {
     }
 }
 
-/// One bit for each end that has parked or is about to, and that nobody has woken yet.
+/// A bit for each end. It is set while the end has parked or is about to, and nobody has woken it yet.
 #[derive(Drop)]
 pub(crate) struct IdleBits<W = AtomicU64>(W);
 
-/// One look found no end idle. Only [`IdleBits::all_busy`] makes one, and it cannot be copied: who asks for one asks
-/// for a look of its own.
+/// Shows that one look found no end idle. Only [`IdleBits::all_busy`] makes one, and it cannot be copied: each needs a
+/// look of its own.
 #[derive(Drop)]
 pub struct AllBusy {
     bits: u64,
@@ -66,9 +65,9 @@ pub(crate) struct Announced {
     ghost few: { end < 32 },
 }
 
-/// An idle end has to be woken for a ticket that is in the queue. Only [`push_ticket`] makes one, and
-/// [`IdleBits::withdraw`], where another thread has woken an end that finds a ticket by itself. It can be neither
-/// copied nor dropped: it wakes one end, or a look after the put found no end idle, or the end that has it looks again.
+/// The duty to wake an idle end for a ticket that is in the queue. Only [`push_ticket`] makes one, and
+/// [`IdleBits::withdraw`] if another thread has spent a wake on the caller's end. A wake can be neither copied nor
+/// dropped. It ends once it has woken an end, once a look found no end idle, or once the end that it woke looks again.
 pub(crate) struct Wake(());
 
 /// An end whose bit was cleared to wake it. Only [`IdleBits::wake`] makes one. It can be neither copied nor dropped.
@@ -76,7 +75,7 @@ pub(crate) struct Woken {
     end: usize,
 }
 
-/// Puts a ticket at the back. The wake that it needs: none if the end that puts it comes back for it.
+/// Puts a ticket at the back, and returns the wake that it needs. None: the end that puts it comes back for one.
 pub(crate) fn push_ticket<R: Wait>(
     rt: &R,
     line: &Line<Ticket>,
@@ -96,7 +95,7 @@ pub(crate) fn push_ticket<R: Wait>(
 }
 
 impl Wake {
-    /// The end that was woken has found nothing, and goes on to look.
+    /// Spends the wake on the caller's end, which was woken, has found nothing, and looks again.
     pub(crate) fn take(self, _found: &Option<Ticket>)
         requires { _found.now ≡ None }
     {
@@ -105,7 +104,7 @@ impl Wake {
 }
 
 impl Woken {
-    /// There is one in this order for each end.
+    /// Unparks the end. `unparkers` has one for each end, in order.
     pub(crate) fn unpark(self, wake: Wake, unparkers: &[Unparker])
         requires { self.end < length unparkers.now }
     {
@@ -129,33 +128,33 @@ impl<W: Bits> IdleBits<W> {
         ensures set { (before : ℕ) × W.did (SetBits (bit_of end) before) self.now.0 }
     {
         // Pairs with `look_for`. A put pushes and then reads the bits; an end sets its bit and then looks. So one of
-        // the two sees the other's step. The other way round, the end could park beside the ticket of a put in between.
+        // the two sees the other's step. If the end looked first, it could park although a put came in between.
         self.0.set(1u64 << end);
         Announced { end }
     }
 
-    /// Clears the bit of an end that has announced itself. The wake that another thread spent on it, if that had
-    /// cleared it before.
+    /// Clears the bit of an end that has announced itself. If another thread had cleared the bit before, returns the
+    /// wake that it spent on this end.
     pub(crate) fn withdraw(&self, announced: Announced) -> Option<Wake>
         ensures cleared { (before : ℕ) × W.did (ClearedBits (bit_of announced.end) before) self.now.0
             × (IsSome result ↔ IsTrue (not (has_bit announced.end before))) }
     {
-        // Pairs with `wake`: only one of the two finds the bit. If both could, nobody would pass that wake on: the
-        // other put's ticket would wait until this end comes back, while a third end sleeps.
+        // Pairs with `wake`: only one of the two finds the bit set. If both could, nobody would pass that wake on, and
+        // the other put's ticket would wait until this end comes back, while a third end sleeps.
         let Announced { end } = announced;
         let bit = 1u64 << end;
         let was_woken = self.0.clear(bit) & bit == 0;
         if was_woken { Some(Wake(())) } else { None }
     }
 
-    /// Clears the bit of an end that must be woken. None if it was not this call that cleared it.
+    /// Clears the bit of an end that must be woken. None: the bit was clear already.
     pub(crate) fn wake(&self, end: usize) -> Option<Woken>
         requires { end < 32 }
         ensures cleared { (before : ℕ) × W.did (ClearedBits (bit_of end) before) self.now.0
             × (IsSome result ↔ IsTrue (has_bit end before)) }
         ensures end { IfSome result (λ woken. woken.end ≡ end) }
     {
-        // Pairs with `withdraw`, and with itself: if two puts woke the same end, one ticket would be left.
+        // Pairs with `withdraw`, and with itself: if two puts woke one end, one of their tickets would be left.
         let bit = 1u64 << end;
         if self.0.clear(bit) & bit != 0 {
             Some(Woken { end })
@@ -164,12 +163,12 @@ impl<W: Bits> IdleBits<W> {
         }
     }
 
-    /// The bits, by one look, if any is set. The wake is for one of these ends, and else for nobody.
+    /// Looks once. Returns the bits and the wake if a bit is set. Otherwise the wake ends here: no end is idle.
     pub(crate) fn look_for(&self, wake: Wake) -> Option<(u64, Wake)>
         ensures looked { (bits : ℕ) × W.did (ReadBits bits) self.now.0 × (IsNone result ↔ bits ≡ 0)
             × IfSome result (λ found. found.0 ≡ bits) }
     {
-        // Pairs with `announce`. An end whose bit is set after this looks at the queue later, and finds what was
+        // Pairs with `announce`. An end that sets its bit after this looks at the queue later, and finds what was
         // pushed.
         let bits = self.0.read();
         if bits != 0 {
@@ -179,11 +178,11 @@ impl<W: Bits> IdleBits<W> {
         None
     }
 
-    /// Whether no bit is set, by one look.
+    /// Looks once. Some: no bit is set.
     pub(crate) fn all_busy(&self) -> Option<AllBusy>
         ensures looked { (bits : ℕ) × W.did (ReadBits bits) self.now.0 × (IsSome result ↔ bits ≡ 0) }
     {
-        // Pairs with nothing: an end may announce itself right after it. Who keeps a ticket has to come back to it.
+        // Pairs with nothing: an end may announce itself right after. So who keeps a ticket has to come back to it.
         let bits = self.0.read();
         if bits == 0 {
             Some(AllBusy { bits })
@@ -197,7 +196,7 @@ impl<W: Bits> IdleBits<W> {
 #[derive(Drop)]
 pub(crate) struct ClosedMark(AtomicBool);
 
-/// What a step on the mark saw or made of it. Only such a step makes one, and it cannot be copied.
+/// Whether the queue was closed when a step read or set the mark. Only such a step makes one. It cannot be copied.
 #[derive(Drop)]
 pub(crate) struct MarkSeen {
     closed: bool,
@@ -208,19 +207,17 @@ impl ClosedMark {
         ClosedMark(AtomicBool::new(false))
     }
 
-    /// Reads the mark.
     pub(crate) fn read(&self) -> MarkSeen {
-        // Pairs with `set`. Read after the queue, a ticket that was put before the close and after the look would be
-        // left.
+        // Pairs with `set`. If the mark were read after the look at the queue, a ticket that was put between the look
+        // and the close would be left.
         let closed = self.0.load(SeqCst);
         MarkSeen { closed }
     }
 
-    /// Sets the mark.
     pub(crate) fn set(&self) -> MarkSeen
         ensures { result.closed ≡ true }
     {
-        // Pairs with `read`. Set after the ends are woken, an end could spend its wake, find no mark and sleep forever.
+        // Pairs with `read`. If the ends were woken first, one could look, find no mark and sleep forever.
         self.0.store(true, SeqCst);
         MarkSeen { closed: true }
     }

@@ -31,8 +31,8 @@ impl Model for FreeQueue {
 }
 
 impl FreeQueue {
-    /// Makes a queue that holds this many slots, from the first on, in order, as its first end has put them, and its
-    /// ends. This allocates all the memory that it ever uses, and fails only if there is not enough.
+    /// Makes a queue and its ends. The first end has put `slots` slots, from `first` on, in order. This allocates all
+    /// the memory that it ever uses, and fails only if there is not enough.
     #[tactic(auto, using(crate::proofs::Moves::begins, crate::proofs::Moves::one_end_more))]
     pub fn new(
         rt: &impl Wait,

@@ -27,12 +27,10 @@ impl IdleEnds {
         }
     }
 
-    /// Reads the mark of a closed queue.
     pub(crate) fn mark(&self) -> MarkSeen {
         self.mark.read()
     }
 
-    /// Marks an end as idle.
     pub(crate) fn announce(&self, sleeper: &Sleeper, empty: FoundEmpty) -> Announced
         requires open { empty.0.closed ≢ true }
         ensures { result.end ≡ sleeper.now.number }
@@ -41,7 +39,7 @@ impl IdleEnds {
     }
 
     /// Marks the end as awake, after its last look at the queue or its sleep, and gives back what the look found. If
-    /// that is a ticket, and another put had spent its wake on this end, the wake is passed on.
+    /// the look found a ticket, and another thread had spent a wake on this end, the wake is passed on.
     pub(crate) fn withdraw(
         &self,
         rt: &impl Wait,
@@ -59,7 +57,6 @@ impl IdleEnds {
         found
     }
 
-    /// Whether no end is idle, by one look.
     pub(crate) fn all_busy(&self) -> Option<AllBusy> {
         self.idle.all_busy()
     }
@@ -74,13 +71,13 @@ impl IdleEnds {
             if let Some(woken) = self.woken_of(idle) {
                 return woken.unpark(same, self.unparkers.as_slice());
             }
-            // Other threads have woken all of these for other tickets.
+            // All of these were woken for other tickets, or have withdrawn.
             wake = same;
         }
         unreachable!()
     }
 
-    // The first end that is still idle, of those that were when the bits were read.
+    // Clears the first of these bits that is still set, and returns its end.
     fn woken_of(&self, idle: u64) -> Option<Woken>
         ensures { IfSome result (λ woken. woken.end < vec_len self.now.unparkers) }
     {
@@ -94,13 +91,12 @@ impl IdleEnds {
         None
     }
 
-    /// Sets the mark and wakes every end.
     pub(crate) fn close(&self) {
         let seen = self.mark.set();
         self.wake_all(&seen);
     }
 
-    // The mark is known to be set.
+    // Wakes every end, once the mark is set.
     fn wake_all(&self, _seen: &MarkSeen)
         requires { _seen.now.closed ≡ true }
     {

@@ -7,14 +7,14 @@
 //! Each item that is put gets a place: the number of items that were put before it. Between any two steps, in every
 //! schedule, this is true of a queue and of what all its ends have put and taken:
 //!
-//! 1. Each place below the number of puts was put once. The places that were taken are the first ones, each once.
+//! 1. Each place below the number of puts got an item once. The places that were taken are the first ones, each once.
 //! 2. An item that was taken at a place is the item that was put there.
 //! 3. The queue holds the items of the other places, in order.
-//! 4. The places that one end puts rise, and so do those that it takes.
+//! 4. The places of what one end has put rise, and so do those of what it has taken.
 //!
-//! So each ticket has been taken once or is still there, first in, first out. Full is answered only if some lawful
-//! state with this end's history was full, and none only if one was empty. That a call returns, and that a sleeping end
-//! wakes, is not proved. Tests show it.
+//! So each ticket has been taken once or is still there, first in, first out. The answer is Full only if some lawful
+//! state with this end's history was full, and None only if such a state was empty. It is not proved that a call
+//! returns or that a sleeping end wakes. Tests show it.
 //!
 //! # How an end sleeps, and who wakes it
 //!
@@ -31,9 +31,9 @@
 //!
 //! # Inside
 //!
-//! The order of these steps is kept by values that nothing but the step before gives. A put that has pushed its ticket
-//! has a wake, unless its own end comes back (`End::push`: `wake`). A wake can be neither copied nor dropped (`Wake`):
-//! it unparks the one end whose bit was cleared for it (`Woken`), or one look found no bit (`look_for`). So an end is
+//! The order of these steps is kept by values that only the step before gives. A put that has pushed its ticket has a
+//! wake, unless its own end comes back (`End::push`: `wake`). A wake can be neither copied nor dropped (`Wake`): it
+//! unparks the one end whose bit was cleared for it (`Woken`), or one look found no bit (`look_for`). So an end is
 //! woken only once its ticket is in the queue, or `close` has set its mark (`wake_all`). `take` returns none only if it
 //! read that mark and then found the queue empty (`End::take`: `closed`, `empty`). An end announces that it is idle
 //! only if it read that the queue was open and then found it empty (`announce`: `open`), and parks once for each
@@ -41,8 +41,8 @@
 //! on it to come back exactly if its last `take` gave a ticket and it has put nothing since (`End`: `same`,
 //! `comes_back`, `stays`). The word has no step but a read, and to set or clear bits at once (`Bits`): `withdraw` and
 //! `wake` say what one such step found (`cleared`), and `all_busy` returns Some exactly if its one look found no bit
-//! (`looked`). A wake that was spent on an end is its own again where it withdraws: an end that found nothing takes it,
-//! and one that found a ticket passes it on.
+//! (`looked`). An end that withdraws gets back a wake that was spent on it: an end that found nothing takes the wake,
+//! and an end that found a ticket passes it on.
 #![tactic(auto)]
 
 mod end;

@@ -14,8 +14,8 @@ use std::alloc::{AllocError, Global};
 use std::marker::Model;
 use std::sync::{Arc, Wait};
 
-/// One thread's end of a queue of tickets. After each ticket that [`ReadyQueue::take`] gave, it must be called again,
-/// until the answer is none: the end's next put relies on that. No clause asks for it.
+/// One thread's end of a queue of tickets. After a ticket, [`ReadyQueue::take`] must be called again, until it returns
+/// None: the end's next put relies on that. No clause asks for it.
 ///
 /// In a clause it is what a [`FreeQueue`](crate::FreeQueue) is.
 #[derive(Drop)]
@@ -98,12 +98,12 @@ impl ReadyQueue {
         self.end.take(rt).ok()
     }
 
-    /// Whether no end sleeps in [`ReadyQueue::take`] or is about to, by one look. None: one does.
+    /// Looks once for an end that sleeps in [`ReadyQueue::take`] or is about to. Some: there is none.
     pub fn all_busy(&self) -> Option<AllBusy> {
         self.end.shared.ends.all_busy()
     }
 
-    /// Lets `take` answer none at every end once the queue is empty, and wakes all ends that sleep.
+    /// From now on, `take` returns None at every end once the queue is empty. Wakes all ends that sleep.
     pub fn close(&mut self)
         ensures { self.new ≡ self.old }
     {

@@ -18,7 +18,7 @@ pub(crate) struct Sleeper {
     ghost few: { number < 32 },
 }
 
-/// An end has found the queue empty after it read the mark. If the queue was open, it may announce that it is idle.
+/// An end has found the queue empty after it read the mark. If the mark was not set, the end may announce itself.
 #[derive(Drop)]
 pub(crate) struct FoundEmpty(MarkSeen);
 
@@ -83,7 +83,6 @@ impl Sleeper {
         Sleeper { number, parker }
     }
 
-    /// Announces that this end is idle.
     pub(crate) fn announce(&self, idle: &IdleBits, empty: FoundEmpty) -> Announced
         requires open { empty.0.closed ≢ true }
         ensures { result.end ≡ self.now.number }
@@ -102,7 +101,7 @@ impl Sleeper {
 }
 
 impl Awake {
-    /// Withdraws the announcement. The wake that another thread spent on this end, if one did.
+    /// Withdraws the announcement. Returns the wake that another thread spent on this end, if one did.
     pub(crate) fn withdraw(self, idle: &IdleBits) -> Option<Wake> {
         let Awake(announced) = self;
         idle.withdraw(announced)

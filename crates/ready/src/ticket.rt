@@ -5,7 +5,7 @@
 pub struct Ticket {
     /// The slot to try.
     pub slot: usize,
-    /// That of the connection that the slot had when the ticket was made.
+    /// The slot's generation when the ticket was made.
     pub generation: u64,
 }
 

@@ -12,21 +12,21 @@ is_report act = false
 abbrev pub Follows : Record → Record → Type 0
 Follows last next = (last.after < next.before) ⊎ ((is_report next.act ≡ true) × (next.before ≡ last.before) × (next.after ≡ last.after))
 
--- the act at a place, of which 0 is the first, follows the one before it
+-- the act at a place, counted from 0, follows the act before it
 abbrev pub FollowsAt : List Numbered → ℕ → Type 0
 FollowsAt list place = (last next : Numbered) → slice_get list (place - 1) ≡ Some last → slice_get list place ≡ Some next
     → Follows last.record next.record
 
 -- Which counts are of no record. The counts are those of all records, and rise.
 
--- the count lies before the one at this place, and after the one before that
+-- the count is below the one at this place, and above the one at the place before
 pub record IsMissing (counts : List ℕ) (place count : ℕ) : Type 0 where
   pub inside : place < length counts
   pub after : 1 ≤ place → slice_index counts (place - 1) < count
   pub before : count < slice_index counts place
 
--- as many acts as were begun, in the order of the least counts that they can have: of those that are missing, this one
--- is the act's at the place that this many others have which are missing before it
+-- the missing counts go to the acts that were begun, in order; `begun` has the least count of each. `count - place`
+-- counts are missing before this one, so it goes to the act at that place, which can have it
 abbrev pub IsBegun : List ℕ → ℕ → ℕ → Type 0
 IsBegun begun place count = (count - place < length begun) × (slice_index begun (count - place) ≤ count)
 
@@ -36,7 +36,7 @@ abbrev pub items_of : Option (Vec Numbered Global) → List Numbered
 items_of (Some list) = list.items
 items_of None = []
 
--- the list with this number, where there is one
+-- the list with this number, empty if there is none
 abbrev pub records_at : Recording → ℕ → List Numbered
 records_at r at = items_of (slice_get r.lists.items at)
 

@@ -4,16 +4,16 @@ use records::{Act, Polling, ReplayFault};
 use std::alloc::{AllocError, Global};
 use std::mem;
 
-/// The readings of the clock, by the counts around them. The lists `before` and `after` rise by their first numbers,
-/// and have with each the latest second up to there.
+/// The readings of the clock, in order: in `before` by the count before each, in `after` by the count after each. With
+/// each count stands the latest second up to there.
 #[derive(Drop)]
 pub struct Clock {
     before: Vec<(u64, u64)>,
     after: Vec<(u64, u64)>,
 }
 
-/// Between these two counts a turn, a round or the beginning of a poller made a reading of its own, before the act on
-/// this line.
+/// Between two counts a turn, a round or the beginning of a poller must have made a reading of its own. `line` has the
+/// act that follows.
 #[derive(Clone, Copy)]
 struct Window {
     from: u64,
@@ -22,7 +22,7 @@ struct Window {
 }
 
 impl Clock {
-    /// The readings of these records, which rise by the count before them.
+    /// The readings of the clock among these records.
     pub fn new(alloc: Global, records: &[Numbered]) -> Result<Clock, AllocError> {
         Ok(Clock {
             before: readings_of(alloc, records, false)?,
@@ -30,8 +30,8 @@ impl Clock {
         })
     }
 
-    /// The earliest and the latest second of a reading between these two counts, by a thread of which nothing else is
-    /// recorded there. Without one these are the seconds that the clock can have shown.
+    /// The earliest and the latest second that a thread can have read between these two counts, if it did nothing else
+    /// there that is recorded. If no reading is recorded there, what the clock can have shown.
     pub fn between(&self, from: u64, to: u64) -> (u64, u64) {
         let readings = self.before.as_slice();
         let last = count_below(readings, to).saturating_sub(1);
@@ -44,8 +44,8 @@ impl Clock {
         (earliest.unwrap_or(second_at(readings, 0)), latest)
     }
 
-    /// Refuses with `Broken` for the first act before which its thread made no reading of its own. Each window takes
-    /// the last reading in it that is left, and those that begin last come first: no other choice leaves more.
+    /// Refuses with `Broken` an act before which its thread made no reading of its own. The windows choose in turn,
+    /// the one that begins last first. Each takes the last reading in it that is left: no other choice leaves more.
     pub fn check_readings(&self, recording: &Recording) -> Result<(), ReplayFault> {
         let windows = windows_of(recording)?;
         let mut left = vec![in recording.alloc; true; self.after.len()]?;
@@ -57,7 +57,7 @@ impl Clock {
         Ok(())
     }
 
-    /// Takes the last reading in a window that is left. Answers whether there is one.
+    /// Takes the last reading that is left in a window. Returns false if none is left.
     fn take_reading(&self, left: &mut [bool], window: &Window) -> bool {
         let readings = self.after.as_slice();
         let first = count_below(readings, window.from);
@@ -71,7 +71,7 @@ impl Clock {
         false
     }
 
-    /// The first record whose second is before one that was read before.
+    /// The first record with a lower second than a reading that had ended before it began.
     pub fn first_back(&self, records: &[Numbered]) -> Option<Numbered> {
         for numbered in records {
             if let Act::Second(second) = numbered.record.act {
@@ -83,7 +83,7 @@ impl Clock {
         None
     }
 
-    /// The latest second that had been read when the count had this value, if one had.
+    /// The latest second that was read before the count had this value, if one was.
     fn last_read(&self, count: u64) -> Option<u64> {
         let readings = self.after.as_slice();
         let last = count_below(readings, count).checked_sub(1)?;
@@ -118,7 +118,7 @@ fn readings_of(
     Ok(readings)
 }
 
-/// All windows of which each reading is recorded, in the order of their beginnings.
+/// All windows in which a reading must be recorded, by their beginnings.
 fn windows_of(recording: &Recording) -> Result<Vec<Window>, AllocError> {
     let mut windows = Vec::new(recording.alloc);
     if recording.header.idle == 0 {
@@ -141,12 +141,12 @@ fn add_windows(
     for numbered in acts {
         let (line, record) = (numbered.line, &numbered.record);
         let to = record.before;
-        // A turn or a round that was over by then is known to have read the clock.
+        // No record is missing below `whole`, so a reading in such a window is there.
         if is_read_before(is_first, &record.act) && to < recording.whole {
             windows.push(Window { from, to, line })?;
         }
         from = record.after;
-        // A wait that did not fail, or one of its reports.
+        // The next act is the first after the wait.
         is_first = matches!(
             record.act,
             Act::Poller(
@@ -158,8 +158,8 @@ fn add_windows(
     Ok(())
 }
 
-/// Whether a reading was made before an act: before each turn, and before an act of a poller that is its first one, or
-/// the first after a wait.
+/// Whether a thread reads the clock before an act: before each turn, and before the first act of a poller, and its
+/// first one after a wait.
 fn is_read_before(is_first: bool, act: &Act) -> bool {
     match act {
         Act::Begin(_) => true,
@@ -176,7 +176,7 @@ fn second_at(readings: &[(u64, u64)], index: usize) -> u64 {
     }
 }
 
-/// How many of these have a first number below this one. They rise by it.
+/// How many of these readings, which rise, have a lower count.
 fn count_below(readings: &[(u64, u64)], count: u64) -> usize {
     readings.partition_point(|reading| reading.0 < count)
 }

@@ -1,9 +1,9 @@
-//! A recording of a relay that was read ([`Recording`]), and whether threads can have done what it says.
+//! A relay's recording that was read ([`Recording`]), and whether threads can have done what it says.
 //!
-//! `reading` reads the file into the lists of `recording`, and `order` sees that these lists are whole. What no thread
-//! does is refused: two acts at once (`order`), a turn that read no second (`clock`), what does not follow in a round
-//! (`round`), more turns at once than threads (`threads`). `rounds` finds what was posted when, by the seconds and the
-//! times of sweeps.
+//! `reading` reads the file into the lists of `recording`, and `order` finds where they are no longer complete. What
+//! no thread does is refused: two acts at once (`order`), a turn that read no second (`clock`), an act that has no
+//! place in its round (`round`), more turns at once than threads (`threads`). `rounds` finds what was posted when: for
+//! reports, and in sweeps.
 #![tactic(auto)]
 
 mod clock;
@@ -15,9 +15,10 @@ mod rounds;
 mod threads;
 
 pub use clock::Clock;
+pub use dispatch::OWN_BUDGET;
 pub use order::put_in_order;
 pub use reading::read;
 pub use recording::{Last, Numbered, Recording, begun_before};
 pub use round::check_rounds;
 pub use rounds::{Post, find_posts};
-pub use threads::{OWN_BUDGET, check_threads, is_busy};
+pub use threads::{check_threads, is_busy};

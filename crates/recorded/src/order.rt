@@ -8,11 +8,11 @@ use records::{Act, Made, Polling, ReplayFault};
 use std::alloc::AllocError;
 
 /// Puts the last list of a recording in the order of the counts before its records. Refuses with `Broken` if the lines
-/// of a slot or of a poller are in another order, if what one thread at a time does overlaps, if two acts have the same
-/// count, if the last record has not the greatest counts, or if a recording that says it is complete is not. Where one
-/// was stopped, threads lost what they had not handed over: then only the records before the first lost one are left.
+/// of a slot or of a poller are in another order, if what one thread at a time does overlaps, if two acts have the
+/// same count, if the last record has not the greatest counts, or if a recording that says it is complete is not. If
+/// it does not say so, records may be lost: then only those before the first lost one are left.
 pub fn put_in_order(recording: &mut Recording) -> Result<(), ReplayFault> {
-    // The last list alone has the lines of several queues. Those of a slot, and of a poller, stand in the order of
+    // Only the last list is of several threads at once. The lines of a slot, and of a poller, stand in the order of
     // their counts: each is put into one queue by the thread that has the slot then, or is the poller.
     if let Some(list) = recording.lists.last_mut() {
         sort(list)?;
@@ -29,7 +29,7 @@ pub fn put_in_order(recording: &mut Recording) -> Result<(), ReplayFault> {
     Ok(())
 }
 
-/// Finds the first count that is of no record, and the first one that is of a lost record.
+/// Sets `whole` to the first count of no record, and returns the first count of a lost one.
 fn find_lost(recording: &mut Recording) -> Result<Option<u64>, ReplayFault> {
     let counts = counts_of(recording)?;
     check_counts(recording, counts.as_slice())?;
@@ -38,7 +38,7 @@ fn find_lost(recording: &mut Recording) -> Result<Option<u64>, ReplayFault> {
     Ok(first_lost(counts.as_slice(), begun.as_slice()))
 }
 
-/// Refuses two acts at once at a slot, or of a poller, and lines in another order.
+/// Refuses two acts at once at a slot, or of a poller, and lines that do not follow their counts.
 fn check_sequences(recording: &Recording) -> Result<(), ReplayFault> {
     let sequences = recording.lists.len().saturating_sub(1);
     for list in recording.lists.get(..sequences).unwrap_or(&[]) {
@@ -91,7 +91,7 @@ fn counts_of(recording: &Recording) -> Result<Vec<u64>, AllocError> {
     Ok(counts)
 }
 
-/// The place of the first of these counts, which rise, that is the one before it, too, or how many there are.
+/// The place of the first of these sorted counts that is the same as the one before it, or else their number.
 fn first_twice(counts: &[u64]) -> usize
     ensures within { result ≤ length counts.now }
     ensures once { (place : ℕ) → place < result → 1 ≤ place → slice_index counts.now (place - 1) ≢ slice_index counts.now place }
@@ -105,7 +105,7 @@ fn first_twice(counts: &[u64]) -> usize
     counts.len()
 }
 
-/// How many of these counts, which rise, are those from 0 up: the next one is missing.
+/// The first count from 0 up that is not among these sorted counts.
 fn first_missing(counts: &[u64]) -> usize
     ensures within { result ≤ length counts.now }
     ensures there { (count : ℕ) → count < result → slice_index counts.now count ≡ count }
@@ -119,8 +119,8 @@ fn first_missing(counts: &[u64]) -> usize
     counts.len()
 }
 
-/// For each act that may have begun and not ended when the relay was stopped, the least count that it can have, in
-/// order.
+/// For each list the least count that an act can have which may have begun, and not ended, when the relay was stopped.
+/// In order; `u64::MAX` for a list without one.
 fn begun(recording: &Recording) -> Result<Vec<u64>, AllocError> {
     let mut begun = vec![in recording.alloc; u64::MAX; recording.lists.len()]?;
     if !matches!(recording.last, Last::Ended) {
@@ -132,8 +132,8 @@ fn begun(recording: &Recording) -> Result<Vec<u64>, AllocError> {
     Ok(begun)
 }
 
-/// The count after the last of a poller, which may have been waiting for reports, or after that of a turn which has
-/// not ended, or else the greatest.
+/// The least count of an act of this list that has not ended: after the last act of a poller, which may be waiting for
+/// reports, or of a turn that has not ended. Else `u64::MAX`.
 fn next_begun(recording: &Recording, at: usize) -> u64 {
     let is_poller = at >= recording.header.slots && at < recording.lists.len().saturating_sub(1);
     match recording.list(at).last() {
@@ -153,8 +153,8 @@ fn is_of_turn(act: &Act) -> bool {
     }
 }
 
-/// The first count from 0 up, below the greatest of these, that is of no record, where each act that was begun lacks
-/// one.
+/// The first missing count, below the greatest of these, that no act which was begun can have. Each of those acts
+/// lacks one count.
 fn first_lost(counts: &[u64], begun: &[u64]) -> Option<u64>
     ensures none { IfNone result ((place count : ℕ) → IsMissing counts.now place count → IsBegun begun.now place count) }
     ensures some { IfSome result (λ lost. (place : ℕ) × IsMissing counts.now place lost × (IsBegun begun.now place lost → ⊥)) }
@@ -167,8 +167,8 @@ fn first_lost(counts: &[u64], begun: &[u64]) -> Option<u64>
     None
 }
 
-/// The same between the count at a place and the one before it. Each count that is missing uses up one act that was
-/// begun, so there are few of them.
+/// As `first_lost`, between the count at a place and the count before it. Each missing count uses up one act that was
+/// begun, so there are few.
 fn lost_before(counts: &[u64], place: usize, begun: &[u64]) -> Option<u64>
     requires { place < length counts.now }
     ensures none { IfNone result ((count : ℕ) → IsMissing counts.now place count → IsBegun begun.now place count) }
@@ -206,8 +206,8 @@ fn leave_out(recording: &mut Recording, lost: u64) {
     }
 }
 
-/// The place of the first of these acts, of a slot or of a poller, that does not follow the one before it, or how many
-/// there are.
+/// The place of the first of these acts, of a slot or of a poller, that does not follow the act before it, or else
+/// their number.
 pub(crate) fn first_overlap(list: &[Numbered]) -> usize
     ensures within { result ≤ length list.now }
     ensures before { (place : ℕ) → place < result → 1 ≤ place → FollowsAt list.now place }

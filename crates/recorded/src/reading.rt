@@ -23,7 +23,7 @@ struct Lines {
     number: u64,
 }
 
-/// Reads a recording to its end. Refuses with `Broken` for the first line that is none of a recording.
+/// Reads a recording to its end. Refuses with `Broken` the first line that is none of a recording.
 pub fn read<R: Read>(alloc: Global, reader: &mut R) -> Result<Recording, ReplayFault> {
     let mut lines = Lines {
         alloc,
@@ -97,7 +97,7 @@ impl Lines {
     }
 }
 
-/// How the slots are dealt by a first line.
+/// The header of a first line, and how that relay deals its slots.
 fn sizes(line: &[u8]) -> Result<(Header, Split), Wrong<'_>> {
     let header = read_header(line)?;
     match split_of(&header) {
@@ -130,12 +130,12 @@ fn record_of<'a>(recording: &Recording, line: &'a [u8]) -> Result<Record, Wrong<
     }
 }
 
-/// This is wanted of a line whose words are right.
 pub(crate) fn wanted<'a>(wanted: &'static str) -> Wrong<'a> {
     Wrong { word: None, wanted }
 }
 
-/// What is wanted of a record that names what this relay, or this poller, does not have.
+/// What is wanted of a record that cannot be of this relay: it names a poller or a slot that the relay does not have, a
+/// slot of another poller, or a second without an idle limit.
 fn outside(recording: &Recording, act: &Act) -> Option<&'static str> {
     let header = &recording.header;
     match *act {

@@ -18,9 +18,9 @@ pub struct Numbered {
 /// How a recording ends.
 #[derive(Clone, Copy)]
 pub enum Last {
-    /// The relay was stopped: what is there is a beginning.
+    /// The relay was stopped, so the recording is a beginning.
     Stopped,
-    /// There was no room for a record: so it is then.
+    /// A record found no room, so the recording is a beginning.
     Full,
     /// The relay ended, and everything is recorded.
     Ended,
@@ -39,7 +39,7 @@ pub struct Recording {
     pub last: Last,
     /// The count after the first wait for reports that failed, if one did: then the relay ended before all was done.
     pub failed: Option<u64>,
-    /// The first count that is of no record: what ended before is all there.
+    /// The first count of no record. What ended before it is all recorded.
     pub whole: u64,
     /// How many records after the first lost one are left out.
     pub left_out: usize,
@@ -83,7 +83,7 @@ impl Recording {
         })
     }
 
-    /// An opening belongs to two lists.
+    /// Adds a record to its list. An opening has two.
     pub(crate) fn add(&mut self, line: u64, record: Record) -> Result<(), AllocError> {
         match record.act {
             Act::Ended => self.last = Last::Ended,
@@ -114,7 +114,7 @@ impl Recording {
         }
     }
 
-    /// Refuses the line with this number, of which this is wanted.
+    /// The fault of the line with this number, of which `text` is wanted.
     pub fn broken(&self, line: u64, text: &'static str) -> ReplayFault {
         fault_of(self.alloc, line, wanted(text))
     }
@@ -138,7 +138,7 @@ impl Recording {
         }
     }
 
-    /// Which list is that of a poller.
+    /// The number of a poller's list.
     pub fn at_poller(&self, poller: usize) -> usize {
         self.header.slots.saturating_add(poller)
     }
@@ -163,7 +163,6 @@ impl Recording {
     }
 }
 
-/// This many empty lists.
 pub(crate) fn lists<T: Drop>(alloc: Global, count: usize) -> Result<Vec<Vec<T>>, AllocError> {
     let mut lists = Vec::new(alloc);
     for _list in 0..count {
@@ -172,7 +171,7 @@ pub(crate) fn lists<T: Drop>(alloc: Global, count: usize) -> Result<Vec<Vec<T>>,
     Ok(lists)
 }
 
-/// Adds to the list with this number, where there is one.
+/// Adds to the list with this number, if there is one.
 pub(crate) fn add<T: Copy>(lists: &mut [Vec<T>], at: usize, item: T) -> Result<(), AllocError> {
     match lists.get_mut(at) {
         Some(list) => Ok(list.push(item)?),
@@ -185,19 +184,19 @@ pub(crate) fn sort(acts: &mut Vec<Numbered>) -> Result<(), AllocError> {
     Ok(acts.sort_by_key(|act: &Numbered| act.record.before)?)
 }
 
-/// Those of these acts, which are in order, that had begun before this count.
+/// Of these acts, which are in order, those that had begun before this count.
 pub fn begun_before(acts: &[Numbered], count: u64) -> &[Numbered] {
     let begun = acts.partition_point(|act| act.record.before < count);
     acts.get(..begun).unwrap_or(&[])
 }
 
-/// Those of them that had ended before this count.
+/// Of these acts, which are in order, those that had ended before this count.
 pub(crate) fn ended_before(acts: &[Numbered], count: u64) -> &[Numbered] {
     let ended = acts.partition_point(|act| act.record.after < count);
     acts.get(..ended).unwrap_or(&[])
 }
 
-/// Whether another list has this record, too: an opening in that of its slot.
+/// Whether this record is in another list, too: an opening, in its slot's list (`of_slot`).
 pub(crate) fn is_twice(of_slot: bool, act: &Act) -> bool {
     of_slot && matches!(act, Act::Poller(_, _))
 }

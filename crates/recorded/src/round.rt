@@ -1,20 +1,18 @@
 //! What a poller does in a round, one act after the other: it waits for reports once, and then accepts connections,
 //! each of which it opens at once.
 use crate::recording::{Last, Recording, ended_before};
+use dispatch::MAX_ACCEPTS;
 use records::{Accepted, Act, Made, Opening, Polling, Record, ReplayFault};
 use std::alloc::AllocError;
 use std::mem;
 use token::{Name, Token};
 
-/// The most calls of accept(2) in a round.
-const MAX_ACCEPTS: usize = 4;
-
 #[derive(Drop)]
 struct Round<'a> {
     recording: &'a Recording,
-    /// The generation of the last connection that it opened in each slot, 0 where it opened none.
+    /// The generation of the last connection that the poller opened in each slot, 0 where it opened none.
     opened: Vec<u64>,
-    /// The wait with which the round began, if it has begun, and what that reported so far.
+    /// The wait with which the round began, if it has begun, and what the wait has reported so far.
     poll: Option<Record>,
     reported: Vec<Name>,
     /// How many calls of accept(2) are left.
@@ -56,7 +54,7 @@ impl Round<'_> {
         }
     }
 
-    /// Why an act does not follow those before it, if that is so.
+    /// Why an act cannot follow those before it. None if it can.
     fn act(&mut self, record: &Record) -> Result<Option<&'static str>, AllocError> {
         let Act::Poller(_, did) = record.act else {
             return Ok(None);
@@ -104,7 +102,7 @@ impl Round<'_> {
         Ok(None)
     }
 
-    /// Whether an end of the last connection in its slot was closed when the wait began.
+    /// Whether this end, of the last connection in its slot, was closed when the wait began.
     fn is_closed(&self, token: Token) -> bool {
         let acts = self.recording.slot(token.slot());
         let began = match &self.poll {
@@ -123,7 +121,7 @@ impl Round<'_> {
         false
     }
 
-    /// Where accept(2) was starved the round calls it no more.
+    /// After a starved accept(2) the round calls it no more.
     fn accept(&mut self, answer: Accepted) -> Option<&'static str> {
         if self.accepts == 0 {
             return Some("no more calls of accept(2) are made in this round");

@@ -1,42 +1,39 @@
-//! What the pollers were given in their rounds, and when they may have posted that.
+//! Which reports the pollers got, which sweeps they may have made, and when they posted.
 use crate::clock::Clock;
 use crate::reading::fault;
 use crate::recording::{Last, Numbered, Recording, add, begun_before, lists};
+use dispatch::MAX_BATCH;
 use records::{Act, Polling, Record, ReplayFault};
 use token::Name;
-
-const MAX_REPORTS: usize = 256;
 
 /// What a poller may have posted: by a report, or by the sweep of the round after a poll.
 #[derive(Clone, Copy)]
 pub struct Post {
     /// The place of the report or of the poll among what the poller did.
     pub place: usize,
-    /// The generation of which an end was reported. None for a sweep.
+    /// The generation of the end that was reported. None for a sweep.
     pub generation: Option<u64>,
-    /// The count when the poll had ended, and the one before the next thing that the poller did: it was made between
-    /// these.
+    /// The count after the poll, and the count before the poller's next act but its reports: the post was made between
+    /// them.
     pub from: u64,
     pub to: u64,
-    /// If it is certain that it was made, or for a sweep one before it, that happened from this count on.
+    /// From this count on this post, or for a sweep this or one before it, was certainly made. None: it is in doubt.
     pub since: Option<u64>,
 }
 
-/// The rounds of a poller, one after the other.
 #[derive(Clone, Copy)]
 struct Rounds<'a> {
     recording: &'a Recording,
     clock: &'a Clock,
     poller: usize,
-    /// The last poll, and how many of its reports are missing.
+    /// The last poll, and how many of its reports are still to come.
     poll: Option<Post>,
     missing: usize,
-    /// When it last made a sweep.
     swept: Swept,
 }
 
-/// What was posted in the rounds of a recording: a list for each slot, of the reports that its poller was given, and
-/// after them one for each poller, of its sweeps. Each of these posted to each slot in which the poller had opened a
+/// What was posted in the rounds of a recording: a list for each slot, of the reports that its poller got of it, and
+/// after them one for each poller, of its sweeps. A sweep posts to each slot in which the poller had opened a
 /// connection.
 ///
 /// Refuses with `Broken` for a poll with other reports than it gave.
@@ -80,7 +77,7 @@ impl Rounds<'_> {
         Ok(())
     }
 
-    /// Answers to which list an act of the poller adds what.
+    /// Returns what an act of the poller adds, and to which list.
     fn act(
         &mut self,
         place: usize,
@@ -97,7 +94,7 @@ impl Rounds<'_> {
             Act::Poller(_, Polling::Interrupted) => 0,
             _ => return Ok(None),
         };
-        if count > MAX_REPORTS {
+        if count > MAX_BATCH {
             return Err("a poll gives 256 reports at most");
         }
         self.missing = count;
@@ -105,7 +102,7 @@ impl Rounds<'_> {
     }
 
     fn begin(&mut self, place: usize, record: &Record) -> Option<(usize, Post)> {
-        // What comes next and is no report of this poll ends what it may have posted.
+        // The poller posts before its next act. The poll's reports, which have its counts, are passed over.
         let acts = self.recording.poller(self.poller);
         let poll = Post {
             place,
@@ -119,8 +116,8 @@ impl Rounds<'_> {
         sweep
     }
 
-    /// The round after a poll may have made a sweep, by the second that the round before it read. Where that is in
-    /// doubt, it may or may not.
+    /// The sweep that the round after a poll made, by the second that the round before it read. If that is in doubt,
+    /// it may have made none.
     fn sweep(&mut self, poll: &Post) -> Option<(usize, Post)> {
         let limit = self.recording.header.idle;
         let round = self.poll?;
@@ -135,7 +132,7 @@ impl Rounds<'_> {
         ))
     }
 
-    /// Answers to which slot the poller may have posted a report.
+    /// Returns the post for a report, and its slot.
     fn report(
         &mut self,
         place: usize,
@@ -161,20 +158,20 @@ impl Rounds<'_> {
     }
 }
 
-/// When a poller last made a sweep. At first it is the second at which its thread began.
+/// When a poller last made a sweep. Before the first one: when its thread began.
 #[derive(Clone, Copy)]
 struct Swept {
     /// The earliest and the latest second of the last sweep.
     first: u64,
     last: u64,
-    /// The same of the last one that was made for certain.
+    /// The earliest and the latest of the last certain sweep.
     certain: (u64, u64),
-    /// If one may have been made since then, the count from which on.
+    /// The count from which on a later sweep may have been made. None: none was.
     since: Option<u64>,
 }
 
 impl Swept {
-    /// A thread began between these two seconds.
+    /// A sweep, or the beginning of the thread, was between these two seconds.
     fn at((first, last): (u64, u64)) -> Swept {
         Swept {
             first,
@@ -185,8 +182,7 @@ impl Swept {
     }
 
     /// A round read a second between these two, and makes its posts from this count on: a sweep, if the limit has
-    /// passed since the last one. None: it makes none. With a count it, or a round since that count, makes one for
-    /// certain.
+    /// passed since the last one. Returns None if it makes none, and else what `Post::since` says of it.
     fn pass(&mut self, limit: u64, (least, most): (u64, u64), from: u64) -> Option<Option<u64>> {
         if most.saturating_sub(self.first) < limit {
             return None;
@@ -198,7 +194,7 @@ impl Swept {
         }
         self.since = Some(since);
         self.last = self.last.max(most);
-        // Where this round makes none, the last sweep is less than the limit ago.
+        // If this round makes none, the last sweep is less than the limit ago.
         self.first = self
             .first
             .max(least.saturating_sub(limit).saturating_add(1));

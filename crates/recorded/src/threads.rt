@@ -1,20 +1,17 @@
-//! How many threads were at work at once: a turn is made by the poller of its slot, while that does nothing else, or
-//! by a worker.
+//! How many threads were at work at once: a turn is made by the poller of its slot, while the poller does nothing
+//! else, or by a worker.
 use crate::order::first_overlap;
 use crate::recording::{Numbered, Recording, ended_before, sort};
+use dispatch::OWN_BUDGET;
 use records::{Act, Made, Record, ReplayFault};
 use std::alloc::AllocError;
-
-/// The most calls of a turn that a poller's own thread runs.
-pub const OWN_BUDGET: usize = 8;
 
 /// What one thread did at a slot without a break: a turn, with the closing that follows it, or another closing.
 #[derive(Clone, Copy)]
 struct Span {
-    /// The poller of the slot, and whether it is known that it did this.
+    /// The poller of the slot, and whether the poller did this for certain.
     poller: usize,
     is_pollers: bool,
-    /// The line with which it begins.
     line: u64,
     from: u64,
     to: u64,
@@ -48,7 +45,7 @@ fn all_spans(recording: &Recording) -> Result<Vec<Span>, AllocError> {
     let mut spans = Vec::new(recording.alloc);
     for slot in 0..recording.header.slots {
         for span in spans_of(recording, slot)?.as_slice() {
-            // What has not ended lasts up to the first count of no record, which may be that of its next act.
+            // A span that has not ended lasts up to the first count of no record, which may be that of its next act.
             let least = if span.is_over { 0 } else { recording.whole };
             let to = span.to.max(least);
             spans.push(Span { to, ..*span })?;
@@ -99,7 +96,7 @@ fn first_at_once(acts: &[Vec<Numbered>]) -> Option<u64> {
     None
 }
 
-/// When threads begin and end what else they do at slots, in order.
+/// The beginnings and ends of all other spans, in order.
 fn changes_of(
     recording: &Recording,
     acts: &[Vec<Numbered>],
@@ -140,8 +137,8 @@ pub fn is_busy(acts: &[Numbered], from: u64, to: u64) -> bool {
     }
 }
 
-/// What was done at a slot, as spans. A turn that spent a poller's budget and not the workers' is the poller's, and so
-/// is the closing of a connection that came to nothing.
+/// What was done at a slot, as spans. Two are the poller's for certain: a turn that spent the own budget, but not the
+/// workers', and the closing of a connection that came to nothing.
 fn spans_of(recording: &Recording, slot: usize) -> Result<Vec<Span>, AllocError> {
     let mut spans: Vec<Span> = Vec::new(recording.alloc);
     let failed = recording.failed.is_some();
@@ -165,7 +162,7 @@ fn spans_of(recording: &Recording, slot: usize) -> Result<Vec<Span>, AllocError>
     Ok(spans)
 }
 
-/// Whether an act begins a span. What follows a turn's end is its own closing, unless the relay failed.
+/// Whether an act begins a span. A drop after a turn's end belongs to that turn, unless the relay failed.
 fn begins_span(last: &Act, act: &Act, failed: bool) -> bool {
     match act {
         Act::Begin(_) => true,
@@ -177,7 +174,6 @@ fn begins_span(last: &Act, act: &Act, failed: bool) -> bool {
 }
 
 impl Span {
-    /// What this act begins at a slot of a poller.
     fn new(first: &Numbered, poller: usize, failed: bool) -> Span {
         let is_turn = matches!(first.record.act, Act::Begin(_));
         Span {
@@ -201,8 +197,8 @@ impl Span {
     }
 }
 
-/// The line of the first of these changes by which more are at work than the workers and the pollers. Of what may be a
-/// poller's own, it does one at a time.
+/// The line of the first of these changes after which more is in progress than these threads can do: each poller one
+/// thing of its own, and the workers the rest.
 fn first_over(recording: &Recording, changes: &[Change]) -> Result<Option<u64>, AllocError> {
     let mut own = vec![in recording.alloc; 0usize; recording.header.pollers]?;
     let mut workers: usize = 0;
@@ -221,7 +217,7 @@ fn first_over(recording: &Recording, changes: &[Change]) -> Result<Option<u64>, 
     Ok(None)
 }
 
-/// Answers whether that is the only one.
+/// Returns whether the poller has one thing at most in progress.
 fn is_only(own: Option<&mut usize>, begins: bool) -> bool {
     match own {
         Some(own) => step(own, begins) <= 1,
@@ -229,7 +225,7 @@ fn is_only(own: Option<&mut usize>, begins: bool) -> bool {
     }
 }
 
-/// Counts up or down. Answers the greater of the two numbers.
+/// Counts up or down. Returns the greater of the old and new number.
 fn step(number: &mut usize, up: bool) -> usize {
     let before = *number;
     *number = if up {

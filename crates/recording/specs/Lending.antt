@@ -2,6 +2,6 @@
 use Rattle.std.specs.Borrow.{Lends, MutBor, Fml, RattleType}
 use Rattle.recording.specs.contracts.recorder.Inner.{the_row}
 
--- what is now in its place
+-- the part is what the borrow has left in its place
 abbrev pub LendsInner : (T : RattleType) → MutBor T.Denot → MutBor T.Denot → Fml
 LendsInner T inner lent = Lends (the_row T) T inner lent (λ part. part)

@@ -1,38 +1,34 @@
 -- What is put into a recording: what a call is recorded as, and which steps that takes. Part of the promises.
-use Rattle.std.specs.{Prelude.{ℕ, Bool, true, false, ◌==◌, if◌then◌else◌, List, [], ◌∷◌, ◌++◌, length, Option, Some, None, Result, Ok, Err, ◌≡◌}, declared.io.{Error.Error, ErrorKind.{ErrorKind, TheVariants.{Interrupted, ConnectionAborted, NetworkDown, NetworkUnreachable, HostUnreachable, WouldBlock}}}, IoError.error_kind}
+use Rattle.std.specs.{Prelude.{ℕ, Bool, true, false, ◌==◌, if◌then◌else◌, List, [], ◌∷◌, ◌++◌, length, Option, Some, None, Result, Ok, Err, ◌≡◌}, declared.io.{Error.Error, ErrorKind.{ErrorKind, TheVariants.Interrupted}}, IoError.error_kind}
 use Rattle.token.specs.{Names.EndName, Numbers.name_of, declared.{name.Name.Name, side.Side.{Side, TheVariants.{Client, Target}}}}
 use Rattle.engine.specs.{Wires.{Asked, Given, Brought, Took, Done, Refused, WireView}, Classes.kind_of_error}
-use Rattle.dispatch.specs.declared.front.Unopened.{Unopened}
+use Rattle.dispatch.specs.{declared.front.{Unaccepted.Unaccepted, Unopened.Unopened}, Told.unaccepted_of}
 use Rattle.records.specs.declared.act.{Accepted.{Accepted, TheVariants.{Taken, Again, Blocked, Starved}}, Act.{Act, TheVariants.{Poller, Wire}}, Answer.Answer, Made.Made, Opening.Opening, Polling.Polling, Record.Record}
 use Rattle.relay_core.specs.declared.Kind.TheVariants as kind
 use Rattle.engine.specs.Wires as ask
+use Rattle.dispatch.specs.declared.front.Unaccepted.TheVariants as unaccepted
 use Rattle.dispatch.specs.declared.front.Unopened.TheVariants as unopened
 use Rattle.records.specs.declared.act.Answer.TheVariants as answer
 use Rattle.records.specs.declared.act.Made.TheVariants as made
 use Rattle.records.specs.declared.act.Opening.TheVariants as opening
 use Rattle.records.specs.declared.act.Polling.TheVariants as polling
 
--- the classes of `dispatch`, which a poller goes by: a signal, a connection that was given up before it was accepted,
--- or a network error that the new socket had pending; that none waits; anything else
-abbrev pub accept_answer : ErrorKind → Accepted
-accept_answer Interrupted = Again
-accept_answer ConnectionAborted = Again
-accept_answer NetworkDown = Again
-accept_answer NetworkUnreachable = Again
-accept_answer HostUnreachable = Again
-accept_answer WouldBlock = Blocked
-accept_answer error = Starved
+-- an error of accept(2), by what it means to a poller
+abbrev pub not_accepted : Unaccepted → Accepted
+not_accepted unaccepted.Again = Again
+not_accepted unaccepted.Blocked = Blocked
+not_accepted unaccepted.Starved = Starved
 
 abbrev pub accepted : {T : Type 0} → Result T Error → Accepted
 accepted (Ok client) = Taken
-accepted (Err error) = accept_answer (error_kind error)
+accepted (Err error) = not_accepted (unaccepted_of (error_kind error))
 
 abbrev pub opened : {T : Type 0} → Result T Unopened → Opening
 opened (Ok target) = opening.Opened
 opened (Err unopened.Connect) = opening.Connect
 opened (Err unopened.Register) = opening.Register
 
--- a number of a wait for reports, if it is one's name
+-- a number of a wait for reports is recorded if it is a name
 abbrev pub report : ℕ → Option Name → List Act
 report poller (Some name) = Poller poller (polling.Reported name) ∷ []
 report poller None = []
@@ -54,13 +50,13 @@ abbrev pub polled : {T : Type 0} → ℕ → Result T Error → List ℕ → Lis
 polled poller (Ok done) numbers = reports poller numbers
 polled poller (Err error) numbers = Poller poller (not_waited (error_kind error)) ∷ []
 
--- an error of a wire, by which of its counts has risen
+-- an error of a wire, by the count of the wire that has risen
 abbrev pub refused : WireView → WireView → ErrorKind → Answer
 refused old new error =
     if new.faults == old.faults then (if new.blocks == old.blocks then answer.Interrupted else answer.Blocked)
     else answer.Failed (kind_of_error error)
 
--- what a wire answered: a read of no bytes is the end, and a write of none a failure
+-- what a wire answered: a read of no bytes is the end, and a write of none is a failure
 abbrev pub answered : WireView → WireView → Asked → Given → Answer
 answered old new asked (Refused error) = refused old new error
 answered old new asked (Brought bytes) = if length bytes == 0 then answer.End else answer.Moved (length bytes)
@@ -83,9 +79,9 @@ abbrev pub drops : Act → Bool
 drops (Wire name made.Drop) = true
 drops act = false
 
--- a step on a thread's handle of the recording, `S`: the count before an act, if anything is recorded still; the count
--- after it; both, of an act that takes no time; a record that was put; another handle. `did` is what a step makes of
--- `S`
+-- a step on a thread's handle `S` of the recording. Began: the count before an act, None if nothing is recorded any
+-- more. Ended: the count after it. AtOnce: both, taken in one step. Put: a record was put. Another: a new handle.
+-- `did` is what a step makes of `S`
 pub data Step : Type 0 where
   Began : Option ℕ → Step
   Ended : ℕ → Step
@@ -93,13 +89,13 @@ pub data Step : Type 0 where
   Put : Record → Step
   Another : Step
 
--- these acts were put, in order and nothing else, with these counts
+-- these acts and nothing else were put, in order, with these counts
 abbrev pub Puts : {S : Type 0} → (Step → S → S → Type 0) → ℕ → ℕ → List Act → S → S → Type 0
 Puts did before after [] old new = new ≡ old
 Puts did before after (act ∷ acts) old new =
     (put : _) × did (Put (record { before = before; after = after; act = act })) old put × Puts did before after acts put new
 
--- acts that began at a count were put with it and with one that was taken then; without it nothing was done
+-- these acts were put with this count and one that was taken after them; without this count nothing was done
 abbrev pub Ends : {S : Type 0} → (Step → S → S → Type 0) → Option ℕ → List Act → S → S → Type 0
 Ends did None acts old new = new ≡ old
 Ends did (Some before) acts old new = (after : ℕ) × (ended : _) × did (Ended after) old ended × Puts did before after acts ended new
@@ -116,26 +112,26 @@ PutsAtOnce did (Some counts) act old new = did (Put (record { before = counts.0;
 abbrev pub RecordsAtOnce : {S : Type 0} → (Step → S → S → Type 0) → Act → S → S → Type 0
 RecordsAtOnce did act old new = (counts : Option (ℕ × ℕ)) × (at : _) × did (AtOnce counts) old at × PutsAtOnce did counts act at new
 
--- it was done by another handle
+-- this was done by another handle
 abbrev pub Beside : {S : Type 0} → (Step → S → S → Type 0) → (S → S → Type 0) → S → Type 0
 Beside did done sink = (other : _) × (new : _) × did Another sink other × done other new
 
--- an act at an end begins; nothing is counted for one that has no name yet
+-- an act at an end begins; a count is taken only if the end has a name
 abbrev pub BegunBy : {S : Type 0} → (Step → S → S → Type 0) → Option EndName → Option ℕ → S → S → Type 0
 BegunBy did None before old new = (before ≡ None) × (new ≡ old)
 BegunBy did (Some name) before old new = did (Began before) old new
 
--- it has ended
+-- the act at an end has ended
 abbrev pub EndedBy : {S : Type 0} → (Step → S → S → Type 0) → Option EndName → Option ℕ → Made → S → S → Type 0
 EndedBy did None before made old new = new ≡ old
 EndedBy did (Some name) before made old new = Ends did before (Wire name made ∷ []) old new
 
--- what was done with the wire of an end; nothing is put of one that has no name yet
+-- this was recorded of a wire; nothing, if its end has no name yet
 abbrev pub WireRecords : {S : Type 0} → (Step → S → S → Type 0) → Option EndName → Made → S → S → Type 0
 WireRecords did None made old new = new ≡ old
 WireRecords did (Some name) made old new = Records did (Wire name made ∷ []) old new
 
--- the end of a turn is put by the target's wire alone
+-- that a wire settled is recorded of the target's alone
 abbrev pub SettledAt : {S : Type 0} → (Step → S → S → Type 0) → EndName → Side → S → S → Type 0
 SettledAt did name Client old new = new ≡ old
 SettledAt did name Target old new = RecordsAtOnce did (Wire name made.Settle) old new

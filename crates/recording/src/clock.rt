@@ -1,4 +1,4 @@
-// A clock that records what it tells.
+// A clock that records its readings, and a gate that records turns.
 ghost use Rattle.std.specs.Prelude.{IsTrue, [], ◌∷◌};
 ghost use Rattle.records.specs.declared.act.Act.TheVariants.{Second};
 ghost use Rattle.recording.specs.Records.{Beside, Records, RecordsAtOnce};
@@ -8,8 +8,8 @@ use crate::recorder::{Begun, Inner, Recorder, Sink};
 use dispatch::{Clock, Gate};
 use records::Act;
 
-/// A clock that tells what the one in it tells, and records it if there is an idle limit: for nothing else does a
-/// replay need it.
+/// Shows the seconds of the clock in it. Each reading is recorded if there is an idle limit: a replay needs readings
+/// for nothing else.
 pub struct RecordedClock<'r, C, S: Sink> {
     inner: Inner<&'r C>,
     recorder: Recorder<S>,
@@ -55,7 +55,7 @@ impl<C: Clock, S: Sink> Clock for RecordedClock<'_, C, S> {
     }
 }
 
-/// A gate that does what the one in it does, and records where turns begin and end.
+/// A gate that calls the gate in it, and records where turns begin and end.
 #[derive(Drop)]
 pub struct RecordedGate<'r, G, S> {
     inner: &'r G,

@@ -1,12 +1,13 @@
-// A front that records what comes from it.
+// A front that records its waits, accepts and openings.
 ghost use Rattle.std.specs.{Prelude.{◌≡◌, ◌≢◌, ◌≤◌, Some, None, true, [], ◌∷◌, IfOk, IfErr, OnErr, vec_len, vec_capacity}, IoError.error_kind, declared.io.ErrorKind.TheVariants.Interrupted};
-ghost use Rattle.recording.specs.Records.{accept_answer, accepted, not_waited, opened as opened_of, polled, Records};
+ghost use Rattle.recording.specs.Records.{accepted, not_accepted, not_waited, opened as opened_of, polled, Records};
+ghost use Rattle.dispatch.specs.Told.{unaccepted_of};
 ghost use Rattle.records.specs.declared.act.Act.TheVariants as act;
 ghost use Rattle.records.specs.declared.act.Polling.TheVariants as polling;
 
 use crate::recorder::{Begun, Inner, Recorder, Sink};
 use crate::wire::RecordedWire;
-use dispatch::{Front, MAX_BATCH, Opened, Unopened, Waiting};
+use dispatch::{Front, MAX_BATCH, Opened, Unaccepted, Unopened, Waiting, unaccepted_of};
 use log::Log;
 use records::{Accepted, Act, Opening, Polling};
 use std::alloc::{AllocError, Global};
@@ -14,14 +15,14 @@ use std::io::{self, ErrorKind};
 use std::net::SocketAddr;
 use token::Token;
 
-/// A poller's front that does and promises what the one in it does and promises, and records it.
+/// Does and promises what the front in it does and promises. Records waits for reports, accepts and openings.
 pub struct RecordedFront<F: Drop, S: Sink> {
     inner: Inner<F>,
     poller: usize,
     recorder: Recorder<S>,
 }
 
-/// A front that records for each of these, in order. Their pollers are numbered from 0.
+/// Wraps each of these fronts in one that records, in order. Their pollers are numbered from 0.
 pub fn record_all<F: Drop, S: Sink>(
     alloc: Global,
     mut fronts: Vec<F>,
@@ -79,16 +80,12 @@ fn told<T>(opened: &Result<T, Unopened>) -> Opening
 }
 
 fn not_accepted(kind: ErrorKind) -> Accepted
-    ensures { result ≡ accept_answer kind }
+    ensures { result ≡ not_accepted (unaccepted_of kind) }
 {
-    match kind {
-        ErrorKind::Interrupted
-        | ErrorKind::ConnectionAborted
-        | ErrorKind::NetworkDown
-        | ErrorKind::NetworkUnreachable
-        | ErrorKind::HostUnreachable => Accepted::Again,
-        ErrorKind::WouldBlock => Accepted::Blocked,
-        _ => Accepted::Starved,
+    match unaccepted_of(kind) {
+        Unaccepted::Again => Accepted::Again,
+        Unaccepted::Blocked => Accepted::Blocked,
+        Unaccepted::Starved => Accepted::Starved,
     }
 }
 

@@ -1,20 +1,20 @@
-//! What a relay writes down of its own run: each thread records what it did, as [`Record`](records::Record)s, and one
-//! thread of its own writes them to a file.
+//! What a relay writes down of its own run: each thread records what it did, as [`Record`](records::Record)s, and a
+//! separate thread writes the records to a file.
 //!
-//! A server is made of parts that record: [`RecordedFront`] records its waits for reports, what it accepts and what it
-//! opens; [`RecordedWire`] its calls and its end; [`RecordedGate`] where turns begin and end, and [`RecordedClock`]
-//! what second was read. Each does and promises what the part in it does and promises. Of the bytes only how many there
-//! were is recorded.
+//! A server is made of parts that record: [`RecordedFront`] records waits for reports, accepts and openings;
+//! [`RecordedWire`] records calls and drops; [`RecordedGate`] records where turns begin and end; [`RecordedClock`]
+//! records what second was read. Each does and promises what the part in it does and promises. Of bytes only the
+//! number is recorded.
 //!
-//! A thread that records waits for nobody, and takes no memory: its record goes into a bounded queue ([`RecordQueue`]),
-//! and a writer that sleeps is woken ([`write_records`]). Where a queue is full the recording ends, which its last line
-//! says and a warning tells, and the relay serves on.
+//! A thread that records waits for nobody, and takes no memory: it puts its record into a bounded queue
+//! ([`RecordQueue`]), and wakes a writer that sleeps ([`write_records`]). If a queue is full, the recording ends: its
+//! last line says so, a warning is logged, and the relay serves on.
 //!
 //! # Inside
 //!
-//! Only a [`Recorder`] takes counts and makes records, over any [`Sink`]. The wrapped part asks for the count before an
-//! act (`Begun`, `Inner`), which cannot be dropped: so each act is made after it and recorded. That a wire was closed
-//! is recorded by what its drop returns (`Gone`).
+//! A [`Recorder`] makes all records but the last, over any [`Sink`]. A part in an `Inner` acts only with a `Begun`:
+//! the count before the act, which cannot be dropped. So each act comes after its count, and is recorded. That a wire
+//! was closed is recorded by what its drop returns (`Gone`).
 #![tactic(auto)]
 
 mod clock;

@@ -1,4 +1,4 @@
-// The records that wait.
+// The queues of waiting records.
 ghost use Rattle.std.specs.Prelude.{◌≡◌, IfOk, replicate};
 
 use crate::recorder::Sink;
@@ -13,13 +13,13 @@ use std::sync::Wait;
 use std::sync::atomic::{AtomicBool, AtomicU64, Ordering};
 use std::time::Duration;
 
-/// The queues of records. A poller has one of them, with its slots, so that threads seldom meet at one.
+/// How many queues there are. Each poller uses one, with its slots, so that threads seldom meet at one.
 pub const QUEUES: usize = 4;
 
 /// The most records that wait in a queue.
 pub const MAX_RECORDS: usize = 131_072;
 
-/// The most records that are written of one queue before the next one's turn.
+/// The most records of one queue that are written before the next queue is looked at.
 pub(crate) const MAX_RUN: usize = 256;
 
 /// The bytes that are gathered for one write(2).
@@ -30,8 +30,8 @@ pub(crate) fn soon() -> Duration {
     Duration::from_millis(2)
 }
 
-/// The records between the threads that record and the one that writes, and the count by which they tell when an act
-/// was. What a poller did, and what was done at its slots, waits in one of [`QUEUES`] queues, in its order.
+/// The records that wait for the thread that writes, and the count that says when an act was. The records of a poller,
+/// and of its slots, wait in one of [`QUEUES`] queues, in order.
 #[derive(Drop)]
 pub struct RecordQueue {
     pub(crate) waiting: ParkedQueue<Record, QUEUES>,
@@ -45,7 +45,7 @@ pub struct RecordQueue {
 impl RecordQueue {
     /// Empty queues for a relay whose pollers have these slots. No later call takes memory.
     pub fn new(alloc: Global, split: Split) -> Result<RecordQueue, AllocError>
-        ensures room { IfOk result (λ made. made.waiting ≡ replicate 4 131072) }
+        ensures room { IfOk result (λ made. made.waiting ≡ replicate QUEUES MAX_RECORDS) }
     {
         Ok(RecordQueue {
             waiting: ParkedQueue::new([
@@ -60,17 +60,16 @@ impl RecordQueue {
         })
     }
 
-    /// The first of this many next values of the count. No two calls give the same before it has gone round.
+    /// Takes this many values of the count, and returns the first. None comes twice before the count has gone round.
     pub(crate) fn next(&self, count: u64) -> u64 {
         self.count.fetch_add(count, Ordering::SeqCst)
     }
 
-    /// Whether nothing is recorded any more.
     pub(crate) fn is_over(&self) -> bool {
         self.is_over.load(Ordering::SeqCst)
     }
 
-    /// Ends the recording before its time. Answers whether no other thread had.
+    /// Ends the recording early. Returns true if no other thread had.
     pub(crate) fn stop(&self) -> bool {
         let is_first = !self.is_over.swap(true, Ordering::SeqCst);
         self.waiting.close();
@@ -83,7 +82,7 @@ impl RecordQueue {
         self.waiting.put(rt, at, record)
     }
 
-    /// The poller whose act it is, or at whose slot it was.
+    /// The poller that did the act, or has its slot. 0 if there is neither.
     fn poller_of(&self, act: &Act) -> usize {
         match act {
             Act::Poller(poller, _) => *poller,
@@ -98,7 +97,7 @@ impl RecordQueue {
         self.waiting.close();
     }
 
-    /// Which record is the last, once the queues were closed and then found empty.
+    /// The act of the last record. `_drained`: the queues were closed and then found empty.
     pub(crate) fn last(&self, _drained: Drained) -> Act {
         if self.is_over() {
             Act::Full
@@ -108,7 +107,7 @@ impl RecordQueue {
     }
 }
 
-/// `rt` is for the queue and for the log.
+/// A thread's handle on the queues. `rt` is for them and for the log.
 #[derive(Drop)]
 pub struct QueueSink<'r, R> {
     pub rt: &'r R,

@@ -1,4 +1,4 @@
-// What a thread records by. Only here is a record made, and a wrapped part reached.
+// What a thread records by. Only here is a record made, but for the last, and an `Inner` opened.
 ghost use Rattle.std.specs.{Prelude.{◌≡◌, None, false, [], ◌∷◌}, Borrow.sem};
 ghost use Rattle.recording.specs.{Lending.LendsInner, Records.{drops, dropped, reports, Step, Began, Ended, AtOnce, Put, Another, Ends, RecordsAtOnce}};
 
@@ -7,22 +7,22 @@ use records::{Act, Made, Polling, Record};
 use std::marker::Model;
 use token::{Token, unpack};
 
-/// A count that all threads of a relay share, and a queue of records. Each thread has handles of its own. What threads
-/// share no clause can name, so the trait leaves open what a step does: what is proved of a wrapper over any such sink
-/// says which steps it makes on it, in which order, and no other ones.
+/// A thread's handle on a count that all threads of a relay share, and on a queue of records. No clause can name what
+/// threads share, so the trait leaves open what a step does. What is proved of a wrapper over any sink says which
+/// steps the wrapper makes on it, in which order, and that it makes no others.
 pub trait Sink: Drop {
     // What a step may do: the step with its answer, and the sink before and after.
     ghost did: { Step → Self → Self → Type 0 };
 
-    /// The count before an act that is about to begin. None: nothing is recorded any more.
+    /// Takes the count before an act. None: nothing is recorded any more.
     fn begin(&mut self) -> Option<u64>
         ensures { did (Began result) self.old self.new };
 
-    /// The count after an act.
+    /// Takes the count after an act.
     fn end(&mut self) -> u64
         ensures { did (Ended result) self.old self.new };
 
-    /// The counts before and after an act that took no time. None: nothing is recorded any more.
+    /// Takes the counts before and after an act in one step. None: nothing is recorded any more.
     fn at_once(&mut self) -> Option<(u64, u64)>
         ensures { did (AtOnce result) self.old self.new };
 
@@ -30,36 +30,36 @@ pub trait Sink: Drop {
     fn put(&mut self, item: Record)
         ensures { did (Put item) self.old self.new };
 
-    /// Another handle.
+    /// Another handle on the same count and queue.
     fn another(&self) -> Self
         ensures { did Another self.now result };
 }
 
-/// What puts a thread's records.
+/// Makes records, and puts them into a sink.
 #[derive(Drop)]
 pub struct Recorder<S> {
     sink: S,
 }
 
-/// An act has begun, and this was the count before it, if it is recorded. It can be neither copied nor dropped: so each
-/// such count is taken for one record.
+/// The count before an act that has begun. None: the act is not recorded. A `Begun` can be neither copied nor dropped:
+/// so each count that was taken is used once.
 pub(crate) struct Begun(Option<u64>);
 
-/// A part was dropped, and this was the count before that, if it is recorded. Nothing else makes one.
+/// The count before a part was dropped. None: the drop is not recorded. Only [`Inner::end`] makes a `Gone`.
 pub(crate) struct Gone(Option<u64>);
 
-/// A part that is wrapped. It is used, or dropped, only after the count before that was taken.
+/// A part that is wrapped. Its acts, and its drop, need a [`Begun`], so the count before them was taken.
 pub(crate) struct Inner<T>(T);
 
 impl<S: Sink> Recorder<S> {
-    /// What records into this sink.
+    /// A recorder over this sink.
     pub fn new(sink: S) -> Recorder<S>
         ensures { result.sink ≡ sink }
     {
         Recorder { sink }
     }
 
-    /// Another one for the same records.
+    /// Another recorder, over another handle.
     pub fn another(&self) -> Recorder<S>
         ensures { S.did Another self.now.sink result.sink }
     {
@@ -68,14 +68,13 @@ impl<S: Sink> Recorder<S> {
         }
     }
 
-    /// An act is about to begin.
     pub(crate) fn begin(&mut self) -> Begun
         ensures { S.did (Began result.0) self.old.sink self.new.sink }
     {
         Begun(self.sink.begin())
     }
 
-    /// An act that began then has ended. That a wire was dropped is recorded by [`Recorder::record_gone`] alone.
+    /// Records an act that has ended. Only [`Recorder::record_gone`] records that a wire was dropped.
     pub(crate) fn record(&mut self, begun: Begun, act: Act)
         requires { drops act ≡ false }
         ensures { Ends S.did begun.0 (act ∷ []) self.old.sink self.new.sink }
@@ -84,7 +83,6 @@ impl<S: Sink> Recorder<S> {
         self.record_from(before, act);
     }
 
-    /// The wire of this end was dropped.
     pub(crate) fn record_gone(&mut self, gone: Gone, name: Token)
         ensures { Ends S.did gone.0 (dropped name ∷ []) self.old.sink self.new.sink }
     {
@@ -101,7 +99,7 @@ impl<S: Sink> Recorder<S> {
         }
     }
 
-    /// An act that could have no other order than it has is recorded as taking no time.
+    /// Records an act that takes no time, as the beginning of a turn: both counts are taken in one step.
     pub(crate) fn record_at_once(&mut self, act: Act)
         requires { drops act ≡ false }
         ensures { RecordsAtOnce S.did act self.old.sink self.new.sink }
@@ -111,7 +109,7 @@ impl<S: Sink> Recorder<S> {
         }
     }
 
-    /// A wait for reports that began then has given these numbers. Each report has the counts of the wait.
+    /// Records that a wait gave these numbers, and each report among them, with the counts of the wait.
     pub(crate) fn record_reports(&mut self, begun: Begun, poller: usize, numbers: &[u64])
         ensures { Ends S.did begun.0 (reports poller numbers.now) self.old.sink self.new.sink }
     {
@@ -132,14 +130,13 @@ impl<S: Sink> Recorder<S> {
 }
 
 impl Begun {
-    /// Of an act that is not recorded.
     pub(crate) fn unrecorded() -> Begun
         ensures { result.0 ≡ None }
     {
         Begun(None)
     }
 
-    /// An act that is not recorded has ended.
+    /// Ends an act that is not recorded.
     pub(crate) fn skip(self)
         requires { self.0 ≡ None }
     {
@@ -148,7 +145,6 @@ impl Begun {
 }
 
 impl Gone {
-    /// That is not recorded.
     pub(crate) fn skip(self)
         requires { self.0 ≡ None }
     {
@@ -165,7 +161,7 @@ impl<T> Model for Inner<T> {
 }
 
 impl<W: Wire> Inner<W> {
-    /// For what is not recorded of it.
+    /// The wire, for calls that are not recorded.
     pub(crate) fn wire(&self) -> &W
         ensures { result.now ≡ self.now }
     {
@@ -195,7 +191,6 @@ impl<T> Inner<T> {
         &self.0
     }
 
-    /// Drops the part, for an end that has begun.
     pub(crate) fn end(self, begun: Begun) -> Gone
     where
         T: Drop,

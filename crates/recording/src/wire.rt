@@ -12,11 +12,11 @@ use relay_core::{Kind, Side};
 use std::io;
 use token::Token;
 
-/// A wire that does and promises what the one in it does and promises, and records each call, and its end, once it has
-/// a name.
+/// Does and promises what the wire in it does and promises. Once it has a name, it records each call, its drop and, at
+/// a target, that it settled.
 pub struct RecordedWire<W: Drop, S: Sink> {
     pub(crate) inner: Inner<W>,
-    /// The name of its end, once its connection is open.
+    /// The name of the wire's end, once the connection is open.
     pub(crate) name: Option<Token>,
     pub(crate) recorder: Recorder<S>,
 }
@@ -53,7 +53,7 @@ impl Counts {
         }
     }
 
-    /// What the error of a call means, by which count has risen: the rule by which a turn tells the pair.
+    /// What the error of a call means, by the count of the wire that has risen. A turn goes by the same rule.
     fn refused<W: Wire>(self, wire: &W, error: &io::Error) -> Answer
         ensures { result ≡ refused (counts_alone self.faults self.blocks) (W.told wire.now) (error_kind error.now) }
     {
@@ -67,7 +67,7 @@ impl Counts {
     }
 }
 
-/// An act at the end of this name is about to begin. A count is taken only for what is recorded.
+/// Begins an act at the end of this name. Without a name nothing is recorded, so no count is taken.
 fn begin<S: Sink>(name: &Option<Token>, recorder: &mut Recorder<S>) -> Begun
     ensures { BegunBy S.did name.now result.0 recorder.old.sink recorder.new.sink }
 {
@@ -190,7 +190,7 @@ impl<W: Wire + Drop, S: Sink> Wire for RecordedWire<W, S> {
 impl<W: Settle + Drop, S: Sink> Settle for RecordedWire<W, S> {
     ghost settled = { λ w. W.settled w.inner };
 
-    /// Both ends settle, the target's last, and that alone is recorded.
+    /// Both wires of a connection settle, the target's last. Only the target's is recorded.
     fn settle(&mut self)
         ensures same { W.told self.new.inner ≡ W.told self.old.inner }
         ensures settled { W.settled self.new.inner }

@@ -11,10 +11,9 @@ use std::fmt::Write as _;
 use std::io::{self, BufWriter, ErrorKind, Write};
 use std::sync::Wait;
 
-/// Writes the header and the records, in the order in which each queue has them, until the queue is closed or nothing
-/// is recorded any more, and then the last record. It writes what it has before it rests, and takes memory at its
-/// beginning alone. If there is none, or the file cannot be written, the recording ends, which is logged, and what was
-/// written stays.
+/// Writes the header, then the records, each queue's in order, until the queues are closed and empty, and then the
+/// last record. It flushes before it rests, and takes memory only at its beginning. If there is no memory, or the file
+/// cannot be written, the recording ends: that is logged, and what was written stays.
 pub fn write_records<R: Wait + Log, W: Write + Drop>(
     rt: &R,
     alloc: Global,
@@ -78,15 +77,15 @@ impl<R: Wait, W: Write> Drain for Writer<'_, R, W> {
     }
 }
 
-/// Writes records of one queue, and answers whether there was one: up to a limit, since threads may put them there as
-/// fast as they are written, and the others fill meanwhile.
+/// Writes up to [`MAX_RUN`] records of one queue. Returns whether there was one. Without the limit, threads that
+/// record as fast as it writes could hold it here while the other queues fill.
 fn write_run<R: Wait, W: Write>(
     rt: &R,
     queue: &RecordQueue,
     at: usize,
     file: &mut W,
 ) -> io::Result<bool>
-    requires { at < 4 }
+    requires { at < QUEUES }
 {
     for written in 0..MAX_RUN {
         let Some(record) = queue.waiting.take(rt, at) else {

@@ -21,13 +21,13 @@ pub enum Act {
     Second(u64),
     /// The beginning of a turn at this slot.
     Begin(usize),
-    /// Its end.
+    /// The end of a turn at this slot.
     End(usize),
     /// This was done with the wire of an end.
     Wire(Token, Made),
-    /// The relay ended, and everything is recorded. It is the last record.
+    /// The relay ended, and everything is recorded. This is the last record.
     Ended,
-    /// There was no room for a record. It is the last one.
+    /// A record found no room. This is the last record.
     Full,
 }
 
@@ -48,7 +48,7 @@ pub enum Polling {
     Open(usize, u64, Opening),
 }
 
-/// What accept(2) answered, by the class of its answer.
+/// What accept(2) answered: a connection, or why none (`Unaccepted` of `dispatch`).
 #[derive(Clone, Copy)]
 pub enum Accepted {
     Taken,
@@ -78,9 +78,9 @@ pub enum Made {
     Join(Answer),
     /// A shutdown. Its answer is never `Blocked`.
     Shut(Answer),
-    /// It settled, since a turn had ended quiet.
+    /// The wire settled, since a turn had ended quiet.
     Settle,
-    /// It was dropped, which closes its socket.
+    /// The wire was dropped, which closes its socket.
     Drop,
 }
 

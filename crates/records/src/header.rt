@@ -40,7 +40,7 @@ impl Display for Header {
     }
 }
 
-/// A key with its `=`, the least and the most that it can be, and what is wanted in its place.
+/// Each size: its key with `=`, its least and greatest value, and what is wanted.
 static SIZES: [(&str, usize, usize, &str); 6] = [
     ("slots=", 1, 4_096, "slots=1 to slots=4096 is wanted"),
     ("pollers=", 1, 16, "pollers=1 to pollers=16 is wanted"),

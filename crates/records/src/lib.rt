@@ -1,8 +1,8 @@
 //! The lines of a recording: what the threads of a relay did, act by act.
 //!
 //! A [`Header`] says how large the relay is. Each [`Record`] after it is an [`Act`] with the values of one shared
-//! count just before and just after it. Both print themselves as their line, without its line feed and without taking
-//! memory, and [`read_header`] and [`read_line`] read it back. No record has bytes: it tells how many there were.
+//! count just before and just after the act. Both print themselves as their line, without its line feed and without
+//! taking memory; [`read_header`] and [`read_line`] read the lines. Of bytes a record has only the number.
 //!
 //! A [`Replay`] plays a whole recording.
 //!

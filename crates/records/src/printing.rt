@@ -6,8 +6,8 @@ use crate::act::{Act, Answer, Made, Polling, Record};
 use std::fmt::{self, Display};
 use token::{Name, Token};
 
-/// The most bytes of a record's line, without its line feed: of an opening whose registering was refused, with the
-/// greatest numbers.
+/// The most bytes of a record's line, without its line feed. An opening whose registering was refused has them, with
+/// the greatest numbers.
 pub const MAX_RECORD: usize = 119;
 
 impl Display for Record {
@@ -98,7 +98,7 @@ impl Display for Answer {
     }
 }
 
-/// One end of one connection.
+/// Prints an end as `S.G.SIDE`.
 #[derive(Clone, Copy)]
 struct EndText(Token);
 

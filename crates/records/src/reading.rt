@@ -7,7 +7,7 @@ use token::{KIND_WANTED, Kind, Name, Side, Token};
 /// Why a line of a recording is not read: the first word from the left that is wrong, and what is expected there.
 #[derive(Clone, Copy)]
 pub struct Wrong<'a> {
-    /// The word, or none where one is missing.
+    /// The word. None if one is missing.
     pub word: Option<&'a [u8]>,
     /// What is expected in its place, as a person reads it.
     pub wanted: &'static str,
@@ -26,7 +26,7 @@ fn number<'a>(words: &mut Pieces<'a>, wanted: &'static str) -> Result<usize, Wro
     said(input::number(word), word, wanted)
 }
 
-/// The end of the line.
+/// Refuses a word that is left.
 pub(crate) fn end<'a>(words: &mut Pieces<'a>) -> Result<(), Wrong<'a>> {
     match words.next() {
         None => Ok(()),
@@ -34,7 +34,7 @@ pub(crate) fn end<'a>(words: &mut Pieces<'a>) -> Result<(), Wrong<'a>> {
     }
 }
 
-/// What a word says, if it says anything.
+/// The value. Refuses the word if it has none.
 pub(crate) fn said<'a, T>(
     value: Option<T>,
     word: &'a [u8],
@@ -64,7 +64,7 @@ pub(crate) fn one_of<'a, T: Copy>(
     said(named(word, table), word, wanted)
 }
 
-/// What a wire can be asked that it answers.
+/// The calls that a wire answers.
 #[derive(Clone, Copy)]
 enum Call {
     Read,
@@ -73,11 +73,11 @@ enum Call {
     Shut,
 }
 
-/// A call, and what it can be answered, other than that it failed.
+/// A call, and its answers but for `failed`.
 #[derive(Clone, Copy)]
 struct Answers {
     call: Call,
-    /// What is wanted of its number of bytes. Only a call with one can be answered by one.
+    /// What is wanted as its number of bytes. None: the call has no number, nor has an answer.
     bytes: Option<&'static str>,
     /// The answers that have a word.
     named: &'static [(&'static str, Answer)],
@@ -130,7 +130,6 @@ static CALLS: [(&str, Answers); 4] = [
     ("shut", SHUT),
 ];
 
-/// What a poller does.
 #[derive(Clone, Copy)]
 enum Task {
     Poll,
@@ -161,8 +160,8 @@ static OPENINGS: [(&str, Opening); 3] = [
 
 static UNANSWERED: [(&str, Made); 2] = [("settle", Made::Settle), ("drop", Made::Drop)];
 
-/// Reads the record of a line without its line feed. Of what a record prints it reads that record. It refuses a line of
-/// another form, with its first word from the left that is wrong. Numbers are below 2^64 and have no leading zeros.
+/// Reads the record of a line without its line feed. From what a record prints it reads that record. It refuses a line
+/// of another form, with the first word from the left that is wrong. Numbers are below 2^64 and have no leading zeros.
 pub fn read_line(line: &[u8]) -> Result<Record, Wrong<'_>> {
     let wanted = "the count before the act and the one after it are wanted";
     let mut words = Pieces::new(line, b' ');
@@ -177,7 +176,7 @@ pub fn read_line(line: &[u8]) -> Result<Record, Wrong<'_>> {
     }
 }
 
-/// What happened, by the first word of it.
+/// Reads an act, by its first word.
 fn act<'a>(words: &mut Pieces<'a>) -> Result<Act, Wrong<'a>> {
     let wanted = "pP, second, S, S.G.SIDE, end or full is wanted";
     let word = word(words, wanted)?;
@@ -263,7 +262,7 @@ fn reported<'a>(words: &mut Pieces<'a>) -> Result<Polling, Wrong<'a>> {
     }
 }
 
-/// Where a connection was opened, or why it was not.
+/// Reads where a connection was opened, or why not.
 fn opened<'a>(words: &mut Pieces<'a>) -> Result<Polling, Wrong<'a>> {
     let wanted = "a slot and a generation as S.G are wanted";
     let word = word(words, wanted)?;

@@ -1,4 +1,4 @@
-//! What a replay is asked, and what it answers. Who hands a recording on need not know the machine on which it is
+//! What a replay is asked, and what it returns. Who hands a recording on need not know the machine on which it is
 //! played.
 use std::alloc::{AllocError, AllocFailed, Global};
 use std::io::{Read, Write};
@@ -18,10 +18,11 @@ pub enum Wanted {
 /// Whether a recording is of runs of the machine.
 #[derive(Clone, Copy, PartialEq, Eq)]
 pub enum Outcome {
-    /// Each slot and each listener that was played is one. What was wanted is written. With `Script` only that slot is
-    /// played.
+    /// What was played is of runs: each slot and each listener, or with `Script` its slot alone. What was wanted is
+    /// written.
     Run,
-    /// One of them is not. The first record that can stand at no place is written, and the script that leads there.
+    /// A slot or a listener is not of runs. Written are the first record that fits nowhere, and the script up to
+    /// there.
     NoRun,
 }
 
@@ -45,7 +46,7 @@ pub enum ReplayFault {
     /// The reader gave an error.
     #[error("recording: cannot be read")]
     Read,
-    /// A line is malformed, with what is wanted there, or no relay acts in that order.
+    /// A line is malformed, or no relay acts in that order; with the cause.
     #[error("recording: malformed")]
     Broken(String),
     /// The recording has no such connection.

@@ -1,4 +1,4 @@
--- The calls that the relay makes on a connection's two sockets, and the answers that they get. Part of the promises.
+-- The calls that the relay makes on a connection's two sockets. Part of the promises.
 use Rattle.std.specs.Prelude.{ℕ, List, codes}
 use Rattle.token.specs.{declared.{side.Side.Side, direction.Direction.Direction}, Sides.{inward, outward}}
 use Rattle.relay_core.specs.declared.call.{Call.{Call, TheVariants.{Write, Join, Shut, Read}}, CallKind.{CallKind, TheVariants.{Write as WriteKind, Join as JoinKind, Shut as ShutKind, Read as ReadKind}}}
@@ -22,7 +22,7 @@ call_name JoinKind = codes "join"
 call_name ShutKind = codes "shut"
 call_name ReadKind = codes "read"
 
--- the direction that a call serves: a read its socket's outward one, the others its inward one
+-- a read serves the direction from its side, any other call the direction to its side
 abbrev pub direction_of : Call → Direction
 direction_of (Write side) = inward side
 direction_of (Join side) = inward side

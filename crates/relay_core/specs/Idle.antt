@@ -1,13 +1,13 @@
--- The idle limit: when a pair that moves nothing fails. Part of the promises. Seconds are of one clock, and a limit of
--- 0 is none.
+-- The idle limit: when a pair that moves nothing fails. Part of the promises. Seconds are of one clock. A limit of 0
+-- never passes.
 use Rattle.std.specs.{Prelude.{ℕ, ◌-◌, Bool, ◌&&◌, nat_lt, nat_le, if◌then◌else◌, Some}, Option.is_none}
 use Rattle.relay_core.specs.{declared.verdict.Fault.TheVariants.Idle, Pairs.{PairState, verdict, is_live}, Order.next_call}
 
--- at this second the last movement lies a limit back that is not 0; a clock that went back shows nothing
+-- the limit is not 0, and by `now` has passed since `moved`; if the clock went back, nothing has passed
 abbrev pub is_past : ℕ → ℕ → ℕ → Bool
 is_past now limit moved = nat_lt 0 limit && nat_le moved now && nat_le limit (now - moved)
 
--- a live pair has no next call, and the limit has passed
+-- the pair is live and has no next call, and the limit has passed
 abbrev pub is_overdue : ℕ → ℕ → PairState → Bool
 is_overdue now limit p = is_past now limit p.moved && is_live (verdict p) && is_none (next_call p)
 

@@ -5,27 +5,27 @@ use Rattle.flow.specs.Stream.{Stream, free_room, waiting}
 use Rattle.relay_core.specs.{declared.{call.Call.{Call, TheVariants.{Write, Join, Shut, Read}}, verdict.Fault.{Fault, TheVariants.{Broken, Idle}}}, Calls.{side_of, kind_of, direction_of}, Pairs.{PairState, ready, fresh, stream_of, flags_of, is_joined, noted, verdict}, Order.{next_call, offer}, Replies.{AnswerValue, End, Failed, fits, after}, Runs.{answered, over, brought, carried, all_brought, all_carried, Event, Answered, through, ever_brought, ever_carried}, Idle.{is_overdue, expired}}
 use Rattle.relay_core.specs.declared.verdict.Verdict.TheVariants as Verdict
 
--- the end of input came, every byte before it has left, and it is still to be passed on
+-- the end of input was seen, every byte has left, and the end is still to be passed on
 pub record IsDrained (stream : Stream) : Type 0 where
   pub ended : stream.end_seen ≡ true
   pub empty : waiting stream ≡ []
   pub kept : stream.shut ≡ false
 
--- there is room for what a read asks for, and no end of input came before
+-- a read asks for 1 to 16,384 bytes, the ring has room for them, and no end of input was seen
 pub record HasRoomFor (stream : Stream) (most : ℕ) : Type 0 where
   pub some : 1 ≤ most
   pub limited : most ≤ 16384
   pub room : most ≤ free_room stream
   pub open_end : stream.end_seen ≡ false
 
--- nothing in the pair speaks against a call
+-- the pair's streams, and what it knows of the connect, allow the call
 abbrev pub IsPossible : PairState → Call → Type 0
 IsPossible p (Write side) = 1 ≤ length (offer p side)
 IsPossible p (Join side) = IsDrained (stream_of p (inward side)) × (is_joined p side ≡ false)
 IsPossible p (Shut side) = IsDrained (stream_of p (inward side)) × (is_joined p side ≡ true)
 IsPossible p (Read side most) = HasRoomFor (stream_of p (outward side)) most
 
--- where the end of input was passed on, it was seen, and no byte waits or can come
+-- if the end of input was passed on, the end was seen, so no byte can come, and no byte waits
 pub record IsClosedLast (stream : Stream) : Type 0 where
   pub ended : stream.shut ≡ true → stream.end_seen ≡ true
   pub empty : stream.shut ≡ true → waiting stream ≡ []
@@ -51,11 +51,11 @@ pub record AnswersNext (p : PairState) (call : Call) (reply : AnswerValue) : Typ
   pub next : next_call p ≡ Some call
   pub fit : fits p call reply ≡ true
 
--- in each direction: where the end of input was passed on, it came last
+-- in each direction an end of input that was passed on came after every byte
 abbrev pub KeepsEndLast : PairState → Type 0
 KeepsEndLast p = (d : Direction) → IsClosedLast (stream_of p d)
 
--- what a connection keeps from its opening to its end
+-- what never changes while a connection is open
 pub record Place : Type 0 where
   pub slot : ℕ
   pub generation : ℕ
@@ -65,7 +65,7 @@ pub record Place : Type 0 where
 abbrev pub place_of : PairState → Place
 place_of p = record { slot = p.slot; generation = p.generation; up_capacity = p.up.capacity; down_capacity = p.down.capacity }
 
--- no call serves this direction
+-- no call that serves this direction is possible and worth trying
 pub record IsAtRest (p : PairState) (d : Direction) : Type 0 where
   pub waits : 1 ≤ length (waiting (stream_of p d)) → (flags_of p (destination d)).write ≡ false
   pub unjoined : IsDrained (stream_of p d) → is_joined p (destination d) ≡ false
@@ -87,7 +87,7 @@ AnswersPassEndLast =
     (now : ℕ) (p : PairState) (call : Call) (reply : AnswerValue) → AnswersNext p call reply →
     (d : Direction) → PassesEndLast (stream_of p d) (stream_of (after now p call reply) d)
 
--- the end of a direction is seen by an End that a call on it is answered, and then for good
+-- a direction's end is seen after an answer if it was before, or if the answer is End and its call serves the direction
 abbrev pub OnlyEndsAreSeen : Type 0
 OnlyEndsAreSeen =
     (now : ℕ) (p : PairState) (call : Call) (reply : AnswerValue) (d : Direction) →
@@ -97,13 +97,13 @@ OnlyEndsAreSeen =
 abbrev pub AnswersKeepPlace : Type 0
 AnswersKeepPlace = (now : ℕ) (p : PairState) (call : Call) (reply : AnswerValue) → place_of (after now p call reply) ≡ place_of p
 
--- an answer fails a pair by a failed call alone, and its fault names that call
+-- an answer fails a pair only if the call failed, and the fault names that call
 abbrev pub FailuresAreTold : Type 0
 FailuresAreTold =
     (now : ℕ) (p : PairState) (call : Call) (reply : AnswerValue) (fault : Fault) → AnswersNext p call reply →
     (verdict (after now p call reply) ≡ Verdict.Failed fault) ↔ TellsOf call reply fault
 
--- what one answer does is what the answer to some next call does
+-- p has a next call, the answer fits it, and q is p after that
 pub record IsAnswerOf (now : ℕ) (p : PairState) (reply : AnswerValue) (q : PairState) : Type 0 where
   pub call : Call
   pub answers : AnswersNext p call reply
@@ -118,14 +118,13 @@ CallsComeWhileLive = (p : PairState) (call : Call) → next_call p ≡ Some call
 abbrev pub LivePairsRest : Type 0
 LivePairsRest = (p : PairState) → verdict p ≡ Verdict.Live → next_call p ≡ None → (d : Direction) → IsAtRest p d
 
--- a report sets all four flags and changes nothing else
 abbrev pub ReportsSetFlags : Type 0
 ReportsSetFlags = (p : PairState) → noted p ≡ record p { client = ready; target = ready }
 
 abbrev pub ReportsKeepStreams : Type 0
 ReportsKeepStreams = (p : PairState) (d : Direction) → stream_of (noted p) d ≡ stream_of p d
 
--- an overdue pair has failed by the limit, and any other is as it was
+-- an overdue pair fails with Idle, and any other stays as it was
 pub record IsHeldAgainst (now limit : ℕ) (p : PairState) : Type 0 where
   pub overdue : IsOverdue now limit p → verdict (expired now limit p) ≡ Verdict.Failed Idle
   pub other : is_overdue now limit p ≡ false → expired now limit p ≡ p
@@ -134,7 +133,6 @@ pub record IsHeldAgainst (now limit : ℕ) (p : PairState) : Type 0 where
 abbrev pub OnlyOverduePairsExpire : Type 0
 OnlyOverduePairsExpire = (now limit : ℕ) (p : PairState) → IsHeldAgainst now limit p
 
--- the limit changes nothing but the verdict
 abbrev pub ExpiriesChangeVerdictAlone : Type 0
 ExpiriesChangeVerdictAlone = (now limit : ℕ) (p : PairState) → expired now limit p ≡ record p { failure = (expired now limit p).failure }
 
@@ -144,7 +142,7 @@ RunsKeepOrder =
     (p q : PairState) (events : List Event) → through p events ≡ Some q →
     (d : Direction) → waiting (stream_of p d) ++ ever_brought p d events ≡ ever_carried p d events ++ waiting (stream_of q d)
 
--- a pair that passed on no end before its bytes goes on so, and passed on first every byte that it ever had or read
+-- each end that q passed on came after every byte: all that waited in p or was read since has gone out that way
 pub record RunPassesEndLast (p q : PairState) (events : List Event) : Type 0 where
   pub kept : KeepsEndLast q
   pub last : (d : Direction) → (stream_of q d).shut ≡ true → ever_carried p d events ≡ waiting (stream_of p d) ++ ever_brought p d events
@@ -159,7 +157,7 @@ FreshPairsKeepEndLast = (slot generation capacity now : ℕ) (lead : List ℕ) �
 abbrev pub RunsKeepPlace : Type 0
 RunsKeepPlace = (p q : PairState) (events : List Event) → through p events ≡ Some q → place_of q ≡ place_of p
 
--- a list of answers of one second alone, as events
+-- a list of answers at one second does the same as the run of these answers
 pub record IsRunOf (now : ℕ) (p : PairState) (replies : List AnswerValue) : Type 0 where
   pub run : through p (map (Answered now) replies) ≡ over now p replies
   pub brought : (d : Direction) → ever_brought p d (map (Answered now) replies) ≡ all_brought now p d replies

@@ -5,12 +5,11 @@ use Rattle.flow.specs.{Stream.Stream, Lending.with_front}
 use Rattle.relay_core.specs.{Pairs.{PairState, stream_of, with_stream}, contracts.pair.Pair.the_row}
 use Rattle.flow.specs.contracts.flow.Flow as flow
 
--- the front of what is bound for a side holds what now stands in the place of its bytes
+-- the pair with these bytes in place of what it offers to a side
 abbrev pub with_offer : PairState → Side → List ℕ → PairState
 with_offer p side bytes = with_stream p (inward side) (with_front (stream_of p (inward side)) bytes)
 
--- the pair lends the bytes that are bound for a side: nothing else changes, and they only if they are
--- written to
+-- the pair lends what it offers to a side: nothing else changes, and the offer only if it is written to
 abbrev pub LendsOffer : MutBor PairState → Side → MutBor (List ℕ) → Fml
 LendsOffer p side lent = Lends the_row (Array u8 0) p lent (with_offer p.now side)
 

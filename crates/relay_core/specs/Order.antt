@@ -8,7 +8,7 @@ use Rattle.relay_core.specs.{declared.call.Call.{Call, TheVariants.{Write, Join,
 abbrev pub is_waiting : Stream → Bool
 is_waiting stream = nat_lt 0 (length (waiting stream))
 
--- every byte has left after the end of input, and the end itself is still to be passed on
+-- the end of input was seen, every byte has left, and the end is still to be passed on
 abbrev pub is_drained : Stream → Bool
 is_drained stream = stream.end_seen && not (is_waiting stream) && not stream.shut
 
@@ -16,7 +16,6 @@ is_drained stream = stream.end_seen && not (is_waiting stream) && not stream.shu
 abbrev pub is_open : Stream → Bool
 is_open stream = not stream.end_seen && nat_lt 0 (free_room stream)
 
--- the most bytes that one read asks for
 abbrev pub read_most : Stream → ℕ
 read_most stream = min (free_room stream) 16384
 
@@ -30,10 +29,9 @@ call_for p d =
     else if is_open (stream_of p d) && (flags_of p (source d)).read then Some (Read (source d) (read_most (stream_of p d)))
     else None
 
--- the call that a pair makes next: one for the direction whose turn it is, or else for the other, while it is live
+-- the next call of a live pair: one for the direction whose turn it is, or if there is none, one for the other
 abbrev pub next_call : PairState → Option Call
 next_call p = if is_live (verdict p) then option_or (call_for p p.turn) (call_for p (opposite p.turn)) else None
 
--- what a write to a side offers
 abbrev pub offer : PairState → Side → List ℕ
 offer p side = front (stream_of p (inward side))

@@ -1,15 +1,15 @@
--- One connection, as the relay keeps it. Part of the promises. That is a stream of bytes for each direction, and for
--- each side's socket what the relay believes of its readiness.
+-- One connection, as the relay keeps it. Part of the promises. It has a stream of bytes for each direction, and flags
+-- for each side's socket.
 use Rattle.std.specs.Prelude.{ℕ, Bool, true, false, ◌&&◌, List, [], Option, Some, None}
 use Rattle.token.specs.declared.{side.Side.{Side, TheVariants.{Client, Target}}, direction.Direction.{Direction, TheVariants.{Up, Down}}}
 use Rattle.flow.specs.Stream.{Stream, empty_stream}
 pub use Rattle.relay_core.specs.declared.flags.Flags.{Flags}
 use Rattle.relay_core.specs.declared.verdict.{Fault.Fault, Verdict.{Verdict, TheVariants.{Live, Done, Failed}}}
 
--- `client` and `target` are flags of the two sockets: one that is set says that the call is worth a try, and one that
--- is not, that the last try would have had to wait and no report came since. `joined` says that the target's connect is
--- known to have ended, `turn` is the direction that is looked at first, `sent_up` and `sent_down` count the bytes that
--- writes took, and `moved` is the second at which the connection was made or last moved
+-- `client` and `target` are the flags of the two sockets. A flag that is set says that its call is worth a try, and a
+-- flag that is not, that the last try would have had to wait and no report came since. `joined` says that the target is
+-- known to be connected, `turn` is the direction that is looked at first, `sent_up` and `sent_down` count the bytes
+-- that writes took, and `moved` is the second at which the connection was made or last moved
 pub record PairState : Type 0 where
   pub slot : ℕ
   pub generation : ℕ
@@ -24,7 +24,6 @@ pub record PairState : Type 0 where
   pub sent_down : ℕ
   pub moved : ℕ
 
--- both calls are worth a try
 abbrev pub ready : Flags
 ready = record { read = true; write = true }
 
@@ -61,7 +60,7 @@ abbrev pub with_flags : PairState → Side → Flags → PairState
 with_flags p Client flags = record p { client = flags }
 with_flags p Target flags = record p { target = flags }
 
--- whether one side's socket is known to be connected: the client always is
+-- whether one side's socket is known to be connected: the client's always is
 abbrev pub is_joined : PairState → Side → Bool
 is_joined p Client = true
 is_joined p Target = p.joined
@@ -70,7 +69,6 @@ abbrev pub mark_joined : PairState → Side → PairState
 mark_joined p Client = p
 mark_joined p Target = record p { joined = true }
 
--- how many bytes writes took in one direction
 abbrev pub sent : PairState → Direction → ℕ
 sent p Up = p.sent_up
 sent p Down = p.sent_down
@@ -83,8 +81,8 @@ with_sent p Down n = record p { sent_down = n }
 abbrev pub noted : PairState → PairState
 noted p = record p { client = ready; target = ready }
 
--- what has become of the connection: it failed once there is a fault, is done once both ends were passed on, and else
--- live
+-- what has become of the connection: it has failed if there is a fault, else it is done if both ends of input were
+-- passed on, else it is live
 abbrev pub verdict_of : Option Fault → Bool → Verdict
 verdict_of (Some fault) both_shut = Failed fault
 verdict_of None true = Done

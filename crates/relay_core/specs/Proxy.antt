@@ -1,5 +1,5 @@
--- The line by which a target knows its client. Part of the promises. It is a line of the PROXY protocol, version 1,
--- for TCP over IPv4: it goes out before the client's own bytes.
+-- The line that gives a target its client's address. Part of the promises. The line is of the PROXY protocol, version
+-- 1, for TCP over IPv4, and goes out before the client's own bytes.
 use Rattle.std.specs.Prelude.{ℕ, List, ◌++◌, slice_index, codes, decimal}
 
 -- the four numbers of an address in decimal, joined by dots
@@ -8,7 +8,7 @@ dotted address =
     decimal (slice_index address 0) ++ codes "." ++ decimal (slice_index address 1) ++ codes "."
     ++ decimal (slice_index address 2) ++ codes "." ++ decimal (slice_index address 3)
 
--- the addresses and ports of a connection's two ends, from where it came and to where it went, with single spaces
+-- the client's address, the address that the client reached, and their ports, with single spaces
 abbrev pub proxy_line : List ℕ → ℕ → List ℕ → ℕ → List ℕ
 proxy_line source source_port dest dest_port =
     codes "PROXY TCP4 " ++ dotted source ++ codes " " ++ dotted dest ++ codes " "

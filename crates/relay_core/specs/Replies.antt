@@ -32,20 +32,20 @@ fits p call Interrupted = true
 fits p call (Failed kind) = true
 fits p call reply = false
 
--- the stream that a call serves, changed
+-- the pair with a change of the stream that a call serves
 abbrev pub change_stream : PairState → Call → (Stream → Stream) → PairState
 change_stream p call change = with_stream p (direction_of call) (change (stream_of p (direction_of call)))
 
--- a call that had to wait: no other is worth a try until a report comes
+-- the call would have had to wait: its flag is down until a report comes
 abbrev pub without_flag : Call → Flags → Flags
 without_flag (call.Read side most) flags = record flags { read = false }
 without_flag call flags = record flags { write = false }
 
--- a write took n bytes more; the count stays at the largest that it can show
+-- a write took n bytes more; the count stops at 2^64 - 1
 abbrev pub count_more : PairState → Direction → ℕ → PairState
 count_more p d n = with_sent p d (min (sent p d + n) (2 ^ 64 - 1))
 
--- what an answer does, but for the turn and the second. A socket that moved bytes or an end is connected.
+-- what an answer does, except to `turn` and `moved`. A socket that gave or took bytes, or gave an end, is connected.
 abbrev pub effect : PairState → Call → AnswerValue → PairState
 effect p call (Bytes bytes) = mark_joined (change_stream p call (λ stream. taken_in stream bytes)) (side_of call)
 effect p call End = mark_joined (change_stream p call ended) (side_of call)
@@ -56,7 +56,7 @@ effect p call Blocked = with_flags p (side_of call) (without_flag call (flags_of
 effect p call Interrupted = p
 effect p call (Failed kind) = record p { failure = Some (Broken (side_of call) (kind_of call) kind) }
 
--- an answer by which the connection moved
+-- whether an answer moved the connection
 abbrev pub moves : AnswerValue → Bool
 moves Blocked = false
 moves Interrupted = false
@@ -70,7 +70,7 @@ after now p call reply = record (effect p call reply) {
   moved = if moves reply then now else p.moved;
 }
 
--- how a clause reads an answer of the program: with the bytes that it refers to
+-- an `Answer` as clauses see it: with its bytes in place of the reference to them
 abbrev pub reply_of : Answer → AnswerValue
 reply_of (answer.Bytes bytes) = Bytes bytes.now
 reply_of answer.End = End

@@ -25,7 +25,7 @@ pub enum Answer<'a> {
 }
 
 impl Answer<'_> {
-    /// Whether the connection moved by this answer.
+    /// Whether the answer moved the connection: any but Blocked, Interrupted and Failed does.
     pub fn moves(self) -> bool
         ensures { result ≡ moves (reply_of self.entry) }
     {

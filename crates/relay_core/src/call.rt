@@ -6,17 +6,17 @@ use token::{Direction, Side};
 /// A call on one of a connection's two sockets. It never waits.
 #[derive(Clone, Copy, PartialEq, Eq)]
 pub enum Call {
-    /// write(2) to this side of what [`Pair::offer`](crate::Pair::offer) lends.
+    /// write(2): sends this side what [`Pair::offer`](crate::Pair::offer) lends.
     Write(Side),
-    /// Asks whether this side's connect(2) has completed, as before a shutdown(2).
+    /// Asks, before a shutdown(2), whether this side's connect(2) has completed.
     Join(Side),
-    /// shutdown(2) of this side with `SHUT_WR`, which passes the end of input on.
+    /// shutdown(2) with `SHUT_WR`: passes the end of input on to this side.
     Shut(Side),
     /// read(2) from this side, of at most this many bytes.
     Read(Side, usize),
 }
 
-/// Which of the four calls it is.
+/// Which of the four calls a [`Call`] is.
 #[derive(Clone, Copy, PartialEq, Eq)]
 pub enum CallKind {
     /// write(2).
@@ -65,7 +65,7 @@ impl Call {
         }
     }
 
-    /// The direction that the call serves: a read that from its side, the others that to it.
+    /// A read serves the direction from its side, any other call the direction to its side.
     pub fn direction(self) -> Direction
         ensures { result ≡ direction_of self }
     {

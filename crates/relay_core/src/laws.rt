@@ -1,22 +1,22 @@
 //! What holds for every pair, whatever answers and reports arrive and whenever the idle limit passes. The functions
-//! do nothing: the contract of each is the law that it is named after, so that the layers above can use it. The last
-//! ones are about whole runs: any list of answers, reports and expiries.
+//! do nothing: the contract of each is the law of its name, so a layer above gets the law by a call. The last laws
+//! are about whole runs: any list of answers, reports and expiries.
 
 ghost use Rattle.relay_core.specs.Laws.{AnswersAreEvents, AnswersAreToNextCalls, AnswersKeepOrder, AnswersKeepPlace, AnswersPassEndLast, CallsComeWhileLive, ExpiriesChangeVerdictAlone, FailuresAreTold, FreshPairsKeepEndLast, LivePairsRest, OnlyEndsAreSeen, OnlyOverduePairsExpire, ReportsKeepStreams, ReportsSetFlags, RunsKeepOrder, RunsKeepPlace, RunsPassEndLast};
 
-/// No answer loses, doubles or moves a byte.
+/// No answer loses, doubles or reorders a byte.
 #[tactic(auto, using(crate::proofs::Pairs::answers_keep_order))]
 pub fn answers_keep_order()
     ensures { AnswersKeepOrder }
 {}
 
-/// An answer passes an end of input on only after every byte, and this is final.
+/// An answer passes an end of input on only after every byte, and for good.
 #[tactic(auto, using(crate::proofs::Pairs::answers_pass_end_last))]
 pub fn answers_pass_end_last()
     ensures { AnswersPassEndLast }
 {}
 
-/// The end of a direction is seen only when a call on it is answered with an end, and this is final.
+/// A direction's end is seen only by the answer End to a call of that direction, and for good.
 pub fn only_ends_are_seen()
     ensures { OnlyEndsAreSeen }
 {}
@@ -26,13 +26,13 @@ pub fn answers_keep_place()
     ensures { AnswersKeepPlace }
 {}
 
-/// An answer fails a pair only by a failed call, and the fault describes that call.
+/// An answer fails a pair only if the call failed, and the fault describes that call.
 #[tactic(auto, using(crate::proofs::Pairs::failures_are_told))]
 pub fn failures_are_told()
     ensures { FailuresAreTold }
 {}
 
-/// Each answer of a list does what an answer to the call that comes next does.
+/// An answer in a run fits the next call of the pair, and does what the answer to that call does.
 #[tactic(auto, using(crate::proofs::Pairs::answers_are_to_next_calls))]
 pub fn answers_are_to_next_calls()
     ensures { AnswersAreToNextCalls }
@@ -49,13 +49,13 @@ pub fn live_pairs_rest()
     ensures { LivePairsRest }
 {}
 
-/// A report makes all four calls worth trying, and changes nothing else.
+/// A report sets all four flags, and changes nothing else.
 pub fn reports_change_flags_alone()
     ensures flags { ReportsSetFlags }
     ensures streams { ReportsKeepStreams }
 {}
 
-/// The idle limit fails a pair only while it is live, has no next call, and has moved nothing for that long.
+/// The idle limit fails a pair only if the pair is live, has no next call, and has moved nothing for that long.
 pub fn only_overdue_pairs_expire()
     ensures { OnlyOverduePairsExpire }
 {}
@@ -66,20 +66,20 @@ pub fn expiries_change_verdict_alone()
     ensures { ExpiriesChangeVerdictAlone }
 {}
 
-/// No run loses, doubles or moves a byte.
+/// No run loses, doubles or reorders a byte.
 #[tactic(auto, using(crate::proofs::Pairs::runs_keep_order))]
 pub fn runs_keep_order()
     ensures { RunsKeepOrder }
 {}
 
-/// If every end that was passed on came last, this is still so after any run, and an end that is passed on then comes
-/// after every byte that waited or was ever read.
+/// If each end that a pair passed on came after every byte, this still holds after any run; and if an end is passed on
+/// by then, every byte that waited or was read has gone out.
 #[tactic(auto, using(crate::proofs::Pairs::runs_pass_end_last))]
 pub fn runs_pass_end_last()
     ensures { RunsPassEndLast }
 {}
 
-/// A new pair has passed no end on.
+/// A new pair meets the condition of [`runs_pass_end_last`].
 pub fn fresh_pairs_keep_end_last()
     ensures { FreshPairsKeepEndLast }
 {}
@@ -90,7 +90,7 @@ pub fn runs_keep_place()
     ensures { RunsKeepPlace }
 {}
 
-/// A list of answers of one second does the same, and moves the same bytes, as a run of these answers alone.
+/// A list of answers at one second does the same, and moves the same bytes, as the run of these answers alone.
 pub fn answers_are_events()
     ensures { AnswersAreEvents }
 {}

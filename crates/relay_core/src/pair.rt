@@ -56,9 +56,9 @@ impl Pair {
     ghost use Rattle.std.specs.Borrow.{sem};
     ghost use Rattle.relay_core.specs.Lending.{with_offer, LendsOffer, LendsStream};
 
-    /// A new connection, in a slot that has been opened `generation` times, made at the second `now`, with a ring of
-    /// `capacity` bytes for each direction. The target is sent `lead` before the client's own bytes. This allocates all
-    /// the memory that the pair will ever use, and fails only if there is not enough; then no pair is made.
+    /// A new connection, made at the second `now`, with a ring of `capacity` bytes for each direction. `generation` is
+    /// how many connections the slot has had, this one included. The target is sent `lead` before the client's bytes.
+    /// Allocates all the memory that the pair will ever use. Fails only if there is not enough; then no pair is made.
     pub fn new(
         alloc: Global,
         slot: usize,
@@ -68,8 +68,8 @@ impl Pair {
         lead: &[u8],
     ) -> Result<Pair, AllocError>
         requires least { 1 ≤ capacity }
-        requires most { capacity ≤ 65536 }
-        requires short { length lead.now ≤ 107 }
+        requires most { capacity ≤ Flow.MAX }
+        requires short { length lead.now ≤ Flow.MAX_LEAD }
         ensures { IfOk result (λ pair. pair ≡ fresh slot generation capacity now lead.now) }
     {
         Ok(Pair {
@@ -88,8 +88,8 @@ impl Pair {
         })
     }
 
-    /// The call to make next. If there is none, nothing can be done before the next report ([`Pair::note`]), or the
-    /// pair is done or failed ([`Pair::verdict`]).
+    /// The call to make next. None if no call is worth trying before the next report ([`Pair::note`]), or if the pair
+    /// is done or failed ([`Pair::verdict`]).
     #[tactic(auto, using(crate::proofs::Pairs::asked_is_possible))]
     pub fn next(&self) -> Option<Call>
         ensures value { result ≡ next_call self.now }
@@ -105,8 +105,8 @@ impl Pair {
         }
     }
 
-    /// What a write to a side offers: the rest of the lead that is bound for it, or if that is nothing, all that wait
-    /// in the ring. They are lent to be read: if nothing is written into them, the pair stays as it was.
+    /// What a write to a side offers: the rest of the lead for that side, or if none is left, the whole ring. The bytes
+    /// are lent to be read: unless the caller writes into them, the pair stays as it was.
     pub fn offer(&mut self, side: Side) -> &mut [u8]
         ensures* lends { sem 𝓛 (LendsOffer self.entry side result) }
         ensures value { result.now ≡ offer self.old side }
@@ -134,14 +134,14 @@ impl Pair {
         }
     }
 
-    /// Takes the answer to the call that comes next, which came at the second `now`.
+    /// Takes the answer that the next call got at the second `now`.
     #[tactic(auto, using(crate::proofs::Pairs::asked_is_possible, crate::proofs::Pairs::answers_keep_order, crate::proofs::Pairs::answers_pass_end_last, crate::proofs::Pairs::failures_are_told))]
     pub fn answer(&mut self, call: Call, answer: Answer<'_>, now: u64)
         requires next { next_call self.old ≡ Some call }
         requires fits { fits self.old call (reply_of answer) ≡ true }
         ensures value { self.new ≡ after now self.old call (reply_of answer.entry) }
 
-        // What that comes to:
+        // What follows from `value`:
         ensures order { KeepsOrder self.old call (reply_of answer.entry) self.new }
         ensures end_last { (d : Direction) → PassesEndLast (stream_of self.old d) (stream_of self.new d) }
         ensures interrupted { reply_of answer.entry ≡ Interrupted → self.new ≡ record self.old { turn = self.new.turn } }
@@ -159,13 +159,13 @@ impl Pair {
         self.target = Flags::READY;
     }
 
-    /// Fails a live pair that has no next call and has moved nothing for `limit` seconds at the second `now`, and
-    /// answers true. Otherwise nothing changes. A limit of 0 is none.
+    /// If the pair is live, has no next call and at the second `now` has moved nothing for `limit` seconds, fails it
+    /// and returns true. Otherwise returns false, and nothing changes. A limit of 0 never passes.
     pub fn expire(&mut self, now: u64, limit: u64) -> bool
         ensures value { self.new ≡ expired now limit self.old }
         ensures told { result ≡ is_overdue now limit self.old }
 
-        // What that comes to:
+        // What follows from these two:
         ensures overdue { (result ≡ true) ↔ IsOverdue now limit self.old }
         ensures fails { result ≡ true → verdict self.new ≡ Verdict.Failed Fault.Idle }
         ensures keeps { result ≡ false → self.new ≡ self.old }
@@ -189,7 +189,7 @@ impl Pair {
         }
     }
 
-    /// How many bytes writes took, up and down, with the lead; each count stops at the largest `u64`.
+    /// How many bytes writes took, up and down, lead included. Each count stops at the largest `u64`.
     pub fn counts(&self) -> (u64, u64)
         ensures up { result.0 ≡ self.now.sent_up }
         ensures down { result.1 ≡ self.now.sent_down }
@@ -211,7 +211,7 @@ impl Pair {
         self.slot
     }
 
-    /// How many times the slot had been opened when the connection began.
+    /// How many connections the slot has had, this one included.
     pub fn generation(&self) -> u64
         ensures { result ≡ self.now.generation }
     {
@@ -267,7 +267,7 @@ impl Pair {
         self.flow(direction).len()
     }
 
-    /// The byte at index `i` of those that wait in the ring of one direction, the oldest first.
+    /// The byte at index `i` of the ring of one direction. The oldest is at 0.
     pub fn ring_byte(&self, direction: Direction, i: usize) -> u8
         requires { i < length (stream_of self.now direction).ring }
         ensures { result ≡ slice_index (stream_of self.now direction).ring i }
@@ -289,7 +289,7 @@ impl Pair {
         self.flow(direction).is_shut()
     }
 
-    // That the calls below have room, and an end to pass on, follows from the order of work.
+    // `possible` and `fits` give what the flow's methods require: room, and an end to pass on.
     fn take_answer(&mut self, call: Call, answer: Answer<'_>, now: u64)
         requires possible { IsPossible self.old call }
         requires fits { fits self.old call (reply_of answer) ≡ true }
@@ -389,7 +389,7 @@ impl Pair {
         }
     }
 
-    /// The same once the source has ended.
+    /// What `call_for` returns if the source has ended and no write comes first.
     fn call_at_end(&self, direction: Direction) -> Option<Call>
         requires ended { (stream_of self.now direction).end_seen ≡ true }
         requires stuck { (is_waiting (stream_of self.now direction) && (flags_of self.now (destination direction)).write) ≡ false }

@@ -7,8 +7,8 @@ use std::alloc::{AllocError, Global};
 /// The longest line, in bytes.
 const LONGEST: usize = 56;
 
-/// The line that tells a target where its client's connection came from and where it was accepted, by the PROXY
-/// protocol, version 1, for TCP over IPv4. It allocates once, and fails only if there is not enough memory.
+/// The line of the PROXY protocol, version 1, for TCP over IPv4. It gives the target the client's address (`source`)
+/// and the address that the client reached (`dest`). Allocates once, and fails only for want of memory.
 pub fn proxy_line(
     alloc: Global,
     source: [u8; 4],

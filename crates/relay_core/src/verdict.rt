@@ -20,7 +20,7 @@ pub enum Fault {
 /// What has become of a connection.
 #[derive(Clone, Copy, PartialEq, Eq)]
 pub enum Verdict {
-    /// Both ends are open, or one of them still has to be passed on.
+    /// Not failed, and an end of input is still to come or to be passed on.
     Live,
     /// Both ends of input were passed on.
     Done,

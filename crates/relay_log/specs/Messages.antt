@@ -10,7 +10,7 @@ use Rattle.relay_log.specs.declared.gone.ClientsAt.TheVariants as clients
 abbrev pub open_message : ℕ → ℕ → List ℕ
 open_message slot generation = codes "open s=" ++ (decimal slot ++ (codes " g=" ++ decimal generation))
 
--- from an address, as it is written
+-- `address` is the client's, as it is written
 abbrev pub peer_message : ℕ → ℕ → List ℕ → List ℕ
 peer_message slot generation address =
     codes "peer s=" ++ (decimal slot ++ (codes " g=" ++ (decimal generation ++ (codes " from=" ++ address))))
@@ -30,7 +30,7 @@ abbrev pub fail_message : ℕ → ℕ → Fault → List ℕ
 fail_message slot generation fault =
     codes "fail s=" ++ (decimal slot ++ (codes " g=" ++ (decimal generation ++ fault_text fault)))
 
--- what a log is passed of a connection that has ended, by its verdict
+-- the log was passed the message of an ended connection; of a live one nothing is said
 abbrev pub EndLogged : (Level → Option (List ℕ) → Type 0) → Verdict → PairState → Type 0
 EndLogged logged Done p = logged level.Info (Some (done_message p.slot p.generation p.sent_up p.sent_down))
 EndLogged logged (Failed fault) p = logged level.Warn (Some (fail_message p.slot p.generation fault))
@@ -45,28 +45,27 @@ cause_name Address = codes "address"
 abbrev pub drop_message : Cause → List ℕ
 drop_message cause = codes "drop kind=" ++ cause_name cause
 
--- this many more of that cause
+-- this many further drops had this cause
 abbrev pub drops_message : Cause → ℕ → List ℕ
 drops_message cause more = codes "drops kind=" ++ (cause_name cause ++ (codes " more=" ++ decimal more))
 
--- this many slots, which are all
+-- all slots are taken, of which there are this many
 abbrev pub full_message : ℕ → List ℕ
 full_message slots = codes "slots: all " ++ (decimal slots ++ codes " are taken; further clients wait")
 
--- whose connection has ended: its slot and generation, if it was opened, and then its client's address, as it is
--- written
+-- the start of `gone`, up to the client's address: the slot and generation of a connection that was opened
 abbrev pub gone_begins : Option (ℕ × ℕ) → List ℕ
 gone_begins (Some name) = codes "gone s=" ++ (decimal name.0 ++ (codes " g=" ++ (decimal name.1 ++ codes " from=")))
 gone_begins None = codes "gone from="
 
--- if that is known
+-- the word for a fact that may be unknown
 abbrev pub yes_or_no : Option Bool → List ℕ
 yes_or_no (Some true) = codes "yes"
 yes_or_no (Some false) = codes "no"
 yes_or_no None = codes "unknown"
 
--- what stands between that address and the cause: whether its target was ever connected, in such a word, bytes each
--- way, and how long it was open
+-- what stands in `gone` between the client's address and the cause: whether the target was ever connected (a word of
+-- `yes_or_no`), bytes each way, and how many seconds it was open
 abbrev pub gone_counts : List ℕ → ℕ → ℕ → ℕ → List ℕ
 gone_counts connected up down seconds =
     codes " connected=" ++ (connected ++ (codes " up=" ++ (decimal up ++ (codes " down=" ++ (decimal down
@@ -75,12 +74,12 @@ gone_counts connected up down seconds =
 abbrev pub gone_between : Option Bool → ℕ → ℕ → ℕ → List ℕ
 gone_between connected up down seconds = gone_counts (yes_or_no connected) up down seconds
 
--- the whole line, with the address and the cause as they print
+-- the whole of `gone`, with the address and the cause as they print
 abbrev pub gone_text : Option (List ℕ) → Option (List ℕ) → Option (ℕ × ℕ) → Option Bool → ℕ → ℕ → ℕ → Option (List ℕ)
 gone_text from cause opened connected up down seconds =
     Some (gone_begins opened) ++? from ++? Some (gone_between connected up down seconds) ++? cause
 
--- the level of what the log has of clients
+-- the level of `peer` and `gone`
 abbrev pub client_level : ClientsAt → Level
 client_level clients.Debug = level.Debug
 client_level clients.Info = level.Info

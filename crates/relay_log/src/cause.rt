@@ -3,17 +3,17 @@ ghost use Rattle.relay_log.specs.Messages.{cause_name};
 
 use std::alloc::AllocError;
 
-/// Why an accepted connection was closed before it was opened.
+/// The cause of a drop: why no connection was opened for a client that was accepted.
 #[derive(Clone, Copy, PartialEq, Eq)]
 pub enum Cause {
-    /// There was no memory for it.
+    /// Memory ran out.
     Memory,
     /// The connection to the target could not be started (connect(2)).
     Connect,
     /// A socket could not be registered for reports (epoll_ctl(2)).
     Register,
-    /// The client's address, or the one on which it was accepted, is not known, or is no IPv4 address, and targets are
-    /// sent it (accept(2), getsockname(2)).
+    /// The PROXY line lacks an address: the client's, or the one on which the client was accepted, is unknown or no
+    /// IPv4 address (accept(2), getsockname(2)).
     Address,
 }
 
@@ -28,7 +28,7 @@ impl From<AllocError> for Cause {
 }
 
 impl Cause {
-    /// The word for it.
+    /// The word for the cause.
     pub fn name(self) -> &'static str
         ensures { result.now ≡ cause_name self }
     {

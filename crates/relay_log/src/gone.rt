@@ -1,4 +1,3 @@
-// What the log has of clients: a connection that has ended, and at which level.
 ghost use Rattle.std.specs.Prelude.{◌≡◌, ◌-◌, Some};
 ghost use Rattle.relay_log.specs.Messages.{client_level, gone_counts, gone_text, yes_or_no};
 
@@ -7,17 +6,17 @@ use relay_core::Pair;
 use std::fmt::{self, Display};
 use std::io;
 
-/// What the log has of clients, and at which level: the messages `peer` and `gone`.
+/// The level of the messages `peer` and `gone`, and which connections have a `gone`.
 #[derive(Clone, Copy)]
 pub enum ClientsAt {
-    /// At debug: each client as its connection is opened, and one whose connection did not end well.
+    /// At debug: a `peer` for each connection that is opened, and a `gone` for one that failed or was not opened.
     Debug,
-    /// At info: each client as its connection is opened, and as it ends, however it ends.
+    /// At info: also a `gone` for a connection that is done.
     Info,
 }
 
 impl ClientsAt {
-    /// The level.
+    /// The level of both messages.
     pub fn level(self) -> Level
         ensures { result ≡ client_level self }
     {
@@ -35,8 +34,8 @@ impl ClientsAt {
 
 /// A connection that has ended: whose it was, how far it got, and what the system says of the cause.
 ///
-/// It is logged just before its `done` or `fail` as `gone s=3 g=1 from=192.0.2.7:50000 connected=yes up=120 down=0
-/// seconds=9 cause=Broken pipe (os error 32)`, and without `s=` and `g=` before its `drop`.
+/// It is logged just before the connection's `done` or `fail` as `gone s=3 g=1 from=192.0.2.7:50000 connected=yes
+/// up=120 down=0 seconds=9 cause=Broken pipe (os error 32)`. Before a `drop` it has no `s=` and `g=`.
 #[derive(Drop)]
 pub struct Gone<'a, D, E> {
     /// Its slot and generation, if it was opened.
@@ -56,7 +55,7 @@ pub struct Gone<'a, D, E> {
 }
 
 impl<'a, D, E> Gone<'a, D, E> {
-    /// Of a connection that has ended by this second, and was opened in the other one.
+    /// The message for a connection that was opened in the second `opened` and has ended by `second`.
     pub fn ended(
         pair: &Pair,
         opened: u64,
@@ -139,7 +138,7 @@ fn yes_or_no(is_so: Option<bool>) -> &'static str
     }
 }
 
-/// What is known, as it prints, or that it is unknown.
+/// Prints a value, or `unknown` for None.
 #[derive(Clone, Copy)]
 pub struct Known<D>(pub Option<D>);
 
@@ -152,8 +151,7 @@ impl<D: Display> Display for Known<D> {
     }
 }
 
-/// Why a connection ended: what the system says of an error with this number (errno(3)), or a word where there is
-/// none.
+/// Why a connection ended. Prints what the system says of an error with this number (errno(3)), or else the word.
 #[derive(Clone, Copy)]
 pub struct Why {
     pub error: Option<i32>,

@@ -1,8 +1,8 @@
 //! The log messages of the relay, byte for byte, and the calls that pass them to a log; and why a server ends early,
 //! with what is printed then ([`ServerFault`]).
 //!
-//! Which message a call passes, and at which level, its clause says of any log ([`Logs`]). `messages` has all but
-//! [`Gone`], each beside its call.
+//! A call's clause says of any log ([`Logs`]) which message the call passes, and at which level. `messages` has each
+//! message, beside its call, except [`Gone`].
 #![tactic(auto)]
 
 mod cause;

@@ -1,4 +1,4 @@
-// The messages, and the calls that pass each to a log. A log prints a message itself, so none takes memory.
+// A log prints a message itself, so no call here takes memory.
 ghost use Rattle.std.specs.{Prelude.{Some, [], ◌≡◌}, Fmt.◌++?◌};
 ghost use Rattle.relay_core.specs.Pairs.{verdict};
 ghost use Rattle.relay_log.specs.Messages.{client_level, done_message, drop_message, drops_message, fail_message, full_message, gone_text, open_message, peer_message, EndLogged};
@@ -10,22 +10,22 @@ use relay_core::{Fault, Pair, Verdict};
 use std::fmt::{self, Display};
 use std::io;
 
-/// Why a thread is not started: "resource temporarily unavailable" (EAGAIN of pthread_create(3)). Its other errors
-/// are of attributes that no thread here has, and the number itself is not handed on.
+/// Why a thread is not started: "resource temporarily unavailable" (EAGAIN of pthread_create(3)). The call's other
+/// errors are of attributes that no thread here has, and the number is not handed on.
 const NO_THREAD: i32 = 11;
 
 /// A log that the relay's messages are passed to.
 ///
 /// No clause can name what a log has, so the trait leaves open what it was passed. Over any such log a proof has a
-/// fact `logged ..` only from a call that was made. Every log is one, and read there alone the fact says nothing.
+/// fact `logged ..` only from a call that was made. Every log has the trait, with a `logged` that says nothing.
 pub trait Logs: Log {
     ghost use Rattle.std.specs.Prelude.{ℕ, List, Option};
     ghost use Rattle.log.specs.declared.level.Level.{Level};
 
-    // Which messages it was passed, and at which level, if it says so.
+    // The log was passed this message at this level. None: its type does not say how it prints.
     ghost logged: { Self → Level → Option (List ℕ) → Type 0 } = { λ _ _ _. Unit {0} };
 
-    /// Passes it a message, as it prints, at this level. It is asked first: a message that is off is never printed.
+    /// Passes the log a message, as it prints, at this level. A message of a level that is off is never printed.
     fn message<D: Display>(&self, level: Level, message: &D)
         ensures { logged self.now level (D.output message.now) };
 }
@@ -43,7 +43,7 @@ pub fn log_open<L: Logs>(rt: &L, slot: usize, generation: u64)
     rt.message(Level::Info, &format_args!("open s={slot} g={generation}"));
 }
 
-/// `peer s=3 g=1 from=192.0.2.7:50000`, at the level of what the log has of clients: whose connection that is.
+/// `peer s=3 g=1 from=192.0.2.7:50000`, at the level that `clients` gives: the address of this connection's client.
 pub fn log_peer<L: Logs, D: Display>(
     rt: &L,
     clients: ClientsAt,
@@ -57,7 +57,7 @@ pub fn log_peer<L: Logs, D: Display>(
     rt.message(clients.level(), &peer);
 }
 
-/// A connection is done: both its ends were passed on, with this many bytes to the target (`up`) and to the client.
+/// A connection is done: both ends of input were passed on. `up` bytes went to the target, `down` to the client.
 #[derive(Clone, Copy)]
 pub struct Done {
     pub slot: usize,
@@ -75,7 +75,7 @@ impl Display for Done {
     }
 }
 
-/// A connection failed: by a call on one of its sockets, or since it moved nothing for the idle limit.
+/// A connection failed: by a call on one of its sockets, or because it moved nothing for the idle limit.
 #[derive(Clone, Copy)]
 pub struct Failed {
     pub slot: usize,
@@ -101,7 +101,7 @@ impl Display for Failed {
     }
 }
 
-/// How a connection ended: [`Done`] at info, [`Failed`] at warn. Of one that is live nothing is logged.
+/// Logs how a connection ended: [`Done`] at info, [`Failed`] at warn; nothing if it is live.
 pub fn log_end<L: Logs>(rt: &L, pair: &Pair)
     ensures { EndLogged (L.logged rt.now) (verdict pair.now) pair.now }
 {
@@ -129,7 +129,7 @@ pub fn log_end<L: Logs>(rt: &L, pair: &Pair)
     }
 }
 
-/// Warn, `drop kind=memory`: an accepted connection was closed before it was opened.
+/// Warn, `drop kind=memory`: a client was accepted, and no connection could be opened for it.
 pub fn log_drop<L: Logs>(rt: &L, cause: Cause)
     ensures { L.logged rt.now level.Warn (Some (drop_message cause)) }
 {
@@ -138,7 +138,7 @@ pub fn log_drop<L: Logs>(rt: &L, cause: Cause)
     rt.message(Level::Warn, &dropped);
 }
 
-/// Warn, `drops kind=memory more=12`: this many more were closed so, of which the log has no lines.
+/// Warn, `drops kind=memory more=12`: this many further drops of this cause have no line of their own.
 pub fn log_drops<L: Logs>(rt: &L, cause: Cause, more: u64)
     ensures { L.logged rt.now level.Warn (Some (drops_message cause more)) }
 {
@@ -147,7 +147,7 @@ pub fn log_drops<L: Logs>(rt: &L, cause: Cause, more: u64)
     rt.message(Level::Warn, &drops);
 }
 
-/// Warn, `slots: all 1024 are taken; further clients wait`: a client waits for a slot of a server with this many.
+/// Warn, `slots: all 1024 are taken; further clients wait`: a client waits, and all slots are taken.
 pub fn log_all_taken<L: Logs>(rt: &L, slots: usize)
     ensures { L.logged rt.now level.Warn (Some (full_message slots)) }
 {
@@ -155,7 +155,7 @@ pub fn log_all_taken<L: Logs>(rt: &L, slots: usize)
     rt.message(Level::Warn, &full);
 }
 
-/// [`Gone`], at the level of what the log has of clients.
+/// Logs [`Gone`] at the level that `clients` gives.
 pub fn log_gone<L: Logs, D: Display, E: Display>(rt: &L, clients: ClientsAt, gone: Gone<'_, D, E>)
     ensures { let g = gone.entry in L.logged rt.now (client_level clients)
         (gone_text (D.output g.from.now) (E.output g.cause.now) g.opened g.connected g.up g.down g.seconds) }
@@ -163,12 +163,12 @@ pub fn log_gone<L: Logs, D: Display, E: Display>(rt: &L, clients: ClientsAt, gon
     rt.message(clients.level(), &gone);
 }
 
-/// Whether the log takes messages at that level.
+/// Returns true if the log takes messages at this level.
 pub fn logs_gone(rt: &impl Log, clients: ClientsAt) -> bool {
     log_enabled!(rt; target: "relayd", clients.level())
 }
 
-/// Passes to the log, at level error, that the system did not start a thread, and answers the fault that this is.
+/// Logs, at level error, that the system did not start a thread, and returns the fault for this.
 pub fn log_no_thread(rt: &impl Log) -> ServerFault
     ensures { result ≡ ServerFault.Threads }
 {

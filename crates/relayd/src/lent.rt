@@ -1,5 +1,4 @@
-//! What the program lends the server: the gate by which it says that clients can connect, and the clock by which it
-//! counts the idle limit.
+//! What the program lends the server: a gate that prints where it listens, and the clock for the idle limit.
 use server::{Clock, Gate};
 use settings::LogLevel;
 use std::net::SocketAddr;
@@ -8,7 +7,7 @@ use std::sync::atomic::Ordering::SeqCst;
 use std::time;
 
 /// Prints where the relay listens once all of its threads have been started. If that cannot be printed, no connection
-/// is opened from then on. At level `off` nothing more is logged but the cause of a fault that ends it.
+/// is opened from then on. At level `off`, only the cause of a fault that ends the relay is logged from then on.
 #[derive(Drop)]
 pub struct Announcing<'a> {
     pub rt: HostRuntime,
@@ -33,8 +32,8 @@ impl Gate for Announcing<'_> {
     fn after_turn(&self, _slot: usize) {}
 }
 
-/// The system's monotonic clock (clock_gettime(2)) in whole seconds, from some moment before the program began. It
-/// shows 0 while it cannot be read.
+/// The system's monotonic clock (clock_gettime(2)): the whole seconds since some moment before the program began, or
+/// 0 if the clock cannot be read.
 #[derive(Clone, Copy)]
 pub struct MonotonicClock<R>(pub R);
 

@@ -1,5 +1,6 @@
-//! The program: `program` says what it does, `server` serves, `replaying` plays recordings, and `script` runs scripts.
-//! `main` passes to [`program::act`] the process's own arguments, streams and handle, a closure that serves, and these.
+//! The program: `program` says what it does, `server` serves, `replaying` plays recordings, `script` runs scripts.
+//! `main` passes to [`program::act`] the process's own arguments, streams and handle, a closure that serves, a player
+//! and a simulator.
 #![tactic(auto)]
 
 mod lent;
@@ -22,7 +23,7 @@ use std::sync::atomic::Ordering::SeqCst;
 fn main(rt: HostRuntime) -> ExitCode {
     let mut input = rt.stdin();
     let mut output = rt.stdout();
-    // Before anything is opened, which would get the number of a closed stream.
+    // First: a file opened before would get the number of a closed stream.
     let _held = match program::hold_closed(&rt, &input, &output, &rt.stderr()) {
         Ok(held) => held,
         Err(fault) => return ExitCode::from(report_unheld(&mut output, &mut rt.stderr(), &fault)),
@@ -37,7 +38,7 @@ fn main(rt: HostRuntime) -> ExitCode {
         ServerFault,
     > {
         let queue = logging::start(rt)?;
-        // At level off, once all threads have been started, only the cause of a fault is logged.
+        // Set at level off once all threads run: only the cause of a fault that ends the relay is logged then.
         let is_off = AtomicBool::new(false);
         let lines = Until {
             inner: Queued { rt, queue: &queue },

@@ -39,12 +39,12 @@ are_both Client Target = true
 are_both Target Client = true
 are_both a b = false
 
--- the other end of this connection was dropped
+-- the act before dropped the other end of this connection
 abbrev pub drops_other : Act → EndName → Bool
 drops_other (act.Wire m made.Drop) n = m.generation == n.generation && are_both m.side n.side
 drops_other last n = false
 
--- what a record is, by the act before it
+-- the action of a record, by the act before it
 abbrev pub action_of : Act → Act → Option Action
 action_of last (act.Poller number (polling.Open slot generation IsOpened)) = Some (Opened generation)
 action_of last (act.Begin slot) = Some Began
@@ -59,13 +59,13 @@ abbrev pub trace_after : Act → List Numbered → List Action
 trace_after last [] = []
 trace_after last (r ∷ records) = and_then (action_of last r.record.act) (trace_after r.record.act records)
 
--- what records are, of which the first is no drop that follows another one
+-- the actions of records, of which the first follows no drop
 abbrev pub trace_of_records : List Numbered → List Action
 trace_of_records records = trace_after act.Ended records
 
 -- A run
 
--- how the record of a call has this reply
+-- how a reply stands in the record of its call
 abbrev pub answer_of : Reply → Answer
 answer_of (reply.Bytes n) = answer.Moved n
 answer_of reply.End = answer.End
@@ -98,7 +98,7 @@ abbrev pub opened_next : Option SlotState → Option Action
 opened_next (Some place) = if is_worn place.generation then None else Some (Opened (place.generation + 1))
 opened_next None = None
 
--- what an event is in this state of the first slot
+-- the action of an event in this state, at the first slot
 abbrev pub action_in : State → Event → Option Action
 action_in st (event.Poll poll.Open) = opened_next (slice_get st.slots 0)
 action_in st (event.Work w work.Claim) = Some Began
@@ -111,14 +111,14 @@ abbrev pub trace_next : Option State → (State → List Action) → List Action
 trace_next (Some st) f = f st
 trace_next None f = []
 
--- what the events of a run are
+-- the actions of the events of a run
 abbrev pub trace_of_run : State → List Event → List Action
 trace_of_run st [] = []
 trace_of_run st (e ∷ events) = and_then (action_in st e) (trace_next (step st e) (λ q. trace_of_run q events))
 
 -- What a recording shows
 
--- the sizes of a machine of one slot in a relay of these sizes
+-- a machine of one slot has the sizes of this relay
 pub record HasSizes (header : Header) (limits : Limits) : Type 0 where
   pub slots : limits.slots ≡ 1
   pub workers : limits.workers ≡ 1
@@ -126,14 +126,14 @@ pub record HasSizes (header : Header) (limits : Limits) : Type 0 where
   pub budget : limits.budget ≡ header.budget
   pub idle : limits.idle ≡ header.idle
 
--- it was opened at most, and closed: no turn was made
+-- a connection was opened at most, and closed: no turn was made
 abbrev pub HasNoTurn : List Action → Type 0
 HasNoTurn [] = Unit {0}
 HasNoTurn (Opened g ∷ []) = Unit {0}
 HasNoTurn (Opened g ∷ Closed h ∷ []) = g ≡ h
 HasNoTurn trace = ⊥
 
--- after a wait for reports has failed the relay closes a connection that has not ended
+-- the run has the actions of the records; or, if a wait for reports has failed, all but the closing at the end
 abbrev pub MayClose : Option ℕ → List Action → List Action → Type 0
 MayClose failed run records = (run ≡ records) ⊎ (IsSome failed × ((g : ℕ) × (run ++ Closed g ∷ [] ≡ records)))
 
@@ -152,7 +152,7 @@ abbrev pub joined : List (List Numbered) → List Numbered
 joined [] = []
 joined (records ∷ more) = records ++ joined more
 
--- the records of a slot are those of its connections, one after the other, each of which is a run of the machine or
+-- the records of a slot are those of its connections, one after the other. Each connection is a run of the machine, or
 -- had no turn
 pub record AreRuns (header : Header) (failed : Option ℕ) (records : List Numbered) : Type 0 where
   pub connections : List (List Numbered)
@@ -161,14 +161,14 @@ pub record AreRuns (header : Header) (failed : Option ℕ) (records : List Numbe
 
 -- What is kept of a machine on which records are played.
 
--- the limits of a world, the events that happened in it, in order, the world after them, and what they were
+-- the limits of a world, the events that happened in it, in order, the world after them, and their actions
 pub record HistoryState : Type 0 where
   pub limits : Limits
   pub events : List Event
   pub world : State
   pub trace : List Action
 
--- the events happened in this world, one after the other, from the opening world on, and were these actions
+-- the events, one after the other, lead from the opening world to this world, and have these actions
 pub record IsHistory (h : HistoryState) : Type 0 where
   pub runs : run (opening h.limits) h.events ≡ Some h.world
   pub trace : trace_of_run (opening h.limits) h.events ≡ h.trace

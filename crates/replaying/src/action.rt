@@ -9,8 +9,8 @@ use relay_core::{Call, Pair};
 use token::{Kind, MAX_GENERATION, Side, Token};
 use world::{Act as Work, Event, Polling as Poll, World};
 
-/// What a relay did and has a record of, and what the machine does in an event. The first number is the generation of
-/// the connection.
+/// What both a record of a relay and an event of the machine can show. The first number is the generation of the
+/// connection.
 #[derive(Clone, Copy)]
 pub(crate) enum Action {
     /// A connection of this generation was opened.
@@ -25,7 +25,7 @@ pub(crate) enum Action {
     Closed(u64),
 }
 
-/// What a record is, by the act before it.
+/// The action of a record, by the act before it. None if it shows none.
 pub(crate) fn action_of(last: &Act, act: &Act) -> Option<Action>
     ensures { result ≡ action_of last.now act.now }
 {
@@ -89,7 +89,7 @@ fn written(answer: Answer) -> Answer
     }
 }
 
-/// What an event is that happens next in this world.
+/// The action of an event that happens next in this world, if it shows one.
 pub(crate) fn action_in(world: &World, event: &Event) -> Option<Action>
     ensures { result ≡ action_in world.now event.now }
 {

@@ -1,5 +1,5 @@
-//! The calls of a turn, and what the network did before them. It does that as late as can be: bytes and ends arrive
-//! just before the call that shows them, and room comes just before the write that takes it.
+//! The calls of a turn, and what the network did before them. The network acts as late as can be: bytes and ends of
+//! input arrive just before the call that shows them, and room comes just before the write that takes it.
 use crate::action::offered;
 use crate::machine::{Flaw, Machine};
 use crate::slot_replay::{Phase, SlotReplay};
@@ -53,7 +53,7 @@ fn asked_by(side: Side, made: Made) -> Option<(Asked, Answer)> {
     Some((Asked { call, bytes }, answer))
 }
 
-/// What a call gave that got this answer. The world refuses what is no answer of its call.
+/// The reply of a call that is recorded with this answer. The world refuses an answer that the call cannot have.
 fn reply_to(call: Call, answer: Answer, next: &[Numbered]) -> Reply {
     match answer {
         Answer::Moved(count) => match call {
@@ -70,7 +70,7 @@ fn reply_to(call: Call, answer: Answer, next: &[Numbered]) -> Reply {
     }
 }
 
-/// Whether the next write to an end, or the next question whether it is connected, would block.
+/// Whether the next write or join at an end, but for interrupted ones, would block.
 fn blocks_next(next: &[Numbered], side: Side) -> bool {
     for numbered in next {
         match numbered.record.act {
@@ -87,7 +87,6 @@ fn blocks_next(next: &[Numbered], side: Side) -> bool {
 }
 
 impl Machine {
-    /// The connection's next call.
     pub(crate) fn next_call(&self) -> Option<Asked> {
         let pair = self.pair()?;
         let call = pair.next()?;
@@ -141,7 +140,7 @@ impl Machine {
     }
 }
 
-/// How many bytes a read gives beside those that are unread. One that gives more than it asks for gets none of them.
+/// How many bytes a read gives beyond those that are unread. 0 if it gives more than it asks for.
 fn bytes_missing(end: &End, asked: Asked, reply: Reply) -> usize {
     match reply {
         Reply::Bytes(count) if count <= asked.bytes => count.saturating_sub(end.unread().len()),

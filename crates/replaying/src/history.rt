@@ -5,8 +5,8 @@ use std::alloc::{AllocError, Global};
 use std::marker::Model;
 use world::{Event, Limits, World};
 
-/// A world from its opening on, with each event that has happened in it, and which of the acts that records have these
-/// were. Nothing else makes one or changes it, so its world is the one after its events.
+/// A world from its opening on, with each event that has happened in it, and the actions of these events. Only this
+/// module makes or changes a history, so its world is the one after its events.
 #[derive(Drop)]
 pub(crate) struct History {
     limits: Limits,
@@ -44,7 +44,7 @@ impl History {
         })
     }
 
-    /// An event happens. A refusal is that of the world, or `NoMemory`, and changes nothing.
+    /// An event happens, or is refused: by the world, or with `NoMemory`. A refusal changes nothing.
     pub(crate) fn put(&mut self, event: Event) -> Result<(), (Refusal, Event)>
         ensures put { OnOk result (self.new.events ≡ self.old.events ++ event ∷ []) }
         ensures limits { self.new.limits ≡ self.old.limits }
@@ -64,7 +64,6 @@ impl History {
         Ok(())
     }
 
-    /// The limits of the world.
     pub(crate) fn limits(&self) -> Limits
         ensures { result ≡ self.now.limits }
     {
@@ -78,14 +77,13 @@ impl History {
         &self.world
     }
 
-    /// The events that have happened, in order.
     pub(crate) fn events(&self) -> &[Event]
         ensures { result.now ≡ self.now.events }
     {
         self.events.as_slice()
     }
 
-    /// What the events were.
+    /// The actions of the events, in order.
     pub(crate) fn trace(&self) -> &[Action]
         ensures value { result.now ≡ self.now.trace }
         ensures of_run { IsHistory self.now }

@@ -1,9 +1,9 @@
-//! What a recording of a relay comes to on the machine ([`OnMachine`]).
+//! Replays a recording of a relay on the machine ([`OnMachine`]).
 //!
 //! `recorded` reads it, puts it in order, and refuses what no thread does. `slot_replay` replays a slot, with
-//! `opening`, `turns`, `calls` and `posts`, and what a poller did at its listener, both on the world of `machine`,
-//! whose `history` is kept. `trace` compares the records of a connection with its run, by what each record and each
-//! event is (`action`). `results` has what came of it, which `writing` writes.
+//! `opening`, `turns`, `calls` and `posts`; `replaying` replays what a poller did at its listener. Both use the world
+//! of `machine`, and keep its `history`. `trace` compares the records of a connection with its run, by their actions
+//! (`action`). `results` has what came of it, which `writing` writes.
 #![tactic(auto)]
 
 mod action;

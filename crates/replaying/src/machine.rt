@@ -12,11 +12,11 @@ use world::{Act, Change, Event, Lead, Limits, Listening, Polling, Reported, Worl
 /// Why a replay stops.
 #[derive(Clone, Copy)]
 pub(crate) enum Flaw {
-    /// The world refuses the event that is kept.
+    /// The world refuses the event in `Machine::refused`.
     Refused,
     /// The connection has another call to make, or none.
     NextCall,
-    /// The record at hand can stand at no place.
+    /// The record at hand fits nowhere.
     Because(&'static str),
     /// Memory ran out, so that nothing is wrong with the record.
     NoMemory,
@@ -65,7 +65,7 @@ impl Machine {
         })
     }
 
-    /// An event happens.
+    /// An event happens, or is refused and kept.
     pub(crate) fn put(&mut self, event: Event) -> Result<(), Flaw> {
         match self.history.put(event) {
             Ok(()) => Ok(()),
@@ -95,7 +95,7 @@ impl Machine {
         self.work(&[Act::Pop, Act::Claim, Act::Take])
     }
 
-    /// A report is polled and delivered. Where none is queued, it is one without cause.
+    /// A report is polled and delivered. If none is queued, one is queued without cause.
     pub(crate) fn deliver(&mut self, name: Name, who: Reported) -> Result<(), Flaw> {
         if !self.is_queued(&name) {
             self.put(Event::Spurious(who))?;
@@ -118,7 +118,6 @@ impl Machine {
         self.history.world()
     }
 
-    /// Whether the slot has notes.
     pub(crate) fn has_notes(&self) -> bool {
         match self.world().slots().first() {
             Some(slot) => slot.has_notes(),
@@ -134,7 +133,7 @@ impl Machine {
         }
     }
 
-    /// Whether it has ended.
+    /// Whether the connection has ended, or there is none.
     pub(crate) fn is_over(&self) -> bool {
         match self.pair() {
             Some(pair) => pair.verdict() != Verdict::Live,
@@ -142,14 +141,14 @@ impl Machine {
         }
     }
 
-    /// One end of it.
+    /// One end of the connection.
     pub(crate) fn end(&self, side: Side) -> Option<&End> {
         let connection = self.world().connection(0)?;
         let open = self.world().kernel().end(connection.descriptor(side))?;
         Some(&open.socket)
     }
 
-    /// An act of the poller.
+    /// The poller does this at the listener. Other acts are passed over.
     pub(crate) fn listen(&mut self, act: &Recorded) -> Result<(), Flaw> {
         let Recorded::Poller(_, did) = act else {
             return Ok(());
@@ -170,8 +169,8 @@ impl Machine {
         self.put(Event::Listen(happens))
     }
 
-    /// A client comes in and is accepted. Where that is reported, the report vanishes: the poller was given it when the
-    /// client came, or did not have to be.
+    /// A client comes in and is accepted. If that queues a report, the report vanishes: the poller got it when the
+    /// client came, or needed none.
     fn accept(&mut self) -> Result<(), Flaw> {
         let was_queued = self.is_queued(&Name::Listener);
         self.come_in()?;

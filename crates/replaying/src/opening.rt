@@ -11,7 +11,7 @@ use std::mem;
 use token::{MAX_GENERATION, Side};
 use world::{Event, Lead, Limits, Polling as Polled};
 
-/// The lengths that a line about a client has.
+/// The least and the greatest length of a PROXY line.
 const LEAST_LEAD: usize = 32;
 
 const MOST_LEAD: usize = 56;
@@ -47,7 +47,7 @@ impl SlotReplay<'_> {
         self.machine.put(Event::Poll(Polled::Open))
     }
 
-    /// Time begins at the second of the poller's round.
+    /// A connection begins, at the earliest second that the round can have read.
     fn enter(&mut self, record: Record, generation: u64) {
         let acts = self.findings.recording.poller(self.poller);
         let since = last_wait(begun_before(acts, record.before));
@@ -67,8 +67,8 @@ impl SlotReplay<'_> {
     }
 }
 
-/// The count when the last wait of a poller had ended that did these acts: the round has read its second since then. A
-/// report has the counts of its wait.
+/// The count after the last wait of the poller that did these acts. The round has read its second since. A report has
+/// the counts of its wait.
 fn last_wait(acts: &[Numbered]) -> u64 {
     for last in acts.iter().rev() {
         if !matches!(
@@ -87,7 +87,7 @@ fn machine_before(
     next: &[Numbered],
     generation: u64,
 ) -> Result<Machine, Flaw> {
-    // Stand-ins for what the target of a connection is sent first. Its length shows by the first write there.
+    // Stand-ins for the PROXY line, whose length the first write to the target shows.
     let bytes = [b'-'; MOST_LEAD];
     let lead = if recording.header.proxy {
         Lead::new(&bytes[..first_offer(next, generation)]).unwrap_or(Lead::NONE)
@@ -100,7 +100,7 @@ fn machine_before(
     }
 }
 
-/// Whether an end of the connection is dropped before its first turn: then it was never open.
+/// Whether an end of the connection is dropped before its first turn: then the connection came to nothing.
 fn is_void(next: &[Numbered], generation: u64) -> bool {
     match next {
         [first, ..] => match first.record.act {
@@ -111,7 +111,7 @@ fn is_void(next: &[Numbered], generation: u64) -> bool {
     }
 }
 
-/// How many bytes the first write to the target offers, if that can be such a line.
+/// How many bytes the first write to the target offers, or the nearest length that a PROXY line has.
 fn first_offer(next: &[Numbered], generation: u64) -> usize
     ensures { result ≤ MOST_LEAD }
 {
@@ -129,7 +129,7 @@ fn first_offer(next: &[Numbered], generation: u64) -> usize
     LEAST_LEAD
 }
 
-/// Those of the world of one slot, which begins before this generation.
+/// The limits of a world of one slot, in which this generation is opened next. None if no relay has such.
 pub(crate) fn limits_of(header: &Header, generation: u64, lead: Lead) -> Option<Limits>
     ensures { IfSome result (λ limits. IsWithinLimits limits) }
 {

@@ -1,5 +1,5 @@
-//! The notes of a slot: what its poller was given becomes a note where a turn needs one, and before the last moment at
-//! which it can have been posted.
+//! The notes of a slot. What its poller was given becomes a note when a turn needs one, and a report no later than it
+//! can have been posted.
 use crate::machine::Flaw;
 use crate::slot_replay::{SlotReplay, State};
 use recorded::Post;
@@ -7,7 +7,7 @@ use records::{Act, Polling};
 use token::{Name, Side, Token};
 use world::{Event, Polling as Polled, Reported};
 
-/// Posts in the order in which they were made, without those that were made in the world.
+/// Posts that the world has not had, in order.
 #[derive(Clone, Copy)]
 pub(crate) struct Queue<'a>(pub &'a [Post]);
 
@@ -25,7 +25,7 @@ fn is_after(post: &Post, state: &State) -> bool {
     }
 }
 
-/// Whether it can be for the connection, and came after the last turn took its notes or was put off then.
+/// Whether a report is of this connection, or a sweep can have come after the last turn took its notes.
 fn is_of(post: &Post, state: &State) -> bool {
     match post.generation {
         Some(generation) => generation == state.generation,
@@ -33,7 +33,7 @@ fn is_of(post: &Post, state: &State) -> bool {
     }
 }
 
-/// The posts of a list of lists.
+/// The posts of the list with this number.
 pub(crate) fn posts_at(lists: &[Vec<Post>], at: usize) -> Queue<'_> {
     match lists.get(at) {
         Some(list) => Queue(list.as_slice()),
@@ -42,8 +42,8 @@ pub(crate) fn posts_at(lists: &[Vec<Post>], at: usize) -> Queue<'_> {
 }
 
 impl Queue<'_> {
-    /// The first post that can be for the connection, if it can have come before this count: what is before it never
-    /// can.
+    /// The first post that can be for the connection, if it can have come before this count. Removes the posts before
+    /// it, which never can be.
     fn first(&mut self, state: &State, before: u64) -> Option<Post> {
         for _post in 0..self.0.len() {
             let (first, next) = self.0.split_first()?;
@@ -81,8 +81,8 @@ impl Queue<'_> {
 }
 
 impl Posts<'_> {
-    /// The next post before a turn that begins before this count: one that came while the slot was held; or where the
-    /// slot has no note, of what can have come by now the report or the sweep that must have come first.
+    /// The next post before a turn that begins at this count: a report that came while the slot was held; or, if the
+    /// slot has no note, the report or the sweep that can have come by now, and had to come first.
     fn next(&mut self, state: &State, before: u64, has_notes: bool) -> Option<Post> {
         let report = self.reports.first(state, before);
         match report {
@@ -105,7 +105,7 @@ impl Posts<'_> {
         self.reports.take()
     }
 
-    /// Whatever was reported after the last turn took its notes was posted by the end, and so was each sweep.
+    /// The first report, or else sweep, that was certainly posted after the last turn took its notes.
     pub(crate) fn rest(&mut self, state: &State) -> Option<Post> {
         self.sweeps.pass_over(state);
         let report = self.reports.first_after(state);
@@ -114,8 +114,8 @@ impl Posts<'_> {
 }
 
 impl SlotReplay<'_> {
-    /// A turn begins before this count, so the slot has a note by then. Answers from which count on the turn has its
-    /// ticket.
+    /// A turn begins at this count, so the slot must have a note by then. Returns the count from which on the turn can
+    /// have had its ticket.
     pub(crate) fn gather_notes(&mut self, before: u64) -> Result<u64, Flaw> {
         let mut since = self.state.free_from;
         for _post in 0..self.posts.reports.0.len().saturating_add(1) {
@@ -135,7 +135,7 @@ impl SlotReplay<'_> {
         }
     }
 
-    /// While the slot is held for the last time, whatever can have been reported of its connection is.
+    /// Posts whatever can have been reported of the connection before its slot is free.
     pub(crate) fn note_while_held(&mut self) -> Result<(), Flaw> {
         for _post in 0..self.posts.reports.0.len() {
             let Some(post) = self.posts.next_held(&self.state) else {
@@ -158,7 +158,7 @@ impl SlotReplay<'_> {
     }
 }
 
-/// As the end is called in the world of its slot.
+/// The name of the reported end in the world of its slot.
 fn end_reported(act: &Act) -> Option<(Token, Side)> {
     let Act::Poller(_, Polling::Reported(Name::End(token))) = act else {
         return None;

@@ -17,17 +17,17 @@ use std::alloc::Global;
 use std::io::{Read, Write};
 use world::{Lead, Limits};
 
-/// The machine on which recordings are replayed: what each slot and each poller's listener did, on a world of its own,
-/// event by event. What is printed of a slot is read off that world, whose events all happened there (`History`).
+/// Replays recordings on the machine: each slot and each poller's listener on a world of its own, event by event. What
+/// is printed of a slot is read off its world, in which all the events happened (`History`).
 pub struct OnMachine;
 
 impl Replay for OnMachine {
-    /// Reads a recording, and replays it. With `rests`, or where it ends with the record `end`, nothing may be left to
-    /// do at any slot. With `rests` alone nothing is asked of that where records after a lost one were left out, since
-    /// it may have been done there, and in neither case where a wait for reports had failed, which ends a relay before
-    /// all is done. Refuses with `Read` if the reader gives an error, `Broken` if a line is malformed or no relay acts
-    /// in that order, `Unknown` if it lacks the connection that is wanted, `Write`, and `NoMemory`. No clause covers
-    /// this call. After a refusal a part of the outcome may be written.
+    /// Reads a recording, and replays it. With `rests`, or if the recording ends with the record `end`, nothing may be
+    /// left to do at any slot. That is not asked after a failed wait for reports, which ends a relay before all is
+    /// done; nor with `rests` alone if records after a lost one were left out, since they may have done it. Refuses
+    /// with `Read` if the reader gives an error, `Broken` if a line is malformed or no relay acts in that order,
+    /// `Unknown` if it lacks the connection that is wanted, `Write`, and `NoMemory`. No clause covers this call. After
+    /// a refusal a part of the outcome may be written.
     fn replay<R: Read, W: Write>(
         &self,
         alloc: Global,
@@ -60,7 +60,7 @@ fn replay_recording<W: Write>(
     }
 }
 
-/// Answers why the replay stops, where it does.
+/// Returns why the replay stops. None if it does not.
 fn find_flaw(
     recording: &Recording,
     rests: bool,
@@ -80,7 +80,7 @@ fn find_flaw(
     Ok(replay_all(findings, results).err())
 }
 
-/// The clock does not go back, and was read wherever a thread reads it.
+/// Refuses a clock that goes back, or was not read where threads read it.
 fn read_clock(recording: &Recording) -> Result<Clock, ReplayFault> {
     let clock = Clock::new(recording.alloc, recording.others())?;
     if let Some(back) = clock.first_back(recording.others()) {

@@ -11,7 +11,7 @@ use std::mem;
 use world::World;
 use world_text::Counts;
 
-/// Bytes that were read at clients and at targets, and bytes that were written there.
+/// How many bytes were read at clients and at targets, and how many were written there.
 pub(crate) type Moved = [u64; 4];
 
 #[derive(Clone, Copy)]
@@ -25,18 +25,17 @@ struct Became {
 #[derive(Clone, Copy)]
 pub(crate) enum Whose {
     Poller(usize),
-    /// That of a slot and a generation, which is 0 where nothing was opened.
+    /// A slot and a generation, which is 0 if nothing was opened.
     Slot(usize, u64),
 }
 
-/// A record that can stand at no place.
+/// A record that fits nowhere.
 #[derive(Clone, Copy)]
 pub(crate) struct Flawed {
     pub whose: Whose,
     pub numbered: Numbered,
 }
 
-/// What came of the worlds in which slots and listeners were replayed.
 #[derive(Drop)]
 pub(crate) struct Results {
     pub wanted: Wanted,
@@ -48,7 +47,7 @@ pub(crate) struct Results {
     pub ends: String,
     /// Where the replay stopped.
     pub flawed: Option<Flawed>,
-    /// The world in which that should have happened, or that of the connection whose script is wanted.
+    /// The world where the replay stopped, or whose script is wanted.
     pub machine: Option<Machine>,
 }
 
@@ -116,7 +115,7 @@ impl Results {
         drop(mem::replace(&mut self.machine, Some(machine)));
     }
 
-    /// Answers whether this script is wanted.
+    /// Counts what happened. Returns true if this script is wanted.
     fn add(&mut self, slot: usize, history: &History) -> Result<bool, AllocError> {
         for event in history.events() {
             self.counts.count(event);

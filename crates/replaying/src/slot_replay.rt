@@ -15,7 +15,7 @@ pub(crate) struct Findings<'a> {
     pub recording: &'a Recording,
     pub clock: &'a Clock,
     pub posts: &'a [Vec<Post>],
-    /// Whether all came to rest.
+    /// Whether nothing may be left to do.
     pub rests: bool,
 }
 
@@ -24,15 +24,15 @@ pub(crate) struct Findings<'a> {
 pub(crate) enum Phase {
     /// No connection is open.
     Free,
-    /// A connection came to nothing, or the relay failed while it was open, and this end was dropped.
+    /// A connection came to nothing, or the relay failed while it was open. This end of it was dropped, if any.
     Void(Option<Side>),
     /// A connection is open, and no turn of it is in progress.
     Open,
-    /// A turn has made this many calls.
+    /// A turn is in progress, and has made this many calls.
     Calling(usize),
     /// A turn has ended quiet, and its sockets are being settled.
     Settling,
-    /// A turn has ended the connection, and this end was dropped.
+    /// A turn has ended the connection. This end of it was dropped, if any.
     Closing(Option<Side>),
 }
 
@@ -40,15 +40,15 @@ pub(crate) enum Phase {
 #[derive(Clone, Copy)]
 pub(crate) struct State {
     pub phase: Phase,
-    /// Its generation, 0 before the first one, and that of the connection that came to nothing.
+    /// The generation of the last open connection, 0 at first; and of the last one that came to nothing.
     pub generation: u64,
     pub void: u64,
     /// Between these two counts the last turn took its notes.
     pub taken_from: u64,
     pub taken_by: u64,
-    /// From this count on the slot was released.
+    /// The slot was released after this count.
     pub free_from: u64,
-    /// The second at which its world began, and the latest ones of the turn in progress and of the last movement.
+    /// The second at which the world began; the latest second that the last turn, and the last movement, can have had.
     pub base: u64,
     pub latest: u64,
     pub moved: u64,
@@ -67,7 +67,7 @@ pub(crate) struct SlotReplay<'a> {
     /// The record at hand, and the last one that posted.
     pub last: Numbered,
     pub posted: Numbered,
-    /// The world of the connection. It begins with the slot free, as the one before left it.
+    /// The world of the connection. It begins with the slot free, as the connection before left it.
     pub machine: Machine,
 }
 

@@ -1,4 +1,4 @@
-//! What the records of a slot are, and whether runs of the machine are the same.
+//! The actions of a slot's records, and whether runs of the machine have the same.
 ghost use Rattle.std.specs.Prelude.{◌≡◌, ◌<◌, ◌≤◌, IfOk, IsTrue, length};
 ghost use Rattle.replaying.specs.Traces.{HasNoTurn, HasSizes, IsConnection, MayClose, trace_of_records};
 
@@ -24,8 +24,8 @@ fn trace_of_records(alloc: Global, records: &[Numbered]) -> Result<Vec<Action>, 
     Ok(trace)
 }
 
-/// Whether these records, which are those of one connection, are those of this run, or had no turn, so that no run is
-/// asked of them.
+/// Whether these records of one connection are those of this run. If the connection had no turn, there is nothing to
+/// compare, and the answer is yes.
 pub(crate) fn is_connection(
     recording: &Recording,
     run: &History,

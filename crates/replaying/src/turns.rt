@@ -7,7 +7,7 @@ use token::Side;
 use world::{Act, Event};
 
 impl SlotReplay<'_> {
-    /// A turn begins: it has a note by then.
+    /// A turn begins: its slot must have a note by then.
     pub(crate) fn begin(&mut self, record: Record) -> Result<(), Flaw> {
         match self.state.phase {
             Phase::Open => {}
@@ -61,7 +61,7 @@ impl SlotReplay<'_> {
         self.check_idle()
     }
 
-    /// A turn that ends with a call left has made as many as it may, and posts a note for the next turn.
+    /// A turn that ends with a call left must have spent its budget. It posts a note for the next turn.
     fn end_due(&mut self, calls: usize) -> Result<(), Flaw> {
         let budget = self.findings.recording.header.budget;
         if calls != budget && calls != OWN_BUDGET.min(budget) {
@@ -72,7 +72,7 @@ impl SlotReplay<'_> {
         self.machine.work(&[Act::Post, Act::Release])
     }
 
-    /// A turn that ends without a call leaves no connection that is past the idle limit.
+    /// Refuses a turn that has no call left and leaves a connection that is past the idle limit.
     fn check_idle(&self) -> Result<(), Flaw> {
         let limit = self.findings.recording.header.idle;
         if limit > 0 && self.now().saturating_sub(self.state.moved) >= limit {
@@ -107,7 +107,7 @@ impl SlotReplay<'_> {
         self.machine.work(&[Act::Close, Act::Retire, Act::Free])
     }
 
-    /// Nothing is left to do in the slot. A flaw names the record that what is left came from.
+    /// Refuses what is left to do in the slot. A note is refused at the record that posted it.
     pub(crate) fn rest(&mut self) -> Result<(), Flaw> {
         match self.state.phase {
             Phase::Free => return Ok(()),
@@ -130,7 +130,7 @@ impl SlotReplay<'_> {
 }
 
 impl State {
-    /// Answers whether that closes a connection which a turn has ended. The slot's poller did these acts.
+    /// Drops an end. Returns true if that closes a connection that a turn has ended. `acts` are the poller's.
     fn drop_end(
         &mut self,
         side: Side,
@@ -164,7 +164,6 @@ impl State {
     }
 }
 
-/// Whether the first of these acts drops an end.
 fn is_drop_next(next: &[Numbered]) -> bool {
     match next {
         [first, ..] => matches!(first.record.act, Recorded::Wire(_, Made::Drop)),

@@ -24,7 +24,7 @@ pub(crate) fn write_results<W: Write>(
     }
 }
 
-/// Writes which record can stand at no place and why, the script that leads there, and the event that was refused.
+/// Writes which record fits nowhere and why, the script that leads there, and the event that was refused.
 pub(crate) fn write_flaw<W: Write>(
     output: &mut W,
     flawed: &Flawed,
@@ -137,7 +137,7 @@ fn put_whose(page: &mut Page, whose: Whose) {
     }
 }
 
-/// Why the record can stand at no place, and the end of the line.
+/// Puts why the record fits nowhere, and ends the line.
 fn put_reason(page: &mut Page, flaw: Flaw, machine: &Machine) {
     let why = match (flaw, &machine.refused) {
         (Flaw::Because(why), _) => why,

@@ -1,5 +1,5 @@
 -- Connections that are opened one after the other, why one is closed unopened, and a round of its parts.
-use Rattle.std.proofs.{Common.{◌≡◌, ◌⊎◌, ℕ, ◌+◌, ◌<◌, ◌≤◌, List, [], ◌∷◌, ◌++◌, length, drop, slice_get, slice_set, min, cond, Bool, true, refl, sym, ◌∙◌, arith, inl, inr, append_assoc, length-append, Option, Some, None, ◌==◌, Result, Ok, Err, OnOk, IfErr, OnErr, IsErr, IsErrAnd, slice_index, ◌≢◌, false}, lemmas.{Bool.{cases_lt, false≢true}, List.{append-nil, length-set, get_or-set_other, get_or_past, Sums.sum_by-append}, Grind.get_or-set_at, Option.{none-some, same_Some}}}
+use Rattle.std.proofs.{Common.{◌≡◌, ◌⊎◌, ℕ, ◌+◌, ◌<◌, ◌≤◌, List, [], ◌∷◌, ◌++◌, length, drop, slice_get, slice_set, min, cond, Bool, true, refl, sym, ◌∙◌, arith, inl, inr, append_assoc, length-append, Option, Some, None, ◌==◌, Result, Ok, Err, OnOk, IfErr, OnErr, IsErr, IsErrAnd, slice_index, ◌≢◌}, lemmas.{Bool.{cases_lt, false≢true}, List.{append-nil, length-set, get_or-set_other, get_or_past, Sums.sum_by-append}, Grind.get_or-set_at, Option.{none-some, same_Some}}}
 use Rattle.claims.{specs.{declared.answers.Posted.Posted, Calls.PostChange, Seats.{SeatState, TableId, Adds}}, proofs.Seats.adds_both}
 use Rattle.dispatch.{specs.{Posts.HoldsOnly, declared.{shared.Own.Own, front.{Unopened.Unopened, Route.Route, Waiting.{Waiting, TheVariants.{No, Brief, Long}}}}, Hands.{HandState, ticket_room}, Acts.{Act, AreMade, Register, Adopt, placing}, Told.cause_of}, proofs.Holding.{holds_still, released_all, woke_behind_post}}
 use Rattle.ready.specs.declared.ticket.Ticket.{Ticket}

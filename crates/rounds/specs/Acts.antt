@@ -15,22 +15,22 @@ pub record SeatAct : Type 0 where
 abbrev pub tickets_of : List SeatAct → List Ticket
 tickets_of acts = map (λ (act : SeatAct). act.ticket) acts
 
--- their exchanges at this slot, in order
+-- the exchanges of acts at this slot, in order
 abbrev pub exchanges_at : ℕ → List SeatAct → List Exchange
 exchanges_at slot [] = []
 exchanges_at slot (act ∷ acts) = (if act.ticket.slot == slot then act.exchanges else []) ++ exchanges_at slot acts
 
--- the ticket, if exchanges made it
+-- the ticket once, or nothing if it was made 0 times
 abbrev pub made_by : ℕ → Ticket → List Ticket
 made_by zero ticket = []
 made_by (suc n) ticket = ticket ∷ []
 
--- the tickets that they made, in order
+-- the tickets that acts made, in order
 abbrev pub due_of : List SeatAct → List Ticket
 due_of [] = []
 due_of (act ∷ acts) = made_by (minted_by act.exchanges) act.ticket ++ due_of acts
 
--- these acts were made by this seat, in order, and nothing else was
+-- this seat made these acts, in order, and nothing else
 pub record ActsMade (acts : List SeatAct) (old new : SeatState) : Type 0 where
   pub table : new.table ≡ old.table
   pub traces : (slot : ℕ) → trace_at new slot ≡ trace_at old slot ++ exchanges_at slot acts
@@ -39,12 +39,12 @@ pub record ActsMade (acts : List SeatAct) (old new : SeatState) : Type 0 where
 abbrev pub IsPost : SeatAct → Type 0
 IsPost act = (woke : Bool) × (act.exchanges ≡ Post woke ∷ [])
 
--- one for each of these connections, in order
+-- one note was posted for each of these connections, in order
 pub record ArePosts (tickets : List Ticket) (posts : List SeatAct) : Type 0 where
   pub each : All IsPost posts
   pub in_order : tickets_of posts ≡ tickets
 
--- a connection was opened: its slot was adopted, old notes were taken, the note of the opening was posted, and the slot
+-- the exchanges of an opening: the slot was adopted, old notes were taken, the opening's note was posted, and the slot
 -- was released
 abbrev pub opening : ℕ → ℕ → List Exchange
 opening found noted = Adopted found ∷ Take noted ∷ Post false ∷ Release true ∷ []
@@ -58,7 +58,7 @@ abbrev pub found_held : List Exchange → ℕ → List ℕ
 found_held (NotFree ∷ rest) slot = slot ∷ []
 found_held exchanges slot = []
 
--- the slots that they found not to be free, in order
+-- the slots that acts found not to be free, in order
 abbrev pub held_of : List SeatAct → List ℕ
 held_of [] = []
 held_of (act ∷ acts) = found_held act.exchanges act.ticket.slot ++ held_of acts
@@ -69,8 +69,8 @@ pub record AreTries (opened : List Ticket) (held : List ℕ) (tries : List SeatA
   pub made : due_of tries ≡ opened
   pub found : held_of tries ≡ held
 
--- The connection that a name is of, if its slot still has it: the slot's generation in the table is the name's. A slot
--- that the table lacks reads as generation 0, which no end has
+-- The connection whose end a name names, if the slot's generation in the table is the name's. A slot that the table
+-- lacks reads as generation 0, which no end has
 abbrev pub connection : List ℕ → Option Name → Option Ticket
 connection generations (Some (End end)) =
     if slice_index generations end.slot == end.generation then Some (record { slot = end.slot; generation = end.generation }) else None
@@ -84,19 +84,19 @@ reported generations number = connection generations (name_of number)
 abbrev pub all_reported : List ℕ → List ℕ → List Ticket
 all_reported generations batch = filter_map (reported generations) batch
 
--- how many of these are for this slot
+-- how many of these tickets are for this slot
 abbrev pub at_slot : ℕ → List Ticket → ℕ
 at_slot slot tickets = count_by (λ t. t.slot == slot) tickets
 
--- A note was posted for each of these connections, in order, by one exchange at its slot, and those that woke left
--- their tickets in hand. Nothing else of the seat or of the hand changed
+-- For each of these connections, in order, one exchange posted a note at its slot. If the post answered Wake, the
+-- ticket is in hand. Nothing else of the seat or of the hand changed
 pub record ArePosted (tickets : List Ticket) (old new : SeatState) (had has : HandState) : Type 0 where
   pub posts : List SeatAct
   pub are : ArePosts tickets posts
   pub made : ActsMade posts old new
   pub hand : has ≡ record had { tickets = had.tickets ++ due_of posts }
 
--- each report for a connection was posted
+-- a note was posted for each report of a connection
 abbrev pub Delivered : List ℕ → List ℕ → SeatState → SeatState → HandState → HandState → Type 0
 Delivered generations batch old new had has = ArePosted (all_reported generations batch) old new had has
 
@@ -104,11 +104,11 @@ Delivered generations batch old new had has = ArePosted (all_reported generation
 abbrev pub last_in : List ℕ → ℕ → Ticket
 last_in table slot = record { slot = slot; generation = slice_index table slot }
 
--- that one, if one was
+-- the last connection of a slot, if one was opened
 abbrev pub opened_in : List ℕ → ℕ → List Ticket
 opened_in table slot = if nat_lt 0 (slice_index table slot) then last_in table slot ∷ [] else []
 
--- of the first this many slots, each in which a connection was opened, once and in rising order
+-- the last connections of the first this many slots, in rising order
 abbrev pub opened_below : List ℕ → ℕ → List Ticket
 opened_below table zero = []
 opened_below table (suc slots) = opened_below table slots ++ opened_in table slots
@@ -120,10 +120,10 @@ all_opened table = opened_below table (length table)
 abbrev pub is_due : ℕ → PollerState → Bool
 is_due limit p = is_past p.second limit p.swept
 
--- the second of the last sweep, after a look: this one, if the limit has passed since the one before
+-- the second of the last sweep, after a look at this second: it is this one if the limit has passed since the last
 abbrev pub swept_after : ℕ → ℕ → ℕ → ℕ
 swept_after limit second last = if is_past second limit last then second else last
 
--- what a round posted for time: all of these, if it made a sweep, and nothing if the second of the last one stayed
+-- the connections for which a round's sweep posted: the last of each slot, or none if the last sweep's second stayed
 abbrev pub sweep_of : PollerState → PollerState → List Ticket
 sweep_of old new = if new.swept == old.swept then [] else all_opened old.table

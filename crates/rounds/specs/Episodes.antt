@@ -1,39 +1,28 @@
--- What the errors of accept(2) mean to the relay, and what is logged of accepting. Part of the promises.
-use Rattle.std.specs.{Prelude.{◌≡◌, ℕ, ◌+◌, ◌==◌, ◌||◌, nat_lt, Bool, true, false, List, Option, Some, None, if◌then◌else◌}, declared.io.ErrorKind.{ErrorKind, TheVariants.{Interrupted, ConnectionAborted, NetworkDown, NetworkUnreachable, HostUnreachable, WouldBlock}}}
+-- What a poller keeps and logs of accepting connections. Part of the promises.
+use Rattle.std.specs.Prelude.{◌≡◌, ℕ, ◌+◌, ◌==◌, ◌||◌, nat_lt, Bool, true, false, List, Option, Some, None, if◌then◌else◌}
 use Rattle.relay_log.specs.{Messages.{drop_message, drops_message}, declared.cause.Cause.Cause}
-use Rattle.rounds.specs.{Pollers.counted_up, declared.{episodes.{Accepted.{Accepted, TheVariants.{Again, Blocked, Starved}}, Episodes.Episodes, Tally.Tally, Drops.Drops}, dropping.Owed.Owed}}
+use Rattle.dispatch.specs.declared.front.Unaccepted.{Unaccepted, TheVariants.{Again, Blocked, Starved}}
+use Rattle.rounds.specs.{Pollers.counted_up, declared.{episodes.{Episodes.Episodes, Tally.Tally, Drops.Drops}, dropping.Owed.Owed}}
 use Rattle.relay_log.specs.declared.cause.Cause.TheVariants as cause
 
--- After a signal, a connection that was given up, or an error that the new socket had pending, the next connection may
--- be accepted at once. EAGAIN says that none waits. Anything else counts as a lack of descriptors or memory
-abbrev pub accepted_of : ErrorKind → Accepted
-accepted_of Interrupted = Again
-accepted_of ConnectionAborted = Again
-accepted_of NetworkDown = Again
-accepted_of NetworkUnreachable = Again
-accepted_of HostUnreachable = Again
-accepted_of WouldBlock = Blocked
-accepted_of error = Starved
-
--- only the answer that none waits takes the accept flag down
-abbrev pub flag_after : Accepted → Bool → Bool
+-- the accept flag after an error: only the answer that no client waits lowers it
+abbrev pub flag_after : Unaccepted → Bool → Bool
 flag_after Blocked flag = false
 flag_after class flag = flag
 
--- whether accept(2) is starved: until it answers that none waits, or gives a connection
-abbrev pub starved_after : Accepted → Bool → Bool
+-- whether accept(2) is starved: until it answers that no client waits, or gives a connection
+abbrev pub starved_after : Unaccepted → Bool → Bool
 starved_after Again starved = starved
 starved_after Blocked starved = false
 starved_after Starved starved = true
 
--- a lack was logged, and that clients wait for a slot is over once none waits
-abbrev pub episodes_after : Accepted → Episodes → Episodes
+-- that accept(2) is starved was logged; a poller is not full once no client waits
+abbrev pub episodes_after : Unaccepted → Episodes → Episodes
 episodes_after Again e = e
 episodes_after Blocked e = record e { full = false }
 episodes_after Starved e = record e { starved = true }
 
--- Of accepted connections that are closed unopened the first of a cause has a line of its own. Those that follow it are
--- counted, and logged by one line a second
+-- The first drop of a cause has a line of its own. Those that follow it are counted, and logged by one line a second
 
 -- nothing was logged of a cause, and nothing is counted
 abbrev pub no_tally : Tally
@@ -48,29 +37,29 @@ follows second (Some last) = nat_lt second (last + 2)
 abbrev pub is_counted : ℕ → Tally → Bool
 is_counted second t = nat_lt 0 t.more || follows second t.last
 
--- what such a drop makes of it
+-- the tally after a drop at this second
 abbrev pub dropped_at : ℕ → Tally → Tally
 dropped_at second t =
     if is_counted second t then record t { last = Some second; more = counted_up t.more 1 }
     else record t { last = Some second; line = second }
 
--- the line that must be logged for it: one of its own, if it is not counted
+-- the line that must be logged for a drop: one of its own, if it is not counted
 abbrev pub owed_for : Cause → ℕ → Tally → Option Owed
 owed_for cause second t = if is_counted second t then None else Some (record { cause = cause; more = 0 })
 
--- the line for this many, if there are any
+-- the line for this many counted drops, if there are any
 abbrev pub owed : Cause → ℕ → Option Owed
 owed cause more = if nat_lt 0 more then Some (record { cause = cause; more = more }) else None
 
--- as it prints
+-- the text of a line
 abbrev pub line_of : Owed → List ℕ
 line_of o = if nat_lt 0 o.more then drops_message o.cause o.more else drop_message o.cause
 
--- how many must be logged at this second: all that are counted, unless the second has had a line of that cause
+-- how many drops must be logged at this second: all that are counted, unless it has had a line of that cause
 abbrev pub due_at : ℕ → Tally → ℕ
 due_at second t = if t.line == second then 0 else t.more
 
--- what is left once they are logged
+-- the tally once these are logged
 abbrev pub logged_at : ℕ → Tally → Tally
 logged_at second t = if nat_lt 0 (due_at second t) then record t { line = second; more = 0 } else t
 
@@ -80,14 +69,14 @@ tally_of cause.Connect d = d.connect
 tally_of cause.Register d = d.register
 tally_of cause.Address d = d.address
 
--- that cause has this tally
+-- the drops with this tally for that cause
 abbrev pub with_tally : Cause → Tally → Drops → Drops
 with_tally cause.Memory t d = record d { memory = t }
 with_tally cause.Connect t d = record d { connect = t }
 with_tally cause.Register t d = record d { register = t }
 with_tally cause.Address t d = record d { address = t }
 
--- all causes
+-- nothing was logged of any cause
 abbrev pub no_drops : Drops
 no_drops = record { memory = no_tally; connect = no_tally; register = no_tally; address = no_tally }
 
@@ -102,7 +91,7 @@ all_logged_at second d = record {
   address = logged_at second d.address;
 }
 
--- none must be logged at this second
+-- no drop must be logged at this second
 pub record AreLogged (second : ℕ) (d : Drops) : Type 0 where
   pub memory : due_at second d.memory ≡ 0
   pub connect : due_at second d.connect ≡ 0
@@ -113,6 +102,6 @@ pub record AreLogged (second : ℕ) (d : Drops) : Type 0 where
 abbrev pub no_episodes : Episodes
 no_episodes = record { starved = false; full = false; drops = no_drops }
 
--- after an opening a lack is logged again, and the next drop of each cause by a line of its own
+-- after an opening a starved accept(2) is logged again, and the next drop of each cause by a line of its own
 abbrev pub opened_after : Episodes → Episodes
 opened_after e = record e { starved = false; drops = no_drops }

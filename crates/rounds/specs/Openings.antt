@@ -31,22 +31,22 @@ times slot slots = count_by (λ s. s == slot) slots
 abbrev pub slots_in : Own → List ℕ
 slots_in own = map (λ (take : ℕ × ℕ). take.1) own.free.history.taken
 
--- Connections that were opened, in order: each has the next generation of its slot, and the table has it from then on
+-- Connections that were opened, in order. Each has its slot's next generation, which the table has from then on
 abbrev pub AreOpened : List ℕ → List Ticket → List ℕ → Type 0
 AreOpened old [] new = new ≡ old
 AreOpened old (t ∷ ts) new = (t.generation ≡ slice_index old t.slot + 1) × AreOpened (slice_set old t.slot t.generation) ts new
 
--- all of these are for a poller's own slots: none is for any other
+-- all of these tickets are for a poller's own slots
 abbrev pub AreIn : Part → List Ticket → Type 0
 AreIn part tickets = (slot : ℕ) → (IsIn part slot → ⊥) → at_slot slot tickets ≡ 0
 
--- Of each slot, what was taken out of the queue or was in hand is in hand, or left it in one of these two ways
+-- each slot that was taken out of the queue or was in hand is in hand, or was opened, or is no longer used
 abbrev pub SlotsCounted : Own → Own → List Ticket → List ℕ → Type 0
 SlotsCounted had has opened lost =
     (slot : ℕ) → times slot (slots_in has) + times slot had.hand.slots
     ≡ times slot (slots_in had) + (times slot has.hand.slots + (at_slot slot opened + times slot lost))
 
--- free slots were taken, which are in hand, and nothing else changed
+-- free slots were taken in hand, and nothing else changed
 pub record OnlyTook (had has : Own) : Type 0 where
   pub seat : has.seat ≡ had.seat
   pub ready : has.ready ≡ had.ready
@@ -55,14 +55,14 @@ pub record OnlyTook (had has : Own) : Type 0 where
   pub gave : has.free.history.put ≡ had.free.history.put
   pub slots : SlotsCounted had has [] []
 
--- the slot was released, and the ticket is in hand if that answered Wake, as it does if the seat knew of a note
+-- the slot was released. If that answered Wake, as it does if the seat knew of a note, the ticket is in hand
 pub record LetGo (ticket : Ticket) (old new : Own) : Type 0 where
   pub woke : Bool
   pub quiet : woke ≡ false → (account_at old.seat ticket.slot).known ≡ 0
   pub seat : Adds ticket.slot (exchange.Release woke ∷ []) old.seat new.seat
   pub hand : new.hand ≡ record old.hand { tickets = old.hand.tickets ++ made_by (minted_by (exchange.Release woke ∷ [])) ticket }
 
--- an opening, once its slot was adopted: the one ticket for it is in hand
+-- the rest of an opening, after its slot was adopted: its one ticket is in hand
 pub record Started (ticket : Ticket) (old new : Own) : Type 0 where
   pub noted : ℕ
   pub seat : Adds ticket.slot (drop 1 (opening 0 noted)) old.seat new.seat
@@ -73,14 +73,14 @@ pub record Started (ticket : Ticket) (old new : Own) : Type 0 where
 abbrev pub IsSpent : PollerState → ℕ → Type 0
 IsSpent p slot = (IsIn p.part slot → ⊥) ⊎ ((length p.table ≤ slot) ⊎ ((32768 ≤ slot) ⊎ (last_generation ≤ slice_index p.table slot)))
 
--- Why each of these slots is no longer used, in order: it is spent, or it is the next of those that were found not to
--- be free, which are all among them
+-- Why each of these slots is no longer used, in order: it is spent, or it is the next one in `held`, the slots that
+-- were found not to be free. All of `held` are among these
 abbrev pub AreLost : PollerState → List ℕ → List ℕ → Type 0
 AreLost p held [] = held ≡ []
 AreLost p held (slot ∷ lost) = (IsSpent p slot × AreLost p held lost) ⊎ ((rest : List ℕ) × (held ≡ slot ∷ rest) × AreLost p rest lost)
 
--- These connections were opened in the poller's own slots, each with the next generation of its slot, one note and one
--- ticket, which is in hand after the others. These slots are no longer used. That is all that the seat did
+-- The `opened` connections were opened in the poller's own slots, each with its slot's next generation, one note and
+-- one ticket, which is in hand after the others. The `lost` slots are no longer used. The seat did nothing else
 pub record Connected (opened : List Ticket) (lost held : List ℕ) (old new : PollerState) (had has : Own) : Type 0 where
   pub table : AreOpened old.table opened new.table
   pub counted : Counted old.opened (length opened) new.opened
@@ -114,13 +114,13 @@ IsLost old new =
 
 -- What a target is sent before the client's own bytes
 
--- the line of the PROXY protocol from a client's own address to the one on which it was accepted, if both are given
+-- the PROXY line from a client's own address to the address on which it was accepted, if both are given
 abbrev pub line_between : Option SocketAddrV4 → Option SocketAddrV4 → Option (List ℕ)
 line_between (Some client) (Some accepted) =
     Some (proxy_line (ipv4_octets (v4_ip client)) (v4_port client) (ipv4_octets (v4_ip accepted)) (v4_port accepted))
 line_between client accepted = None
 
--- without a line nothing is sent; None if there must be one and an address is missing
+-- the PROXY line, or None if an address is missing; nothing is sent if targets get no line
 abbrev pub lead_of : Bool → Route → Option (List ℕ)
 lead_of true route = line_between route.client route.accepted
 lead_of false route = Some []
@@ -130,25 +130,25 @@ abbrev pub lacks : Option (List ℕ) → Cause
 lacks None = cause.Address
 lacks (Some lead) = cause.Memory
 
--- this is the lead, or the lack of one, for a route that the front may give
+-- this is the lead, or None, for a route that the front may give
 abbrev pub LeadGiven : (Route → Type 0) → Bool → Option (List ℕ) → Type 0
 LeadGiven may_tell proxy lead = (route : Route) × may_tell route × (lead_of proxy route ≡ lead)
 
--- Why an accepted connection is closed unopened: the front refused to open it; or it opened it, and an address of the
--- line is missing, or else memory ran out
+-- Why an accepted connection is closed unopened: the front refused to open it; or the front opened it, but an address
+-- for the line is missing, or memory ran out
 abbrev pub DropsFor : (Unopened → Type 0) → (Route → Type 0) → Bool → Cause → Type 0
 DropsFor may_refuse may_tell proxy cause.Memory = (lead : List ℕ) × LeadGiven may_tell proxy (Some lead)
 DropsFor may_refuse may_tell proxy cause.Connect = may_refuse unopened.Connect
 DropsFor may_refuse may_tell proxy cause.Register = may_refuse unopened.Register
 DropsFor may_refuse may_tell proxy cause.Address = LeadGiven may_tell proxy None
 
--- before a connection is placed its sockets are registered; without one they may have been, and are closed again
+-- before a connection is placed, its sockets are registered; if none is placed, they may have been, and are closed
 abbrev pub Registered : {S T E : Type 0} → (act.Act → ℕ → S → S → Type 0) → ℕ → Result T E → S → S → Type 0
 Registered made slot (Ok opened) from to = made act.Register slot from to
 Registered made slot (Err cause) from to = (to ≡ from) ⊎ made act.Register slot from to
 
--- What became of an accepted connection that was for this slot, what is logged and counted of it, and the acts that
--- were made there: it was opened; it was dropped; none can be opened in the slot; or one exchange found it not free
+-- What became of an accepted connection for this slot, what is logged and counted of it, and which acts were made: it
+-- was opened; it was dropped; the slot can have no connection; or one exchange found the slot not free
 pub data Fate (slot : ℕ) (opened dropped : Type 0) (made : List act.Act → Type 0)
     (old new : PollerState) (had has : SeatState) : Type 0 where
   Opened : IsOpened old new → opened → made act.open_slot → Fate slot opened dropped made old new had has
@@ -176,7 +176,7 @@ pub record IsNext (p : PollerState) (t : Ticket) : Type 0 where
   pub generation : t.generation ≡ slice_index p.table t.slot + 1
   pub most : t.generation ≤ last_generation
 
--- a connection was placed: it was opened there, or the slot was found not to be free and is no longer used
+-- placing a connection: it was opened in its slot, or the slot was found not free and is no longer used
 pub record Placed (logged : Ticket → Type 0) (made : List act.Act → Type 0) (t : Ticket)
     (old new : PollerState) (had has : Own) : Type 0 where
   pub done : Connected (t ∷ []) [] [] old new had has ⊎ Connected [] (t.slot ∷ []) (t.slot ∷ []) old new had has
@@ -213,7 +213,7 @@ OnlyAccepted old new = new ≡ record old {
   episodes = new.episodes;
 }
 
--- and opening a connection, or failing to, at most this
+-- opening a connection, or failing to, changes at most this
 abbrev pub OnlyOpened : PollerState → PollerState → Type 0
 OnlyOpened old new =
     new ≡ record old { table = new.table; opened = new.opened; dropped = new.dropped; lost = new.lost; episodes = new.episodes }

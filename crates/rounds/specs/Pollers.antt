@@ -7,11 +7,11 @@ use Rattle.token.specs.Names.{last_generation}
 pub record PollerState : Type 0 where
   -- what the front reported at the last wait
   pub reported : List ℕ
-  -- that wait failed
+  -- whether that wait failed
   pub failed : Bool
-  -- how many milliseconds it could take, 0 if the front does not say so
+  -- how many milliseconds that wait could take, 0 if the front does not say so
   pub waited : ℕ
-  -- the front listens
+  -- whether the front listens
   pub listening : Bool
   -- each slot's generation
   pub table : List ℕ
@@ -23,11 +23,11 @@ pub record PollerState : Type 0 where
   pub starved : Bool
   -- the last round left a client to other pollers
   pub left : Bool
-  -- how many tries of accept(2) it left
+  -- how many tries of accept(2) the last round left over
   pub tries : ℕ
   -- what connections are opened with
   pub opening : Opening
-  -- the slots in which it opens them
+  -- the poller's own slots
   pub part : Part
   -- each slot's heavy mark: how many of its next tickets are for the workers
   pub heavy : List ℕ
@@ -43,9 +43,9 @@ pub record PollerState : Type 0 where
   pub second : ℕ
   -- the second of the last sweep, at first that at which the poller began
   pub swept : ℕ
-  -- it makes no more rounds
+  -- whether it makes no more rounds
   pub over : Bool
-  -- what is logged once for as long as it lasts
+  -- conditions that are logged once while they last
   pub episodes : Episodes
 
 -- every entry is a generation
@@ -56,15 +56,15 @@ AreGenerations table = All (λ generation. generation ≤ last_generation) table
 abbrev pub IsOwnTable : Part → List ℕ → Type 0
 IsOwnTable part table = (slot : ℕ) → (IsIn part slot → ⊥) → slice_index table slot ≡ 0
 
--- all connections that it may open have been
+-- the poller has opened all that it may
 abbrev pub HasOpenedAll : PollerState → Type 0
 HasOpenedAll p = p.most ≤ p.opened
 
--- a count of 64 bits, this many later: it stays at its greatest value
+-- a count of 64 bits after this many more: it stays at its greatest value
 abbrev pub counted_up : ℕ → ℕ → ℕ
 counted_up count more = min (count + more) 18446744073709551615
 
--- such a count rose by this many, or has reached its greatest value
+-- a count of 64 bits rose by this many, or has reached its greatest value
 abbrev pub Counted : ℕ → ℕ → ℕ → Type 0
 Counted old more new = (new ≡ old + more) ⊎ ((18446744073709551615 ≤ old + more) × (18446744073709551615 ≤ new))
 

@@ -1,18 +1,17 @@
--- What a round of the poller does. The first two states are the poller's, before and after, the next two what its
--- thread owns. Part of the promises.
+-- What a round of the poller does. Of four states the first two are the poller's, before and after, and the last two
+-- what its thread owns. Part of the promises.
 use Rattle.std.specs.Prelude.{◌≡◌, ◌≢◌, ◌⊎◌, ℕ, ◌+◌, ◌<◌, ◌≤◌, true, false, List, [], ◌++◌, length, Contains}
 use Rattle.ready.specs.{declared.ticket.Ticket.Ticket, Steps.HeldOnce}
 use Rattle.dispatch.specs.{declared.{front.Waiting.Waiting, shared.Own.Own}, Hands.{HasRoom, ticket_room}, Outgoing.tickets_out, Posts.OnlyWorn}
-use Rattle.rounds.specs.{Acts.{SeatAct, due_of, ActsMade, ArePosts, AreTries, all_reported, ArePosted, is_due, sweep_of, swept_after}, Openings.{AreIn, AreLost, AreOpened, SlotsCounted}, Pollers.{PollerState, HasOpenedAll, Counted, spare_room}, Episodes.AreLogged}
+use Rattle.rounds.specs.{Acts.{SeatAct, due_of, ActsMade, ArePosts, AreTries, all_reported, ArePosted, is_due, sweep_of, swept_after}, Openings.{AreIn, AreLost, AreOpened, OnlyTook, SlotsCounted}, Pollers.{PollerState, HasOpenedAll, Counted, spare_room}, Episodes.AreLogged}
 use Rattle.relay_log.specs.declared.faults.ServerFault.{ServerFault}
 use Rattle.dispatch.specs.declared.front.Waiting.TheVariants as waiting
 use Rattle.relay_log.specs.declared.faults.ServerFault.TheVariants as server_fault
 
 -- The reports of the batch were delivered: each that is for a connection was posted at its slot. Then came the posts of
 -- a sweep, if one was made, and then connections were opened. These acts, in this order, are all that the seat did, and
--- all are at the poller's own slots. The tickets that were to be put before, then those of the reports, of the sweep
--- and of the openings are put or in hand, in this order. Each slot that was taken was opened, or is in hand, or is no
--- longer used
+-- all are at the poller's own slots. The tickets from before the round, of the reports, of the sweep and of the
+-- openings are put or in hand, in this order. Each slot that was taken was opened, or is in hand, or is no longer used
 pub record RoundDone (old new : PollerState) (had has : Own) : Type 0 where
   pub reports : List SeatAct
   pub sweep : List SeatAct
@@ -51,18 +50,18 @@ Looked old new = new ≡ record old {
   batch = new.batch;
 }
 
--- the front listens as before, or no longer, since all connections that the poller may open were opened before
+-- the front listens as before, or no longer if the poller had opened all that it may
 abbrev pub ListensNoMore : PollerState → PollerState → Type 0
 ListensNoMore old new = (new.listening ≡ old.listening) ⊎ (HasOpenedAll old × (new.listening ≡ false))
 
--- the same, or since they were opened now
+-- the front listens as before, or no longer if the poller has opened all that it may, before or now
 abbrev pub ListenerKept : PollerState → PollerState → Type 0
 ListenerKept old new = (new.listening ≡ old.listening) ⊎ ((HasOpenedAll old ⊎ HasOpenedAll new) × (new.listening ≡ false))
 
 abbrev pub ListensToOpen : PollerState → Type 0
 ListensToOpen p = HasOpenedAll p → p.listening ≡ false
 
--- why no connection can be accepted now: none may be waiting, or no slot is free, or all were opened
+-- why no connection can be accepted now: the flag is down, or no slot is free, or the poller has opened all that it may
 abbrev pub NoneToAccept : PollerState → Own → Type 0
 NoneToAccept p own = (p.accepting ≡ false) ⊎ (NoSlot own ⊎ HasOpenedAll p)
 
@@ -78,15 +77,15 @@ MayWait limit p own = (is_due limit p ≡ false) × (own.hand.tickets ≡ []) ×
 abbrev pub HasLeft : PollerState → Type 0
 HasLeft p = (p.left ≡ true) × (p.accepting ≡ true)
 
--- if it left a client, the poller waits for a millisecond at most
+-- if the poller left a client to others, it may wait, for a millisecond at most
 abbrev pub MayWaitBriefly : ℕ → PollerState → Own → Type 0
 MayWaitBriefly limit p own = (is_due limit p ≡ false) × (own.hand.tickets ≡ []) × HasLeft p
 
--- a round waited for reports only if it might, and for as long
+-- a round waited for reports only if it might, and no longer than it might
 abbrev pub WaitedAsMay : ℕ → PollerState → PollerState → Own → Type 0
 WaitedAsMay limit old new had = new.waited ≢ 0 → MayWait limit old had ⊎ ((new.waited ≤ 1) × MayWaitBriefly limit old had)
 
--- why accepting ends: it may, or a client was left to other pollers, or it was tried 4 times
+-- why accepting ends: it may, or a client was left to other pollers, or accept(2) was tried 4 times
 abbrev pub AcceptEnded : PollerState → Own → Type 0
 AcceptEnded p own = AcceptMayEnd p own ⊎ (HasLeft p ⊎ (p.tries ≡ 0))
 
@@ -94,12 +93,12 @@ AcceptEnded p own = AcceptMayEnd p own ⊎ (HasLeft p ⊎ (p.tries ≡ 0))
 abbrev pub EndedEarly : ℕ → Own → Type 0
 EndedEarly slots own = ticket_room own.hand < spare_room + slots
 
--- then it empties its batch alone
+-- such a round only empties its batch
 pub record NotBegun (old new : PollerState) (had has : Own) : Type 0 where
   pub own : has ≡ had
   pub poller : new ≡ record old { batch = [] }
 
--- a connection may be waiting, it would be opened, and a free slot is in hand
+-- a connection may be waiting, the poller may open more, and a free slot is in hand
 pub record MayAccept (p : PollerState) (own : Own) : Type 0 where
   pub flag : p.accepting ≡ true
   pub left : HasOpenedAll p → ⊥
@@ -116,12 +115,12 @@ pub record WaitsAsMay (wait : Waiting) (limit : ℕ) (p : PollerState) (own : Ow
   pub brief : wait ≡ waiting.Brief → MayWaitBriefly limit p own
   pub haste : wait ≡ waiting.No → MayNotWait limit p own
 
--- how many milliseconds such a wait can have taken
+-- how many milliseconds a wait can have taken
 pub record WaitLasted (wait : Waiting) (millis : ℕ) : Type 0 where
   pub none : wait ≡ waiting.No → millis ≡ 0
   pub brief : wait ≡ waiting.Brief → millis ≤ 1
 
--- a client waits for a slot: the listener was reported, and connections would be opened, but no slot is free
+-- a client waits for a slot: the listener was reported, and the poller may open more, but no slot is free
 pub record IsFull (p : PollerState) (own : Own) : Type 0 where
   pub reported : Contains p.batch 0
   pub left : HasOpenedAll p → ⊥
@@ -131,7 +130,7 @@ pub record IsFull (p : PollerState) (own : Own) : Type 0 where
 abbrev pub IsBack : PollerState → Own → Type 0
 IsBack p own = p.part.slots ≤ length own.hand.slots + p.lost
 
--- all connections that it may open were opened, and each of its slots is back
+-- the poller has opened all that it may, and each of its slots is back
 pub record IsOver (p : PollerState) (own : Own) : Type 0 where
   pub opened : HasOpenedAll p
   pub back : IsBack p own
@@ -140,11 +139,11 @@ pub record IsOver (p : PollerState) (own : Own) : Type 0 where
 abbrev pub TookAll : ℕ → Own → Type 0
 TookAll slots own = HeldOnce 0 own.free.history ⊎ ((slots ≤ length own.hand.slots) ⊎ (HasRoom own.hand → ⊥))
 
--- once all connections that it may open were opened, the poller takes its slots in hand, and is over if all are back
+-- once the poller has opened all that it may, it takes its slots in hand, and is over if all are back
 abbrev pub LooksForAll : PollerState → Own → Type 0
 LooksForAll p own = HasOpenedAll p → TookAll p.part.slots own × (IsBack p own → p.over ≡ true)
 
--- a look whether a sweep is due: it is made if so
+-- a sweep was made if one was due
 pub record SweepMade (limit : ℕ) (old new : PollerState) (had has : Own) : Type 0 where
   pub posted : ArePosted (sweep_of old new) had.seat has.seat had.hand has.hand
   pub swept : new.swept ≡ swept_after limit old.second old.swept
@@ -171,12 +170,15 @@ pub record RoundKeeps (limit : ℕ) (old new : PollerState) (had has : Own) : Ty
   pub over : new.over ≡ true → (old.over ≡ true) ⊎ IsOver new has
   pub took : has.ready.history.taken ≡ had.ready.history.taken
 
--- a wait for reports failed, and not by a signal: nothing was reported
-pub record PollFailed (new : PollerState) : Type 0 where
+-- A wait for reports failed, and not by a signal: nothing was reported. The round did nothing more than to take free
+-- slots in hand, and to listen no longer
+pub record PollFailed (old new : PollerState) (had has : Own) : Type 0 where
   pub failed : new.failed ≡ true
   pub none : new.batch ≡ []
   pub read : new.batch ≡ new.reported
+  pub poller : Looked old new
+  pub took : OnlyTook had has
 
 -- why a round is refused: its wait for reports failed, or its seat is worn
-abbrev pub RoundRefused : ServerFault → PollerState → Own → Type 0
-RoundRefused fault new has = ((fault ≡ server_fault.Poll) × PollFailed new) ⊎ OnlyWorn fault has.seat
+abbrev pub RoundRefused : ServerFault → PollerState → PollerState → Own → Own → Type 0
+RoundRefused fault old new had has = ((fault ≡ server_fault.Poll) × PollFailed old new had has) ⊎ OnlyWorn fault has.seat

@@ -13,11 +13,11 @@ use token::{Name, Token, unpack};
 /// Posts a note for each report of a batch, and adds a ticket to the hand for each post that answers Wake. Returns
 /// whether the listener was reported.
 ///
-/// A batch has the numbers of the tokens that were reported, in order (epoll_wait(2)), and the table each slot's
-/// generation. A number that names no end, such as the waker's, leaves no note, and neither does an end whose slot the
-/// table lacks or has with another generation: its connection was closed after the report arrived.
+/// The batch has the numbers of the tokens that were reported, in order (epoll_wait(2)). The table has each slot's
+/// generation. A number that names no end, such as the waker's, leaves no note. Neither does an end whose slot the
+/// table lacks or has with another generation: that end's connection was closed after the report arrived.
 ///
-/// The only refusal is `Worn`: the seat has posted 2^56 times. Then the reports before that one are delivered.
+/// The only refusal is `Worn`: the seat has posted 2^56 times. Then the reports before the refused one are delivered.
 pub fn deliver(
     claims: &Claims,
     seat: &mut ClaimSeat,
@@ -42,7 +42,7 @@ pub fn deliver(
     Ok(batch.contains(&LISTENER))
 }
 
-/// Posts a note at a connection's slot, if there is one, and adds its ticket to the hand if the post answers Wake.
+/// Posts a note at the ticket's slot, and adds the ticket to the hand if the post answers Wake. None does nothing.
 #[tactic(auto, using(crate::proofs::Acts::posted_quiet, crate::proofs::Acts::posted_woke))]
 pub(crate) fn post_note(
     claims: &Claims,
@@ -70,7 +70,7 @@ pub(crate) fn post_note(
     Ok(())
 }
 
-/// The connection that a report is for, if it is still in its slot.
+/// The connection that a report is for. None if its slot no longer has it, or the report is for no connection.
 fn connection(table: &[u64], number: u64) -> Option<Ticket>
     ensures value { result ≡ reported table.now number }
     ensures inside { IfSome result (λ ticket. ticket.slot < length table.now) }

@@ -15,14 +15,13 @@ pub(crate) struct Owed {
 }
 
 impl Owed {
-    /// The line that counts this many more, or with 0 the line about one drop.
+    /// The line that counts this many drops, or with 0 the line about one drop.
     pub(crate) fn new(cause: Cause, more: u64) -> Owed
         ensures { result ≡ record { cause = cause; more = more } }
     {
         Owed { cause, more }
     }
 
-    /// Logs the line.
     pub(crate) fn log<L: Logs>(self, rt: &L)
         ensures { L.logged rt.now level.Warn (Some (line_of self)) }
     {
@@ -35,9 +34,9 @@ impl Owed {
     }
 }
 
-/// An accepted connection is closed unopened, which was logged with its cause, or is counted for a later line. Only
-/// [`Dropped::log`] makes this value, which cannot be dropped, and only
-/// [`Poller::count_dropped`](crate::Poller::count_dropped) takes it.
+/// An accepted connection is closed unopened. That was logged with its cause, or is counted for a later line. Only
+/// [`Dropped::log`] makes this value, and only [`Poller::count_dropped`](crate::Poller::count_dropped) takes it. It
+/// cannot be dropped.
 ///
 /// In a clause it is the cause.
 pub(crate) struct Dropped {
@@ -53,7 +52,7 @@ impl Model for Dropped {
 }
 
 impl Dropped {
-    /// Logs why a connection is closed unopened at this second, or counts it among these drops.
+    /// Logs why a connection is closed unopened at this second, or counts the drop for a later line.
     pub(crate) fn log(rt: &impl Logs, drops: &mut Drops, cause: Cause, second: u64) -> Dropped
         ensures cause { result ≡ cause }
         ensures drops { drops.new ≡ dropped_for cause second drops.old }
@@ -64,7 +63,7 @@ impl Dropped {
         Dropped { cause }
     }
 
-    /// The statistics have it.
+    /// The statistics have counted the drop.
     pub(crate) fn spend(self) {
         let Dropped { cause: _ } = self;
     }

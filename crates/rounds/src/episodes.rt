@@ -1,53 +1,24 @@
-//! What the errors of accept(2) mean, and what is logged of accepting.
+//! What a poller keeps and logs of accepting connections.
 ghost use Rattle.std.specs.Prelude.{◌≡◌, IfSome, Some};
-ghost use Rattle.rounds.specs.Episodes.{accepted_of, all_logged_at, dropped_at, dropped_for, due_at, follows, is_counted, line_of, no_drops, no_episodes, no_tally, owed, owed_for, tally_of, logged_at, with_tally, AreLogged};
+ghost use Rattle.rounds.specs.Episodes.{all_logged_at, dropped_at, dropped_for, due_at, follows, is_counted, line_of, no_drops, no_episodes, no_tally, owed, owed_for, tally_of, logged_at, with_tally, AreLogged};
 ghost use Rattle.log.specs.declared.level.Level.TheVariants as level;
 
 use crate::dropping::Owed;
 use relay_log::{Cause, Logs};
-use std::io::ErrorKind;
 
-/// What an error of accept(2) means.
-#[derive(Clone, Copy, PartialEq, Eq)]
-pub(crate) enum Accepted {
-    /// The next connection may be accepted at once.
-    Again,
-    /// No connection waits.
-    Blocked,
-    /// There are no descriptors or no memory for it. It keeps waiting.
-    Starved,
-}
-
-/// The class of an error of accept(2), by its kind. Linux passes on errors that are pending on the new socket, and
-/// accept(2) is then to be tried again.
-pub(crate) fn accepted_of(kind: ErrorKind) -> Accepted
-    ensures { result ≡ accepted_of kind }
-{
-    match kind {
-        ErrorKind::Interrupted
-        | ErrorKind::ConnectionAborted
-        | ErrorKind::NetworkDown
-        | ErrorKind::NetworkUnreachable
-        | ErrorKind::HostUnreachable => Accepted::Again,
-        ErrorKind::WouldBlock => Accepted::Blocked,
-        _ => Accepted::Starved,
-    }
-}
-
-/// What lasts at a poller now, and was logged when it began.
+/// Conditions of a poller that were logged when they began, and still last.
 #[derive(Drop)]
 pub struct Episodes {
     /// Whether it was logged that accept(2) is starved, and no connection was opened since.
     pub(crate) starved: bool,
-    /// Whether all its slots were found taken while a client waited, and accept(2) has not found the backlog empty
-    /// since.
+    /// Whether all the poller's slots were found taken while a client waited, and accept(2) has not found the backlog
+    /// empty since.
     pub(crate) full: bool,
-    /// The connections that are closed unopened.
+    /// What was logged and is counted of drops.
     pub(crate) drops: Drops,
 }
 
 impl Episodes {
-    /// Nothing was logged that still lasts.
     pub(crate) fn none() -> Episodes
         ensures { result ≡ no_episodes }
     {
@@ -62,11 +33,11 @@ impl Episodes {
 /// The drops of one cause.
 #[derive(Drop)]
 pub struct Tally {
-    /// The second of the last one, if one came since a connection was opened.
+    /// The second of the last drop, if one came since a connection was opened.
     last: Option<u64>,
     /// The second of the last line.
     line: u64,
-    /// How many are counted, and in no line yet.
+    /// How many drops are counted, but in no line yet.
     more: u64,
 }
 
@@ -102,7 +73,7 @@ impl Tally {
         Some(Owed::new(cause, 0))
     }
 
-    /// Returns the line for what is counted, if this second has had no line.
+    /// Clears the count and returns its line. None if no drop is counted, or this second has had a line.
     fn counted_line(&mut self, cause: Cause, second: u64) -> Option<Owed>
         ensures tally { self.new ≡ logged_at second self.old }
         ensures owed { result ≡ owed cause (due_at second self.old) }
@@ -117,7 +88,7 @@ impl Tally {
         Some(Owed::new(cause, more))
     }
 
-    /// The next drop has a line of its own again. Returns the line for what is counted until now.
+    /// Returns the line for what is counted, if any drop is. The next drop has a line of its own again.
     fn end(&mut self, cause: Cause) -> Option<Owed>
         ensures tally { self.new ≡ no_tally }
         ensures owed { result ≡ owed cause self.old.more }
@@ -150,7 +121,6 @@ pub struct Drops {
 }
 
 impl Drops {
-    /// Nothing was logged, and nothing is counted.
     pub(crate) fn none() -> Drops
         ensures { result ≡ no_drops }
     {

@@ -1,33 +1,33 @@
 //! A poller's rounds ([`poller_round`]): its thread waits for reports, delivers them, and accepts and opens
 //! connections.
 //!
-//! A report about a socket becomes a note at its slot ([`deliver`]). The first note at a slot that nobody holds makes a
-//! ticket. A connection is opened with one note and one ticket of its own ([`open`]). Its target may first be sent a
-//! line with the addresses of the client's connection; if one of the two is not known, the opening has failed. For
-//! connections whose sockets report nothing a round posts notes, too, once the idle limit has passed: its sweep. What a
-//! round is lent is in `dispatch`; what becomes of the tickets is in `turns`.
+//! A report about a socket becomes a note at the socket's slot ([`deliver`]). The first note at a slot that nobody
+//! holds makes a ticket. An opening posts one note and makes one ticket ([`open`]). The target may first be sent a line
+//! with both addresses of the client's connection; if one of them is not known, the opening fails. Silent sockets
+//! report nothing, so once the idle limit has passed, a round posts a note at each slot that was used: its sweep. What
+//! a round is lent is in `dispatch`; what becomes of the tickets is in `turns`.
 //!
 //! # Inside
 //!
-//! - `WaitsAsMay` says when a round waits for reports, and for how long (`poll`: `wait`, `waited`). The wait is a fault
-//!   exactly if it gave an error other than a signal (`polled`); its batch is delivered (`deliver_batch`).
-//! - Each error of accept(2) has its class, and only the answer that no connection waits lowers the accept flag
-//!   (`accepted_of`, `not_accepted`: `flag`). A lack lasts until that answer or a connection (`starved_after`).
-//! - A drop is counted, or owed a line of its own (`dropped_at`, `owed_for`). A count is cleared only for a line that
-//!   has it, by its own cause (`logged_at`, `tell_of`; `Owed` cannot be dropped, and only the log takes it), and at an
-//!   opening all is logged (`end_episodes`). A lack counts as logged until a connection is opened (`episodes_after`). A
+//! - `WaitsAsMay` says when a round waits for reports, and for how long (`poll`: `wait`, `waited`). A wait is a fault
+//!   exactly if it gave an error other than a signal (`polled`). The batch is delivered (`deliver_batch`).
+//! - Each error of accept(2) has its class, and only the answer that no client waits lowers the accept flag
+//!   (`unaccepted_of`, `not_accepted`: `flag`). It is starved until that answer or a connection (`starved_after`).
+//! - A drop is counted, or has a line of its own (`dropped_at`, `owed_for`). A count is cleared only if a line of its
+//!   cause logs it (`logged_at`, `tell_of`; an `Owed` cannot be dropped, and only the log takes it). At an opening all
+//!   counts are logged (`end_episodes`). A starved accept(2) has no new line before an opening (`episodes_after`). A
 //!   poller becomes full if the listener was reported, it may open more, and no slot was free before it accepted
-//!   anybody (`log_if_full`: `full`, `found`). It stays so until accept(2) answers that nobody waits.
-//! - Both tokens of a connection have the next generation of its slot (`next_names`). Its pair is a fresh one with the
-//!   poller's size of ring, made at the second of the round (`connect`: `pair`), and its lead the PROXY line of the
+//!   anybody (`log_if_full`: `full`, `found`). It stays full until accept(2) answers that nobody waits.
+//! - Both tokens of a connection have the next generation of its slot (`next_names`). Its pair is fresh, with the
+//!   poller's ring size and the second of the round (`connect`: `pair`). The pair's lead is the PROXY line of the
 //!   addresses that the front gave, or nothing (`lead`, by `LeadGiven`). `DropsFor` says which cause is logged if there
 //!   is no pair (`cause`).
-//! - An accepted connection counts as opened, as dropped, or by its slot as lost (`open`: `counted`, by `Fate`), and
-//!   once (`Uncounted`). An opening passes its line to the log, and both are counted at their slot (`OpeningLogged`,
-//!   `DropCounted`). A connection counts as dropped only if the log gets a line or a count of it (`Dropped`). A slot
-//!   is lost only if one exchange found that it is not free (`NotFree`), or if no connection can be opened there
-//!   (`Spent`). After an opening that failed the slot is in hand, and nowhere else (`prepare`: `failed`; `round`:
-//!   `slots`). Slots start at generation 0 (`Poller::new`), and a table has its poller's own alone (`IsOwnTable`).
+//! - An accepted connection counts once (`Uncounted`): as opened, as dropped, or its slot as lost (`open`: `counted`,
+//!   by `Fate`). An opening passes its line to the log. Openings and drops are counted at their slots (`OpeningLogged`,
+//!   `DropCounted`). A drop counts only if the log gets a line or a count of it (`Dropped`). A slot is lost only if one
+//!   exchange found it not free (`NotFree`), or no connection can be opened there (`Spent`). After a failed opening the
+//!   slot is in hand, and nowhere else (`prepare`: `failed`; `round`: `slots`). Slots start at generation 0
+//!   (`Poller::new`); in a poller's table the slots of others stay at 0 (`IsOwnTable`).
 #![tactic(auto)]
 
 mod delivering;

@@ -32,22 +32,22 @@ pub struct Opening {
     pub proxy: bool,
 }
 
-/// The names of a connection's two ends.
 #[derive(Clone, Copy)]
 struct Names {
     client: Token,
     target: Token,
 }
 
-/// Opens an accepted connection in the oldest free slot in hand. It gets the slot's next generation, one note and one
-/// ticket, and is logged. If its opening fails, it is closed and logged or counted, and its slot is in hand again.
+/// Opens an accepted connection in the oldest free slot in hand. The connection gets the slot's next generation, one
+/// note and one ticket, and is logged. If the opening fails, the connection is closed, the drop is logged or counted,
+/// and the slot is in hand again.
 ///
-/// A slot of another poller, outside the table, at its last generation or not free, none of which happens in any run,
-/// is no longer used, and the connection is closed.
+/// If the slot is another poller's, outside the table, at its last generation or not free, the slot is no longer used,
+/// and the connection is closed. No run comes to that.
 ///
-/// Its acts come in this order: both sockets are registered, the slot is adopted, the table has the new generation, the
-/// notes of the last connection are thrown away, the connection is put into its place, the note is posted, and the slot
-/// is released.
+/// An opening makes its acts in this order: it registers both sockets, adopts the slot, writes the new generation into
+/// the table, discards the last connection's notes, puts the connection into its place, posts the note, and releases
+/// the slot.
 ///
 /// The only refusal is `Worn`: the seat has posted 2^56 times.
 pub fn open<F: Front + Counting, A: Moves<F>, R: Wait + Logs>(
@@ -106,7 +106,7 @@ pub fn open<F: Front + Counting, A: Moves<F>, R: Wait + Logs>(
     }
 }
 
-/// Connects. If that fails, it is logged or counted, and the slot is in hand again.
+/// Connects to the target. If that fails, the drop is logged or counted, and the slot is in hand again.
 fn prepare<F: Front, A: Moves<F>, N: Log>(
     rt: &N,
     alloc: Global,
@@ -141,7 +141,8 @@ fn prepare<F: Front, A: Moves<F>, N: Log>(
     }
 }
 
-/// The names of the ends of a slot's next connection, unless the table lacks the slot, or it had its last generation.
+/// The names of the ends of a slot's next connection. None if the table or the names lack the slot, or its generation
+/// is the last.
 fn next_names(table: &[u64], slot: usize) -> Option<Names>
     requires { AreGenerations table.now }
     ensures client { IfSome result (λ names. names.client ≡ record {
@@ -163,8 +164,8 @@ fn next_names(table: &[u64], slot: usize) -> Option<Names>
     Some(Names { client, target })
 }
 
-/// Starts the connection to the target, and makes the pair. A refusal closes both sockets, and the log may say whose
-/// they were.
+/// Starts the connection to the target, and makes the berth. A refusal closes both sockets, and the log may name the
+/// client.
 fn connect<F: Front, A: Moves<F>, N: Log>(
     rt: &N,
     alloc: Global,
@@ -200,7 +201,7 @@ fn connect<F: Front, A: Moves<F>, N: Log>(
     }
 }
 
-/// A connection in memory of its own.
+/// Moves a berth to the heap. A refusal closes both sockets.
 fn boxed<F: Front, N: Log>(
     rt: &N,
     alloc: Global,
@@ -227,8 +228,8 @@ fn moved_to_heap<T: Drop>(alloc: Global, value: T) -> Result<Box<T>, AllocError>
     Ok(Box::new(alloc, value)?)
 }
 
-/// Starts the connection to the target, and makes the pair, at the second of the round. A refusal closes the target's
-/// connection.
+/// Starts the connection to the target, registers both sockets, and makes the pair at the second of the round. A
+/// refusal closes the target's socket.
 #[tactic(auto, using(crate::proofs::Rounds::refused_drops, crate::proofs::Rounds::lacking_drops, crate::proofs::Rounds::memory_drops))]
 fn reach<F: Front, A: Moves<F>, N: Log>(
     rt: &N,
@@ -280,7 +281,7 @@ fn lead(alloc: Global, proxy: bool, route: &Route) -> Result<Vec<u8>, Cause>
     }
 }
 
-/// The line for a client with this address, which was accepted on that one.
+/// The PROXY line for this client, which was accepted on that address.
 fn line(alloc: Global, client: SocketAddrV4, accepted: SocketAddrV4) -> Result<Vec<u8>, Cause>
     ensures line { IfOk result (λ line. line.items ≡ proxy_line (ipv4_octets (v4_ip client)) (v4_port client)
         (ipv4_octets (v4_ip accepted)) (v4_port accepted)) }
@@ -317,7 +318,7 @@ fn log_unopened<N: Log>(
     }
 }
 
-/// Places a connection in its slot, which has it from then on.
+/// Places a connection in its slot. If the slot is not free, it closes the connection.
 fn place<F: Front + Counting, A: Moves<F>, R: Wait + Logs>(
     rt: &R,
     acts: &mut A,
@@ -360,7 +361,7 @@ fn place<F: Front + Counting, A: Moves<F>, R: Wait + Logs>(
     Ok(())
 }
 
-/// Puts a connection into the place of its slot, which is held, posts the note that starts it, and releases the slot.
+/// Discards a held slot's notes, puts its connection into place, posts the note that starts it, and releases the slot.
 fn start<F: Front, A: Moves<F>, R: Wait>(
     rt: &R,
     acts: &mut A,
@@ -381,9 +382,9 @@ fn start<F: Front, A: Moves<F>, R: Wait>(
     ensures queues { SameQueues own.old own.new }
 {
     acts.discard(&shared.claims, &mut own.seat, ticket.slot);
-    // A place that is not empty, which happens in no run, keeps what it has, and the connection is closed.
+    // A place that is not empty keeps what it has, and the connection is closed. That happens in no run.
     let _ = acts.put_in(rt, &shared.places, &own.seat, ticket.slot, berth);
-    // A holder's own post never answers Wake: the release does.
+    // A holder's own post never answers Wake: its release does.
     let posted = acts.post(&shared.claims, &mut own.seat, ticket.slot);
     let_go(acts, shared, own, ticket);
     match posted {
@@ -392,7 +393,7 @@ fn start<F: Front, A: Moves<F>, R: Wait>(
     }
 }
 
-/// Releases the slot of a connection in its place, and keeps the ticket in hand if notes wait.
+/// Releases the held slot, and keeps the ticket in hand if notes wait.
 #[tactic(auto, using(crate::proofs::Rounds::holding))]
 fn let_go<F: Front, A: Acts>(acts: &mut A, shared: &Shared<F>, own: &mut Own, ticket: Ticket)
     requires same { own.old.seat.table ≡ shared.now.claims }

@@ -7,9 +7,8 @@ ghost use Rattle.dispatch.specs.Acts as act;
 
 use crate::dropping::Dropped;
 use crate::episodes::Episodes;
-use crate::limits::MAX_ACCEPTS;
 use crate::opening::Opening;
-use dispatch::{Acts, Counting, Front, HeavyMarks, MAX_BATCH, Part, Shared};
+use dispatch::{Acts, Counting, Front, HeavyMarks, MAX_ACCEPTS, MAX_BATCH, Part, Shared};
 use ready::Ticket;
 use relay_log::{Cause, Logs};
 use statistics::Event;
@@ -20,7 +19,6 @@ use std::marker::Model;
 /// What a poller keeps between its rounds (`PollerState` of `specs/Pollers.antt`).
 #[derive(Drop)]
 pub struct Poller<F: Front> {
-    /// Where connections and reports come from.
     pub(crate) front: F,
     pub(crate) table: Vec<u64>,
     pub(crate) batch: Vec<u64>,
@@ -30,7 +28,7 @@ pub struct Poller<F: Front> {
     pub(crate) tries: usize,
     pub(crate) opening: Opening,
     pub(crate) part: Part,
-    /// Which tickets its thread leaves to the workers. It is lent to the turns in that thread.
+    /// Which tickets the poller's thread leaves to the workers. They are lent to its own turns.
     pub heavy: HeavyMarks,
     most: u64,
     opened: u64,
@@ -82,7 +80,7 @@ impl<F: Front> Model for Poller<F> {
 }
 
 impl<F: Front> Poller<F> {
-    /// A poller that has opened no connection yet. It may open `most` in all, in a part of `table` slots.
+    /// A poller that has opened no connection yet. It may open `most` in all, in its part of the `table` slots.
     ///
     /// Fails only if there is no memory. A round allocates memory only for connections and log lines.
     #[tactic(auto, using(crate::proofs::Acts::own_none, crate::proofs::Acts::are_none))]
@@ -144,7 +142,7 @@ impl<F: Front> Poller<F> {
     }
 
     /// From now on this slot counts as having had this many connections. A server starts at 0; `drill` starts near the
-    /// last, 2^47 - 1.
+    /// last generation, 2^47 - 1.
     #[tactic(auto, using(crate::proofs::Acts::own_set))]
     pub fn start_at(&mut self, slot: usize, generation: u64)
         requires inside { slot < length self.old.table }
@@ -155,14 +153,14 @@ impl<F: Front> Poller<F> {
         self.table[slot] = generation;
     }
 
-    /// The poller begins at this second, in place of second 0: its first sweep comes once the idle limit has passed.
+    /// The poller begins at this second, in place of second 0: its first sweep comes an idle limit later.
     pub fn begin_at(&mut self, second: u64)
         ensures { self.new ≡ record self.old { swept = second } }
     {
         self.swept = second;
     }
 
-    /// Whether a round has found that all connections were opened that the poller may open, and that all are closed.
+    /// Whether a round has found that the poller has opened all that it may, and that all these are closed.
     pub fn is_over(&self) -> bool
         ensures { result ≡ self.now.over }
     {
@@ -202,19 +200,19 @@ impl<F: Front> Poller<F> {
     /// The reports of the last wait, which the round delivers.
     pub(crate) fn batch(&self) -> &[u64]
         ensures batch { result.now ≡ self.now.batch }
-        ensures few { length result.now ≤ 256 }
+        ensures few { length result.now ≤ MAX_BATCH }
     {
         self.batch.as_slice()
     }
 
-    /// A connection may be waiting to be accepted if the listener was reported.
+    /// Raises the accept flag if the listener was reported.
     pub(crate) fn raise_accept_flag(&mut self, reported: bool)
         ensures { self.new ≡ record self.old { accepting = self.old.accepting || reported } }
     {
         self.accepting = self.accepting || reported;
     }
 
-    /// The round is made at this second. It made a sweep at the second of the one before, or none.
+    /// The round is made at this second. If it made a sweep, that counts as made at the last round's second.
     pub(crate) fn set_second(&mut self, swept: bool, second: u64)
         ensures { self.new ≡ record self.old { swept = if swept then self.old.second else self.old.swept; second = second } }
     {
@@ -224,7 +222,7 @@ impl<F: Front> Poller<F> {
         self.second = second;
     }
 
-    /// A round may try accept(2) this many times again, and has left no client.
+    /// A round begins to accept: it has all its tries of accept(2), and has left no client.
     pub(crate) fn reset_tries(&mut self)
         ensures { self.new ≡ record self.old { tries = max_accepts; left = false } }
     {
@@ -240,7 +238,6 @@ impl<F: Front> Poller<F> {
         self.left
     }
 
-    /// Tries accept(2) once.
     pub(crate) fn accept(&mut self) -> io::Result<(F::Client, Uncounted)>
         ensures accepted { OnOk result (self.new ≡ record self.old { tries = self.old.tries - 1; starved = false }) }
         ensures refused { OnErr result (self.new ≡ record self.old { tries = self.old.tries - 1 }) }
@@ -251,7 +248,7 @@ impl<F: Front> Poller<F> {
         Ok((client, Uncounted(())))
     }
 
-    /// A connection is opened in a slot that the thread holds: the slot has the ticket's generation from now on.
+    /// A connection is opened in a slot that the thread holds. The slot has the ticket's generation from now on.
     #[tactic(auto, using(crate::proofs::Acts::own_set))]
     pub(crate) fn count_opened<A: Acts>(
         &mut self,
@@ -278,7 +275,7 @@ impl<F: Front> Poller<F> {
         uncounted.spend();
     }
 
-    /// A connection is closed unopened. That is logged with its cause, or counted for a later line.
+    /// Makes a drop at the round's second ([`Dropped::log`]).
     pub(crate) fn log_dropped<N: Logs>(&mut self, rt: &N, cause: Cause) -> Dropped
         ensures cause { result ≡ cause }
         ensures drops { self.new ≡ record self.old {
@@ -289,7 +286,7 @@ impl<F: Front> Poller<F> {
         Dropped::log(rt, &mut self.episodes.drops, cause, self.second)
     }
 
-    /// Logs what is counted of each cause of which the round's second has had no line.
+    /// Logs the counted drops of each cause that has had no line at the round's second.
     pub(crate) fn log_counted<N: Logs>(&mut self, rt: &N)
         ensures logged { self.new ≡ record self.old
             { episodes = record self.old.episodes { drops = all_logged_at self.old.second self.old.episodes.drops } } }
@@ -298,8 +295,8 @@ impl<F: Front> Poller<F> {
         self.episodes.drops.log_counted(rt, self.second);
     }
 
-    /// A connection was opened, or the thread ends: logs all that is counted. A lack, and the next drop of each cause,
-    /// have a line again.
+    /// A connection was opened, or the thread ends: logs all that is counted. A starved accept(2), and the next drop of
+    /// each cause, have a line again.
     pub fn end_episodes<N: Logs>(&mut self, rt: &N)
         ensures { self.new ≡ record self.old { episodes = opened_after self.old.episodes } }
     {
@@ -307,8 +304,8 @@ impl<F: Front> Poller<F> {
         self.episodes.starved = false;
     }
 
-    /// A round closed an accepted connection unopened, which was logged, or is counted for a later line. Its slot is in
-    /// hand. The statistics count it there, too.
+    /// Counts a drop, which was logged, or is counted for a later line. Its slot is in hand. The statistics count the
+    /// drop at that slot, too.
     pub(crate) fn count_dropped(
         &mut self,
         shared: &Shared<F>,

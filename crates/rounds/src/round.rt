@@ -2,17 +2,19 @@
 ghost use Rattle.std.specs.{Prelude.{◌≡◌, ◌≢◌, ◌⊎◌, ◌+◌, ◌-◌, ◌<◌, ◌≤◌, ◌↔◌, [], length, Ok, Err, IsOk, OnOk, OnErr, IfErr, IfOk, IsTrue, MatchResult, Contains, true, false}, IoError.error_kind, declared.io.ErrorKind.TheVariants.Interrupted};
 ghost use Rattle.claims.specs.Seats.{HoldsNothing};
 ghost use Rattle.ready.specs.Steps.{HeldOnce};
-ghost use Rattle.rounds.specs.{Acts.{Delivered, all_reported}, Episodes.{accepted_of, episodes_after, flag_after, starved_after}, Openings.{AreIn, Between, OnlyTook, AcceptDone, OneAccepted, OnlyAccepted}, Pollers.{HasOpenedAll, max_accepts, spare_room}, Rounds.{AcceptEnded, EndedEarly, HasLeft, IsFull, IsOver, ListensNoMore, ListensToOpen, Looked, LooksForAll, MayAccept, MayNotWait, MayWait, MayWaitBriefly, NoSlot, NoneToAccept, NotBegun, RoundDone, RoundEnded, RoundKeeps, RoundRefused, TookAll, WaitLasted, WaitedAsMay, WaitsAsMay}};
-ghost use Rattle.dispatch.specs.{Hands.ticket_room, Posts.OnlyWorn};
+ghost use Rattle.rounds.specs.{Acts.{Delivered, all_reported}, Episodes.{episodes_after, flag_after, starved_after}, Openings.{AreIn, Between, OnlyTook, AcceptDone, OneAccepted, OnlyAccepted}, Pollers.{HasOpenedAll, max_accepts, spare_room}, Rounds.{AcceptEnded, EndedEarly, HasLeft, IsFull, IsOver, ListensNoMore, ListensToOpen, Looked, LooksForAll, MayAccept, MayNotWait, MayWait, MayWaitBriefly, NoSlot, NoneToAccept, NotBegun, RoundDone, RoundEnded, RoundKeeps, RoundRefused, TookAll, WaitLasted, WaitedAsMay, WaitsAsMay}};
+ghost use Rattle.dispatch.specs.{Hands.ticket_room, Posts.OnlyWorn, Told.unaccepted_of};
 
 use crate::delivering::deliver;
-use crate::episodes::{Accepted, accepted_of};
-use crate::limits::{MAX_ACCEPTS, SPARE_ROOM};
+use crate::limits::SPARE_ROOM;
 use crate::opening::open;
 use crate::poller::Poller;
 use crate::sweeping::{is_due, keep_time};
 use claims::Claims;
-use dispatch::{Clock, Front, Hand, LISTENER, Own, Shared, Timing, Waiting};
+use dispatch::{
+    Clock, Front, Hand, LISTENER, MAX_ACCEPTS, MAX_BATCH, Own, Shared, Timing, Unaccepted, Waiting,
+    unaccepted_of,
+};
 use log::{Log, error};
 use relay_log::{ServerFault, log_all_taken};
 use std::alloc::Global;
@@ -22,23 +24,25 @@ use std::sync::Wait;
 /// One round of the poller.
 ///
 /// If the hand has no room for a ticket of each slot and 512 more, only the batch is emptied. Else the tickets in hand
-/// stay there, in front of those of the round. The round asks once for reports and delivers them ([`deliver`]). It
-/// waits for them only if no sweep is due and no ticket is in hand: if no connection can be accepted, or accept(2) was
-/// starved, for as long as its front waits; else, if the round before left a client to other pollers, for a millisecond
-/// at most. A sweep is due if at the second of the round before the idle limit, if there is one, had passed since the
-/// last sweep, or since the poller began: the round then posts a note at each slot in which the poller has opened a
-/// connection, in rising order. Then it reads its second. While connections may be waiting and a slot is free, it
-/// accepts and opens them, with at most 4 calls of accept(2), until its front leaves one to other pollers.
+/// stay there, before those of the round. The round asks once for reports and delivers them ([`deliver`]). It waits for
+/// reports only if no sweep is due and no ticket is in hand: for as long as its front waits, if no client can be
+/// accepted or accept(2) was starved; else for a millisecond at most, if the last round left a client to others. A
+/// sweep is due if, at the second that the last round read, the idle limit had passed since the last sweep, or since
+/// the poller began: the round then posts a note at each slot in which the poller ever opened a connection, in rising
+/// order. Then it reads its second. While a client may be waiting and a slot is free, it accepts and opens connections,
+/// with at most 4 calls of accept(2), until its front leaves a client to others.
 ///
-/// Once all connections that the poller may open were opened, its front no longer listens: neither at the round's end,
-/// nor while it asks for reports, if they were opened before.
+/// Once the poller has opened all that it may, its front no longer listens: from the start of a round, if that was so
+/// then, or else from the round's end.
 ///
-/// An opened connection has the slot's next generation, one note and one ticket, and is logged. One whose opening fails
-/// is closed and logged or counted, and its slot is in hand. At its end the round logs what is counted, once a second.
-/// If the listener was reported and no slot is free, the poller with which all have found that logs it.
+/// An opened connection has the slot's next generation, one note and one ticket, and is logged. If an opening fails,
+/// the connection is closed, the drop is logged or counted, and the slot is in hand. At its end the round logs the
+/// counted drops, once a second. If the listener was reported and no slot is free, the last poller to find that logs
+/// it.
 ///
-/// Refusals: `Poll` if waiting for reports failed, and `Worn` if the seat has posted 2^56 times. Even then the seat
-/// holds no slot.
+/// Refusals: `Poll` if the wait for reports failed; the round then at most took free slots in hand and stopped
+/// listening. `Worn` if the seat has posted 2^56 times; a part of the round may be done then. Even so the seat holds no
+/// slot.
 pub fn poller_round<F: Front, C: Clock, R: Wait + Log>(
     rt: &R,
     alloc: Global,
@@ -57,7 +61,7 @@ pub fn poller_round<F: Front, C: Clock, R: Wait + Log>(
     ensures ended { OnOk result (EndedEarly shared.now.claims.words own.old
         ⊎ RoundEnded (C.tells timing.now.clock.now) timing.now.limit poller.old poller.new own.new) }
     ensures keeps { RoundKeeps timing.now.limit poller.old poller.new own.old own.new }
-    ensures refused { IfErr result (λ fault. RoundRefused fault poller.new own.new) }
+    ensures refused { IfErr result (λ fault. RoundRefused fault poller.old poller.new own.old own.new) }
 {
     if !begin(&shared.claims, &own.hand, poller) {
         return Ok(());
@@ -71,7 +75,7 @@ pub fn poller_round<F: Front, C: Clock, R: Wait + Log>(
     Ok(())
 }
 
-/// The start of a round. Returns false if the hand has no room for a ticket of each slot and 512 more.
+/// Empties the batch. Returns whether the hand has room for a ticket of each slot and 512 more.
 fn begin<F: Front>(claims: &Claims, hand: &Hand, poller: &mut Poller<F>) -> bool
     ensures poller { poller.new ≡ record poller.old { batch = [] } }
     ensures early { result ≡ false → ticket_room hand.now < spare_room + claims.now.words }
@@ -83,7 +87,7 @@ fn begin<F: Front>(claims: &Claims, hand: &Hand, poller: &mut Poller<F>) -> bool
     room >= SPARE_ROOM && room - SPARE_ROOM >= slots
 }
 
-/// Asks for reports, and waits for them if it may. A poller that may open no more connections stops listening before.
+/// Asks for reports, and waits for them if it may. Before, a poller that has opened all that it may stops listening.
 fn look<F: Front, R: Wait + Log>(
     rt: &R,
     own: &mut Own,
@@ -97,14 +101,14 @@ fn look<F: Front, R: Wait + Log>(
     ensures listens { ListensNoMore poller.old poller.new }
     ensures batch { poller.new.batch ≡ poller.new.reported }
     ensures failed { IfErr result (λ fault. (fault ≡ ServerFault.Poll) × (poller.new.failed ≡ true) × (poller.new.batch ≡ [])) }
-    ensures few { length poller.new.batch ≤ 256 }
+    ensures few { length poller.new.batch ≤ MAX_BATCH }
 {
     listen_to_open(poller);
     let wait = may_wait(rt, own, poller, limit);
     poll(rt, own, poller, limit, wait)
 }
 
-/// Once all connections that it may open have been opened, the poller's front listens no longer.
+/// Has the front stop listening if the poller has opened all that it may.
 fn listen_to_open<F: Front>(poller: &mut Poller<F>)
     ensures poller { poller.new ≡ record poller.old { listening = poller.new.listening } }
     ensures listens { ListensNoMore poller.old poller.new }
@@ -153,13 +157,13 @@ fn poll<F: Front, R: Log>(
     ensures batch { poller.new.batch ≡ poller.new.reported }
     ensures failed { OnErr result ((poller.new.failed ≡ true) × (poller.new.batch ≡ [])) }
     ensures fault { IfErr result (λ fault. fault ≡ ServerFault.Poll) }
-    ensures few { length poller.new.batch ≤ 256 }
+    ensures few { length poller.new.batch ≤ MAX_BATCH }
 {
     let answer = poller.front.poll(&mut poller.batch, wait);
     polled(rt, answer)
 }
 
-/// Whether the wait for reports failed. A signal ends a wait, and is no fault.
+/// Refuses if the wait for reports failed. A signal that ends a wait is no fault.
 fn polled<R: Log>(rt: &R, answer: io::Result<()>) -> Result<(), ServerFault>
     ensures waited { IsOk result ↔ MatchResult answer (λ _. Unit {0}) (λ error. error_kind error ≡ Interrupted) }
     ensures fault { IfErr result (λ fault. fault ≡ ServerFault.Poll) }
@@ -174,7 +178,7 @@ fn polled<R: Log>(rt: &R, answer: io::Result<()>) -> Result<(), ServerFault>
     }
 }
 
-/// Delivers the reports of the batch. None is for a slot of another poller, since the table has no connection there.
+/// Delivers the reports of the batch. No note goes to another poller's slot: the table has no connection there.
 fn deliver_batch<F: Front>(
     shared: &Shared<F>,
     own: &mut Own,
@@ -202,8 +206,8 @@ fn deliver_batch<F: Front>(
     Ok(())
 }
 
-/// If a client waits for a slot, the poller is full until accept(2) answers that nobody waits. The last poller that
-/// becomes full logs it.
+/// If a client waits for a slot, the poller is full from now on, until accept(2) answers that nobody waits. If all
+/// pollers are full now, that is logged.
 fn log_if_full<F: Front, R: Wait + Log>(
     rt: &R,
     shared: &Shared<F>,
@@ -239,7 +243,8 @@ fn is_full<F: Front, R: Wait>(rt: &R, own: &mut Own, poller: &Poller<F>) -> bool
     poller.batch().contains(&LISTENER) && !poller.has_opened_all() && !has_slot(rt, own)
 }
 
-/// Accepts and opens connections while one may be waiting and a slot is free. If none is free before, that is logged.
+/// Accepts and opens connections while a client may be waiting and a slot is free. First it looks whether the poller is
+/// full.
 fn accept<F: Front, R: Wait + Log>(
     rt: &R,
     alloc: Global,
@@ -269,7 +274,6 @@ fn accept<F: Front, R: Wait + Log>(
     Ok(())
 }
 
-/// Whether to try accept(2).
 fn may_accept<F: Front, R: Wait>(rt: &R, own: &mut Own, poller: &Poller<F>) -> bool
     requires room { 1 ≤ ticket_room own.old.hand }
     ensures took { OnlyTook own.old own.new }
@@ -281,7 +285,7 @@ fn may_accept<F: Front, R: Wait>(rt: &R, own: &mut Own, poller: &Poller<F>) -> b
 }
 
 /// Accepts and opens one connection, unless the client is better left to another poller. Returns whether another try is
-/// worth making: not after a client was left, nor if the system lacked what accept(2) needs.
+/// worth making: not after a client was left, nor if accept(2) was starved.
 fn accept_next<F: Front, R: Wait + Log>(
     rt: &R,
     alloc: Global,
@@ -308,11 +312,11 @@ fn accept_next<F: Front, R: Wait + Log>(
             open(rt, alloc, &mut (), shared, own, poller, client, uncounted)?;
             Ok(true)
         }
-        Err(error) => Ok(not_accepted(rt, shared, poller, &error) != Accepted::Starved),
+        Err(error) => Ok(not_accepted(rt, shared, poller, &error) != Unaccepted::Starved),
     }
 }
 
-/// Whether a free slot is in hand, or can be taken. None is taken if one is in hand.
+/// Whether a free slot is in hand. If none is, it tries to take one first.
 fn has_slot<R: Wait>(rt: &R, own: &mut Own) -> bool
     requires room { 1 ≤ ticket_room own.old.hand }
     ensures took { OnlyTook own.old own.new }
@@ -340,30 +344,30 @@ fn take_one<R: Wait>(rt: &R, own: &mut Own) -> bool
     }
 }
 
-/// What an answer without a connection means. That accept(2) is starved is logged once until a connection is opened.
+/// Returns what an error of accept(2) means, and notes it. That accept(2) is starved is logged once between openings.
 fn not_accepted<F: Front, R: Log>(
     rt: &R,
     shared: &Shared<F>,
     poller: &mut Poller<F>,
     error: &io::Error,
-) -> Accepted
-    ensures class { result ≡ accepted_of (error_kind error.now) }
+) -> Unaccepted
+    ensures class { result ≡ unaccepted_of (error_kind error.now) }
     ensures flag { poller.new ≡ record poller.old {
       accepting = flag_after result poller.old.accepting;
       starved = starved_after result poller.old.starved;
       episodes = episodes_after result poller.old.episodes;
     } }
-    ensures starved { result ≡ Accepted.Starved → poller.new.starved ≡ true }
+    ensures starved { result ≡ Unaccepted.Starved → poller.new.starved ≡ true }
 {
-    let class = accepted_of(error.kind());
+    let class = unaccepted_of(error.kind());
     match class {
-        Accepted::Again => {}
-        Accepted::Blocked => {
+        Unaccepted::Again => {}
+        Unaccepted::Blocked => {
             poller.accepting = false;
             poller.starved = false;
             end_full(shared, poller);
         }
-        Accepted::Starved => {
+        Unaccepted::Starved => {
             poller.starved = true;
             if !poller.episodes.starved {
                 log_failure(rt, "accept", error);
@@ -374,7 +378,6 @@ fn not_accepted<F: Front, R: Log>(
     class
 }
 
-/// No client waits any more, so the poller is not full.
 fn end_full<F: Front>(shared: &Shared<F>, poller: &mut Poller<F>)
     ensures { poller.new ≡ record poller.old { episodes = record poller.old.episodes { full = false } } }
 {
@@ -388,8 +391,8 @@ fn log_failure<R: Log>(rt: &R, call: &str, error: &io::Error) {
     error!(rt; target: "relayd", "{call}: {error}");
 }
 
-/// Once the poller has opened all connections that it may, it takes the free slots in hand to see whether all are
-/// there. A slot that is no longer used counts as free.
+/// Once the poller has opened all that it may, it takes its free slots in hand, to see whether all are there: then it
+/// is over. A slot that is no longer used counts as free.
 fn take_back<F: Front, R: Wait>(rt: &R, own: &mut Own, poller: &mut Poller<F>)
     ensures took { OnlyTook own.old own.new }
     ensures poller { poller.new ≡ record poller.old { listening = poller.new.listening; over = poller.new.over } }
@@ -408,7 +411,7 @@ fn take_back<F: Front, R: Wait>(rt: &R, own: &mut Own, poller: &mut Poller<F>)
     poller.over = free.saturating_add(poller.lost) >= slots as u64;
 }
 
-/// Takes at most this many free slots in hand, until there is none or the hand is full.
+/// Takes free slots in hand, `most` at most, until the queue has none or the hand is full.
 fn take_all<R: Wait>(rt: &R, own: &mut Own, most: usize)
     ensures took { OnlyTook own.old own.new }
     ensures all { TookAll most own.new }

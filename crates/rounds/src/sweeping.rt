@@ -1,4 +1,4 @@
-//! What a round posts for time.
+//! A round's sweep, and its second.
 ghost use Rattle.std.specs.{Prelude.{◌≡◌, ◌<◌, ◌≤◌, [], if◌then◌else◌, length, IfErr, IfSome, OnErr, OnOk}, List.cons_option};
 ghost use Rattle.claims.specs.Seats.{HoldsNothing};
 ghost use Rattle.rounds.specs.{Acts.{ArePosted, all_opened, is_due, opened_in, sweep_of}, Openings.{AreIn, Between, SameQueues}, Rounds.SweepMade};
@@ -11,9 +11,9 @@ use dispatch::{Clock, Front, Hand, Own, Shared, Timing};
 use ready::Ticket;
 use relay_log::ServerFault;
 
-/// Makes a sweep if one is due, and reads the second of the round. The next round's sweep goes by that second, and
-/// this one's by the one before, so a round has asked for reports since: whatever came while the relay was stopped
-/// (SIGSTOP, a paused machine) is a note before a sweep says that the limit has passed.
+/// Makes a sweep if one is due, and reads the second of the round. A sweep goes by the second of the last round, and
+/// its own round has asked for reports since then: so whatever came while the relay was stopped (SIGSTOP, a paused
+/// machine) is a note before a sweep says that the limit has passed.
 pub(crate) fn keep_time<F: Front, C: Clock>(
     shared: &Shared<F>,
     own: &mut Own,
@@ -43,8 +43,7 @@ pub(crate) fn keep_time<F: Front, C: Clock>(
     Ok(())
 }
 
-/// Whether a sweep is due: at the second of the last round the limit, if there is one, had passed since the last
-/// sweep.
+/// Whether a sweep is due: by the second of the last round the limit had passed since the last sweep. Never if it is 0.
 pub(crate) fn is_due<F: Front>(poller: &Poller<F>, limit: u64) -> bool
     ensures { result ≡ is_due limit poller.now }
 {
@@ -78,7 +77,7 @@ fn sweep(
     Ok(())
 }
 
-/// The last connection that was opened in a slot.
+/// The last connection that was opened in a slot, if one was.
 fn last_in(table: &[u64], slot: usize) -> Option<Ticket>
     requires { slot < length table.now }
     ensures opened { cons_option result [] ≡ opened_in table.now slot }

@@ -10,7 +10,7 @@ fault_text (Malformed line) = codes "line " ++ (decimal line ++ codes ": malform
 fault_text (NotAllowed line word) = codes "line " ++ (decimal line ++ (codes ": not allowed: " ++ word_text word))
 fault_text NoMemory = codes "out of memory"
 
--- A call gave what is defined, a value as `view` sees it or a fault; or it ran out of memory.
+-- A call returned what is defined, a value as `view` sees it or a fault; or memory ran out.
 abbrev pub GivesBy : {X Y : Type 0} → (X → Y) → Result Y Fault → Result X Fault → Type 0
 GivesBy view defined (Ok x) = defined ≡ Ok (view x)
 GivesBy view defined (Err TooLong) = defined ≡ Err TooLong
@@ -22,28 +22,28 @@ GivesBy view defined (Err NoMemory) = Unit {0}
 abbrev pub Gives : {X : Type 0} → Result X Fault → Result X Fault → Type 0
 Gives defined result = GivesBy (λ x. x) defined result
 
--- the value of the first, given to the second; a fault of the first stays
+-- f of the value; a fault stays
 abbrev pub and_then : {X Y : Type 0} → (X → Result Y Fault) → Result X Fault → Result Y Fault
 and_then f (Ok x) = f x
 and_then f (Err fault) = Err fault
 
--- what the step of a line makes, or the fault of the line
+-- what the step of a line makes, or that the line is not allowed
 abbrev pub or_not_allowed : {X : Type 0} → ℕ → Word → Option X → Result X Fault
 or_not_allowed line word (Some x) = Ok x
 or_not_allowed line word None = Err (NotAllowed line word)
 
--- Why a line is refused: the fault that it is defined to have, or that memory ran out for one that has none and that
--- may take memory.
+-- Why a line is refused: it has the defined fault; or none is defined, and memory ran out for a line that may take
+-- some.
 abbrev pub Refused : {X : Type 0} → Bool → Result X Fault → Fault → Type 0
 Refused takes (Ok x) fault = (fault ≡ NoMemory) × IsTrue takes
 Refused takes (Err defined) fault = fault ≡ defined
 
--- The step of a line was made as it is defined, or it is refused and nothing changed.
+-- The step of a line was made as defined, or was refused and changed nothing.
 abbrev pub Carries : {X : Type 0} → Bool → Result X Fault → X → Result (Unit {0}) Fault → X → Type 0
 Carries takes defined old (Ok x) new = defined ≡ Ok new
 Carries takes defined old (Err fault) new = Refused takes defined fault × (new ≡ old)
 
--- the steps of lines one after another, to the first fault
+-- the steps of lines one after another, up to the first fault
 abbrev pub played : {X L : Type 0} → (X → L → Result X Fault) → X → List L → Result X Fault
 played stepped x [] = Ok x
 played stepped x (l ∷ ls) = and_then (λ y. played stepped y ls) (stepped x l)

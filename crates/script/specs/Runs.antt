@@ -22,7 +22,7 @@ abbrev pub reached_by : Script → Result Reached Fault
 reached_by (script.Flow plan) = and_then (λ t. Ok (reached.Flow t)) (run_of plan)
 reached_by (script.World plan) = and_then (λ st. Ok (reached.World st)) (world_of plan)
 
--- of one direction: sent is what the destination took, unread what waits at the source
+-- the report of one direction: sent is what the destination took, unread what waits at the source
 abbrev pub report : Transfer → List ℕ
 report t = codes "up sent=" ++ (shown_bytes t.destination.taken ++ stream_text t.flow.ring t.source.unread t.flow.end_seen t.flow.shut)
 
@@ -33,8 +33,8 @@ abbrev pub report_of : Reached → List ℕ
 report_of (reached.Flow transfer) = report transfer
 report_of (reached.World state) = world_report state
 
--- What a text leads to: the state after the whole script that it is, or its first fault. The whole text is parsed
--- before the first step is made. Memory runs out only for a text that takes some.
+-- What a text leads to: the state after the whole script that it stands for, or its first fault. The whole text is
+-- parsed before the first step is made. Memory runs out only for a text that takes some.
 abbrev pub LeadsTo : List ℕ → Result Reached Fault → Type 0
 LeadsTo text (Ok reached) = (script : Script) × ((parsed text ≡ Ok (said_by script)) × (reached_by script ≡ Ok reached))
 LeadsTo text (Err NoMemory) = TakesMemory text
@@ -49,11 +49,11 @@ WritesReport text old new = (reached : Reached) × (LeadsTo text (Ok reached) ×
 abbrev pub AnswersFault : List ℕ → Option (List ℕ) → Option (List ℕ) → Type 0
 AnswersFault text old new = (fault : Fault) × (LeadsTo text (Err fault) × Appends old new (fault_line fault))
 
--- the same, or that memory ran out before the script was read, which has a byte at least
+-- as `AnswersFault`; or memory ran out before the script, which has at least a byte, was read
 abbrev pub WritesFault : List ℕ → Option (List ℕ) → Option (List ℕ) → Type 0
 WritesFault text old new = AnswersFault text old new ⊎ ((text ≢ []) × Appends old new (fault_line NoMemory))
 
--- the two laws, of the script of one direction that a text is
+-- the two laws, of the script of one direction that a text stands for
 abbrev pub EveryByte : List ℕ → Type 0
 EveryByte text = (plan : FlowPlan) → parsed text ≡ Ok (FlowOf plan) → KeepsBytes plan
 
@@ -68,7 +68,7 @@ pub record RunHolds (l : Limits) (events : List Event) (st : State) : Type 0 whe
 abbrev pub EveryRunIsSound : Type 0
 EveryRunIsSound = (l : Limits) (events : List Event) (st : State) → run (opening l) events ≡ Some st → RunHolds l events st
 
--- the same, of the script of a world that a text is
+-- what holds after the run of the script of a world that a text stands for
 abbrev pub EveryRun : List ℕ → Type 0
 EveryRun text = (plan : WorldPlan) (st : State) → parsed text ≡ Ok (said_by (script.World plan)) → world_of plan ≡ Ok st
     → RunHolds plan.limits (events_in plan.events) st

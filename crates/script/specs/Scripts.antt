@@ -1,4 +1,4 @@
--- The script that a text is, or its first fault. Part of the promises.
+-- The script that a text stands for, or its first fault. Part of the promises.
 use Rattle.std.specs.Prelude.{ℕ, List, map, ◌≡◌, ◌⊎◌, nat_lt, Bool, false, IsTrue, if◌then◌else◌, [], ◌∷◌, ◌≤◌, length, is_some, Option, Some, None, Result, Ok, Err}
 use Rattle.world.specs.declared.limits.Limits.{Limits}
 use Rattle.script_text.specs.{declared.{steps.{NumberedStep.NumberedStep, NumberedEvent.NumberedEvent}, header.Header.Header}, Texts.{NumberedLine, lines_of, telling_lines}, Headers.header_of, Events.{step_of, Said, said_of, event_of}}
@@ -44,7 +44,7 @@ abbrev pub said_by : Script → Plan
 said_by (script.Flow plan) = FlowOf plan
 said_by (script.World plan) = WorldOf plan.limits (said_lines plan.events)
 
--- the lines after a header, by what it is of
+-- the script of the lines after a header, by what the header covers
 abbrev pub headed : Header → List NumberedLine → Result Plan Fault
 headed (header.Flow ring) lines = and_then (λ steps. Ok (FlowOf (record { ring = ring; steps = steps }))) (steps_of lines)
 headed (header.World limits) lines = and_then (λ events. Ok (WorldOf limits events)) (events_of lines)
@@ -64,7 +64,7 @@ abbrev pub starts_with : {X : Type 0} → (List ℕ → Option X) → List Numbe
 starts_with read [] = false
 starts_with read (l ∷ ls) = is_some (read l.text)
 
--- the same of the lines after a header, by what it is of
+-- the first line after a header can be read, by what the header covers
 abbrev pub goes_on : Option Header → List NumberedLine → Bool
 goes_on None lines = false
 goes_on (Some (header.Flow ring)) lines = starts_with step_of lines
@@ -74,12 +74,12 @@ abbrev pub begins_well : List NumberedLine → Bool
 begins_well [] = false
 begins_well (l ∷ ls) = goes_on (header_of l.text) ls
 
--- A text of a script's size that begins with a good header and a good line after it. Lines that follow may be
--- malformed: a list is made of the lines as they are read.
+-- A text that is not too long, and begins with a good header and a good line after it. Later lines may be malformed:
+-- memory may run out before they are read.
 abbrev pub BeginsWell : List ℕ → Type 0
 BeginsWell text = (length text ≤ most_of_script) × IsTrue (begins_well (telling_lines 1 (lines_of text)))
 
--- What takes memory once it was read: a script, for which a machine is made, and what begins well. So memory can't run
--- out for a text that is too long, has no line or a malformed header, or a malformed line right after that.
+-- What takes memory once it was read: a script, for which a machine is made, and a text that begins well. So memory
+-- can't run out for a text that is too long, has no line, or whose header or first line after it is malformed.
 abbrev pub TakesMemory : List ℕ → Type 0
 TakesMemory text = IsScript text ⊎ BeginsWell text

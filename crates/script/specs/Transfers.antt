@@ -1,5 +1,5 @@
--- One direction as a machine. Part of the promises. It has a source, a ring and a destination; here is what each step
--- of a script does to them.
+-- One direction as a machine. Part of the promises. Here are its source, ring and destination, and what each step of a
+-- script does to them.
 use Rattle.std.specs.Prelude.{ℕ, min, Bool, true, false, not, ◌&&◌, if◌then◌else◌, [], take, Option, None, option_map, Result, ◌≡◌, ◌||◌, List, ◌∷◌, ◌++◌, Ok}
 use Rattle.token.specs.declared.side.Side.TheVariants.{Client, Target}
 use Rattle.flow.specs.Stream.{Stream, empty_stream, free_room, waiting, front, taken_in, dropped, ended, closed}
@@ -8,7 +8,7 @@ use Rattle.script.specs.{declared.{fault.Fault.Fault, transfer.Transfer.Transfer
 use Rattle.script_text.specs.{declared.steps.{Step.{Step, TheVariants.{Arrive, Fin, Room, Read, End, Wrote, Shut}}, NumberedStep.NumberedStep}, Events.word_of}
 use Rattle.kernel_model.specs.declared.reply.Reply.TheVariants as reply
 
--- nothing has come, and there is no lead; the source is connected, and the destination has no room yet
+-- nothing has arrived, and there is no lead; the source is connected, and the destination has no room yet
 abbrev pub opening : ℕ → Transfer
 opening ring = record { source = opened Client; flow = empty_stream ring []; destination = opened Target }
 
@@ -16,8 +16,8 @@ opening ring = record { source = opened Client; flow = empty_stream ring []; des
 abbrev pub read_size : Stream → ℕ
 read_size flow = min (free_room flow) 16384
 
--- the ends and the ring after a step, if it is allowed: what comes and what a socket replies by the rules of sockets,
--- and no read once the end was seen, no shutdown before the last byte has left
+-- the ends and the ring after a step, if it is allowed: sockets get and reply what the rules of sockets allow; no read
+-- comes once the end was read, and no shutdown before the last byte has left
 abbrev pub stepped : Transfer → Step → Option Transfer
 stepped t (Arrive bytes) = option_map (λ r. record t { source = r.value }) (arrival t.source bytes)
 stepped t Fin = option_map (λ r. record t { source = r.value }) (finish t.source)
@@ -36,7 +36,7 @@ stepped t Shut =
     then option_map (λ e. record t { destination = e; flow = closed t.flow }) (after_shut t.destination reply.Shut)
     else None
 
--- the steps that a list grows by: bytes come, or are taken
+-- the steps that make a list longer: bytes arrive, or a write takes them
 abbrev pub takes_memory : Step → Bool
 takes_memory (Arrive bytes) = true
 takes_memory (Wrote n full) = true
@@ -76,7 +76,7 @@ has_ended (s ∷ ss) = is_fin s.step || has_ended ss
 abbrev pub KeepsBytes : FlowPlan → Type 0
 KeepsBytes plan = (t : Transfer) → run_of plan ≡ Ok t → given plan.steps ≡ t.destination.taken ++ (t.flow.ring ++ t.source.unread)
 
--- The source has ended, no byte is on its way, and what was sent is all that arrived.
+-- The source has ended, no byte is on its way, and all that arrived was sent.
 pub record IsComplete (steps : List NumberedStep) (t : Transfer) : Type 0 where
   pub ended : has_ended steps ≡ true
   pub unread : t.source.unread ≡ []

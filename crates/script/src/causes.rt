@@ -13,8 +13,8 @@ pub(crate) fn add_cause<C: Causes>(alloc: Global, text: &[u8], fault: Fault, cau
     }
 }
 
-/// The cause of a fault, for a person, on one line: which word is malformed and what is expected there, or why the step
-/// is not allowed. `text` is the script. None if nothing more is known, or there is no memory for it.
+/// The cause of a fault, for a person, on one line: which word is malformed and what is expected there, or why the
+/// step is not allowed. `text` is the script. None if nothing more is known, or there is no memory for it.
 fn cause(alloc: Global, text: &[u8], fault: Fault) -> Option<String> {
     match fault {
         Fault::TooLong => String::from_str(alloc, "a script has at most 1048576 bytes").ok(),
@@ -28,7 +28,7 @@ fn cause(alloc: Global, text: &[u8], fault: Fault) -> Option<String> {
     }
 }
 
-/// Which word of a line is malformed, after its first one, and what is expected there.
+/// The cause of a malformed line: its first word, the malformed word if that is another, and what is expected there.
 fn malformed(alloc: Global, text: &[u8], number: u64) -> Option<String> {
     let (line, wrong) = wrong_line(alloc, text, number)?;
     let mut cause = Page::new(alloc);
@@ -68,8 +68,8 @@ fn show(cause: &mut Page, word: &[u8]) {
     }
 }
 
-/// The line with this number, and what is wrong with it. It is read again: the first line is a header, which decides on
-/// what the others are.
+/// The line with this number, and what is wrong with it. The line is read again, by the header, which decides how
+/// lines are read.
 fn wrong_line(alloc: Global, text: &[u8], number: u64) -> Option<(&[u8], Wrong<'_>)> {
     if text.len() > MAX_SCRIPT {
         return None;
@@ -98,7 +98,6 @@ fn wrong_behind<'a>(
     }
 }
 
-/// The line with this number among those that are left.
 fn numbered(mut lines: Lines<'_>, number: u64) -> Option<Line<'_>> {
     for _line in 0..number {
         let line = lines.next()?;
@@ -109,7 +108,7 @@ fn numbered(mut lines: Lines<'_>, number: u64) -> Option<Line<'_>> {
     None
 }
 
-/// Why the step of a line is not allowed, given the state before it.
+/// Why the step of this line is not allowed in the state before it.
 fn not_allowed(alloc: Global, text: &[u8], number: u64) -> Option<&'static str> {
     match parse(alloc, text).ok()? {
         Script::Flow(script) => refused(script.open(alloc).ok()?, script.steps(), number),
@@ -117,7 +116,7 @@ fn not_allowed(alloc: Global, text: &[u8], number: u64) -> Option<&'static str> 
     }
 }
 
-/// Why the step of a line is not allowed, if that is where the steps end.
+/// Why the step of this line is not allowed. None if it is not the first step that is refused.
 fn refused<M: Machine>(mut machine: M, steps: &[M::Step], number: u64) -> Option<&'static str> {
     for step in steps {
         match machine.make(step) {

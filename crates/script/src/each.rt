@@ -11,11 +11,11 @@ use script_text::Lines;
 use std::alloc::{AllocError, Global};
 use std::io::{Read, Write};
 
-/// Does what [`run`](crate::run) does, and writes the report after each step in place of the one at the end: the line
-/// of the script's header and then of each step, as `> LINE`, and below it those lines of the report after it that are
-/// not in the report before. The step of a line is written before the next one is made.
+/// Does what [`run`](crate::run) does, but shows each step in place of the report at the end. For the header and then
+/// for each step, it writes the line of the script, as `> LINE`, and below it the lines that the report has after that
+/// line and not before. It writes these before it makes the next step.
 ///
-/// The faults are those of `run`. What is written before a step that is not allowed stands, and the line of the fault
+/// The faults are those of `run`. If a step is not allowed, what was written before stays, and the line of the fault
 /// follows. `causes` is given a fault's cause before its line.
 pub fn run_each<R: Read, W: Write, C: Causes>(
     alloc: Global,
@@ -35,7 +35,7 @@ pub fn run_each<R: Read, W: Write, C: Causes>(
     }
 }
 
-/// Shows each step, or those before the script's fault, whose cause `causes` is given, and then the line of the fault.
+/// Shows the steps, as `show`. If the script has a fault, gives its cause to `causes`, and writes the fault's line.
 fn answer_each<W: Write, C: Causes>(
     alloc: Global,
     text: &[u8],
@@ -54,7 +54,7 @@ fn answer_each<W: Write, C: Causes>(
     }
 }
 
-/// Shows each step of the script that a text stands for, or those before its fault. False if it could not be written.
+/// Shows each step of the script that a text is, or those before the first that is refused. False if a write failed.
 fn show<W: Write>(alloc: Global, text: &[u8], writer: &mut W) -> Result<bool, Fault> {
     let script = parse(alloc, text)?;
     let lines = Lines::new(text);
@@ -90,7 +90,7 @@ fn show_steps<M: Machine, W: Write>(
     Ok(true)
 }
 
-/// Writes the next line of a script, with a mark, and then a text, and flushes both.
+/// Writes the next line of a script after a mark, and then a text, and flushes. False if that failed.
 fn put<W: Write>(
     alloc: Global,
     writer: &mut W,

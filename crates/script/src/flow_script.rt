@@ -41,7 +41,7 @@ impl FlowScript {
         self.steps.as_slice()
     }
 
-    /// The state after all steps, or the fault of the first that is not allowed, or that memory ran out.
+    /// The state after all steps; or the fault of the first step that is not allowed; or `NoMemory`.
     #[tactic(auto, using(crate::proofs::Playing::plays_give))]
     pub fn carry_out(&self, alloc: Global) -> Result<Transfer, Fault>
         ensures { Gives (run_of self.now) result }
@@ -60,7 +60,7 @@ impl FlowScript {
         Transfer::new(alloc, self.ring)
     }
 
-    /// Makes all steps, or those before the first that is refused, whose fault it gives.
+    /// Makes all steps. If one is refused, returns its fault; the steps before it stay made.
     #[tactic(auto, using(crate::proofs::Playing::played_more, std::proofs::lemmas::Option::gets, std::proofs::lemmas::Grind::common_steps))]
     pub fn play(&self, transfer: &mut Transfer) -> Result<(), Fault>
         ensures { Plays line_stepped line_takes_memory transfer.old self.now.steps result transfer.new }

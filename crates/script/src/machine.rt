@@ -9,7 +9,7 @@ use world_text::{
     wrote_reason,
 };
 
-/// A state that steps are made on, and that has a report.
+/// A state on which steps are made, and which has a report.
 pub(crate) trait Machine: Drop {
     /// A step, with the number of its line.
     type Step;
@@ -17,7 +17,7 @@ pub(crate) trait Machine: Drop {
     /// Makes a step, or gives the fault of its line.
     fn make(&mut self, step: &Self::Step) -> Result<(), Fault>;
 
-    /// Makes a step: the lines of the report after it that are not in the report before.
+    /// Makes a step, and returns the lines that the report has after it and not before; or returns a fault.
     fn show(&mut self, alloc: Global, step: &Self::Step) -> Result<String, Fault>;
 
     /// The report of the state. Fails only if memory for it ran out.
@@ -66,7 +66,7 @@ impl Machine for Transfer {
     }
 }
 
-/// Numbers that show whether a step changed the report: a step adds to a list or takes from it.
+/// Numbers that differ if a step has changed the report: a step adds to a list or takes from it.
 fn mark(transfer: &Transfer) -> [usize; 5] {
     let flow = &transfer.flow;
     [

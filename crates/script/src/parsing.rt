@@ -9,9 +9,9 @@ use script_text::{
 };
 use std::alloc::Global;
 
-/// The script that a text stands for, or its first fault: too long before all else, then no line that is not skipped,
-/// then the first malformed line of the whole text. Or memory ran out, which is answered only for a text that begins
-/// with a good header and a good line after it.
+/// The script that a text stands for, or its first fault: first that it is too long, then that no line says anything,
+/// then the first malformed line of the whole text. Or that memory ran out, but only for a text that begins with a
+/// good header and a good line after it.
 pub fn parse(alloc: Global, text: &[u8]) -> Result<Script, Fault>
     ensures script { GivesBy said_by (parsed text.now) result }
     ensures memory { IsErrOf result Fault.NoMemory → BeginsWell text.now }
@@ -22,7 +22,6 @@ pub fn parse(alloc: Global, text: &[u8]) -> Result<Script, Fault>
     plan(alloc, Lines::new(text))
 }
 
-/// The same of its lines.
 fn plan(alloc: Global, mut lines: Lines) -> Result<Script, Fault>
     ensures script { GivesBy said_by (plan_of lines.entry) result }
     ensures memory { IsErrOf result Fault.NoMemory → IsTrue (begins_well lines.entry) }
@@ -36,7 +35,6 @@ fn plan(alloc: Global, mut lines: Lines) -> Result<Script, Fault>
     }
 }
 
-/// The same of the lines after the header.
 fn headed(alloc: Global, header: Header, lines: Lines) -> Result<Script, Fault>
     requires { IsWithin header }
     ensures script { GivesBy said_by (headed header lines.entry) result }

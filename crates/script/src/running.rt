@@ -45,15 +45,15 @@ impl Simulate for Simulator {
     }
 }
 
-/// Reads a script to its end, or to one byte more than it may have, and then writes the report of the state after it or
-/// the one line of its fault.
+/// Reads a script to its end, or to one byte more than a script may have. Then writes the report of the state after
+/// the script, or the one line of its fault.
 ///
 /// It makes at most 1,048,577 reads. Any error of the reader, even one that a signal causes, is [`ScriptFault::Read`]
-/// at once. If memory runs out, the line is `out of memory`: so never for an input without a byte, nor, once it was
-/// read, for one that is too long, or whose header or first line after it is malformed.
+/// at once. If memory runs out, the line is `out of memory`. That never happens for an input without a byte, nor, once
+/// the input was read, for one that is too long, or whose header or first line after it is malformed.
 ///
-/// `causes` is given the fault's cause, if one is known and there is memory for it, before anything is written; not if
-/// memory runs out before the script was read, or for its output.
+/// `causes` is given the fault's cause before anything is written, if a cause is known and there is memory for it; but
+/// not if memory runs out before the script was read, or for its output.
 #[tactic(auto, using(crate::proofs::Telling::every_byte, crate::proofs::Telling::every_end, crate::proofs::Telling::every_run))]
 pub fn run<R: Read, W: Write, C: Causes>(
     alloc: Global,
@@ -92,7 +92,7 @@ pub fn run<R: Read, W: Write, C: Causes>(
     }
 }
 
-/// A script was not read: if memory ran out for it, that is reported.
+/// Answers for a script that was not read: writes a line only if memory for it ran out.
 pub(crate) fn answer_unread<W: Write>(
     writer: &mut W,
     fault: InputFault,
@@ -108,8 +108,8 @@ pub(crate) fn answer_unread<W: Write>(
     }
 }
 
-/// Writes the report of the state after the script that a text stands for, or the one line of the script's fault, whose
-/// cause `causes` is given first.
+/// Writes the report of the state after the script that a text stands for; or gives the cause of the script's fault to
+/// `causes`, and then writes the fault's one line.
 pub fn answer<W: Write, C: Causes>(
     alloc: Global,
     text: &[u8],
@@ -136,7 +136,7 @@ fn compute(alloc: Global, text: &[u8]) -> Result<Reached, Fault>
     parse(alloc, text)?.carry_out(alloc)
 }
 
-/// Writes the report of a state, or that there was no memory for it.
+/// Writes the report of a state, or that memory for the report ran out.
 fn tell_report<W: Write>(
     alloc: Global,
     writer: &mut W,
@@ -152,7 +152,7 @@ fn tell_report<W: Write>(
     }
 }
 
-/// Writes the line of a fault. It takes no memory, so each fault is reported as itself.
+/// Writes the line of a fault. That takes no memory, so each fault is written as itself.
 pub(crate) fn tell_fault<W: Write>(writer: &mut W, fault: Fault) -> Result<Outcome, ScriptFault>
     ensures report { result ≢ Ok Outcome.Report }
     ensures refused { result ≡ Ok Outcome.Refused → Appends (W.contents writer.old) (W.contents writer.new) (fault_line fault) }
@@ -175,8 +175,8 @@ fn write_report<W: Write>(writer: &mut W, report: &[u8]) -> Result<Outcome, Scri
     Ok(Outcome::Report)
 }
 
-/// After every list of events that can happen the headline holds, and what it depends on: tickets, rest, table and
-/// edges, as for a replay.
+/// The headline, and the tickets, rest, table and edges on which it depends, hold after every list of events that can
+/// happen.
 fn every_run_is_sound()
     ensures { EveryRunIsSound }
 {

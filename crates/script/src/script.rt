@@ -25,8 +25,7 @@ pub enum Reached {
 }
 
 impl Script {
-    /// The state after the whole script, or the fault of the first line that is not allowed, or that memory
-    /// ran out.
+    /// The state after the whole script; or the fault of the first line that is not allowed; or `NoMemory`.
     pub fn carry_out(&self, alloc: Global) -> Result<Reached, Fault>
         ensures { Gives (reached_by self.now) result }
     {
@@ -49,7 +48,7 @@ impl Reached {
     }
 }
 
-/// The report of one direction, one line: `up sent=H ring=H unread=H end=yes|no shut=yes|no`. Bytes are shown in
+/// The report of one direction, on one line: `up sent=H ring=H unread=H end=yes|no shut=yes|no`. H are bytes in
 /// lower-case hexadecimal, `-` for none; `sent` is what the destination took. Fails only if memory for it ran out.
 pub fn print_transfer(alloc: Global, transfer: &Transfer) -> Result<String, AllocError>
     ensures { IfOk result (λ text. string_bytes text ≡ report transfer.now) }

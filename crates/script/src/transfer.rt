@@ -22,7 +22,7 @@ pub struct Transfer {
 }
 
 impl Transfer {
-    /// One direction in its initial state, with a ring of at most `ring` bytes, for which memory may run out.
+    /// One direction before its first step, with a ring of at most `ring` bytes. Fails only if memory ran out.
     pub fn new(alloc: Global, ring: usize) -> Result<Transfer, AllocError>
         requires least { 1 ≤ ring }
         requires most { ring ≤ 65536 }

@@ -44,7 +44,7 @@ impl WorldScript {
         self.events.as_slice()
     }
 
-    /// The world after all events, or the fault of the first one that is not allowed, or that memory ran out.
+    /// The world after all events; or the fault of the first event that is not allowed; or `NoMemory`.
     #[tactic(auto, using(crate::proofs::Playing::plays_give))]
     pub fn carry_out(&self, alloc: Global) -> Result<World, Fault>
         ensures { Gives (world_of self.now) result }
@@ -63,7 +63,7 @@ impl WorldScript {
         World::new(alloc, self.limits)
     }
 
-    /// Makes all events happen, or those before the first that is refused, whose fault it gives.
+    /// Makes all events happen. If one is refused, returns its fault; the events before it stay.
     #[tactic(auto, using(crate::proofs::Playing::played_more, std::proofs::lemmas::Option::gets, std::proofs::lemmas::Grind::common_steps))]
     pub fn play(&self, world: &mut World) -> Result<(), Fault>
         ensures { Plays line_happened line_takes_memory world.old self.now.events result world.new }

@@ -17,8 +17,8 @@ use Rattle.kernel_model.specs.declared.accepting.Accepting.TheVariants as accept
 use Rattle.world.specs.declared.event.Reported.TheVariants as reported
 use Rattle.script_text.specs.declared.steps.Step.TheVariants as step
 
--- An event as a line says it. Two forms carry a list, of bytes or of names; each other one is an event of
--- the machine as it stands.
+-- An event as a line says it. Two forms carry a list, of bytes or of names; any other form is an event of the machine
+-- as it is.
 pub data Said : Type 0 where
   Arrives : ℕ → Side → List ℕ → Said
   Polls : List Name → Said
@@ -37,7 +37,7 @@ slot_of word = number_below 64 word
 abbrev pub worker_of : List ℕ → Option ℕ
 worker_of word = number_below 16 word
 
--- the generations of a name, 1 to 2^47 - 1
+-- the generation in a name, 1 to 2^47 - 1
 abbrev pub generation_of : List ℕ → Option ℕ
 generation_of word = option_and_then (λ n. if nat_lt 0 n && nat_le n last_generation then Some n else None) (number_of word)
 
@@ -59,7 +59,7 @@ abbrev pub all_names : List (List ℕ) → Option (List Name)
 all_names [] = Some []
 all_names (word ∷ words) = option_and_then (λ n. option_map (λ ns. n ∷ ns) (all_names words)) (name_of word)
 
--- 256 names at most, with those that stand before them
+-- the names that these words are, if they and the `count` names before them are at most 256
 abbrev pub names_behind : ℕ → List (List ℕ) → Option (List Name)
 names_behind count words = if nat_le (count + length words) 256 then all_names words else None
 
@@ -90,7 +90,7 @@ reply_of (name ∷ words) =
     else if bytes_eq name (codes "failed") then word_then kind_named (λ kind. if_last (reply.Failed kind)) words
     else None
 
--- what a report without a cause is about
+-- what a report is about that comes without cause or is withdrawn
 abbrev pub reported_of : List (List ℕ) → Option Reported
 reported_of [] = None
 reported_of (who ∷ words) =
@@ -100,7 +100,7 @@ reported_of (who ∷ words) =
 
 -- The words after the first one
 
--- a slot and a side, for what happens to a socket
+-- a slot and a side, for a change without bytes
 abbrev pub change_event : Change → List (List ℕ) → Option Event
 change_event change = word_then slot_of (λ slot. word_then side_named (λ side. if_last (event.Network slot side change)))
 
@@ -146,7 +146,6 @@ plain_event _ words = None
 abbrev pub arrival : List (List ℕ) → Option Said
 arrival = word_then slot_of (λ slot. word_then side_named (λ side. word_then bytes_of (λ bytes. if_last (Arrives slot side bytes))))
 
--- an event that carries no list is said as it stands
 abbrev pub event_by : Word → List (List ℕ) → Option Said
 event_by word.Arrive words = arrival words
 event_by word.Poll words = option_map Polls (names_of words)

@@ -5,7 +5,7 @@ use Rattle.token.specs.Names.{last_generation}
 use Rattle.world.specs.{declared.limits.Limits.Limits, States.IsWithinLimits}
 use Rattle.script_text.specs.{declared.header.Header.{Header, TheVariants.{Flow, World}}, Texts.{words_of, value_after, bytes_after, Found, word_then, if_last}}
 
--- `KEY=N` with N from 1 to the most
+-- `KEY=N` with N from 1 to `most`
 abbrev pub size_of : List ℕ → ℕ → List ℕ → Option ℕ
 size_of key most word = option_and_then (λ n. if nat_lt 0 n && nat_le n most then Some n else None) (value_after key word)
 
@@ -25,12 +25,12 @@ IsRing n = (1 ≤ n) × (n ≤ 65536)
 abbrev pub idle_of : List ℕ → Option ℕ
 idle_of word = size_of (codes "idle=") 86400 word
 
--- what is of a size that it may have
+-- its sizes are within their limits
 abbrev pub IsWithin : Header → Type 0
 IsWithin (Flow ring) = IsRing ring
 IsWithin (World limits) = IsWithinLimits limits
 
--- these bytes, if a lead may have this many
+-- these bytes, if a lead may have as many
 abbrev pub short_enough : List ℕ → Option (List ℕ)
 short_enough bytes = if nat_le (length bytes) 107 then Some bytes else None
 
@@ -38,7 +38,7 @@ short_enough bytes = if nat_le (length bytes) 107 then Some bytes else None
 abbrev pub lead_of : List ℕ → Option (List ℕ)
 lead_of word = option_and_then short_enough (bytes_after (codes "lead=") word)
 
--- what the first word says; if it does not say such a thing, it is left, and the value is another
+-- what the first word says; if it says no such thing, the word stays, and the value is `otherwise`
 abbrev pub found_or : {X : Type 0} → X → List ℕ → List (List ℕ) → Option X → Found X
 found_or otherwise word words (Some x) = record { value = x; words = words }
 found_or otherwise word words None = record { value = otherwise; words = word ∷ words }
@@ -47,8 +47,8 @@ abbrev pub optional : {X : Type 0} → (List ℕ → Option X) → X → List (L
 optional read otherwise [] = record { value = otherwise; words = [] }
 optional read otherwise (word ∷ words) = found_or otherwise word words (read word)
 
--- What may stand after the sizes, each at most once and in this order: ` gen=G`, the generation that the slots have
--- had, 0 if it is not given; ` idle=L`, the idle limit, 0 for none; ` lead=HEX`, the lead, empty for none.
+-- What may come after the sizes, each at most once and in this order: ` gen=G`, the generation at which the slots
+-- start, 0 if it is left out; ` idle=L`, the idle limit, 0 for none; ` lead=HEX`, the lead, empty for none.
 abbrev pub with_extras : Limits → List (List ℕ) → Option Limits
 with_extras sizes words =
     let generation = optional generation_of 0 words in
@@ -56,7 +56,7 @@ with_extras sizes words =
     let lead = optional lead_of [] idle.words in
     if_last (record sizes { generation = generation.value; idle = idle.value; lead = lead.value }) lead.words
 
--- `slots=S workers=W ring=R budget=B`, with what stands after
+-- `slots=S workers=W ring=R budget=B`, and the rest
 abbrev pub limits_of : List (List ℕ) → Option Limits
 limits_of =
     word_then (size_of (codes "slots=") 64) (λ slots. word_then (size_of (codes "workers=") 16) (λ workers.

@@ -1,4 +1,4 @@
--- How the lines and words of a script are cut, and what numbers and bytes look like in it. Part of the promises.
+-- How a script is cut into lines and words, and how numbers and bytes are written in it. Part of the promises.
 use Rattle.std.specs.{Prelude.{ℕ, ◌+◌, ◌==◌, nat_lt, nat_le, Bool, true, ◌&&◌, ◌||◌, if◌then◌else◌, List, [], ◌∷◌, length, Option, Some, None, take, drop, option_and_then, ◌≡◌, false, codes, IsSome, option_map, Result, Ok, Err}, List.list_all, Str.bytes_eq, Result.result_ok}
 use Rattle.hex.specs.Hex.{decode_of}
 pub use Rattle.input.specs.Texts.{is_digit, is_plain, number_of, pieces_left, pieces_of, value_of, with_digit}
@@ -17,19 +17,19 @@ pub record NumberedLine : Type 0 where
   pub number : ℕ
   pub text : List ℕ
 
--- an empty line, and one that begins with #, says nothing
+-- a line says nothing, and is skipped, if it is empty or begins with #
 abbrev pub says_nothing : List ℕ → Bool
 says_nothing [] = true
 says_nothing (byte ∷ bytes) = byte == 35
 
--- the lines that say something, if the first of all has this number: skipped lines count, too
+-- the lines that say something, if the first of all lines has the number n: skipped lines count, too
 abbrev pub telling_lines : ℕ → List (List ℕ) → List NumberedLine
 telling_lines n [] = []
 telling_lines n (text ∷ texts) =
     if says_nothing text then telling_lines (n + 1) texts
     else (record { number = n; text = text }) ∷ telling_lines (n + 1) texts
 
--- the number that a text is, if it is below a bound
+-- the number that a text stands for, if it is below a bound
 abbrev pub number_below : ℕ → List ℕ → Option ℕ
 number_below bound text = option_and_then (λ n. if nat_lt n bound then Some n else None) (number_of text)
 
@@ -41,11 +41,11 @@ value_after key word = if bytes_eq (take (length key) word) key then number_of (
 abbrev pub is_lower_hex : ℕ → Bool
 is_lower_hex byte = is_digit byte || (nat_le 97 byte && nat_le byte 102)
 
--- one to 2,048 digits of lower-case hexadecimal; an odd number of them says no bytes, below
+-- 1 to 2,048 digits of lower-case hexadecimal; an odd number of digits stands for no bytes, below
 abbrev pub is_hex_text : List ℕ → Bool
 is_hex_text text = nat_lt 0 (length text) && (nat_le (length text) 2048 && list_all is_lower_hex text)
 
--- the bytes that a text is in lower-case hexadecimal, 1 to 1,024 of them
+-- the bytes that a text stands for in lower-case hexadecimal, 1 to 1,024 of them
 abbrev pub bytes_of : List ℕ → Option (List ℕ)
 bytes_of text = if is_hex_text text then result_ok (decode_of text) else None
 
@@ -53,7 +53,7 @@ bytes_of text = if is_hex_text text then result_ok (decode_of text) else None
 abbrev pub bytes_after : List ℕ → List ℕ → Option (List ℕ)
 bytes_after key word = if bytes_eq (take (length key) word) key then bytes_of (drop (length key) word) else None
 
--- How a line is read: word by word, from left to right. Part of the promises, down to `full_of`; the rest is what the
+-- How a line is read: word by word, from left to right. Part of the promises down to `full_of`; the rest is what the
 -- calls that read a word or a line say.
 
 -- what was read, and the words after it
@@ -66,7 +66,7 @@ abbrev pub first_as : {X : Type 0} → (List ℕ → Option X) → List (List �
 first_as read [] = None
 first_as read (word ∷ words) = option_map (λ x. record { value = x; words = words }) (read word)
 
--- what the first word says, and what the words after it say then
+-- what the words after the first one say, given what the first one says
 abbrev pub word_then : {X Y : Type 0} → (List ℕ → Option X) → (X → List (List ℕ) → Option Y) → List (List ℕ) → Option Y
 word_then read next words = option_and_then (λ found. next found.value found.words) (first_as read words)
 
@@ -84,22 +84,22 @@ abbrev pub full_of : List (List ℕ) → Option Bool
 full_of [] = Some false
 full_of (word ∷ words) = if bytes_eq word (codes "full") then if_last true words else None
 
--- What was read is what is defined; it is refused exactly if that is nothing.
+-- The call read what is defined, or refused since nothing is.
 abbrev pub Reads : {X E : Type 0} → Option X → Result X E → Type 0
 Reads defined (Ok x) = defined ≡ Some x
 Reads defined (Err wrong) = defined ≡ None
 
--- The same, for what stands in front of words that are left then.
+-- `Reads`, for the first of some words; `left` are the words after it.
 abbrev pub Takes : {X E : Type 0} → Option (Found X) → Result X E → List (List ℕ) → Type 0
 Takes defined (Ok x) left = defined ≡ Some (record { value = x; words = left })
 Takes defined (Err wrong) left = defined ≡ None
 
--- The same as `Reads` for a whole line, whose end must still be read after the words that are left.
+-- `Reads` for a whole line, of which `left` is not read yet, and must be empty.
 abbrev pub Ends : {X E : Type 0} → Option X → Result X E → List (List ℕ) → Type 0
 Ends defined (Ok x) left = defined ≡ if_last x left
 Ends defined (Err wrong) left = defined ≡ None
 
--- The same as `Reads` if memory is needed, which runs out only for what can be read. A value is compared as `view` sees
+-- `Reads` for a call that needs memory: memory runs out only for what can be read. A value is compared as `view` sees
 -- it.
 abbrev pub ReadsBy : {X Y : Type 0} → (Y → X) → Option X → Result Y NotRead → Type 0
 ReadsBy view defined (Ok x) = defined ≡ Some (view x)

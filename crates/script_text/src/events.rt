@@ -14,12 +14,12 @@ use token::{KIND_WANTED, Kind, MAX_GENERATION, Name, Side, Token};
 use world::{Act, Change, Event, Listening, Polling, Reported};
 use world_text::Word;
 
-/// The first words of a world's lines: what is expected in place of another one.
+/// What is expected if the first word of a world's line is another.
 const EVENTS: &str =
     "not a step of a world; one of accept, arrive, call, claim, close, connect, deliver, drop, fin, free, idle, open, poll, pop, post, put, release, reset, retire, room, spurious, sweep, take, tick and vanish is wanted";
 
 /// The event that a line of a world's script stands for, or the first word from the left that is wrong; or that memory
-/// ran out for the list that an event has.
+/// ran out for the event's list of bytes or names.
 #[tactic(auto, using(crate::proofs::FirstWords::plain_event_of))]
 pub fn read_event<'a>(alloc: Global, line: &'a [u8]) -> Result<Event, NotRead<'a>>
     ensures { ReadsBy said_of (event_of line.now) result }
@@ -104,7 +104,7 @@ fn accepting_named(word: &[u8]) -> Option<Accepting>
     }
 }
 
-/// What the network does to an end.
+/// Reads the end at which the change happens.
 fn at_end<'a>(change: Change, words: &mut Pieces<'a>) -> Result<Event, Wrong<'a>>
     ensures { Ends (change_event change words.old) result words.new }
 {
@@ -113,7 +113,6 @@ fn at_end<'a>(change: Change, words: &mut Pieces<'a>) -> Result<Event, Wrong<'a>
     Ok(Event::Network(slot, side, change))
 }
 
-/// The poller's put, or a worker's.
 fn put<'a>(words: &mut Pieces<'a>) -> Result<Event, Wrong<'a>>
     ensures { Ends (put_event words.old) result words.new }
 {
@@ -131,7 +130,6 @@ fn put<'a>(words: &mut Pieces<'a>) -> Result<Event, Wrong<'a>>
     }
 }
 
-/// What a worker does by a word alone.
 fn work<'a>(act: Act, words: &mut Pieces<'a>) -> Result<Event, Wrong<'a>>
     ensures { Ends (act_event act words.old) result words.new }
 {
@@ -150,7 +148,7 @@ fn generation_said(word: &[u8]) -> Option<u64>
     }
 }
 
-/// The name of an end, `SLOT.GEN.SIDE`, by its parts.
+/// The name of an end, by the parts of `SLOT.GEN.SIDE`.
 fn end(mut parts: Pieces) -> Option<Name>
     ensures { result ≡ end_of parts.entry }
 {
@@ -160,7 +158,6 @@ fn end(mut parts: Pieces) -> Option<Name>
     }
 }
 
-/// The name of an end whose slot, generation and side these are.
 fn end_named(slot: &[u8], generation: &[u8], side: &[u8]) -> Option<Name>
     ensures { result ≡ end_of (slot.now ∷ generation.now ∷ side.now ∷ []) }
 {
@@ -204,14 +201,14 @@ fn names<'a>(alloc: Global, mut words: Pieces<'a>) -> Result<Vec<Name>, NotRead<
     Ok(names)
 }
 
-/// The name that a word says, if few enough stand before it for a poll.
+/// The name that a word says. None also if a poll has no room for a name after `count` others.
 fn name_behind(count: usize, word: &[u8]) -> Option<Name>
     ensures { result ≡ (if nat_lt count 256 then name_of word.now else None) }
 {
     if count < MAX_POLLED { name(word) } else { None }
 }
 
-/// What is wrong with a word that is no name of a poll.
+/// What is wrong with a word that is no name, or has no place in a poll after `count` names.
 fn not_a_name<'a>(count: usize, word: &'a [u8]) -> Wrong<'a> {
     if count < MAX_POLLED {
         let wanted = "listener, waker or SLOT.GEN.SIDE, as in 0.1.client, is wanted";
@@ -221,7 +218,7 @@ fn not_a_name<'a>(count: usize, word: &'a [u8]) -> Wrong<'a> {
     }
 }
 
-/// Why a poll is not read if there was no memory for its names: still the first malformed word after the first `count`.
+/// What is wrong if memory for a poll's first `count` names ran out: a malformed word after them comes first.
 fn lacking<'a>(error: AllocError, count: usize, words: Pieces<'a>) -> NotRead<'a>
     requires { count ≤ 256 }
     ensures { ReadsBy (λ all. all) (are_names count words.entry) (Err result) }
@@ -232,7 +229,7 @@ fn lacking<'a>(error: AllocError, count: usize, words: Pieces<'a>) -> NotRead<'a
     }
 }
 
-/// Whether these words, after this many names, are names too.
+/// Fails for the first of these words that is not a name of a poll, after `count` names.
 fn are_names<'a>(mut count: usize, mut words: Pieces<'a>) -> Result<(), Wrong<'a>>
     requires { count ≤ 256 }
     ensures { Reads (are_names count words.entry) result }
@@ -246,7 +243,7 @@ fn are_names<'a>(mut count: usize, mut words: Pieces<'a>) -> Result<(), Wrong<'a
     Ok(())
 }
 
-/// What a report without cause is about.
+/// Reads what a report is about that comes without cause or is withdrawn.
 fn reported<'a>(words: &mut Pieces<'a>) -> Result<Reported, Wrong<'a>>
     ensures { Ends (reported_of words.old) result words.new }
 {
@@ -267,7 +264,7 @@ fn reported<'a>(words: &mut Pieces<'a>) -> Result<Reported, Wrong<'a>>
     }
 }
 
-/// The answer to a call.
+/// Reads the reply to a call.
 fn reply<'a>(words: &mut Pieces<'a>) -> Result<Reply, Wrong<'a>>
     ensures { Ends (reply_of words.old) result words.new }
 {

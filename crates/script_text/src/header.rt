@@ -1,4 +1,4 @@
-// The header: the first line of a script that is not skipped.
+// Reads the header: the first line of a script that is not skipped.
 ghost use Rattle.std.specs.Prelude.{◌≡◌, ◌≤◌, ◌<◌, [], unwrap_or, IfSome, IfOk, option_and_then};
 ghost use Rattle.token.specs.Names.{last_generation};
 ghost use Rattle.world.specs.States.{IsWithinLimits};
@@ -22,7 +22,7 @@ pub enum Header {
     World(Limits),
 }
 
-/// The header that a line stands for, or what is wrong with it: the first such word from the left.
+/// The header that a line stands for, or the first word from the left that is wrong.
 pub fn read_header(line: &[u8]) -> Result<Header, Wrong<'_>>
     ensures value { Reads (header_of line.now) result }
     ensures range { IfOk result IsWithin }
@@ -45,7 +45,7 @@ pub fn read_header(line: &[u8]) -> Result<Header, Wrong<'_>>
     }
 }
 
-/// The sizes of a world: `slots=S workers=W ring=R budget=B`, and what may stand after them.
+/// Reads the sizes of a world, `slots=S workers=W ring=R budget=B`, and what may come after them.
 fn limits(mut words: Pieces<'_>) -> Result<Limits, Wrong<'_>>
     ensures value { Reads (limits_of words.entry) result }
     ensures range { IfOk result IsWithinLimits }
@@ -81,7 +81,7 @@ fn limits(mut words: Pieces<'_>) -> Result<Limits, Wrong<'_>>
     with_extras(sizes, words)
 }
 
-/// `gen=G`, `idle=L` and `lead=HEX` in this order, each of which may be left out.
+/// Reads `gen=G`, `idle=L` and `lead=HEX`, in this order. Each may be left out.
 fn with_extras(sizes: Limits, mut words: Pieces<'_>) -> Result<Limits, Wrong<'_>>
     requires { IsWithinLimits sizes }
     ensures value { Reads (with_extras sizes words.entry) result }
@@ -99,7 +99,7 @@ fn with_extras(sizes: Limits, mut words: Pieces<'_>) -> Result<Limits, Wrong<'_>
     })
 }
 
-/// What may stand after these parts.
+/// What is expected after these parts.
 fn behind(generation: Option<u64>, idle: Option<u64>, has_lead: bool) -> &'static str {
     if has_lead {
         "the line should end before this word"
@@ -112,7 +112,7 @@ fn behind(generation: Option<u64>, idle: Option<u64>, has_lead: bool) -> &'stati
     }
 }
 
-/// The generation that `gen=G` says as the first word; or none, and the word stays.
+/// Takes the next word if it is `gen=G`, and returns G. Otherwise returns None, and the word stays.
 fn generation(words: &mut Pieces<'_>) -> Option<u64>
     ensures value { optional generation_of 0 words.old ≡ record { value = unwrap_or result 0; words = words.new } }
     ensures range { IfSome result (λ generation. generation < last_generation) }
@@ -126,7 +126,7 @@ fn generation(words: &mut Pieces<'_>) -> Option<u64>
     }
 }
 
-/// The same of `idle=L`, in seconds.
+/// As `generation`, for `idle=L`, in seconds.
 fn idle(words: &mut Pieces<'_>) -> Option<u64>
     ensures { optional idle_of 0 words.old ≡ record { value = unwrap_or result 0; words = words.new } }
 {
@@ -135,7 +135,7 @@ fn idle(words: &mut Pieces<'_>) -> Option<u64>
     Some(idle as u64)
 }
 
-/// The same of `lead=HEX`.
+/// As `generation`, for `lead=HEX`.
 fn lead(words: &mut Pieces<'_>) -> Option<Lead>
     ensures { optional lead_of [] words.old ≡ record { value = unwrap_or result []; words = words.new } }
 {
@@ -151,7 +151,7 @@ fn ring<'a>(words: &mut Pieces<'a>) -> Result<usize, Wrong<'a>>
     size(words, b"ring=", Flow::MAX, "ring=1 to ring=65536 is wanted")
 }
 
-/// `KEY=N`, from 1 to `most`. The key ends with its `=`.
+/// Takes `KEY=N`, with N from 1 to `most`. The key ends with its `=`.
 fn size<'a>(
     words: &mut Pieces<'a>,
     key: &[u8],

@@ -1,11 +1,11 @@
 //! What the lines of a script say, as `docs/FORMATS.md` describes them.
 //!
-//! [`Lines`] gives the lines of a text that are not skipped, whose words are the pieces of `input`. [`read_header`]
-//! reads the first line, and [`read_step`] and [`read_event`] read the others, by what the header covers. If a line
-//! cannot be read, [`Wrong`] is the first word from the left that is at fault, with what is expected there.
+//! [`Lines`] gives the lines of a text that are not skipped; their words are pieces of `input`. [`read_header`] reads
+//! the first line, and [`read_step`] or [`read_event`] each other line, by what the header covers. If a line cannot be
+//! read, [`Wrong`] is the first word from the left that is wrong, with what is expected there.
 //!
-//! What is written of a world, and the words by which lines begin, is the crate `world_text`. `specs/` has definitions:
-//! `Texts` for lines and words, `Headers` and `Events` for what they say.
+//! The crate `world_text` has what is written of a world, and the words by which lines begin. `specs/` has
+//! definitions: `Texts` for lines and words, `Headers` and `Events` for what they say.
 #![tactic(auto)]
 
 mod events;

@@ -13,7 +13,7 @@ pub struct Line<'a> {
     pub text: &'a [u8],
 }
 
-/// The lines of a text that are not skipped: those that are left.
+/// The rest of a text: its next lines that are not skipped.
 #[derive(Drop)]
 pub struct Lines<'a> {
     texts: Pieces<'a>,

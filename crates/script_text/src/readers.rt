@@ -1,5 +1,5 @@
-//! What reads the next word of a line, or says what is wrong with it. The numbers in the texts are those of the limits:
-//! a row of `tests/program/causes` tries each text with the last word that is taken and the first that is not.
+//! Reads the next word of a line, or says what is wrong with it. The numbers in the texts are those of the limits: a
+//! row of `tests/program/causes` tries each text with the last word that is taken and the first that is not.
 ghost use Rattle.std.specs.{Prelude.{◌≡◌, ◌≤◌, take, option_map, IfSome}, List.list_all};
 ghost use Rattle.token.specs.Sides.{side_named};
 ghost use Rattle.world_text.specs.Words.{word_named};
@@ -11,7 +11,7 @@ use std::alloc::{AllocError, Global};
 use token::Side;
 use world_text::Word;
 
-/// Of a world: the most slots, workers, calls of one turn, and seconds of an idle limit.
+/// The most slots of a world.
 pub(crate) const MAX_SLOTS: usize = 64;
 
 /// The most workers of a world.
@@ -23,10 +23,10 @@ pub(crate) const MAX_BUDGET: usize = 1_024;
 /// The most seconds of an idle limit.
 pub(crate) const MAX_IDLE: usize = 86_400;
 
-/// The most bytes of a word.
+/// The most bytes that a word of hexadecimal digits stands for.
 pub(crate) const MAX_BYTES: usize = 1_024;
 
-/// The first word of a line, if a line begins with such a word.
+/// Takes the first word of a line. Refuses a word with which no line begins.
 pub(crate) fn first_word<'a>(
     words: &mut Pieces<'a>,
     wanted: &'static str,
@@ -42,7 +42,7 @@ pub(crate) fn first_word<'a>(
     }
 }
 
-/// What a word says, if it says anything.
+/// The value that a word stands for, or that the word is malformed.
 pub(crate) fn said<'a, T>(
     value: Option<T>,
     word: &'a [u8],
@@ -59,7 +59,7 @@ pub(crate) fn said<'a, T>(
 /// What is expected where a line should end.
 const END: &str = "the line should end before this word";
 
-/// Reads the end of the line, in whose place `wanted` may stand.
+/// Refuses a word that is left, in whose place `wanted` is expected.
 pub(crate) fn end_or<'a>(mut words: Pieces<'a>, wanted: &'static str) -> Result<(), Wrong<'a>>
     ensures { Reads (line_end words.entry) result }
 {
@@ -69,7 +69,7 @@ pub(crate) fn end_or<'a>(mut words: Pieces<'a>, wanted: &'static str) -> Result<
     }
 }
 
-/// A value, if the line ends.
+/// Returns the value, if no word is left.
 pub(crate) fn last<'a, T: Drop>(value: T, words: Pieces<'a>) -> Result<T, Wrong<'a>>
     ensures { Reads (if_last value words.entry) result }
 {
@@ -121,7 +121,7 @@ pub(crate) fn count<'a>(words: &mut Pieces<'a>) -> Result<usize, Wrong<'a>>
     }
 }
 
-/// Bytes, after which the line ends. A line that goes on is malformed, even if there is no memory.
+/// Takes the last word of a line: bytes. A line that goes on is malformed, even if there is no memory.
 pub(crate) fn last_bytes<'a>(alloc: Global, mut words: Pieces<'a>) -> Result<Bytes, NotRead<'a>>
     ensures { ReadsBy (λ bytes. bytes) (word_then bytes_of if_last words.entry) result }
 {
@@ -140,7 +140,7 @@ pub(crate) fn last_bytes<'a>(alloc: Global, mut words: Pieces<'a>) -> Result<Byt
     }
 }
 
-/// Whether a write left no room, which `full` at the end of the line says.
+/// Whether the line's last word is `full`: then a write left no room.
 pub(crate) fn is_full<'a>(words: &mut Pieces<'a>) -> Result<bool, Wrong<'a>>
     ensures { Ends (full_of words.old) result words.new }
 {
@@ -154,14 +154,14 @@ pub(crate) fn is_full<'a>(words: &mut Pieces<'a>) -> Result<bool, Wrong<'a>>
     }
 }
 
-/// The word of a line that is wrong, and what is expected there: the first such word from the left.
+/// The first word of a line from the left that is wrong, and what is expected there.
 #[derive(Drop)]
 pub struct Wrong<'a> {
     /// The malformed word, or none if one is missing.
     pub word: Option<&'a [u8]>,
-    /// Whether it is the line's first word, with which no line of this kind begins.
+    /// Whether the word is the line's first, with which no line of this kind begins.
     pub is_first: bool,
-    /// What is expected in its place, for a person.
+    /// What is expected in the word's place, for a person.
     pub wanted: &'static str,
 }
 
@@ -170,7 +170,7 @@ pub struct Wrong<'a> {
 pub enum NotRead<'a> {
     /// This word is wrong.
     Malformed(Wrong<'a>),
-    /// The line may be right.
+    /// Memory ran out. The line may be right.
     NoMemory,
 }
 
@@ -238,8 +238,8 @@ pub(crate) fn value_after(key: &[u8], word: &[u8]) -> Option<usize>
     number(word.strip_prefix(key)?)
 }
 
-/// Puts the bytes that a text stands for in lower-case hexadecimal, 1 to 1,024 of them, to the front of `room`, and
-/// says how many they are, if it stands for any.
+/// Decodes a text of lower-case hexadecimal into the front of `room`, and returns how many bytes it stands for, 1 to
+/// 1,024. None if it stands for none.
 pub(crate) fn decode(text: &[u8], room: &mut [u8; MAX_BYTES]) -> Option<usize>
     ensures value { bytes_of text.now ≡ option_map (λ length. take length room.new) result }
     ensures range { IfSome result (λ length. length ≤ 1024) }

@@ -24,7 +24,7 @@ impl Model for Bytes {
 }
 
 impl Bytes {
-    /// Takes no memory, nor does [`Bytes::into_vec`].
+    /// These bytes. Allocates no memory.
     pub fn new(bytes: Vec<u8>) -> Bytes
         ensures { result ≡ bytes.items }
     {
@@ -65,7 +65,7 @@ pub enum Step {
     Shut,
 }
 
-/// A step, and the number of its line in the text, from 1; skipped lines count.
+/// A step of one direction, and its line's number, from 1.
 #[derive(Drop)]
 pub struct NumberedStep {
     /// The line number; skipped lines count.
@@ -74,7 +74,7 @@ pub struct NumberedStep {
     pub step: Step,
 }
 
-/// The same of an event of a world.
+/// An event of a world, and its line's number, from 1.
 #[derive(Drop)]
 pub struct NumberedEvent {
     /// The line number; skipped lines count.
@@ -100,12 +100,12 @@ impl Step {
     }
 }
 
-/// The first words of a flow's lines: what is expected in place of another one.
+/// What is expected if the first word of a flow's line is another.
 const STEPS: &str =
     "not a step of a flow; one of arrive, end, fin, read, room, shut and wrote is wanted";
 
-/// The step that a line of a script of one direction stands for, or the first word from the left that is wrong; or that
-/// memory ran out for the bytes that a step brings.
+/// The step that a line of a script of one direction stands for, or the first word from the left that is wrong; or
+/// that memory ran out for the step's bytes.
 pub fn read_step<'a>(alloc: Global, line: &'a [u8]) -> Result<Step, NotRead<'a>>
     ensures { ReadsBy (λ step. step) (step_of line.now) result }
 {

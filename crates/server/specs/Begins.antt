@@ -32,7 +32,7 @@ pub record PollersBegin (settings : Settings) (split : Split) (reports : List (L
   pub failed : map (λ poller. poller.failed) pollers ≡ failures
 
 -- What threads are made from: for each poller and each worker a seat and an end of the queue of tickets, and for each
--- part a queue that holds its slots in order, with an end for its poller and one for each worker. None did anything
+-- part a queue that holds its slots in order, with an end for its poller and one for each worker. All are as new
 pub record ThreadsBegin (settings : Settings) (split : Split) (claims : TableId) (parts : Parts)
     (ends : List (List (EndState ℕ))) : Type 0 where
   pub seats : parts.seats.items ≡ replicate (parts_of split.slots split.size + settings.workers) (fresh_seat claims)

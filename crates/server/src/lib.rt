@@ -10,7 +10,7 @@ mod making;
 mod recorded;
 mod serving;
 
-pub use dispatch::{Clock, Gate, OpenGate, ServerFault};
+pub use dispatch::{Clock, Gate, ServerFault};
 pub use making::{build, split_of};
 pub use recorded::serve_recorded;
 pub use serving::{Lent, serve};

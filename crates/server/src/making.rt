@@ -65,7 +65,7 @@ where
     })
 }
 
-/// For each part of the slots, the ends of a queue that holds them: one for its poller, and one for each worker.
+/// For each part of the slots, the ends of its free queue, which holds them: one for its poller, one for each worker.
 #[tactic(auto, using(crate::proofs::Parts::one_more))]
 fn frees_of(
     rt: &impl Wait,
@@ -112,7 +112,7 @@ fn pollers_of<F: Front + Drop>(
     Ok(pollers)
 }
 
-/// It opens connections in its part of the slots, and no more than its share of all.
+/// A poller that opens connections in its part of the slots, and no more than its share of all.
 fn poller_of<F: Front + Drop>(
     alloc: Global,
     settings: &Settings,
@@ -136,7 +136,7 @@ fn poller_of<F: Front + Drop>(
     Poller::new(alloc, front, settings.slots, part, opening, most)
 }
 
-/// How many connections the poller with this number may open, of the `stop_after` that the server may; 0 is no limit.
+/// How many connections the poller with this number may open, of the `stop_after` of the server; there 0 is no limit.
 fn share_of(stop_after: u32, pollers: usize, number: usize) -> u64
     requires { 1 ≤ pollers }
     ensures { result ≡ share_of stop_after pollers number }
@@ -152,8 +152,7 @@ fn share_of(stop_after: u32, pollers: usize, number: usize) -> u64
     }
 }
 
-/// What this many threads share, of which this many poll, and for each of them a seat and an end of the queue of
-/// tickets.
+/// What the threads share, some of which are pollers, and for each thread a seat and an end of the ready queue.
 fn shared_of<F: Front>(
     alloc: Global,
     settings: &Settings,
@@ -190,8 +189,8 @@ where
     Ok((shared, Parts { seats, ready }))
 }
 
-/// Whether workers run light tickets, too. Where at least two threads poll, and no fewer than work, a worker that
-/// sleeps says nothing of an idle processor: it would wait for one, and so would its tickets.
+/// Whether workers run light tickets, too. If at least two threads poll, and no fewer than work, a sleeping worker does
+/// not show that a processor is idle: the worker would wait for one, and so would its tickets.
 fn shares_light(pollers: usize, workers: usize) -> bool
     ensures { IsTrue result ↔ SharesLight pollers workers }
 {

@@ -20,10 +20,10 @@ use std::sync::{Mutex, Wait};
 use std::thread::{self, Threads};
 use threads::Outcome;
 
-/// Serves as [`serve`] does. If there is a file, what each thread does is recorded into it until the server ends: then
-/// the last line says that all is recorded. A thread of its own writes the file, and the call returns once all is
-/// written. If records come faster than it can write, or the file cannot be written, the recording ends, a warning is
-/// logged, and the server serves on. By `NoMemory` or `Threads` it may also refuse to begin.
+/// Serves as [`serve`] does. If there is a file, what each thread does is recorded into it until the server ends; the
+/// last line then says that all is recorded. A thread of its own writes the file, and the call returns once all is
+/// written. If records come faster than that thread writes, or the file cannot be written, the recording ends, a
+/// warning is logged, and the server serves on. The recording may also refuse to begin, with `NoMemory` or `Threads`.
 pub fn serve_recorded<
     G: Gate + Sync,
     C: Clock + Sync,
@@ -64,12 +64,12 @@ struct Recording<'a, W, R> {
     alloc: Global,
     queue: RecordQueue,
     header: Header,
-    /// The file, until its thread has begun.
+    /// The file, until the thread that writes it has begun.
     file: Mutex<Option<W>>,
 }
 
 impl<W: Write + Drop, R: Wait + Log> Recording<'_, W, R> {
-    /// The thread that writes the file.
+    /// Writes the file, in its own thread.
     fn write(&self) {
         let file = self.file.lock(self.rt).take();
         if let Some(file) = file {
@@ -134,7 +134,7 @@ where
     run_on(rt, alloc, settings, fronts, waker, lent)
 }
 
-/// The sizes of a server, as its recording begins.
+/// The header of a recording: the server's sizes.
 fn header_of(settings: &Settings, split: Split) -> Header {
     Header {
         slots: settings.slots,

@@ -21,11 +21,11 @@ use threads::{Outcome, Server, run_threads};
 pub struct Lent<'a, G, C> {
     /// Called once all threads have been started, and before and after each turn.
     pub gate: &'a G,
-    /// By it the idle limit is counted.
+    /// The idle limit goes by this clock.
     pub clock: &'a C,
     /// Another thread sets this once no more connections may be opened.
     pub is_stopped: &'a AtomicBool,
-    /// Where connections are counted, with a place for each of the settings' slots; None if they are not.
+    /// Where connections are counted, with a place for each of the settings' slots; None to count none.
     pub statistics: Option<&'a Arc<Statistics>>,
     /// How long to wait for targets and clients that do not answer.
     pub patience: Patience,
@@ -42,16 +42,17 @@ impl<G, C> Clone for Lent<'_, G, C> {
 impl<G, C> Copy for Lent<'_, G, C> {}
 
 /// Serves on the bound socket: accepts connections and forwards each one to the settings' target. Beside the settings'
-/// number of workers there are as many pollers' threads, but at most one for each 64 slots, and at least one; one of
-/// them is the calling thread. With the settings' `proxy` each target is first sent a line with its client's addresses.
+/// number of workers there are as many pollers' threads, but at most one for each 64 slots, and at least one. The
+/// calling thread is a poller's. With the settings' `proxy` each target is first sent a line with its client's
+/// addresses.
 ///
-/// It returns once `stop_after` connections were opened, or `is_stopped` was set, and all connections that were
-/// opened are closed; or on a fault. Once no more may be opened, the listening socket is closed. When it returns,
-/// every thread has ended, and every socket is closed.
+/// It returns on a fault; or once `stop_after` connections were opened or `is_stopped` was set, and all opened ones are
+/// closed. Once no more may be opened, the listening socket is closed. When it returns, every thread has ended, and
+/// every socket is closed.
 ///
 /// The fault is `NoMemory` if there is not enough to begin with, `Poll` if the system cannot report on sockets,
-/// `Threads` if a thread cannot be started, and `Worn` if a thread has posted 2^56 notes. Of several faults it
-/// is that of the first poller, or else of the first worker.
+/// `Threads` if a thread cannot be started, and `Worn` if a thread has posted 2^56 notes. Of several it is the first
+/// poller's or `Threads`, whichever came first; or else the next thread's: pollers come before workers.
 pub fn serve<G: Gate + Sync, C: Clock + Sync, R: Net + Dial + Wait + Threads + Log + Sync>(
     rt: &R,
     alloc: Global,
@@ -62,7 +63,6 @@ pub fn serve<G: Gate + Sync, C: Clock + Sync, R: Net + Dial + Wait + Threads + L
     serve_into(rt, alloc, settings, bound, lent, None)
 }
 
-/// Records into the queue, if there is one.
 pub(crate) fn serve_into<
     G: Gate + Sync,
     C: Clock + Sync,
@@ -120,8 +120,8 @@ fn timing_of<'a, C>(settings: &Settings, clock: &'a C) -> Timing<'a, C>
     }
 }
 
-/// A server as the settings say, whose connections are counted there, and whose clients are logged so. It takes its
-/// share of the statistics first: so no server has to be dropped if there is no memory for that.
+/// A server as the settings say, with these statistics, which logs clients at level info if asked. It takes its share
+/// of the statistics first, so no server has to be dropped if there is no memory for the share.
 fn server_of<F: Front + Drop, R: Wait>(
     rt: &R,
     alloc: Global,

@@ -1,7 +1,7 @@
 -- An IPv4 address with a port, and its one text. Part of the promises.
 use Rattle.std.specs.{Prelude.{◌≡◌, ◌≢◌, ℕ, ◌<◌, ◌^◌, List, ◌∷◌, ◌++◌, length, map, slice_index, All}, List.join_with_byte, Fmt.decimal}
 
--- four numbers, the first first, and a port
+-- the four numbers of an address, from left to right, and a port
 abbrev pub SocketAddress : Type 0
 SocketAddress = List ℕ × ℕ
 
@@ -13,6 +13,6 @@ IsAddress a = (length a.0 ≡ 4) × All (λ n. n < 2 ^ 8) a.0 × (a.1 < 2 ^ 16)
 abbrev pub address_text : SocketAddress → List ℕ
 address_text a = join_with_byte 46 (map decimal a.0) ++ 58 ∷ decimal a.1
 
--- no plus sign in front, and a zero only where it stands alone
+-- the text begins with no plus sign, and with a zero only if that is all
 abbrev pub IsPlain : List ℕ → Type 0
 IsPlain text = (slice_index text 0 ≢ 43) × (slice_index text 0 ≡ 48 → length text ≡ 1)

@@ -18,7 +18,7 @@ Writes a_level d (level l) = as_str d ≡ Some (level_name l)
 Writes a_truth d (truth b) = as_bool d ≡ Some b
 Writes _ _ _ = ⊥
 
--- the fault of a value that has the kind and writes no setting; there is no such truth value
+-- the fault of a value that has the kind and writes no setting; every truth value writes one
 abbrev pub refusal : ValueKind → Key → SettingsFault
 refusal (an_address lowest) k = BadAddress k
 refusal (a_number low high) k = OutOfRange k
@@ -29,7 +29,7 @@ refusal a_truth k = OutOfRange k
 abbrev pub Gives : Row → Members → Setting → Type 0
 Gives row doc v = MatchOption (get_member (key_name row.key) doc) (row.default ≡ Some v) (λ d. Writes row.kind d v)
 
--- the value is not of the kind, or it is and writes no setting
+-- the value has this fault: it is not of the kind, or it is and writes no setting
 abbrev pub Refuses : ValueKind → Key → Data → SettingsFault → Type 0
 Refuses kind k d fault =
     ((¬ (HasKind kind d)) × (fault ≡ WrongKind k))
@@ -41,21 +41,21 @@ Faults row doc fault =
     MatchOption (get_member (key_name row.key) doc) ((row.default ≡ None) × (fault ≡ Missing row.key))
     (λ d. Refuses row.kind row.key d fault)
 
--- what was read for a key
+-- what was read is the key's setting by the document, or the key's fault
 abbrev pub Reads : {X : Type 0} → (X → Setting) → Row → Members → Result X SettingsFault → Type 0
 Reads setting row doc (Ok x) = Gives row doc (setting x)
 Reads setting row doc (Err fault) = Faults row doc fault
 
--- each key is set
+-- the document gives each key its setting in v
 abbrev pub GivesEach : Members → (Key → Setting) → Type 0
 GivesEach doc v = (k : Key) → Gives (row_of k) doc (v k)
 
--- the first of these keys that has a fault in the document has this one
+-- the first of these keys that has a fault in the document has this fault
 abbrev pub IsFirstFault : List Key → Members → SettingsFault → Type 0
 IsFirstFault [] doc fault = ⊥
 IsFirstFault (k ∷ ks) doc fault = Faults (row_of k) doc fault ⊎ (((v : Setting) × Gives (row_of k) doc v) × IsFirstFault ks doc fault)
 
--- a name at the top level of the document, which is no key's
+-- the document has this name at its top level, and no key has the name
 abbrev pub IsUnknown : Members → List ℕ → Type 0
 IsUnknown doc name = IsSome (get_member name doc) × ((k : Key) → name ≢ key_name k)
 
@@ -76,7 +76,7 @@ IsDocument text doc = IsUtf8 text × (parse_document text ≡ Some doc)
 abbrev pub IsSettingsOf : List ℕ → Settings → Type 0
 IsSettingsOf text s = (doc : Members) × IsDocument text doc × HasNoUnknown doc × GivesEach doc (setting s)
 
--- the document has this fault: its first unknown key, or where it has none the first fault in the order of the keys
+-- the document's fault: its first unknown key, or if it has none the first fault in the order of the keys
 abbrev pub IsFaultOfDocument : Members → SettingsFault → Type 0
 IsFaultOfDocument doc fault =
     ((name : List ℕ) × (fault ≡ UnknownKey name) × IsFirstUnknown doc name) ⊎ (HasNoUnknown doc × IsFirstFault keys doc fault)
@@ -99,6 +99,6 @@ abbrev pub lines_text : List Key → Settings → List ℕ
 lines_text [] s = []
 lines_text (k ∷ ks) s = key_name k ++ 61 ∷ (setting_text (setting s k) ++ 10 ∷ lines_text ks s)
 
--- all of them
+-- a line for each key
 abbrev pub settings_text : Settings → List ℕ
 settings_text s = lines_text keys s

@@ -8,30 +8,30 @@ use Rattle.settings.specs.{Table.key_name, declared.faults.SettingsFault.{Settin
 abbrev pub shown_character : ℕ → List ℕ
 shown_character c = if is_control c then codes "\\u{" ++ (digits 16 false c ++ codes "}") else encode_utf8 c
 
--- what stands for those of this many characters that are not shown
+-- what stands for the characters that are left out of this many: `..` if there are over 64
 abbrev pub dots : ℕ → List ℕ
 dots count = if nat_lt 64 count then codes ".." else []
 
--- the first 64 characters, and `..` where there are more
+-- the first 64 characters, and then `..` if there are more
 abbrev pub one_line : List ℕ → List ℕ
 one_line text = flat_map shown_character (take 64 (chars text)) ++ dots (length (chars text))
 
--- the last 64 characters, and `..` where there are more
+-- the last 64 characters, after `..` if there are more
 abbrev pub end_of_line : List ℕ → List ℕ
 end_of_line text = dots (length (chars text)) ++ flat_map shown_character (drop (length (chars text) - 64) (chars text))
 
--- a key has a value, which it does not take
+-- the fault is that a key does not take its value
 abbrev pub IsOfValue : SettingsFault → Type 0
 IsOfValue (WrongKind key) = Unit {0}
 IsOfValue (OutOfRange key) = Unit {0}
 IsOfValue (BadAddress key) = Unit {0}
 IsOfValue _ = ⊥
 
--- what is wrong with a name
+-- the line that says what is wrong with this name
 abbrev pub line_of : List ℕ → List ℕ → List ℕ
 line_of name wrong = codes "settings: " ++ (name ++ (codes ": " ++ wrong))
 
--- the fault's line, without its end; only an unknown key is a text of the file's own
+-- the fault's line, without its line feed; of the file's own text it shows only an unknown key
 abbrev pub fault_line : SettingsFault → List ℕ
 fault_line NotToml = codes "settings: not toml"
 fault_line (UnknownKey key) = line_of (one_line key) (codes "unknown key")

@@ -24,8 +24,8 @@ pub data Setting : Type 0 where
   level : LogLevel → Setting
   truth : Bool → Setting
 
--- what a key takes: an address whose port is at least this, a whole number from the one to the other, the name of a
--- level, or a truth value
+-- what a key takes: an address whose port is at least this, a whole number from the first to the second, the name of
+-- a level, or a truth value
 pub data ValueKind : Type 0 where
   an_address : ℕ → ValueKind
   a_number : ℕ → ℕ → ValueKind
@@ -56,7 +56,7 @@ row_of Log = optional Log a_level (level Info)
 row_of Idle = optional Idle (a_number 0 86400) (number 0)
 row_of Proxy = optional Proxy a_truth (truth false)
 
--- what a person reads that a key of this kind takes, with its range
+-- `Takes`, from which a message says what a key takes, agrees with the kind and its range
 abbrev pub Tells : ValueKind → Takes → Type 0
 Tells (an_address lowest) (takes.Address row) = row.lowest_port ≡ lowest
 Tells (a_number low high) (takes.Number row) = (row.low ≡ low) × (row.high ≡ high)

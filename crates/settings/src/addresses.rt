@@ -1,4 +1,3 @@
-//! Addresses as written in a settings text.
 ghost use Rattle.std.specs.{Prelude.{◌≡◌, ◌≢◌, ℕ, ◌<◌, ◌^◌, Some, IfSome, IfNone, IsTrue, ◌↔◌}, Fmt.decimal};
 ghost use Rattle.settings.specs.Addresses.{SocketAddress, IsAddress, IsPlain, address_text};
 
@@ -32,14 +31,14 @@ pub(crate) fn decimal_number(text: &str) -> Option<u16>
     text.parse::<u16>().ok()
 }
 
-/// Whether a text begins with no plus sign and no leading zero, which `parse` would accept.
+/// Returns false if a text begins with a plus sign or a leading zero, which `parse` would accept.
 fn is_plain(text: &[u8]) -> bool
     ensures { IsTrue result ↔ IsPlain text.now }
 {
     !matches!(text, [b'+', ..] | [b'0', _, ..])
 }
 
-/// An address as it is written: it prints as the text that `address_of` reads.
+/// An address that prints as the text that `address_of` reads.
 #[derive(Clone, Copy)]
 pub(crate) struct AddressText(pub(crate) Address);
 

@@ -10,8 +10,8 @@ use std::alloc::{AllocError, Global};
 use std::fmt;
 use toml::Value;
 
-/// The cause of a fault, for a person: the line, what it says, and what is expected there. `bytes` is the text with the
-/// fault. `None` if there is no memory for it.
+/// The cause of a fault, for a person: the line, what stands there, and what is wanted instead. `bytes` is the text
+/// with the fault. `None` if there is no memory for the cause.
 pub fn cause(alloc: Global, bytes: &[u8], fault: &SettingsFault) -> Option<String>
     ensures memory { IsUtf8 bytes.now → fault.now ≡ SettingsFault.NoMemory → result ≡ None }
 {
@@ -47,7 +47,7 @@ fn line_at(bytes: &[u8], index: usize) -> usize {
     line
 }
 
-/// Where a text is not TOML, and what is wrong there: what is known of that line, or else what the parser says.
+/// The cause of `NotToml`: the line where the text stops being TOML, and what is wrong there.
 fn not_toml(alloc: Global, text: &str) -> Option<String> {
     let Err(error) = toml::table_from_str(alloc, text) else {
         return None;
@@ -57,7 +57,7 @@ fn not_toml(alloc: Global, text: &str) -> Option<String> {
     at(alloc, text.as_bytes(), start, slip)
 }
 
-/// What is wrong in the line of this byte.
+/// Shows the number of the line with this byte, and what is wrong there.
 fn at(alloc: Global, bytes: &[u8], index: usize, slip: Slip<'_>) -> Option<String> {
     let line = line_at(bytes, index);
     format!(in alloc; "line {line}: {slip}").ok()
@@ -71,7 +71,7 @@ fn unknown(alloc: Global, text: &str, name: &str) -> Option<String> {
     format!(in alloc; "{place}{name}: one of {names} is wanted").ok()
 }
 
-/// A value that a key does not take, and what the key takes.
+/// Shows a value that a key does not take, and what the key takes.
 fn refused(alloc: Global, text: &str, key: Key) -> Option<String> {
     let place = Place(line_of(alloc, text, key.name()).ok()?);
     let document = toml::table_from_str(alloc, text).ok()?;
@@ -91,8 +91,8 @@ fn refused_value(
     format!(in alloc; "{place}{key} = {value}: {wanted}")
 }
 
-/// The cause of a fault in a text that says what the arguments of a command line say: the argument and its value, as
-/// they are typed, and what is expected there. `None` if it is no fault of a value, or there is no memory for it.
+/// The cause of a fault of the command line: the argument and its value, as typed, and what is wanted instead.
+/// `bytes` is the settings text that the arguments became. `None` if no value is at fault, or memory ran out.
 pub fn argument_cause(alloc: Global, bytes: &[u8], fault: &SettingsFault) -> Option<String>
     ensures other { (IsOfValue fault.now → ⊥) → result ≡ None }
 {
@@ -106,8 +106,7 @@ pub fn argument_cause(alloc: Global, bytes: &[u8], fault: &SettingsFault) -> Opt
     refused_argument(alloc, document.get(key.name())?, *key).ok()
 }
 
-/// An argument, by its option or by what stands for it in a help text, with a value that it does not take, and what it
-/// takes.
+/// Shows an argument, named as help names it, with a value that it refuses, and what it takes.
 fn refused_argument(alloc: Global, value: &Value, key: Key) -> Result<String, AllocError> {
     let typed = typed(alloc, value)?;
     let wanted = Wanted::in_place_of_word(typed.as_str(), key);
@@ -133,10 +132,10 @@ struct KeyNames;
 
 impl fmt::Display for KeyNames {
     fn fmt<W: fmt::Write>(&self, f: &mut fmt::Formatter<W>) -> fmt::Result {
-        for row in &ROWS {
-            let before = match row.key {
-                Key::Listen => "",
-                Key::Proxy => " and ",
+        for (number, row) in ROWS.iter().enumerate() {
+            let before = match number {
+                0 => "",
+                _ if number == ROWS.len() - 1 => " and ",
                 _ => ", ",
             };
             let name = row.name;
@@ -146,7 +145,7 @@ impl fmt::Display for KeyNames {
     }
 }
 
-/// The words `line N: ` for the line that sets a key, or nothing if it is not found.
+/// Prints `line N: ` for the line that sets a key, or nothing if that line was not found.
 #[derive(Clone, Copy)]
 struct Place(Option<usize>);
 
@@ -159,8 +158,8 @@ impl fmt::Display for Place {
     }
 }
 
-/// The first line, from 1, that begins what sets a key: the text up to its end, or up to the end of a value that spans
-/// lines, is TOML that has the key. Only lines with the name as it is are tried, and the text is parsed at most
+/// The number, from 1, of the line that begins to set a key: the text up to the end of that line, or of a value that
+/// spans lines, is TOML that has the key. Only lines with the name as it is are tried, and the text is parsed at most
 /// [`MAX_LOOKS`] times.
 fn line_of(alloc: Global, text: &str, name: &str) -> Result<Option<usize>, AllocError> {
     let mut looks = 0usize;
@@ -186,7 +185,7 @@ fn line_of(alloc: Global, text: &str, name: &str) -> Result<Option<usize>, Alloc
     Ok(None)
 }
 
-/// Whether a text sets this name at its top level. None if it is not TOML, as where a value has not ended.
+/// Whether a text sets this name at its top level. None if the text is not TOML, as when a value has not ended.
 fn sets(alloc: Global, text: &str, name: &str) -> Result<Option<bool>, AllocError> {
     match toml::table_from_str(alloc, text) {
         Ok(document) => Ok(Some(document.get(name).is_some())),
@@ -198,17 +197,17 @@ fn sets(alloc: Global, text: &str, name: &str) -> Result<Option<bool>, AllocErro
 /// What is wrong in a line that is not TOML.
 #[derive(Clone, Copy)]
 pub(crate) enum Slip<'a> {
-    /// Its key stands in this line, too.
+    /// The line's key stands in this earlier line, too.
     Twice(&'a str, usize),
-    /// What it has for a key is no value.
+    /// What the line has for this key is no TOML value.
     NoValue(Key, &'a str, Wanted<'a>),
-    /// These words say it.
+    /// These words say what is wrong.
     Other(&'a str),
 }
 
 impl<'a> Slip<'a> {
-    /// What is wrong in the line with this byte, where a text stops being TOML. None if that has no word here, or there
-    /// is no memory to find out.
+    /// What is wrong in the line with this byte, where a text stops being TOML. None if only the parser can say it,
+    /// or there is no memory to find out.
     pub(crate) fn of(alloc: Global, text: &'a str, index: usize) -> Option<Slip<'a>> {
         let (before, line) = line_around(text, index)?;
         let (name, written) = line.split_once('=')?;
@@ -240,7 +239,7 @@ fn line_around(text: &str, index: usize) -> Option<(&str, &str)> {
     Some((before, line))
 }
 
-/// What stands after the `=` of a line, without a comment after what has no quotes.
+/// The value after the `=` of a line. A comment is left out, unless the value begins with a quote.
 fn value_in(written: &str) -> &str {
     let written = written.trim();
     match written.split_once('#') {

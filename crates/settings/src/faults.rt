@@ -1,4 +1,3 @@
-//! What can be wrong in a settings text.
 ghost use Rattle.std.specs.Prelude.{◌≡◌, ℕ, List, Some, IfOk, string_bytes};
 
 use crate::one_line::OneLine;
@@ -8,7 +7,7 @@ use std::error::Error;
 use std::fmt;
 use std::marker::Model;
 
-/// An unknown key, as it is in the text.
+/// The name of an unknown key.
 #[derive(Debug, Drop)]
 pub struct KeyText {
     text: String,
@@ -21,7 +20,7 @@ impl Model for KeyText {
 }
 
 impl KeyText {
-    /// A copy.
+    /// A copy of a key's name.
     pub fn new(alloc: Global, text: &str) -> Result<KeyText, AllocError>
         ensures { IfOk result (λ key. key ≡ text.now) }
     {
@@ -30,7 +29,7 @@ impl KeyText {
         })
     }
 
-    /// The key as it is in the text, without quotes and escapes.
+    /// The name, without the text's quotes and escapes.
     pub fn as_str(&self) -> &str
         ensures { result.now ≡ self.now }
     {
@@ -49,13 +48,13 @@ impl fmt::Display for KeyText {
     }
 }
 
-/// The first thing that is wrong in a settings text: it is not TOML; then the first unknown key, in byte order; and
-/// then the fault of the first key, in the order of [`Key`], that has one.
+/// The first thing that is wrong in a settings text: it is not TOML; else its first unknown key, in byte order; else
+/// the fault of the first key, in the order of [`Key`], that has a fault.
 #[derive(Debug, Drop)]
 pub enum SettingsFault {
     /// The bytes are not UTF-8, or not a TOML document.
     NotToml,
-    /// It is at the top level.
+    /// This name at the top level is no key.
     UnknownKey(KeyText),
     /// A required key that the text leaves out.
     Missing(Key),

@@ -1,4 +1,3 @@
-//! The settings as the relay uses them.
 ghost use Rattle.std.specs.Prelude.{◌≤◌, Some};
 
 use crate::addresses::{Address, AddressText};
@@ -46,7 +45,7 @@ impl Settings {
     ghost use Rattle.toml.specs.View.{table_view};
     ghost use Rattle.settings.specs.{Table.{setting, keys, row_of, number, level, truth}, Document.{Gives, GivesEach, IsFirstFault}};
 
-    /// The settings of a document that has no unknown key, or the fault of the first key that has one.
+    /// The settings of a document that has no unknown key, or the fault of the first key that has a fault.
     pub(crate) fn of(document: &Table) -> Result<Settings, SettingsFault>
         ensures settings { IfOk result (λ s. GivesEach (table_view document.now) (setting s)) }
         ensures fault { IfErr result (IsFirstFault keys (table_view document.now)) }

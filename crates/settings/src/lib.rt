@@ -2,9 +2,8 @@
 //!
 //! `parse` reads a text. `Settings` has one field for each key and prints as `KEY=VALUE` lines, and `SettingsFault`
 //! prints as the line that a person sees. The table of the keys, with kinds, ranges and defaults, is in
-//! `src/table.rt`, and for the promises in `specs/Table.antt`. `cause` gives the details of a fault that help a
-//! person to find it, `argument_cause` those of a fault of a command line. `pollers_for` says how many threads poll,
-//! which no key sets.
+//! `src/table.rt`, and for the promises in `specs/Table.antt`. `cause` and `argument_cause` help a person to find a
+//! fault in a file or in a command line. `pollers_for` says how many threads poll, which no key sets.
 #![tactic(auto)]
 
 mod addresses;

@@ -46,7 +46,6 @@ fn dots_before(count: usize) -> &'static str
     if count > MAX_SHOWN { ".." } else { "" }
 }
 
-/// What follows this many characters of a text.
 fn without_first(text: &str, count: usize) -> &str
     ensures { chars result.now ≡ drop count (chars text.now) }
 {

@@ -46,7 +46,7 @@ fn document_of(alloc: Global, bytes: &[u8]) -> Result<Table, SettingsFault>
     }
 }
 
-/// The fault that this key is unknown, if there is memory for a copy of its name.
+/// The fault that this key is unknown, or `NoMemory` if there is none for a copy of its name.
 fn unknown_key(alloc: Global, name: &str) -> SettingsFault
     ensures { result ≢ SettingsFault.NoMemory → result ≡ SettingsFault.UnknownKey name.now }
 {
@@ -69,7 +69,6 @@ fn first_unknown(document: &Table) -> Option<&String>
     None
 }
 
-/// The address of a row's key.
 pub(crate) fn address_at(document: &Table, row: AddressRow) -> Result<Address, SettingsFault>
     ensures reads { Reads address (required row.key (an_address row.lowest_port)) (table_view document.now) result }
     ensures range { IfOk result (λ a. row.lowest_port ≤ a.1) }
@@ -86,7 +85,6 @@ pub(crate) fn address_at(document: &Table, row: AddressRow) -> Result<Address, S
     }
 }
 
-/// The whole number of a row's key.
 pub(crate) fn number_at(document: &Table, row: NumberRow) -> Result<u32, SettingsFault>
     requires { (row.low ≤ row.default) × (row.default ≤ row.high) }
     ensures reads { Reads number (optional row.key (a_number row.low row.high) (number row.default)) (table_view document.now) result }
@@ -104,7 +102,6 @@ pub(crate) fn number_at(document: &Table, row: NumberRow) -> Result<u32, Setting
     }
 }
 
-/// The level of a key.
 pub(crate) fn level_at(
     document: &Table,
     key: Key,
@@ -124,7 +121,6 @@ pub(crate) fn level_at(
     }
 }
 
-/// The truth value of a key.
 pub(crate) fn truth_at(document: &Table, key: Key, default: bool) -> Result<bool, SettingsFault>
     ensures reads { Reads truth (optional key a_truth (truth default)) (table_view document.now) result }
 {

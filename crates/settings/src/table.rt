@@ -38,7 +38,7 @@ pub enum Key {
     StopAfter,
     /// The level of the messages on standard error.
     Log,
-    /// How many seconds a connection may move nothing before it fails; 0 for ever.
+    /// How many seconds a connection may move nothing before it fails; 0 for no such limit.
     Idle,
     /// Whether the target is first sent a line with the client's address.
     Proxy,
@@ -72,21 +72,20 @@ impl Key {
         }
     }
 
-    /// What stands for the key where a text leaves it out, as it is printed; None of a required key.
+    /// The key's default, as it is printed. None if the key is required.
     pub fn default(self) -> Option<&'static str>
         ensures { option_map (λ text. text.now) result ≡ option_map setting_text (row_of self).default }
     {
         ROWS[self as usize].default
     }
 
-    /// What the key takes.
     pub(crate) fn takes(self) -> Takes
         ensures { Tells (row_of self).kind result }
     {
         ROWS[self as usize].takes
     }
 
-    /// Whether it takes a truth value.
+    /// Returns true if the key takes a truth value.
     pub fn takes_truth(self) -> bool
         ensures { IsTrue result ↔ ((row_of self).kind ≡ a_truth) }
     {
@@ -106,11 +105,11 @@ impl fmt::Display for Key {
 #[derive(Clone, Copy)]
 pub(crate) struct AddressRow {
     pub(crate) key: Key,
-    /// The lowest port that it takes.
+    /// The lowest port that the key takes.
     pub(crate) lowest_port: u16,
-    /// Such an address, as it is written.
+    /// An address that the key takes, as it is written.
     pub(crate) example: &'static str,
-    /// What a port alone lacks in front, and what that stands for.
+    /// What is missing before a port alone, and the words for what that stands for.
     pub(crate) host: &'static str,
     pub(crate) stands_for: &'static str,
 }
@@ -186,7 +185,6 @@ pub(crate) const IDLE: NumberRow = NumberRow {
     default: 0,
 };
 
-/// What a key takes.
 #[derive(Clone, Copy)]
 pub(crate) enum Takes {
     /// An address, as this row says.
@@ -208,9 +206,9 @@ pub struct Row {
     pub(crate) takes: Takes,
     /// As [`Key::default`] gives it.
     pub(crate) default: Option<&'static str>,
-    /// Its option. An argument without one is known by its place.
+    /// The option for the key. A key without an option is an argument that is known by its place.
     pub option: Option<&'static str>,
-    /// What stands for its value in a help text.
+    /// The name of the value in a help text.
     pub value_name: &'static str,
     pub help: &'static str,
 }
@@ -301,7 +299,7 @@ pub static ROWS: [Row; 10] = [
     Row {
         key: Key::Proxy,
         name: "proxy",
-        // A target that does not expect the line would take it for the client's first bytes.
+        // Off by default: a target that does not expect the line takes it for the client's first bytes.
         takes: Takes::Truth,
         default: Some("false"),
         option: Some("proxy"),

@@ -21,7 +21,7 @@ enum Kind {
     NoNumber,
 }
 
-/// What is looked for, in this order, and the words before and after the part that is wrong.
+/// The mistakes that are looked for, in this order, with the words before and after the wrong part.
 static KINDS: [(Kind, &str, &str); 11] = [
     (Kind::Blank, "an address has no blanks", ""),
     (Kind::Scheme, "an address alone is wanted, without ", "://"),
@@ -48,7 +48,7 @@ static KINDS: [(Kind, &str, &str); 11] = [
     (Kind::NoNumber, "", " is no port, which has digits only"),
 ];
 
-/// What is wrong with a text that is no address. None if that has no words here.
+/// What is wrong with a text that is no address. None if `KINDS` has no words for it.
 fn mistake_in(text: &str) -> Option<Wanted<'_>> {
     for (kind, before, after) in &KINDS {
         if let Some(part) = kind.part_of(text) {
@@ -139,13 +139,13 @@ fn are_digits(text: &str) -> bool {
     text.as_bytes().iter().all(|byte| byte.is_ascii_digit())
 }
 
-/// Whether a text is a number with a zero in front, after a sign or none.
+/// Returns true if a text is a number with a leading zero, after a minus sign or none.
 pub fn has_leading_zero(text: &str) -> bool {
     let digits = text.strip_prefix('-').unwrap_or(text);
     matches!(digits.as_bytes(), [b'0', _, ..]) && are_digits(digits)
 }
 
-/// Whether a text is a number over this one. Digits that are no number are too many.
+/// Whether a text is a number over `most`. Digits that do not fit a `u32` are one, too.
 fn is_over(text: &str, most: u32) -> bool {
     let is_within = matches!(text.parse::<u32>(), Ok(number) if number <= most);
     are_digits(text) && !text.is_empty() && !is_within
@@ -160,12 +160,11 @@ pub(crate) enum Wanted<'a> {
     Port(u16),
     /// This text in quotes, for this key.
     Quotes(Key, &'a str),
-    /// What these words say. The part of a text between them is shown on one line.
+    /// These words, with a part of a text between them, which is shown on one line.
     Words(&'static str, &'a str, &'static str),
 }
 
 impl<'a> Wanted<'a> {
-    /// What a key takes.
     pub(crate) fn by(key: Key) -> Wanted<'a> {
         match key.takes() {
             Takes::Address(row) => {
@@ -179,7 +178,7 @@ impl<'a> Wanted<'a> {
         }
     }
 
-    /// In place of a value that a key refuses, and that is `word` without quotes.
+    /// What is wanted if a key refuses a value, which is `word` without quotes.
     pub(crate) fn in_place_of(value: &Value, word: &'a str, key: Key) -> Wanted<'a> {
         if !is_word(value) || !matches!(key.takes(), Takes::Address(_)) {
             return Wanted::by(key);
@@ -187,7 +186,7 @@ impl<'a> Wanted<'a> {
         Wanted::in_place_of_word(word, key)
     }
 
-    /// In place of a word that a key refuses, as it is typed on a command line.
+    /// What is wanted if a key refuses a word, as it is typed on a command line.
     pub(crate) fn in_place_of_word(word: &'a str, key: Key) -> Wanted<'a> {
         let mistake = match key.takes() {
             Takes::Address(row) if address_of(word).is_some() => {
@@ -200,8 +199,8 @@ impl<'a> Wanted<'a> {
         mistake.unwrap_or(Wanted::by(key))
     }
 
-    /// In place of what a line has for a key, where that is no value of TOML. None of a text that is wrong in another
-    /// way than by its quotes.
+    /// What is wanted if a line has no TOML value for a key. None if an address or a level is wrong otherwise than by
+    /// its quotes.
     pub(crate) fn in_place_of_written(written: &'a str, key: Key) -> Option<Wanted<'a>> {
         match key.takes() {
             Takes::Address(_) | Takes::Level if !written.is_empty() => quotes_of(written, key),
@@ -210,12 +209,11 @@ impl<'a> Wanted<'a> {
     }
 }
 
-/// Whether a value is a text or a whole number.
 fn is_word(value: &Value) -> bool {
     value.as_str().is_some() || value.as_integer().is_some()
 }
 
-/// The address that a port alone, or one with `*` before it, stands for.
+/// The address that stands for a port alone, or for one after `:` or `*:`. None if the port is too low.
 fn port_alone(word: &str, row: AddressRow) -> Option<Wanted<'_>> {
     let ("" | "*", port) = host_and_port(word) else {
         return None;

@@ -24,12 +24,12 @@ end_in (Some Listener) = None
 end_in (Some Waker) = None
 end_in None = None
 
--- the word of an end, if there are this many slots
+-- the word of an end, if its slot is one of this many
 abbrev pub word_at : ℕ → Option EndName → Option WordName
 word_at slots (Some end) = word_of slots end.slot end.side
 word_at slots None = None
 
--- the word that an event sets: that of the end that its number names, if it names reading
+-- the word that an event sets, if it names reading: the word of the end that its number names
 abbrev pub heard_of : ℕ → Event → Option WordName
 heard_of slots event = if names_reading event then word_at slots (end_in (name_of (event_token event).0)) else None
 
@@ -39,8 +39,8 @@ Fails (Ok done) = ⊥
 Fails (Err error) = error_kind error ≢ Interrupted
 
 -- A front: how its connections are forwarded, the most milliseconds that it waits for reports, the numbers that its
--- last poll gave, whether that failed, how many milliseconds it could take, whether it has a share of the listening
--- socket, and how many times in a row it has left a client to other pollers
+-- last poll gave, whether that failed, how many milliseconds it could take, whether the front has a share of the
+-- listening socket, and how many times in a row it has left a client to other pollers
 pub record Watched : Type 0 where
   pub forwarding : Forwarding
   pub wait : ℕ
@@ -71,8 +71,8 @@ fresh_front forwarding pollers = record {
 abbrev pub most_left : ℕ
 most_left = 16
 
--- What a wait for reports says of this front, beside what it says of any. After a brief one that gave no report the
--- next client is accepted
+-- What a wait for reports says of this front, beside what it says of any. After a brief wait without a report the front
+-- leaves no client
 pub record WaitEnded (wait : Waiting) (answer : Result (Unit {0}) Error) (old new : Watched) : Type 0 where
   pub fails : IsTrue new.failed ↔ Fails answer
   pub asked : wait ≡ waiting.Long → new.waited ≡ old.wait
@@ -99,12 +99,12 @@ v4_of None = None
 abbrev pub IsLocal : {S : Type 0} → (Made → S → S → Type 0) → S → Option SocketAddrV4 → Type 0
 IsLocal did socket address = (named : Result SocketAddr Error) × did (NamedHere named) socket socket × (address ≡ v4_of (result_ok named))
 
--- The addresses that a front gives of a client's connection: none unless targets are sent them, and else the client's
--- own. The one on which it was accepted only the system knows
+-- The addresses that a front gives of a client's connection: none unless targets are sent them, else the client's own.
+-- Only the system knows the address on which the client was accepted
 abbrev pub IsRoute : Bool → Option SocketAddr → Route → Type 0
 IsRoute false peer route = route ≡ record { client = None; accepted = None }
 IsRoute true peer route = route.client ≡ v4_of peer
 
--- what it may give of a client with this address
+-- the addresses that a front may give of a client with this address
 abbrev pub MayTell : Option SocketAddr → Route → Type 0
 MayTell peer route = (proxy : Bool) × IsRoute proxy peer route

@@ -23,7 +23,7 @@ waiting = record { at_once = false; full_offers = 0 }
 abbrev pub prompt : Sending
 prompt = record { at_once = true; full_offers = 0 }
 
--- bytes were offered to it: after four full offers in a row it may wait
+-- this many bytes were offered to a socket: after four full offers in a row it may wait for more
 pub record IsOffered (bytes : ℕ) (old new : Sending) : Type 0 where
   pub full : 16384 ≤ bytes → new.full_offers ≡ min (old.full_offers + 1) 4
   pub short : bytes < 16384 → new.full_offers ≡ 0
@@ -44,14 +44,14 @@ pub record Wired (S : Type 0) : Type 0 where
   pub stream : S
   pub socket : Socket
 
--- no time was given, or none for the connection to be made
+-- no time was given (`unset`), or none for the connection to be made (`unlimited`)
 abbrev pub unset : Patience
 unset = record { connect = None; keepalive = None }
 
 abbrev pub unlimited : Patience → Patience
 unlimited patience = record patience { connect = None }
 
--- a new one, which is known to be connected or not
+-- a new socket, which is known to be connected or not
 abbrev pub fresh_wire : Bool → Option SocketAddr → Socket
 fresh_wire joined peer = record { tally = tally joined 0 0; sending = waiting; reads = true; peer = peer; watched = None; patience = unset }
 
@@ -64,7 +64,6 @@ under name socket = record socket { watched = Some name }
 abbrev pub patient : Patience → Socket → Socket
 patient patience socket = record socket { patience = patience }
 
--- the same, but for the name under which it is reported
 abbrev pub SameButWatched : Socket → Socket → Type 0
 SameButWatched old new = new ≡ record old { watched = new.watched }
 
@@ -74,12 +73,12 @@ call_of (Write offer) = call.Write
 call_of Join = call.Join
 call_of Shut = call.Shut
 
--- bytes that it took show that it is connected. None of an offer that isn't empty is a fault
+-- bytes that the socket took show that it is connected. To take none of an offer that isn't empty is a fault
 abbrev pub took : ℕ → ℕ → Tallied → Tallied
 took count offered t = if count == 0 then (if offered == 0 then t else fault_more t) else connected t
 
--- bytes, the end of input or an address show that it is connected, and a shutdown shows nothing. An error is counted
--- by its class
+-- bytes, the end of input or an address show that the socket is connected, and a shutdown shows nothing. An error is
+-- counted by its class
 abbrev pub tally_after : Asked → Given → Tallied → Tallied
 tally_after asked (Refused kind) t = counted (class_by (call_of asked) t.joined kind) t
 tally_after (Read most) (Brought bytes) t = connected t
@@ -87,19 +86,19 @@ tally_after (Write offer) (Took count) t = took count (length offer) t
 tally_after Join Done t = connected t
 tally_after asked given t = t
 
--- an offer may end that it sends at once, and no other call does
+-- after an offer the socket may no longer send at once; no other call changes that
 abbrev pub SendsAfter : Asked → Sending → Sending → Type 0
 SendsAfter (Write offer) old new = IsOffered (length offer) old new
 SendsAfter asked old new = new ≡ old
 
--- a read that would block ends that the wire reads the socket, and a failure of any call begins it
+-- whether the wire reads the socket after an error: no more after a read that would block, again after any failure
 abbrev pub goes_on : CallKind → Class → Bool → Bool
 goes_on call class.Interrupted reads = reads
 goes_on call (class.Failed kind) reads = true
 goes_on call.Read class.Blocked reads = false
 goes_on call class.Blocked reads = reads
 
--- a write that took no byte of an offer that isn't empty is a failure
+-- whether it reads after a write: to take no byte of an offer that isn't empty is a failure
 abbrev pub goes_on_after : ℕ → ℕ → Bool → Bool
 goes_on_after count offered reads = if count == 0 then (if offered == 0 then reads else true) else reads
 
@@ -108,7 +107,7 @@ reads_after asked (Refused kind) joined reads = goes_on (call_of asked) (class_b
 reads_after (Write offer) (Took count) joined reads = goes_on_after count (length offer) reads
 reads_after asked given joined reads = reads
 
--- any call but a read changes this by its answer alone. A read may begin with a look (`Reads`)
+-- any call but a read changes by its answer alone whether the wire reads. A read may begin with a look (`Reads`)
 abbrev pub ReadsAfter : Asked → Given → Socket → Socket → Type 0
 ReadsAfter (Read most) given old new = Unit {0}
 ReadsAfter asked given old new = new.reads ≡ reads_after asked given old.tally.joined old.reads
@@ -137,7 +136,7 @@ pub data Made : Type 0 where
   Registered : ℕ → Option WordName → Made
   Looked : Bool → Made
 
--- What a system call does to a socket of the type S, only the system knows. So what follows holds for any such relation
+-- Only the system knows what a system call does to a socket of the type S. So what follows holds for any such relation
 module _ {S : Type 0} (did : Made → S → S → Type 0) where
   -- the socket option is set if it changes, and else left alone
   pub record Switches (was is : Bool) (before after : S) : Type 0 where
@@ -164,14 +163,14 @@ module _ {S : Type 0} (did : Made → S → S → Type 0) where
     pub unlimited : limit ≡ None → after ≡ before
     pub kept : is ≡ was → after ≡ before
 
-  -- a pending error is a failure; without one the socket has a peer, or the question for it says why not
+  -- a pending error is a failure; without one, the question for the peer gives the answer
   abbrev pub JoinGives : Result (Option Error) Error → Given → S → Type 0
   JoinGives (Err error) given socket = given ≡ Refused (error_kind error)
   JoinGives (Ok (Some error)) given socket = given ≡ Refused (pending_kind (error_kind error))
   JoinGives (Ok None) given socket = (named : Result SocketAddr Error) × did (Named named) socket socket × (given ≡ call_gave named)
 
-  -- If the wire reads, a read is one system call, and gives what it gave. Else it looks first: if there was a report of
-  -- something to read, it reads from then on, and if not, it answers "would block" by itself
+  -- If the wire reads, a read is one system call, and gives its answer. Else the wire looks first: if there was a
+  -- report of something to read, it reads from then on, and if not, it answers "would block" by itself
   pub record Reads (most : ℕ) (given : Given) (joined was is : Bool) (before after : S) : Type 0 where
     pub reads : Bool
     pub looked : S

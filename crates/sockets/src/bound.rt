@@ -35,8 +35,8 @@ impl<L> Bound<L> {
     }
 }
 
-/// Listens on the settings' address, with the longest backlog that the system allows, also right after another server
-/// that listened there has ended (SO_REUSEADDR of socket(7)).
+/// Listens on the settings' address, with the longest backlog that the system allows. This works right after another
+/// server there has ended (SO_REUSEADDR of socket(7)).
 ///
 /// Refuses with `Listen` if the system refuses. The cause was then logged, at level error.
 pub fn bind<R: Net + Log>(rt: &R, settings: &Settings) -> Result<Bound, ServerFault>
@@ -67,12 +67,12 @@ fn listen<R: Net, L: Listening + Drop>(rt: &R, asked: SocketAddr) -> io::Result<
     })
 }
 
-/// A socket that the system was asked to have listen at an address. Only the system knows at which it does, so the
-/// trait leaves that open.
+/// A socket that the system was asked to make listen at an address. Only the system knows at which address it listens,
+/// so the trait leaves that open.
 trait Listening: Sized {
     ghost use Rattle.std.specs.declared.net.SocketAddr.{SocketAddr};
 
-    // What the system makes when it is asked to listen at an address, and what it says of the address.
+    // `listens`: what the system makes when asked to. `told`: the system says that it listens at this address.
     ghost listens: { SocketAddr → Self → Type 0 };
 
     ghost told: { SocketAddr → Self → Type 0 };

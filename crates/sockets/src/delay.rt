@@ -5,9 +5,9 @@ use crate::limits::BULK;
 use relay_core::MAX_READ;
 use std::marker::Model;
 
-/// When a socket sends at once, by TCP_NODELAY of tcp(7): from the first quiet turn on, but for bulk until the
-/// connection is quiet again. So a request in two writes is not held back by a peer that is slow to acknowledge the
-/// first. In bulk it would cost up to 30 % more processor time. The switch back also sends a short tail that waits.
+/// When a socket sends at once (TCP_NODELAY of tcp(7)): from its first quiet turn on, except from the start of bulk to
+/// the next quiet turn. So a request in two writes is not held back by a peer that is slow to acknowledge the first. In
+/// bulk, to send at once would cost up to 30 % more processor time. The switch back also sends a short tail that waits.
 #[derive(Clone, Copy)]
 pub(crate) struct Delay {
     at_once: bool,
@@ -38,7 +38,7 @@ impl Delay {
         }
     }
 
-    /// This many bytes were offered to the socket. Answers whether it is to start waiting now.
+    /// This many bytes were offered to the socket. Returns whether the socket must begin to wait for more now.
     pub(crate) fn offer(&mut self, bytes: usize) -> bool
         ensures offered { IsOffered bytes self.old self.new }
         ensures switched { IsTrue result ↔ ((self.old.at_once ≡ true) × (self.new.at_once ≡ false)) }
@@ -55,7 +55,7 @@ impl Delay {
         wait
     }
 
-    /// The connection is quiet. Answers whether the socket is to start sending at once now.
+    /// The connection is quiet. Returns whether the socket must begin to send at once now.
     pub(crate) fn settle(&mut self) -> bool
         ensures settled { self.new ≡ prompt }
         ensures switched { IsTrue result ↔ (self.old.at_once ≡ false) }

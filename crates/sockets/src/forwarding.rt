@@ -6,7 +6,7 @@ use settings::Settings;
 use std::io;
 use std::net::{Net, SocketAddr};
 
-/// Where the connections of clients go, whether targets are sent their addresses, and how long to wait for a peer.
+/// Where clients' connections go, whether targets are sent clients' addresses, and how long to wait for a peer.
 #[derive(Clone, Copy)]
 pub struct Forwarding {
     /// The address to which each client is connected.
@@ -37,7 +37,7 @@ impl Forwarding {
 pub struct Patience {
     /// How long the connection to the target may take, 1 to 3600.
     pub connect: Option<u32>,
-    /// After how long a silence of its peer a socket probes whether the peer is there, 1 to 32767.
+    /// How long a peer may be silent before the socket probes whether the peer is there, 1 to 32767.
     pub keepalive: Option<u32>,
 }
 
@@ -48,7 +48,7 @@ impl Patience {
         keepalive: None,
     };
 
-    /// That of a client's socket, which is connected.
+    /// The patience of a client's socket, which is connected: it has no limit for connecting.
     pub(crate) fn of_client(self) -> Patience
         ensures { result ≡ unlimited self }
     {
@@ -59,7 +59,7 @@ impl Patience {
     }
 }
 
-/// A handle that starts connections. A thread may be started with a front that needs this alone, and not with `Net`.
+/// A handle that starts connections. A thread can be started with a front that needs only this, but not with `Net`.
 pub trait Dial {
     /// Starts a connection to an address (socket(2), connect(2)).
     fn dial(&self, address: SocketAddr) -> io::Result<TcpStream>;

@@ -3,7 +3,7 @@
 //! [`Front::poll`](dispatch::Front::poll).
 //!
 //! - [`Sockets`] is the front of one poller, and [`Forwarding`] says where it connects clients. All fronts share one
-//!   listening socket ([`Bound`]), and each leaves clients to those that have fewer (`loads`). [`Wakers`] wakes the
+//!   listening socket ([`Bound`]), and each leaves clients to fronts that have fewer (`loads`). [`Wakers`] wakes the
 //!   poller of a slot.
 //! - [`SocketWire`] is one end of a connection: a socket, and what is known of it. After a read that would block it
 //!   reads again only once its front has reported something to read (`readiness`).
@@ -11,9 +11,9 @@
 //! # Inside
 //!
 //! An event names reading if it says that something can be read, or that the socket has failed or was closed
-//! (`names_reading`). It then sets the word of the end that its number names, if it names one (`tell`: `heard`). A
-//! socket is registered under its token's number, with that token's word (`watch`: `registered`). `bind` asked the
-//! system to listen at no other address (`listen`).
+//! (`names_reading`). Such an event sets the word of the end that its number names, if any (`tell`: `heard`). A socket
+//! is registered under its token's number, with that token's word (`watch`: `registered`). `bind` asks the system to
+//! listen at the settings' address and no other (`listen`).
 #![tactic(auto)]
 
 mod bound;

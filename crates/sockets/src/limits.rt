@@ -1,5 +1,5 @@
-/// For each poller, of two at least, the longest wait for reports is this many milliseconds longer: so all together
-/// wake ten times a second.
+/// Milliseconds by which the longest wait for reports grows with each poller; a single one waits as two do. So all
+/// together wake ten times a second at most.
 pub(crate) const WAIT_MILLIS: u64 = 100;
 
 /// The most pollers that the settings can ask for.
@@ -11,16 +11,16 @@ pub(crate) const BULK: u8 = 4;
 /// This many probes without an answer end a connection.
 pub(crate) const PROBES: u32 = 5;
 
-/// A poller leaves no client to another that has fewer by this many or less.
+/// A poller leaves a client to another only if that other has fewer clients by more than this.
 pub(crate) const LEAST_MARGIN: usize = 2;
 
-/// Nor to one that has fewer by this part of that other's number or less.
+/// And only if that other has fewer by more than its own number, divided by this.
 pub(crate) const MARGIN_PART: usize = 8;
 
 /// A poller that has left a client this many times in a row takes the next one.
 pub(crate) const MOST_LEFT: u8 = 16;
 
-/// After this many more polls that gave several reports than that gave few a poller lets other threads run.
+/// A poller lets other threads run after this many more polls with several reports than polls with few.
 pub(crate) const MOST_BUSY: u8 = 14;
 
 /// This many reports are several: a few connections with much to move give fewer.

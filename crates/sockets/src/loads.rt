@@ -8,7 +8,7 @@ use std::sync::Arc;
 use std::sync::atomic::AtomicBool;
 use std::sync::atomic::Ordering::SeqCst;
 
-/// Whether a poller takes clients. Each client that it has is a share of this one.
+/// Whether a poller takes clients, and how many it has: each of its clients has a share of this value.
 #[derive(Drop)]
 pub(crate) struct Load {
     /// The most clients that it can have.
@@ -23,7 +23,7 @@ pub(crate) struct Loads {
 }
 
 impl Loads {
-    /// Of pollers that listen and have no client.
+    /// The loads of pollers that listen and have no client.
     pub(crate) fn new(alloc: Global, split: Split) -> Result<Loads, AllocError> {
         let mut each = Vec::with_capacity(alloc, split.pollers())?;
         for poller in 0..split.pollers() {
@@ -36,7 +36,7 @@ impl Loads {
         Ok(Loads { each })
     }
 
-    /// One client more of this poller, until the share is dropped.
+    /// Counts one client more of this poller, until the share is dropped. None if it cannot be counted.
     pub(crate) fn share(&self, poller: usize) -> Option<Arc<Load>> {
         Arc::try_clone(self.each.get(poller)?).ok()
     }
@@ -48,7 +48,7 @@ impl Loads {
         }
     }
 
-    /// Whether this poller has more clients than another that can take one, by over the margin.
+    /// Whether this poller has more clients than another poller that can take one, by more than the margin.
     pub(crate) fn is_ahead(&self, poller: usize) -> bool {
         let Some(load) = self.each.get(poller) else {
             return false;
@@ -63,12 +63,12 @@ impl Loads {
     }
 }
 
-/// How many clients a poller has: the list of all has a share of its load, too.
+/// How many clients a poller has. Its load has one more share, in the list of all.
 fn clients(load: &Arc<Load>) -> usize {
     Arc::strong_count(load).saturating_sub(1)
 }
 
-/// By how many more than this a poller may have and still take the next client.
+/// How many more clients than `count`, another's number, a poller may have and still take the next one.
 fn margin(count: usize) -> usize
     ensures { 2 ≤ result }
 {

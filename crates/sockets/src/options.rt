@@ -19,8 +19,8 @@ pub(crate) fn give_up_after(socket: &TcpStream, millis: u64) -> io::Result<()> {
     )
 }
 
-/// Has the peer probed after it was silent for this many seconds, then at every fifth of that, and given up after
-/// five probes without an answer. The switch comes last, so that no socket probes by the system's own numbers.
+/// Has the peer probed once it is silent for this many seconds, then after each fifth of that, and given up after five
+/// probes without an answer. The switch comes last, so that no socket probes by the system's own numbers.
 pub(crate) fn probe(socket: &TcpStream, seconds: u32) -> io::Result<()> {
     let socket = socket.as_raw_fd();
     let between = (seconds / PROBES).max(1);

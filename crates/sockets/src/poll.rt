@@ -48,12 +48,12 @@ pub struct Sockets<'r, R> {
     // Whether the last wait failed, and not by a signal, and how many milliseconds it could take.
     failed: bool,
     waited: u64,
-    // How many clients each poller has, and which of these this one is.
+    // How many clients each poller has, and this poller's number.
     loads: Arc<Loads>,
     poller: usize,
-    // How many times in a row it has left a client.
+    // How many times in a row this poller has left a client.
     left: u8,
-    // How many more polls gave several reports than gave few, at least none, since it let other threads run.
+    // How many more polls gave several reports than few since it let other threads run, 0 at least.
     busy: u8,
 }
 
@@ -78,15 +78,15 @@ impl<'r, R> Model for Sockets<'r, R> {
     ghost invariant = { λ s. events_capacity s.events ≡ 256 };
 }
 
-/// The wakers of all pollers, each for the slots of its own.
+/// The wakers of all pollers, each for its poller's slots.
 #[derive(Drop)]
 pub struct Wakers {
     split: Split,
     each: Vec<Waker>,
 }
 
-/// A front for each part of the slots, all on one bound socket, which is reported to each of them, and the wakers for
-/// other threads.
+/// A front for each part of the slots, and the wakers for other threads. All fronts share one bound socket, which is
+/// reported to each.
 ///
 /// Refuses with `NoMemory`, and with `Poll` if the system cannot report on sockets (epoll_create1(2), eventfd(2),
 /// epoll_ctl(2)); the cause was then logged, at level error. In both cases the listening socket is closed.
@@ -110,7 +110,7 @@ pub fn open_all<'r, R: Net + Log>(
     Ok((fronts, Wakers { split, each }))
 }
 
-/// For each poller its poll, which reports on the listening socket, and its waker.
+/// Makes a poll for each poller, which reports on the listening socket, and the poller's waker.
 fn watched_by_all<R: Net + Log>(
     rt: &R,
     alloc: Global,
@@ -130,7 +130,6 @@ fn watched_by_all<R: Net + Log>(
     Ok((polls, wakers))
 }
 
-/// A front for each of these, all with one listening socket.
 fn fronts_of<'r, R>(
     rt: &'r R,
     alloc: Global,
@@ -170,7 +169,6 @@ fn fronts_of<'r, R>(
     Ok(fronts)
 }
 
-/// How many milliseconds a poll may take.
 fn millis_of(wait: Waiting, longest: u64) -> u64
     ensures longest { wait ≡ Waiting.Long → result ≡ longest }
     ensures brief { wait ≡ Waiting.Brief → result ≡ 1 }
@@ -183,8 +181,8 @@ fn millis_of(wait: Waiting, longest: u64) -> u64
     }
 }
 
-/// Lets other threads run after enough busy polls (sched_yield(2)), and returns how many are counted then.
-/// A poller under load never sleeps, and would keep the processor that it shares for a whole slice of the scheduler.
+/// Lets other threads run after enough busy polls (sched_yield(2)). Returns the new count. A poller under load never
+/// sleeps, and would keep a shared processor for a whole slice of the scheduler.
 fn let_others_run(busy: u8) -> u8 {
     if busy < MOST_BUSY {
         return busy;
@@ -193,8 +191,8 @@ fn let_others_run(busy: u8) -> u8 {
     0
 }
 
-/// Counts a poll that gave this many reports. Few are of connections with much to move, or of little load: threads that
-/// move much would keep the processor for a whole slice.
+/// Counts a poll that gave this many reports. Few mean little load, or connections with much to move, whose threads
+/// would keep the processor for a whole slice.
 fn busy_after(busy: u8, reports: usize) -> u8 {
     if reports < SEVERAL {
         return busy.saturating_sub(1);
@@ -208,7 +206,7 @@ fn wait_of(pollers: usize) -> u64
     pollers.min(MAX_POLLERS).max(2) as u64 * WAIT_MILLIS
 }
 
-/// The poll and its waker. If one could not be made, the cause has been logged.
+/// A poll and its waker. A refusal is logged with its cause.
 fn watched<R: Net + Log>(rt: &R, listener: &mut TcpListener) -> Result<(Poll, Waker), ServerFault>
     ensures { IfErr result (λ fault. fault ≡ ServerFault.Poll) }
 {
@@ -222,8 +220,8 @@ fn watched<R: Net + Log>(rt: &R, listener: &mut TcpListener) -> Result<(Poll, Wa
 }
 
 impl<R: Dial> Sockets<'_, R> {
-    /// Starts the connection to the target, and gives it its limit, at which the system looks only when it sends again.
-    /// If the start fails, the client's wire keeps the cause.
+    /// Starts the connection to the target, and sets its limit, which the system checks only when it sends again. If
+    /// the start fails, the client's wire keeps the cause.
     fn begin<N: Log>(&self, rt: &N, client: &mut SocketWire) -> Result<SocketWire, Unopened>
         ensures client { client.new ≡ client.old }
         ensures begun { IfOk result (λ target. target.socket ≡ patient self.now.forwarding.patience (fresh_wire false None)) }
@@ -243,7 +241,6 @@ impl<R: Dial> Sockets<'_, R> {
         }
     }
 
-    /// Has a socket reported for reading and writing under a token.
     fn watch<N: Log>(&self, rt: &N, wire: &mut SocketWire, token: Token) -> Result<(), Unopened>
         ensures watched { OnOk result (wire.new.socket ≡ under token wire.old.socket) }
         ensures unwatched { OnErr result (wire.new.socket ≡ wire.old.socket) }
@@ -262,7 +259,7 @@ impl<R: Dial> Sockets<'_, R> {
     }
 }
 
-/// The addresses of a client's connection, if targets are sent them. The socket is asked for the one at this end.
+/// The addresses of a client's connection, if targets are sent them. The system is asked for the one at this end.
 fn route_of<S: Stream>(is_told: bool, client: &SocketWire<S>) -> Route
     ensures client { IsRoute is_told client.now.socket.peer result }
     ensures accepted { is_told ≡ true → IsLocal S.did client.now.stream result.accepted }
@@ -276,7 +273,6 @@ fn route_of<S: Stream>(is_told: bool, client: &SocketWire<S>) -> Route
     }
 }
 
-/// An address, if it is known and of IPv4.
 fn v4(address: Option<SocketAddr>) -> Option<SocketAddrV4>
     ensures { result ≡ v4_of address }
 {
@@ -311,8 +307,8 @@ struct Reported {
     heard: Option<Heard>,
 }
 
-/// Sets the word of the end that an event's number names, if the event names reading, before the number is given: so
-/// the wire knows of the report before that becomes a note.
+/// If the event names reading, sets the word of the end that its number names. The number is given after that, so the
+/// wire knows of the report before the report becomes a note.
 fn tell(told: &Reports, event: &Event) -> Reported
     ensures number { result.number ≡ (event_token event.now).0 }
     ensures heard { result.heard ≡ heard_of told.now event.now }
@@ -325,7 +321,7 @@ fn tell(told: &Reports, event: &Event) -> Reported
     Reported { number, heard }
 }
 
-/// Whether a wait failed. A signal ends one, and is no failure.
+/// Whether a wait failed. A signal that ends a wait is no failure.
 fn has_failed(answer: &io::Result<()>) -> bool
     ensures { IsTrue result ↔ Fails answer.now }
 {
@@ -402,7 +398,8 @@ impl<R: Dial> Front for Sockets<'_, R> {
         Ok(())
     }
 
-    /// It leaves one while another that can take it has fewer clients by more than a margin.
+    /// It leaves a client while another poller that can take it has fewer clients by more than a margin, and 16 times
+    /// in a row at most.
     fn leaves(&mut self) -> bool
         ensures few { result ≡ true → self.old.left < most_left }
         ensures left { self.new ≡ record self.old { left = if result then self.old.left + 1 else 0 } }
@@ -431,7 +428,7 @@ impl<R: Dial> Front for Sockets<'_, R> {
         ensures { self.new ≡ record self.old { listening = false } }
     {
         if let Some(listener) = self.listener.take() {
-            // Others may go on to listen, so that the socket stays open.
+            // The socket stays open if other fronts listen.
             let socket = listener.as_raw_fd();
             let _ = self.poll.registry().deregister(&mut SourceFd(&socket));
             self.loads.close(self.poller);

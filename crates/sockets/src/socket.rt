@@ -23,7 +23,6 @@ impl Socket {
         Socket::of(stream, None)
     }
 
-    /// A client's socket, with its share of its poller's load.
     pub(crate) fn of(stream: TcpStream, share: Option<Arc<Load>>) -> Socket {
         Socket {
             stream,

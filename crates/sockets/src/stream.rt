@@ -47,22 +47,22 @@ pub trait Stream {
     fn send_at_once(&mut self, at_once: bool)
         ensures { did (SentAtOnce at_once) self.old self.new };
 
-    /// Has the connection fail once it has waited for this many milliseconds to be made, or for what it sent to be
-    /// taken (TCP_USER_TIMEOUT of tcp(7)); after 0, as the system does by itself.
+    /// Has the connection fail if for this many milliseconds it is not made, or what it sent is not taken
+    /// (TCP_USER_TIMEOUT of tcp(7)). With 0 the system's own limits hold.
     fn give_up_after(&mut self, millis: u64) -> io::Result<()>
         ensures { did (GivesUpAfter millis) self.old self.new };
 
-    /// Has a peer that is silent for this many seconds probed (SO_KEEPALIVE of socket(7)), by up to four system calls.
-    /// The socket does not probe if the system refuses one of them.
+    /// Has the peer probed once it is silent for this many seconds (SO_KEEPALIVE of socket(7)), by up to four system
+    /// calls. The socket does not probe if the system refuses one.
     fn probe(&mut self, seconds: u32) -> io::Result<()>
         ensures { did (Probes seconds) self.old self.new };
 
-    /// Has the socket reported for reading and writing, edge-triggered, under a token (epoll_ctl(2)). Those of its
-    /// reports that name reading set the word `told`. Without it, each look finds a report.
+    /// Has the socket reported for reading and writing, edge-triggered, under a token (epoll_ctl(2)). Its reports that
+    /// name reading set the word `told`. Without that word, each look finds a report.
     fn register(&mut self, registry: &Registry, token: Token, told: Option<Told>) -> io::Result<()>
         ensures { OnOk result (did (Registered token.0 told) self.old self.new) };
 
-    /// Whether a report that names reading came since the last such look. It is no system call.
+    /// Looks whether a report that names reading came since the last look. This is no system call.
     fn is_told(&mut self) -> bool
         ensures { did (Looked result) self.old self.new };
 }

@@ -20,11 +20,11 @@ use std::net::SocketAddr;
 use token::Token;
 
 /// The wire over one system socket. A write is one system call, and so is a read, unless the wire knows its answer:
-/// after a read that would block, it answers "would block" by itself until a report that names reading has come, or a
-/// call fails.
+/// after a read that would block, the wire answers "would block" by itself until a report that names reading has come,
+/// or a call fails.
 ///
-/// It counts its answers by [`class_by`](engine::class_by). It specifies the system calls that it makes, but not its
-/// bytes, which only the system knows.
+/// It counts its answers by [`class_by`](engine::class_by). Its contract says which system calls it makes, but not
+/// which bytes come: only the system knows.
 #[derive(Drop)]
 pub struct SocketWire<S = Socket> {
     stream: S,
@@ -100,8 +100,8 @@ impl<S: Stream> SocketWire<S> {
         self.peer
     }
 
-    /// Has the socket reported under a token's number ([`Stream::register`]). Without the word `told`, which is the
-    /// token's, the wire always reads.
+    /// Has the socket reported under a token's number ([`Stream::register`]). `told` is the word of that token. Without
+    /// it the wire always reads.
     pub(crate) fn watch(
         &mut self,
         registry: &Registry,
@@ -154,8 +154,8 @@ impl<S: Stream> SocketWire<S> {
         }
     }
 
-    /// The socket is known to be connected. A limit for that is lifted, since it also ends a connection whose peer
-    /// takes nothing.
+    /// The socket is known to be connected. Its limit for connecting is lifted: it would also end a connection whose
+    /// peer takes nothing.
     fn connect(&mut self)
         ensures connected { self.new.socket ≡ record self.old.socket { tally = connected self.old.socket.tally } }
         ensures lifted { Lifts S.did self.old.socket.patience.connect self.old.socket.tally.joined true self.old.stream self.new.stream }
@@ -174,8 +174,8 @@ impl<S: Stream> SocketWire<S> {
         self.error = error.raw_os_error();
     }
 
-    /// Whether the wire reads its socket. If it does not, it looks, and reads from now on if there was a report
-    /// of something to read.
+    /// Whether the wire reads its socket. If not, it looks first, and reads from now on if there was a report that
+    /// names reading.
     fn looks(&mut self) -> bool
         ensures kept { self.old.socket.reads ≡ true → (result ≡ true) × (self.new.stream ≡ self.old.stream) }
         ensures look { self.old.socket.reads ≡ false → S.did (Looked result) self.old.stream self.new.stream }
@@ -189,7 +189,7 @@ impl<S: Stream> SocketWire<S> {
         told
     }
 
-    /// Counts an error of a call by its class, and gives it.
+    /// Counts an error of a call by its class, and returns the error.
     fn refuse(&mut self, call: CallKind, error: io::Error) -> io::Error
         ensures same { result ≡ error }
         ensures counted { self.new.socket.tally ≡ counted (class_by call self.old.socket.tally.joined (error_kind error))
@@ -206,7 +206,8 @@ impl<S: Stream> SocketWire<S> {
         error
     }
 
-    /// After a read that would block the wire does not read, and after a failure, which is kept for the log, it does.
+    /// After a read that would block, the wire stops reading. After a failure, which is kept for the log, it reads
+    /// again.
     fn heed(&mut self, call: CallKind, class: Class, error: &io::Error)
         ensures { self.new ≡ record self.old { socket = record self.old.socket { reads = goes_on call class self.old.socket.reads } } }
     {
@@ -249,7 +250,7 @@ impl<S: Stream> SocketWire<S> {
     }
 }
 
-/// Whether a socket is connected: its pending error, or that it has no peer yet.
+/// Refuses unless the socket is connected: with its pending error, or since it has no peer yet.
 fn stand<S: Stream>(stream: &mut S) -> io::Result<()>
     ensures { Joins S.did (call_gave result) stream.old stream.new }
 {
@@ -260,8 +261,8 @@ fn stand<S: Stream>(stream: &mut S) -> io::Result<()>
     Ok(())
 }
 
-/// An error that was pending on a socket, as the answer of a call: the system's own, with its number, unless one of its
-/// kind could mean something else than a failure.
+/// The answer of a call that found this error pending on a socket: the system's own error, with its number, unless its
+/// kind could mean something other than a failure.
 fn failure(pending: io::Error) -> io::Error
     ensures { error_kind result ≡ pending_kind (error_kind pending) }
 {

@@ -14,28 +14,27 @@ pub struct Counts {
     pub dropped: u64,
     /// Connections that are done.
     pub done: u64,
-    /// Those that failed by a call on the client's socket.
+    /// Connections that failed by a call on the client's socket.
     pub client: u64,
-    /// Those that failed by a call on the target's.
+    /// Connections that failed by a call on the target's socket.
     pub target: u64,
-    /// Those that failed since they moved nothing for the idle limit.
+    /// Connections that failed because they moved nothing for the idle limit.
     pub idle: u64,
-    /// Of those that failed by a call: nobody listened at the target's address.
+    /// Of `client` and `target`: nobody listened at the address.
     pub refused: u64,
-    /// The peer reset the connection.
+    /// Of `client` and `target`: the peer reset the connection.
     pub reset: u64,
-    /// The peer did not answer in time.
+    /// Of `client` and `target`: the peer did not answer in time.
     pub timedout: u64,
     /// Bytes written to targets.
     pub up: u64,
     /// Bytes written to clients.
     pub down: u64,
-    /// Those of connections that have ended.
+    /// Of `up` and `down`: bytes of connections that have ended.
     pub up_ended: u64,
     pub down_ended: u64,
 }
 
-/// How many counts there are.
 pub(crate) const COUNTS: usize = 13;
 
 impl Counts {
@@ -91,7 +90,7 @@ impl Counts {
         }
     }
 
-    /// Their numbers: of connections that have ended before those of all that were opened.
+    /// The numbers in the order of a read: `opened` is last.
     pub(crate) fn numbers(self) -> [u64; COUNTS]
         ensures { result ≡ numbers_of self }
     {
@@ -112,7 +111,7 @@ impl Counts {
         ]
     }
 
-    /// The counts once this event was counted, too.
+    /// The counts after this event.
     pub fn after(self, event: Event) -> Counts
         ensures { result ≡ after event self }
     {
@@ -199,7 +198,7 @@ impl Counts {
         }
     }
 
-    /// How many of its connections are open, which is one at most.
+    /// How many of one slot's connections are open: 0 or 1.
     pub fn live(&self) -> u64
         ensures { result ≡ live_at self.now }
     {

@@ -7,13 +7,13 @@ pub enum Event {
     Dropped,
     /// A connection was opened.
     Opened,
-    /// A turn left the connection open. This many bytes were written to its target and to its client since it was
-    /// opened.
+    /// A turn left the connection open. Since it was opened, `up` bytes were written to its target, and `down` to its
+    /// client.
     Moved {
         up: u64,
         down: u64,
     },
-    /// The connection has ended, with these counts of bytes.
+    /// The connection has ended. The bytes are as in `Moved`.
     Ended {
         verdict: Verdict,
         up: u64,

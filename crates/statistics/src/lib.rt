@@ -1,15 +1,14 @@
 //! How many connections a relay has opened, how each ended, and how many bytes it has forwarded.
 //!
-//! Each slot has a place of its own ([`Statistics::count`]), which only the thread that holds the slot writes: so none
-//! waits for another. Whoever wants to know sums the places ([`Statistics::totals`]), and the sums print as the line
-//! that the log has ([`Totals`]):
+//! Each slot has a place. Only the thread that has the slot writes there ([`Statistics::count`]), so no thread waits
+//! for another. [`Statistics::totals`] sums all places. The sums ([`Totals`]) print as a line of the log:
 //!
 //! ```text
 //! stats open=12 slots=1024 opened=503 done=480 failed=11 dropped=2 client=3 target=7 refused=1 reset=2 timedout=0 idle=1 up=8192 down=65536
 //! ```
 //!
-//! What an atomic holds no clause can name. What is proved over any memory is that an event at a slot reads what that
-//! slot's place has, and stores there what [`Counts::after`] makes of it; and that the sums are those of the places.
+//! No clause can name what an atomic number holds. Over any memory it is proved that to count an event reads the slot's
+//! place, and stores there what [`Counts::after`] makes of the counts; and that the sums are of what was read.
 #![tactic(auto)]
 
 mod counts;

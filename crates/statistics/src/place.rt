@@ -5,17 +5,17 @@ use crate::event::Event;
 use std::array;
 use std::sync::atomic::{AtomicU64, Ordering};
 
-/// Memory for the counts of a slot, which threads share. What it holds no clause can name, so the trait leaves open
-/// what a step does; what is proved of any such memory says which steps are made on it.
+/// Memory for the counts of a slot, which threads share. No clause can name what the memory holds, so the trait leaves
+/// open what a step does. What is proved over any memory says which steps are made on it.
 pub trait Memory {
-    // What a step may do: the step with what was read or given, and the memory.
+    // This step was made on this memory. The step has what was read or stored.
     ghost did: { Step → Self → Type 0 };
 
-    /// All that it has.
+    /// Reads all counts.
     fn load(&self) -> Counts
         ensures { did (Loaded result) self.now };
 
-    /// It has this from now on.
+    /// Stores all counts.
     fn store(&self, counts: Counts)
         ensures { did (Stored counts) self.now };
 }
@@ -34,7 +34,7 @@ impl Atomics {
 impl Memory for Atomics {
     ghost did = { λ _ _. Unit {0} };
 
-    /// The connections that have ended are read before those that were opened, so that each of them is among these.
+    /// Reads `opened` last, so that each connection that was read as ended is in it.
     fn load(&self) -> Counts {
         let mut numbers = [0; COUNTS];
         for (number, atomic) in numbers.iter_mut().zip(self.0.iter()) {
@@ -43,7 +43,7 @@ impl Memory for Atomics {
         Counts::of(numbers)
     }
 
-    /// The other way round.
+    /// Stores `opened` first, for the same reason.
     fn store(&self, counts: Counts) {
         let numbers = counts.numbers();
         for (number, atomic) in numbers.iter().zip(self.0.iter()).rev() {
@@ -52,14 +52,14 @@ impl Memory for Atomics {
     }
 }
 
-/// Stores a number where it has changed: most events change one or two.
+/// Stores a number only if it has changed. Most events change one or two.
 fn put(number: &AtomicU64, value: u64) {
     if number.load(Ordering::SeqCst) != value {
         number.store(value, Ordering::SeqCst);
     }
 }
 
-/// How often a place is read again that changes meanwhile.
+/// The most tries to read a place twice without a change.
 const MAX_TRIES: usize = 8;
 
 /// Counts an event in a place. Nobody else may write the place meanwhile.
@@ -70,7 +70,7 @@ pub(crate) fn count<M: Memory>(place: &M, event: Event)
     place.store(counts.after(event));
 }
 
-/// It is read again if it changes meanwhile, a few times.
+/// Reads a place twice, until both reads agree. After 8 tries, a last read counts.
 pub(crate) fn read<M: Memory>(place: &M) -> Counts
     ensures { M.did (Loaded result) place.now }
 {

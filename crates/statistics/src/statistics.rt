@@ -23,7 +23,7 @@ impl<M> Model for Statistics<M> {
 }
 
 impl Statistics {
-    /// This takes all the memory that it ever uses.
+    /// A place for each slot. No later call allocates memory.
     pub fn new(alloc: Global, slots: usize) -> Result<Statistics, AllocError>
         ensures { IfOk result (λ statistics. length statistics ≡ slots) }
     {
@@ -36,15 +36,15 @@ impl Statistics {
 }
 
 impl<M: Memory> Statistics<M> {
-    /// Counts in these places, one for each slot.
+    /// Statistics that count in these places, one for each slot.
     pub fn over(places: Vec<M>) -> Statistics<M>
         ensures { result ≡ places.items }
     {
         Statistics { places }
     }
 
-    /// Counts an event at a slot. Only the thread that holds the slot, or has it in hand while it is free, may do
-    /// that. Nothing is counted of a slot that there is not.
+    /// Counts an event at a slot. Only the thread that holds the slot, or has it in hand while it is free, may do that.
+    /// If there is no such slot, nothing is counted.
     pub fn count(&self, slot: usize, event: Event)
         ensures { IfSome (slice_get self.now slot) (λ place. IsCounted M.did event place) }
     {
@@ -53,8 +53,8 @@ impl<M: Memory> Statistics<M> {
         }
     }
 
-    /// A slot whose place changes meanwhile is read again. So the sums are those of a moment at each slot, and not of
-    /// one moment at all of them.
+    /// Sums what all places have. A place that changes meanwhile is read again, up to 8 times. The places are read one
+    /// after another, so the sums are not of one moment.
     pub fn totals(&self) -> Totals
         ensures sums { AreSums M.did self.now (no_sums (length self.now) Counts.NONE) result }
         ensures slots { result.slots ≡ length self.now }

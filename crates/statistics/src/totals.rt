@@ -4,8 +4,8 @@ ghost use Rattle.statistics.specs.Counts.{added, failed_of, no_sums, opened_of, 
 use crate::counts::Counts;
 use std::fmt::{self, Display};
 
-/// The sums of what was counted at each of this many slots. It prints as the line of the statistics. There opened are
-/// those that are open, are done and have failed; and failed those by a call on either socket or by the idle limit.
+/// The sums of what was counted at `slots` slots. It prints as the line of the statistics. There `opened` is how many
+/// are open, are done or have failed, and `failed` how many failed by a call or by the idle limit.
 #[derive(Clone, Copy)]
 pub struct Totals {
     pub slots: usize,
@@ -26,7 +26,7 @@ impl Totals {
         }
     }
 
-    /// The sums with one slot more.
+    /// The sums with another slot's counts.
     pub(crate) fn with(self, counts: &Counts) -> Totals
         ensures { result ≡ added counts.now self }
     {
@@ -45,7 +45,7 @@ impl Totals {
         u128::from(client) + u128::from(target) + u128::from(idle)
     }
 
-    /// How many connections were opened.
+    /// How many connections are open, are done or have failed.
     pub fn opened(&self) -> u128
         ensures { result ≡ opened_of self.now }
     {

@@ -5,8 +5,8 @@ use Rattle.ready.specs.{declared.ticket.Ticket.Ticket, Steps.EndState}
 use Rattle.relay_log.specs.declared.faults.ServerFault.{ServerFault, TheVariants.Worn}
 use Rattle.dispatch.{proofs.Outgoing.took_both, specs.{declared.shared.Own.Own, Hands.HandState, Outgoing.{Inserted, outgoing, tickets_out, slots_out, without_first, TookNothing}, Heavy.looked_at, Limits.own_turns, Posts.OnlyWorn}}
 use Rattle.turns.specs.{declared.worker.Worked.Worked, Shares.{AreShared, OneShared, TicketsShared}, Turns.{TicketsKept, SlotsKept, TurnMade, OwnTurn, program}}
-use Rattle.threads.{proofs.Divided.End, specs.{declared.ending.{Ended.Ended, Why.{Why, TheVariants.{FaultFound, Met}}}, Loops.{faults_by, times_of, times_in, freed, Run, tickets_of, act_of, acts_of, due_from, fault_in, faults_of, IsRun, TurnsMade, takes_of, times_by, times_given, SlotsGiven, Changes, OthersKept, OneRan, tickets_in, Took, WorkerMayEnd, WorkerEnded, WorkerRan, OwnTurnsRan, SharedAndRan, TurnsCut, WornEnd, NoTicketTaken, Asked, RoundMade, RoundCut, TurnsAfter, StepCut, StepsMade, IsPollerAct, PollerRan, PollerEnded, opened_by, openings_of}}}
-use Rattle.rounds.{specs.{Pollers.PollerState, Rounds.{RoundDone, RoundRefused, ListenerKept}, Acts.{SeatAct, made_by, due_of, IsPost, IsTry}, Openings.slots_in}, proofs.Acts.{all_none, all_one, acts_none, acts_one, acts_both, at_slot-append, due-append}}
+use Rattle.threads.{proofs.Divided.End, specs.{declared.ending.{Ended.Ended, Why.{Why, TheVariants.{FaultFound, Met}}}, Loops.{faults_by, times_of, freed, Run, tickets_of, act_of, acts_of, due_from, fault_in, faults_of, IsRun, TurnsMade, takes_of, times_by, times_given, SlotsGiven, Changes, OthersKept, OneRan, tickets_in, Took, WorkerMayEnd, WorkerEnded, WorkerRan, OwnTurnsRan, SharedAndRan, TurnsCut, WornEnd, NoTicketTaken, Asked, RoundMade, RoundCut, TurnsAfter, StepCut, StepsMade, IsPollerAct, PollerRan, PollerEnded, opened_by, openings_of}}}
+use Rattle.rounds.{specs.{Pollers.PollerState, Rounds.{RoundDone, RoundRefused, ListenerKept}, Acts.{SeatAct, made_by, due_of, IsPost, IsTry}, Openings.{slots_in, times}}, proofs.Acts.{all_none, all_one, acts_none, acts_one, acts_both, at_slot-append, due-append}}
 use Rattle.turns.specs.declared.worker.Worked.TheVariants as worked
 
 -- how often a ticket, or a slot, stands in lists one after the other
@@ -14,7 +14,7 @@ use Rattle.turns.specs.declared.worker.Worked.TheVariants as worked
 times-append : (u : Ticket) (xs ys : List Ticket) → times_of u (xs ++ ys) ≡ times_of u xs + times_of u ys
 times-append u = sum_by-append (λ (t : Ticket). cond ((t.slot == u.slot) && (t.generation == u.generation)) 1 0)
 
-slots-append : (s : ℕ) (xs ys : List ℕ) → times_in s (xs ++ ys) ≡ times_in s xs + times_in s ys
+slots-append : (s : ℕ) (xs ys : List ℕ) → times s (xs ++ ys) ≡ times s xs + times s ys
 slots-append s = sum_by-append (λ (x : ℕ). cond (x == s) 1 0)
 
 ran-append : (u : Ticket) (xs ys : List Run) → times_of u (tickets_of (xs ++ ys)) ≡ times_of u (tickets_of xs) + times_of u (tickets_of ys)
@@ -23,7 +23,7 @@ ran-append u xs ys = rw map-append (times-append u (tickets_of xs) (tickets_of y
 made-append : (u : Ticket) (xs ys : List Run) → times_of u (due_from (xs ++ ys)) ≡ times_of u (due_from xs) + times_of u (due_from ys)
 made-append u xs ys = rw (map-append, due-append) (times-append u (due_from xs) (due_from ys))
 
-freed-append : (s : ℕ) (xs ys : List Run) → times_in s (freed (xs ++ ys)) ≡ times_in s (freed xs) + times_in s (freed ys)
+freed-append : (s : ℕ) (xs ys : List Run) → times s (freed (xs ++ ys)) ≡ times s (freed xs) + times s (freed ys)
 freed-append s xs ys = rw flat_map-append (slots-append s (freed xs) (freed ys))
 
 inserted : {T : Type 0} {t : T} {old new : List T} (count : List T → ℕ) → ((xs ys : List T) → count (xs ++ ys) ≡ count xs + count ys) → Inserted t old new
@@ -43,14 +43,14 @@ run_of t answer exchanges = record { ticket = t; answer = answer; exchanges = ex
 
 -- what it freed is given or in hand
 slots_one : (t : Ticket) (answer : Result Worked ServerFault) (a b : Own) → SlotsKept t answer a b
-    → (es : List Exchange) (s : ℕ) → times_in s (slots_out b) ≡ times_in s (slots_out a) + times_in s (freed (run_of t answer es ∷ []))
+    → (es : List Exchange) (s : ℕ) → times s (slots_out b) ≡ times s (slots_out a) + times s (freed (run_of t answer es ∷ []))
 slots_one t (Ok worked.Ended) a b given es s = by (nat_lt t.generation 140737488355327) refl
   where
     by : (below : Bool) → nat_lt t.generation 140737488355327 ≡ below
-        → times_in s (slots_out b) ≡ times_in s (slots_out a) + times_in s ((if below then t.slot ∷ [] else []) ++ [])
-    by true is = omega (arith, inserted (times_in s) (slots-append s) (given.slots (ltb-true t.generation 140737488355327 is)))
+        → times s (slots_out b) ≡ times s (slots_out a) + times s ((if below then t.slot ∷ [] else []) ++ [])
+    by true is = omega (arith, inserted (times s) (slots-append s) (given.slots (ltb-true t.generation 140737488355327 is)))
     by false is = rw (given.last (ltb-false t.generation 140737488355327 is)) (omega arith)
-slots_one t _ a b same es s = omega (arith, ap (times_in s) same)
+slots_one t _ a b same es s = omega (arith, ap (times s) same)
 
 -- and what it made is put or in hand
 tickets_one : (t : Ticket) (minted : ℕ) (a b : Own) → TicketsKept t minted a b
@@ -125,12 +125,12 @@ exchanged (suc n) {f} {g} {h} {i} {xs} {ys} {zs} one two = by (slice_get xs n) r
         let next : (i ≡ f) × (zs ≡ slice_set (slice_set xs n f) n h) = rw (less, was.1, set_at xs n f (slice_get_within xs n o is)) at (two.other (omega arith)) in
         record { at = suc n; there = rw (is, was.0); new_is = rw (next.0, next.1, set-set xs n f h); mine = λ within. refl }
 
-given_out : (s : ℕ) (a : Own) → times_in s (slots_out a) ≡ times_by s a.free + times_in s a.hand.slots
+given_out : (s : ℕ) (a : Own) → times s (slots_out a) ≡ times_by s a.free + times s a.hand.slots
 given_out s a = slots-append s (puts a.free) a.hand.slots
 
 -- the end in use took nothing, and these slots are free now and given or in hand
 gave : {fs : List ℕ} {number : ℕ} {a d : Own} {g i : End} {xs zs : List End} → IsUsed number (a.free ∷ xs) g d.free (i ∷ zs)
-    → d.free.history.taken ≡ g.history.taken → ((s : ℕ) → times_in s (slots_out d) ≡ times_in s (slots_out (record a { free = g })) + times_in s fs)
+    → d.free.history.taken ≡ g.history.taken → ((s : ℕ) → times s (slots_out d) ≡ times s (slots_out (record a { free = g })) + times s fs)
     → SlotsGiven fs a (record d { free = i }) xs zs
 gave {a = a} {d = d} {g = g} {xs = xs} used took slots =
     let there = get_or_from_slice_get (a.free ∷ xs) used.at g g used.there in
@@ -150,7 +150,7 @@ gave {a = a} {d = d} {g = g} {xs = xs} used took slots =
 -- nothing is free that was not
 gave_none : {a b : Own} {xs : List End} → b.free.history.taken ≡ a.free.history.taken → slots_out b ≡ slots_out a → SlotsGiven [] a b xs xs
 gave_none {a} {b} {xs} took out = gave {number = 0} {a = a} {d = b} {g = a.free} {i = b.free}
-    (record { at = 0; there = refl; new_is = refl; mine = λ within. refl }) took (λ s. omega (arith, ap (times_in s) out))
+    (record { at = 0; there = refl; new_is = refl; mine = λ within. refl }) took (λ s. omega (arith, ap (times s) out))
 
 -- A worker
 
@@ -456,7 +456,7 @@ round_ran {a = a} {b = b} done took = record {
       rw opened (omega (
         arith,
         done.slots s,
-        ap (λ (gave : List (ℕ × ℕ)). times_in s (map (λ (put : ℕ × ℕ). put.1) gave)) done.gave,
+        ap (λ (gave : List (ℕ × ℕ)). times s (map (λ (put : ℕ × ℕ). put.1) gave)) done.gave,
         given_out s a,
         given_out s b,
       )));
@@ -476,7 +476,7 @@ turns_ran {a = a} {b = b} made =
       slots = λ s. (
           let taken : slots_in b ≡ slots_in a = rw (made.turns.took.slots, made.sharing.free) in
           let out : slots_out made.shared ≡ slots_out a = rw (made.sharing.free, made.sharing.slots) in
-          rw (turns_open_none words made.turns.ran made.turns.turns.each) (omega (arith, made.turns.slots s, ap (times_in s) taken, ap (times_in s) out)));
+          rw (turns_open_none words made.turns.ran made.turns.turns.each) (omega (arith, made.turns.slots s, ap (times s) taken, ap (times s) out)));
     }
 
 pub step_ran : {said : Bool → Type 0} {p q r : PollerState} {a b c : Own} → RoundMade said p q a b → TurnsAfter q r b c → PollerRan a c
@@ -498,12 +498,12 @@ ran_then before (inr worn) = inr (record { reason = worn.reason; took = worn.too
 
 -- the last round, by the fault that it answered
 pub round_cut : {said : Bool → Type 0} {why : Why} {answer : Result (Unit {0}) ServerFault} {p begun q : PollerState} {a b : Own}
-    → (fault : ServerFault) × (answer ≡ Err fault) × (why ≡ Met fault) → IfErr answer (λ fault. RoundRefused fault q b)
+    → (fault : ServerFault) × (answer ≡ Err fault) × (why ≡ Met fault) → IfErr answer (λ fault. RoundRefused fault begun q a b)
     → (answer ≢ Err Worn → RoundDone begun q a b) → Asked said p begun → q.most ≡ begun.most → ListenerKept begun q → NoTicketTaken a b
     → RoundCut said why p q a b
 round_cut {said} {why} {answer} {p} {begun} {q} {a} {b} (fault, is, was) refused done asked most listens took = by (rw is at refused)
   where
-    by : RoundRefused fault q b → RoundCut said why p q a b
+    by : RoundRefused fault begun q a b → RoundCut said why p q a b
     by (inl failed) = inl (record {
       reason = rw failed.0 at was;
       failed = failed.1.failed;

@@ -3,25 +3,25 @@ use Rattle.std.specs.{Prelude.{◌≡◌, ⊤, ℕ, ◌+◌, List, [], ◌∷◌
 use Rattle.ready.specs.Steps.{EndState}
 use Rattle.dispatch.specs.declared.shared.Parts.{Parts}
 
--- what no thread has been given yet: parts, and for each poller ends of its queue of free slots
+-- what no thread has been given yet: parts, and for each poller the ends of its free queue that are left
 pub record RestState : Type 0 where
   pub parts : Parts
   pub free : List (List (EndState ℕ))
 
--- the threads of these pollers, each with its number, in the order in which they begin: the last one's first
+-- the threads of these pollers, each with its number, the last one's first: they begin from the back
 abbrev pub numbered : {A : Type 0} → List A → List (ℕ × A)
 numbered pollers = reverse (enumerate_from 0 pollers)
 
--- of the ends of each poller's queue of free slots, this is one of those of the poller with this number
+-- this is one of the ends of the free queue of the poller with this number
 abbrev pub IsEndOf : List (List (EndState ℕ)) → ℕ → EndState ℕ → Type 0
 IsEndOf ends poller end = Contains (slice_index_or ends poller []) end
 
--- these are ends of the queues of the pollers from this one on, in order
+-- these are ends of the free queues of the pollers from this one on, in order
 abbrev pub AreEndsFrom : List (List (EndState ℕ)) → ℕ → List (EndState ℕ) → Type 0
 AreEndsFrom ends poller [] = ⊤
 AreEndsFrom ends poller (end ∷ more) = IsEndOf ends poller end × AreEndsFrom ends (poller + 1) more
 
--- some ends were taken
+-- ends may have been taken, and none was added
 pub record AreLeft (old new : List (List (EndState ℕ))) : Type 0 where
   pub pollers : length new ≡ length old
   pub each : (poller : ℕ) (end : EndState ℕ) → IsEndOf new poller end → IsEndOf old poller end

@@ -7,7 +7,7 @@ use Rattle.ready.specs.{declared.ticket.Ticket.Ticket, Steps.{EndState, HeldOnce
 use Rattle.relay_log.specs.declared.faults.ServerFault.{ServerFault, TheVariants.{Poll, Worn}}
 use Rattle.dispatch.specs.{declared.{shared.Own.Own, split.Split.Split}, Limits.own_turns, Outgoing.{TookNothing, tickets_out, slots_out}, Splits.{IsIn, part_of, parts_of}, Posts.{IsWorn, OnlyWorn}}
 use Rattle.turns.specs.{declared.worker.Worked.Worked, Shares.TicketsShared, Turns.{IsTurnOf, NoOwnTurn}}
-use Rattle.rounds.specs.{Acts.{SeatAct, ActsMade, IsPost, IsTry, at_slot, due_of}, Pollers.{PollerState, HasOpenedAll}, Openings.slots_in, Rounds.{EndedEarly, ListenerKept, ListensToOpen, RoundDone}}
+use Rattle.rounds.specs.{Acts.{SeatAct, ActsMade, IsPost, IsTry, at_slot, due_of}, Pollers.{PollerState, HasOpenedAll}, Openings.{slots_in, times}, Rounds.{EndedEarly, ListenerKept, ListensToOpen, RoundDone}}
 use Rattle.threads.specs.declared.ending.Why.{Why, TheVariants.{FaultFound, PollerOver, QueueClosed, Met}}
 use Rattle.turns.specs.declared.worker.Worked.TheVariants as worked
 
@@ -18,14 +18,13 @@ fault_by PollerOver = None
 fault_by QueueClosed = None
 fault_by (Met fault) = Some fault
 
--- the same as a list
 abbrev pub faults_by : Why → List ServerFault
 faults_by why = option_to_list (fault_by why)
 
--- of two faults, each with the number of its thread, that of the first thread; of one thread, the first
-abbrev pub earliest : Option (ℕ × ServerFault) → ℕ × ServerFault → ℕ × ServerFault
-earliest None new = new
-earliest (Some kept) new = if nat_lt new.0 kept.0 then new else kept
+-- of two faults, each with its thread's number, the lower number's; of one thread's faults the first
+abbrev pub lowest : Option (ℕ × ServerFault) → ℕ × ServerFault → ℕ × ServerFault
+lowest None new = new
+lowest (Some kept) new = if nat_lt new.0 kept.0 then new else kept
 
 -- every poller was woken, each by the first of its slots
 abbrev pub AllWoken : (ℕ → Type 0) → Split → Type 0
@@ -44,7 +43,6 @@ pub record Run : Type 0 where
 abbrev pub tickets_of : List Run → List Ticket
 tickets_of ran = map (λ (run : Run). run.ticket) ran
 
--- what a turn did at its slot
 abbrev pub act_of : Run → SeatAct
 act_of run = record { ticket = run.ticket; exchanges = run.exchanges }
 
@@ -54,10 +52,6 @@ acts_of ran = map act_of ran
 -- the tickets that turns made, in order
 abbrev pub due_from : List Run → List Ticket
 due_from ran = due_of (acts_of ran)
-
--- how often a slot stands in a list
-abbrev pub times_in : ℕ → List ℕ → ℕ
-times_in slot slots = count_by (λ s. s == slot) slots
 
 -- the slot of a connection that a turn ended is free, unless its generation was the last
 abbrev pub freed_by : Ticket → Result Worked ServerFault → List ℕ
@@ -75,7 +69,7 @@ fault_in (Err fault) = fault ∷ []
 abbrev pub faults_of : List Run → List ServerFault
 faults_of ran = flat_map (λ (run : Run). fault_in run.answer) ran
 
--- its exchanges are those of its answer, in this order
+-- a turn's exchanges are as its answer says, in order
 abbrev pub IsRun : ℕ → Run → Type 0
 IsRun words run = IsTurnOf words run.ticket.slot run.answer run.exchanges
 
@@ -88,30 +82,30 @@ pub record TurnsMade (ran : List Run) (old new : SeatState) : Type 0 where
 abbrev pub takes_of : List (EndState ℕ) → List (List (ℕ × ℕ))
 takes_of ends = map (λ (end : EndState ℕ). end.history.taken) ends
 
--- how often one has given a slot
+-- how often this end has given a slot
 abbrev pub times_by : ℕ → EndState ℕ → ℕ
-times_by slot end = times_in slot (map (λ (put : ℕ × ℕ). put.1) end.history.put)
+times_by slot end = times slot (map (λ (put : ℕ × ℕ). put.1) end.history.put)
 
--- how often these ends have given it, all together
+-- how often these ends have given a slot, all together
 abbrev pub times_given : ℕ → List (EndState ℕ) → ℕ
 times_given slot ends = sum_by (λ (end : EndState ℕ). times_by slot end) ends
 
--- What a worker did with free slots, by its ends of all pollers' queues: it took none, and each that it was to give
--- before, or that is free now, is given or in hand, once
+-- What a worker did with free slots, by its ends of all pollers' queues: it took none, and each slot that it was to
+-- give before, or that is free now, is given or in hand, once
 pub record SlotsGiven (now_free : List ℕ) (old new : Own) (others others_new : List (EndState ℕ)) : Type 0 where
   pub took : takes_of (new.free ∷ others_new) ≡ takes_of (old.free ∷ others)
-  pub slots : (slot : ℕ) → times_in slot new.hand.slots + times_given slot (new.free ∷ others_new)
-      ≡ times_in slot old.hand.slots + times_given slot (old.free ∷ others) + times_in slot now_free
+  pub slots : (slot : ℕ) → times slot new.hand.slots + times_given slot (new.free ∷ others_new)
+      ≡ times slot old.hand.slots + times_given slot (old.free ∷ others) + times slot now_free
 
--- A worker made these turns. What it was to put before, what they made, and these tickets, are put or in hand, and so
--- are free slots
+-- A worker made these turns. The tickets that it was to put before, those that the turns made, and those in `left` are
+-- put or in hand. The same holds of free slots
 pub record WorkerTurns (ran : List Run) (left : List Ticket) (old new : Own) (others others_new : List (EndState ℕ)) : Type 0 where
   pub turns : TurnsMade ran old.seat new.seat
   pub tickets : (t : Ticket) → times_of t (tickets_out new)
       ≡ times_of t (tickets_out old) + (times_of t (due_from ran) + times_of t left)
   pub slots : SlotsGiven (freed ran) old new others others_new
 
--- one turn with this ticket, by its answer
+-- a worker made one turn, with this ticket and this answer
 abbrev pub OneRan : Ticket → Result Worked ServerFault → Own → Own → List (EndState ℕ) → List (EndState ℕ) → Type 0
 OneRan ticket answer old new others others_new = (exchanges : List Exchange)
     × WorkerTurns (record { ticket = ticket; answer = answer; exchanges = exchanges } ∷ []) [] old new others others_new
@@ -120,15 +114,15 @@ OneRan ticket answer old new others others_new = (exchanges : List Exchange)
 abbrev pub tickets_in : Own → List Ticket
 tickets_in own = map (λ (take : ℕ × Ticket). take.1) own.ready.history.taken
 
--- A worker's thread ran each ticket that it took, in order, but for these, which it took last and has in hand, and its
--- turns met these faults
+-- A worker's thread ran each ticket that it took, in order, except those in `left`, which it took last and has in hand.
+-- Its turns met these faults
 pub record WorkerRan (left : List Ticket) (faults : List ServerFault) (old new : Own) (others others_new : List (EndState ℕ)) : Type 0 where
   pub ran : List Run
   pub did : WorkerTurns ran left old new others others_new
   pub met : faults_of ran ≡ faults
   pub taken : tickets_in new ≡ tickets_in old ++ (tickets_of ran ++ left)
 
--- it found the queue of tickets closed, and empty at one moment, or its seat is worn
+-- a worker may end: it found a fault, or the queue of tickets closed, and empty at one moment, or its seat is worn
 abbrev pub WorkerMayEnd : Why → Own → Type 0
 WorkerMayEnd FaultFound own = Unit {0}
 WorkerMayEnd PollerOver own = ⊥
@@ -142,7 +136,7 @@ pub record WorkerEnded (why : Why) (old new : Own) (others others_new : List (En
   pub made : WorkerRan left (faults_by why) old new others others_new
   pub reason : WorkerMayEnd why new
 
--- it took this ticket, and did nothing else
+-- the thread took this ticket, and did nothing else
 pub record Took (ticket : Ticket) (old new : Own) : Type 0 where
   pub took : TookOne old.ready.history ticket new.ready.history
   pub seat : new.seat ≡ old.seat
@@ -150,8 +144,8 @@ pub record Took (ticket : Ticket) (old new : Own) : Type 0 where
   pub hand : new.hand ≡ old.hand
 
 -- A poller's thread ran this many tickets in its hand, and met these faults. Each ticket that it was to put before, or
--- that these turns made, was run or is put or in hand, once. Each free slot that it was to give before, or that they
--- freed, is given or in hand, once. It took nothing from a queue
+-- that these turns made, was run or is put or in hand, once. Each free slot that it was to give before, or that these
+-- turns freed, is given or in hand, once. It took nothing from a queue
 pub record OwnTurnsRan (count : ℕ) (faults : List ServerFault) (old new : Own) : Type 0 where
   pub ran : List Run
   pub each : length ran ≡ count
@@ -160,9 +154,9 @@ pub record OwnTurnsRan (count : ℕ) (faults : List ServerFault) (old new : Own)
   pub turns : TurnsMade ran old.seat new.seat
   pub tickets : (t : Ticket) → times_of t (tickets_out new) + times_of t (tickets_of ran)
       ≡ times_of t (tickets_out old) + times_of t (due_from ran)
-  pub slots : (slot : ℕ) → times_in slot (slots_out new) ≡ times_in slot (slots_out old) + times_in slot (freed ran)
+  pub slots : (slot : ℕ) → times slot (slots_out new) ≡ times slot (slots_out old) + times slot (freed ran)
 
--- the thread ended by the fault that its seat is worn, and it is
+-- the thread ended by the fault Worn, and its seat is worn
 abbrev pub WornEnd : Why → Own → Type 0
 WornEnd why own = (why ≡ Met Worn) × IsWorn own.seat
 
@@ -174,27 +168,26 @@ pub record SharedAndRan (count : ℕ) (faults : List ServerFault) (p q : PollerS
   pub turns : OwnTurnsRan count faults shared b
   pub poller : q ≡ record p { heavy = q.heavy }
 
--- after a round 32 of the tickets that stayed were run, or fewer: then none is left, or no slot more fits in hand
+-- after a round 32 of the tickets that stayed were run; if fewer were, none is left, or no more slot fits in hand
 pub record TurnsAfter (p q : PollerState) (a b : Own) : Type 0 where
   pub count : ℕ
   pub made : SharedAndRan count [] p q a b
   pub most : count ≤ own_turns
   pub ended : (count ≡ own_turns) ⊎ NoOwnTurn b
 
--- after a round fewer than 32 of them were run, and then the one, if it was a turn, that met the fault by which the
--- thread ended
+-- After a round fewer than 32 of the tickets that stayed were run, without a fault. If a turn met the fault that ended
+-- the thread, it came after those
 pub record TurnsCut (why : Why) (p q : PollerState) (a b : Own) : Type 0 where
   pub count : ℕ
   pub made : SharedAndRan (count + length (faults_by why)) (faults_by why) p q a b
   pub few : count < own_turns
   pub reason : (why ≡ FaultFound) ⊎ WornEnd why b
 
--- no ticket was taken out of the queue
 abbrev pub NoTicketTaken : Own → Own → Type 0
 NoTicketTaken old new = new.ready.history.taken ≡ old.ready.history.taken
 
--- A look at the flag that stops openings, of which this much is known, showed this. If it was set, the poller has
--- opened all that it may from now on, and else it is as it was
+-- A look at the flag that stops openings found this; `said` is what is known of the look. If the flag was set, the
+-- poller may open no more from now on. Else the poller is as it was
 pub record Asked (said : Bool → Type 0) (old new : PollerState) : Type 0 where
   pub found : Bool
   pub looked : said found
@@ -210,8 +203,8 @@ pub record RoundMade (said : Bool → Type 0) (p q : PollerState) (a b : Own) : 
   pub listens : ListenerKept begun q
   pub took : NoTicketTaken a b
 
--- A round, and what came after it. Once all that the poller may open was opened, its front does not listen, unless the
--- round ended early
+-- A round, and what came after it. If the poller has opened all that it may, its front does not listen after the round,
+-- unless the round ended early
 pub record RoundAnd (said : Bool → Type 0) (After : PollerState → PollerState → Own → Own → Type 0) (p q : PollerState)
     (a b : Own) : Type 0 where
   pub polled : PollerState
@@ -230,13 +223,13 @@ pub record NotBegun (why : Why) (p q : PollerState) (a b : Own) : Type 0 where
   pub poller : q ≡ p
   pub own : b ≡ a
 
--- in its round the front could not report
+-- in the last round the wait for reports failed
 pub record PollFailed (said : Bool → Type 0) (why : Why) (p q : PollerState) (a b : Own) : Type 0 where
   pub reason : why ≡ Met Poll
   pub failed : q.failed ≡ true
   pub made : RoundMade said p q a b
 
--- in its round the seat was worn, of which nothing else is known
+-- in the last round the seat was worn; else it is only known that no ticket was taken
 pub record RoundWorn (why : Why) (a b : Own) : Type 0 where
   pub reason : WornEnd why b
   pub took : NoTicketTaken a b
@@ -254,7 +247,7 @@ abbrev pub StepsMade : (Bool → Type 0) → ℕ → PollerState → PollerState
 StepsMade said zero p q a b = (q ≡ p) × (b ≡ a)
 StepsMade said (suc steps) p q a b = (r : PollerState) × (c : Own) × StepsMade said steps p r a c × StepMade said r q c b
 
--- steps, and the last one
+-- any number of steps, and then the last one
 abbrev pub LoopMade : (Bool → Type 0) → Why → PollerState → PollerState → Own → Own → Type 0
 LoopMade said why p q a b = (steps : ℕ) × (r : PollerState) × (c : Own) × StepsMade said steps p r a c × StepCut said why r q c b
 
@@ -268,7 +261,7 @@ abbrev pub IsPollerAct : ℕ → SeatAct → Type 0
 IsPollerAct words act = IsPost act
     ⊎ (IsTry act ⊎ ((answer : Result Worked ServerFault) × IsTurnOf words act.ticket.slot answer act.exchanges))
 
--- the connections that acts opened, in order
+-- the connection that these exchanges opened, if they did
 abbrev pub opened_by : List Exchange → Ticket → List Ticket
 opened_by (Adopted found ∷ more) ticket = ticket ∷ []
 opened_by exchanges ticket = []
@@ -276,10 +269,10 @@ opened_by exchanges ticket = []
 abbrev pub openings_of : List SeatAct → List Ticket
 openings_of acts = flat_map (λ (act : SeatAct). opened_by act.exchanges act.ticket) acts
 
--- What a poller's seat did is these acts, in order. Each ticket that its thread was to put before, or that they made,
--- was run by the thread itself or is put or in hand, once, and none was taken out of the queue. Each free slot that
--- was taken out of its queue, that it was to give before, or that these turns freed, was opened, or is no longer used,
--- or is given or in hand
+-- What a poller's seat did is these acts, in order. Each ticket that its thread was to put before, or that the acts
+-- made, was run by the thread itself or is put or in hand, once. No ticket was taken out of the queue. Each free slot
+-- that was taken out of its queue, that the thread was to give before, or that its turns freed, was opened, or is no
+-- longer used, or is given or in hand
 pub record PollerRan (old new : Own) : Type 0 where
   pub acts : List SeatAct
   pub each : All (IsPollerAct old.seat.table.words) acts
@@ -289,26 +282,26 @@ pub record PollerRan (old new : Own) : Type 0 where
   pub tickets : (t : Ticket) → times_of t (tickets_out new) + times_of t (tickets_of ran)
       ≡ times_of t (tickets_out old) + times_of t (due_of acts)
   pub took : NoTicketTaken old new
-  pub slots : (slot : ℕ) → times_in slot (slots_in new) + (times_in slot (slots_out old) + times_in slot (freed ran))
-      ≡ times_in slot (slots_in old) + (times_in slot (slots_out new) + (at_slot slot (openings_of acts) + times_in slot lost))
+  pub slots : (slot : ℕ) → times slot (slots_in new) + (times slot (slots_out old) + times slot (freed ran))
+      ≡ times slot (slots_in old) + (times slot (slots_out new) + (at_slot slot (openings_of acts) + times slot lost))
 
--- to its end, unless its seat was worn in its last round
+-- a poller's thread ran to its end, or its seat was worn in its last round
 abbrev pub PollerEnded : Why → Own → Own → Type 0
 PollerEnded why old new = PollerRan old new ⊎ RoundWorn why old new
 
--- of a worker's ends of the pollers' queues, in the pollers' order, none changed but the one of this poller
+-- of a worker's ends of the pollers' queues, in order, only the end of this poller's may have changed
 abbrev pub OthersKept : ℕ → List (EndState ℕ) → List (EndState ℕ) → Type 0
 OthersKept poller old new = (other : ℕ) → other ≢ poller → slice_get new other ≡ slice_get old other
 
--- A worker exchanges its end of the first poller's queue, which it uses, with that of the poller with this number, if
--- it has one. The others are of the other pollers, in order
+-- A worker swaps its end of the first poller's queue, which it uses, with its end of the queue of the poller with this
+-- number, if it has one. `others` are of the other pollers, in order
 pub record Changes (poller : ℕ) (used used_new : EndState ℕ) (others others_new : List (EndState ℕ)) : Type 0 where
   pub first : poller ≡ 0 → (used_new ≡ used) × (others_new ≡ others)
   pub other : poller ≢ 0 → IfSome (slice_get others (poller - 1)) (λ end. (used_new ≡ end)
       × (others_new ≡ slice_set others (poller - 1) used))
   pub none : slice_get others (poller - 1) ≡ None → (used_new ≡ used) × (others_new ≡ others)
 
--- or but the one of the poller whose slot this is
+-- of a worker's ends only the end of the queue of this slot's poller may have changed
 abbrev pub GivesToOwner : Split → ℕ → List (EndState ℕ) → List (EndState ℕ) → Type 0
 GivesToOwner split slot old new = (poller : ℕ) × IsIn (part_of split.slots split.size poller) slot
     × (poller < length old → OthersKept poller old new)

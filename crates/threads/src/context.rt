@@ -11,12 +11,12 @@ use std::sync::Wait;
 use std::sync::atomic::AtomicBool;
 use std::sync::atomic::Ordering::SeqCst;
 
-/// Set once no more connections may be opened.
+/// A flag, which is set when no more connections may be opened.
 pub trait StopFlag {
-    // What a look at it showed, if it says so.
+    // What a look at the flag showed, if an `impl` says so.
     ghost said: { Self → Bool → Type 0 } = { λ _ _. Unit {0} };
 
-    /// Whether it is set.
+    /// Whether the flag is set.
     fn is_set(&self) -> bool
         ensures { said self.now result };
 }
@@ -35,15 +35,14 @@ pub struct Context<'a, G, C, R, S = AtomicBool> {
     pub gate: &'a G,
     pub timing: Timing<'a, C>,
     pub ending: &'a Ending,
-    /// Whether no more connections may be opened.
     pub is_stopped: &'a S,
     /// Which slots are which poller's.
     pub split: Split,
 }
 
 impl<G, C, R: Wait, S> Context<'_, G, C, R, S> {
-    /// The loop of the thread with this number has ended. A fault is recorded and ends all others: those that sleep are
-    /// woken.
+    /// The loop of the thread with this number has ended. A fault that it met is recorded and ends all other threads:
+    /// those that sleep are woken.
     pub fn end<F: Front>(
         &self,
         shared: &Shared<F>,
@@ -61,7 +60,6 @@ impl<G, C, R: Wait, S> Context<'_, G, C, R, S> {
         Some(recorded)
     }
 
-    /// Wakes all pollers.
     pub(crate) fn wake_pollers<F: Front>(&self, shared: &Shared<F>)
         ensures { AllWoken (F.woke shared.now.waker) self.now.split }
     {

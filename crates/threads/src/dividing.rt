@@ -13,8 +13,8 @@ use std::alloc::Global;
 use std::marker::Model;
 use std::sync::Arc;
 
-/// For how many tickets, and for how many slots, a worker's hand has room. Nothing stays there for long, since a queue
-/// has room for each ticket and each slot.
+/// How many tickets, and how many slots, fit into a worker's hand. Nothing stays there for long: the queues have room
+/// for all.
 const WORKER_HAND: usize = 2;
 
 /// The threads of a server that have not begun.
@@ -28,7 +28,7 @@ pub struct ServerThreads<F: Front> {
 #[derive(Drop)]
 pub struct Rest {
     pub parts: Parts,
-    /// For each poller ends of its queue of free slots.
+    /// For each poller, the ends of its free queue that are left.
     pub free: Vec<Vec<FreeQueue>>,
 }
 
@@ -41,12 +41,11 @@ impl Model for Rest {
     ghost view = { λ r. record { parts = r.parts; free = map (λ ends. ends.items) r.free.items } };
 }
 
-/// The threads of these pollers, each with an end of its own queue of free slots, and this many workers, each with an
-/// end of every poller's queue, the first poller's first. A thread has the number of its poller, and the workers have
-/// those after.
+/// Makes a thread for each poller, with an end of the poller's free queue, and this many workers, each with an end of
+/// every such queue, the first poller's first. A poller's thread has the poller's number. The workers have the numbers
+/// after those.
 ///
-/// Refuses with `NoMemory` if there is none for what they own, if there are too few parts, or if a poller's table is
-/// not one of these slots.
+/// Refuses with `NoMemory` if memory or parts run out, or if a poller's table is not as long as there are slots.
 pub fn divide<F: Front + Drop>(
     alloc: Global,
     shared: &Arc<Shared<F>>,
@@ -70,7 +69,7 @@ where
     Ok(ServerThreads { pollers, workers })
 }
 
-/// The threads of the pollers.
+/// The threads of the pollers, the last poller's first.
 fn pollers_of<F: Front + Drop>(
     alloc: Global,
     shared: &Arc<Shared<F>>,
@@ -99,7 +98,7 @@ where
     Ok(threads)
 }
 
-/// The thread of a poller. One whose table is not for these slots is refused; `build` makes none.
+/// The thread of a poller. It refuses a table that is not as long as there are slots; `build` makes no such table.
 fn thread_of<F: Front + Drop>(
     alloc: Global,
     shared: &Arc<Shared<F>>,
@@ -128,7 +127,7 @@ where
     })
 }
 
-/// The room of the hand of a poller's thread: for all that two rounds may put there.
+/// How many tickets, and how many slots, fit into a poller's hand: all that two rounds may put there.
 fn poller_hand(slots: usize) -> usize {
     slots.saturating_mul(2).saturating_add(2 * MAX_BATCH)
 }
@@ -150,7 +149,7 @@ where
 {
     let mut made = Vec::with_capacity(alloc, workers)?;
     for index in 0..workers {
-        // The parts are used up long before.
+        // The parts run out long before the numbers do.
         if usize::MAX - first < index {
             return Err(ServerFault::NoMemory);
         }
@@ -168,7 +167,7 @@ where
 }
 
 impl Rest {
-    /// What the next thread shares with all others, and what it owns, with an end of this poller's queue.
+    /// What the next thread shares with all others, and what it owns, with an end of this poller's free queue.
     fn next_own<F: Front>(
         &mut self,
         alloc: Global,
@@ -213,7 +212,7 @@ impl Rest {
         Ok(ends)
     }
 
-    /// The next end of this poller's queue.
+    /// The next end of this poller's free queue, if one is left.
     fn next_end(&mut self, poller: usize) -> Option<FreeQueue>
         ensures parts { self.new.parts ≡ self.old.parts }
         ensures end { IfSome result (λ free. IsEndOf self.old.free poller free) }

@@ -5,7 +5,7 @@ ghost use Rattle.ready.specs.Steps.{HeldOnce};
 ghost use Rattle.relay_log.specs.declared.faults.ServerFault.{ServerFault};
 ghost use Rattle.threads.specs.Loops.{Took, fault_by};
 
-use crate::faults::{Earliest, Outcome, Recorded};
+use crate::faults::{Lowest, Outcome, Recorded};
 use crate::running::Served;
 use dispatch::{Front, Own, ServerFault};
 use ready::Ticket;
@@ -27,8 +27,8 @@ pub enum Why {
     Met(ServerFault),
 }
 
-/// A thread's loop has ended. It cannot be dropped, and only [`Ending::end`] takes it. Only what [`Why`] names makes
-/// one, all in this file.
+/// A thread's loop has ended. This value cannot be dropped, and only [`Ending::end`] takes it. Only what [`Why`] names
+/// makes it, all in this file.
 pub struct Ended {
     why: Why,
 }
@@ -37,20 +37,20 @@ pub struct Ended {
 #[derive(Drop)]
 pub struct Ending {
     recorded: AtomicBool,
-    first: Mutex<Earliest>,
+    first: Mutex<Lowest>,
     polling: AtomicUsize,
 }
 
-/// A look found no fault recorded. Only [`Ending::look`] makes one. It cannot be copied: each round and each turn asks
-/// for one of its own.
+/// A look found no fault recorded. Only [`Ending::look`] makes this value. It cannot be copied, so each round and each
+/// turn needs a look of its own.
 #[derive(Drop)]
 pub(crate) struct NoFault {
     recorded: bool,
     ghost none: { recorded ≡ false },
 }
 
-/// A ticket, and a look that found no fault once it was taken: one before the sleep for the ticket is too old. Only
-/// [`Ending::look_after_take`] makes one.
+/// A ticket, and a look after it was taken, which found no fault. A look before the thread slept for the ticket would
+/// be too old. Only [`Ending::look_after_take`] makes one.
 #[derive(Drop)]
 pub(crate) struct Cleared {
     pub(crate) ticket: Ticket,
@@ -67,7 +67,7 @@ impl Ended {
         }
     }
 
-    /// What a round or a turn returned, or the end of the loop if that was a fault.
+    /// Passes on what a round or a turn returned. A fault ends the loop.
     pub(crate) fn on_fault<T: Drop>(answer: Result<T, ServerFault>) -> Result<T, Ended>
         ensures good { IfOk result (λ value. answer ≡ Ok value) }
         ensures met { IfErr result (λ ended. (fault : ServerFault) × (answer ≡ Err fault) × (ended.why ≡ Why.Met fault)) }
@@ -81,7 +81,7 @@ impl Ended {
     }
 }
 
-/// Goes on unless the poller is over.
+/// Refuses if the poller is over: that ends the loop.
 pub(crate) fn end_if_over<F: Front>(poller: &Poller<F>) -> Result<(), Ended>
     ensures open { OnOk result (poller.now.over ≡ false) }
     ensures over { IfErr result (λ ended. (ended.why ≡ Why.PollerOver) × (poller.now.over ≡ true)) }
@@ -95,8 +95,8 @@ pub(crate) fn end_if_over<F: Front>(poller: &Poller<F>) -> Result<(), Ended>
     }
 }
 
-/// Takes a ticket, and may sleep until there is one. So it uses up the look for a fault, and what was in hand must have
-/// been put, as far as the queue had room. It refuses once the queue of tickets is closed and empty.
+/// Takes a ticket, and may sleep until there is one. So it uses up the look for a fault, and the tickets in hand must
+/// have been put before, as far as the queue had room. It refuses once the queue is closed and empty.
 pub(crate) fn take(rt: &impl Wait, own: &mut Own, _seen: NoFault) -> Result<Ticket, Ended>
     requires put { PutAll own.old.ready own.old.hand.tickets }
     ensures taken { IfOk result (λ ticket. Took ticket own.old own.new) }
@@ -112,16 +112,16 @@ pub(crate) fn take(rt: &impl Wait, own: &mut Own, _seen: NoFault) -> Result<Tick
 }
 
 impl Ending {
-    /// Of a server with this many pollers, whose threads do not run yet.
+    /// For a server with this many pollers, whose threads do not run yet.
     pub fn new(pollers: usize) -> Ending {
         Ending {
             recorded: AtomicBool::new(false),
-            first: Mutex::new(Earliest::new()),
+            first: Mutex::new(Lowest::new()),
             polling: AtomicUsize::new(pollers),
         }
     }
 
-    /// The loop of the thread with this number has ended.
+    /// Records the fault that ended the loop of the thread with this number, if a fault did.
     pub(crate) fn end(&self, rt: &impl Wait, number: usize, ended: Ended) -> Option<Recorded>
         ensures { result ≡ option_map (λ fault. (number, fault)) (fault_by ended.why) }
     {
@@ -132,7 +132,6 @@ impl Ending {
         }
     }
 
-    /// Records the fault of the thread with this number.
     pub(crate) fn record(&self, rt: &impl Wait, number: usize, fault: ServerFault) -> Recorded
         ensures { result ≡ (number, fault) }
     {
@@ -145,7 +144,7 @@ impl Ending {
         self.recorded.load(SeqCst)
     }
 
-    /// Goes on only if no fault is recorded.
+    /// Looks for a recorded fault: the thread goes on only if there is none.
     pub(crate) fn look(&self) -> Result<NoFault, Ended>
         ensures { IfErr result (λ ended. ended.why ≡ Why.FaultFound) }
     {
@@ -157,7 +156,7 @@ impl Ending {
         }
     }
 
-    /// The same before the turn of a ticket for which the thread may have slept.
+    /// Looks again before the turn of a ticket for which the thread may have slept.
     pub(crate) fn look_after_take(&self, ticket: Ticket) -> Result<Cleared, Ended>
         ensures ticket { IfOk result (λ cleared. cleared.ticket ≡ ticket) }
         ensures found { IfErr result (λ ended. ended.why ≡ Why.FaultFound) }
@@ -166,12 +165,11 @@ impl Ending {
         Ok(Cleared { ticket, seen })
     }
 
-    /// A poller has ended. Returns whether none is left.
+    /// A poller has ended. Returns whether it was the last.
     pub(crate) fn leave(&self) -> bool {
         self.polling.fetch_sub(1, SeqCst) <= 1
     }
 
-    /// How the server ended, once all its threads have.
     pub(crate) fn outcome(self, _served: Served) -> Outcome {
         self.first.into_inner().outcome()
     }

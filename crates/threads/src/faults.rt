@@ -1,25 +1,25 @@
 //! What becomes of a fault: it is kept, unless a thread with a lower number has met one, and a flag is set.
 ghost use Rattle.std.specs.Prelude.{◌≡◌, ◌↔◌, IfErr, IsOk, None, Some, option_map};
-ghost use Rattle.threads.specs.Loops.{earliest};
+ghost use Rattle.threads.specs.Loops.{lowest};
 
 use dispatch::ServerFault;
 use std::marker::Model;
 use std::sync::atomic::AtomicBool;
 use std::sync::atomic::Ordering::SeqCst;
 
-/// The number of the first thread, in their order, that met a fault, and the fault.
+/// The lowest number of a thread that met a fault, and the fault.
 #[derive(Drop)]
-pub(crate) struct Earliest {
+pub(crate) struct Lowest {
     kept: Option<(usize, ServerFault)>,
 }
 
-/// A fault was compared with the one that is kept. Only [`Earliest::keep`] makes one, and it cannot be dropped.
+/// A fault was compared with the kept one. Only [`Lowest::keep`] makes this value, and it cannot be dropped.
 pub(crate) struct Kept {
     number: usize,
     fault: ServerFault,
 }
 
-/// A fault is recorded. Only [`Kept::announce`] makes one, and it cannot be dropped.
+/// A fault is recorded. Only [`Kept::announce`] makes this value, and it cannot be dropped.
 ///
 /// In a clause it is the number of the thread that met the fault, and the fault.
 pub struct Recorded {
@@ -36,23 +36,23 @@ impl Model for Recorded {
     ghost view = { λ r. (r.number, r.fault) };
 }
 
-/// How a server ended: well, or by the fault of the first thread that met one, or by what refused it before it served.
-/// Once threads have run, only [`Earliest::outcome`] makes one. It cannot be dropped, so whoever serves returns it.
+/// How a server ended: well; or by a fault that threads met, the lowest number's; or by what refused the server before
+/// it served. Once threads have run, only [`Lowest::outcome`] makes this value. It cannot be dropped, so whoever serves
+/// returns it.
 pub struct Outcome {
     fault: Option<ServerFault>,
 }
 
-impl Earliest {
-    /// No fault was met yet.
-    pub(crate) const fn new() -> Earliest
+impl Lowest {
+    pub(crate) const fn new() -> Lowest
         ensures { result.kept ≡ None }
     {
-        Earliest { kept: None }
+        Lowest { kept: None }
     }
 
-    /// Compares the fault of the thread with this number with the one that is kept, and keeps that of the first thread.
+    /// Compares the fault of the thread with this number with the one that is kept, and keeps that of the lower number.
     pub(crate) fn keep(&mut self, number: usize, fault: ServerFault) -> Kept
-        ensures kept { self.new.kept ≡ Some (earliest self.old.kept (number, fault)) }
+        ensures kept { self.new.kept ≡ Some (lowest self.old.kept (number, fault)) }
         ensures same { result ≡ record { number = number; fault = fault } }
     {
         let first = match self.kept {
@@ -63,7 +63,7 @@ impl Earliest {
         Kept { number, fault }
     }
 
-    /// How the server ended, once all its threads have: by the fault that was kept, if any.
+    /// How the server ended, once all its threads have ended: by the fault that was kept, if any.
     pub(crate) fn outcome(self) -> Outcome
         ensures { result.fault ≡ option_map (λ first. first.1) self.kept }
     {
@@ -74,7 +74,7 @@ impl Earliest {
 }
 
 impl Kept {
-    /// Each thread that looks at the flag from now on finds that there is a fault.
+    /// Sets the flag: each thread that looks at it from now on finds that there is a fault.
     pub(crate) fn announce(self, flag: &AtomicBool) -> Recorded
         ensures { result ≡ (self.number, self.fault) }
     {
@@ -85,7 +85,7 @@ impl Kept {
 }
 
 impl Outcome {
-    /// Of a server that was refused before it served.
+    /// The outcome of a server that was refused before it served.
     pub fn refused(fault: ServerFault) -> Outcome
         ensures { result.fault ≡ Some fault }
     {
@@ -106,7 +106,7 @@ impl Outcome {
 }
 
 impl Recorded {
-    /// The thread that met the fault has ended, or was not started.
+    /// Called when the thread that met the fault has ended, or was not started.
     pub fn spend(self) {
         let Recorded {
             number: _,

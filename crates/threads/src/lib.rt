@@ -6,16 +6,16 @@
 //!
 //! # Inside
 //!
-//! A worker takes no free slot out of any queue, and loses none (`SlotsGiven`). Its turn puts one into no other queue
-//! than that of the poller whose slot it is (`Worker::turn`: `gives`) and leaves none in hand (`given`). It sleeps for
-//! a ticket only with none in hand, unless the queue was full (`take`: `put`). Why a loop ended is a value that cannot
-//! be dropped, and that only `ending.rt` makes or takes apart (`Ended`). `Context::end` takes it: a fault is recorded
-//! under its thread's number (`recorded`), the first thread's is kept (`Earliest::keep`), and every poller is woken
-//! (`woken`). How a server ended is read from there once all its threads have ended (`Served`). Each round, each turn
-//! and each taking of a ticket requires a look of its own that found no fault (`NoFault`), a worker's turn one after
-//! the taking (`Cleared`). A poller counts its sweeps from a second that the clock gave (`begin`: `begun`), and one
-//! that finds that no more connections may be opened wakes every poller (`stop_if_asked`: `woken`). Each thread's array
-//! is its own by its type (a `Box`).
+//! A worker takes no free slot out of any queue, and loses none (`SlotsGiven`). Its turn puts a slot only into the
+//! queue of the slot's poller (`Worker::turn`: `gives`), and leaves none in hand (`given`). It sleeps for a ticket only
+//! if it has no ticket in hand, unless the queue was full (`take`: `put`). Why a loop ended is a value that cannot be
+//! dropped (`Ended`); only `ending.rt` makes it or takes it apart. `Context::end` takes it: a fault is recorded under
+//! its thread's number (`recorded`), the lowest number's is kept (`Lowest::keep`), and every poller is woken (`woken`).
+//! The kept fault says how a server ended, once all its threads have (`Served`). Each round, turn and taking of a
+//! ticket requires a look of its own that found no fault (`NoFault`); a worker's turn requires a look after the taking
+//! (`Cleared`). A poller counts its sweeps from a second that the clock gave (`begin`: `begun`). If it finds that no
+//! more connections may be opened, it wakes every poller (`stop_if_asked`: `woken`). Each thread's array is its own by
+//! its type (a `Box`).
 #![tactic(auto)]
 
 mod context;

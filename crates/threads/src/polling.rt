@@ -18,7 +18,7 @@ use turns::{Worked, own_turn, share_tickets};
 #[derive(Drop)]
 pub struct PollerThread<F: Front> {
     pub shared: Arc<Shared<F>>,
-    /// The thread's number. Of several faults that of the lowest number is kept.
+    /// The thread's number. Of several faults the lowest number's is kept.
     pub number: usize,
     pub own: Own,
     pub poller: Poller<F>,
@@ -45,7 +45,7 @@ where
         self.finish(context, ended);
     }
 
-    /// Sweeps are counted from now on.
+    /// The poller's sweeps are counted from the clock's second on.
     pub fn begin<G: Gate, C: Clock, R: Wait + Log, S: StopFlag>(
         &mut self,
         context: &Context<'_, G, C, R, S>,
@@ -57,8 +57,7 @@ where
         self.poller.begin_at(context.timing.moment().second);
     }
 
-    /// The thread has ended, as [`Context::end`] and [`Context::leave`] say. What is still counted of clients that were
-    /// closed unopened is logged.
+    /// The thread has ended, as [`Context::end`] and [`Context::leave`] say. Drops that are still counted are logged.
     pub fn finish<G: Gate, C: Clock, R: Wait + Log, S: StopFlag>(
         &mut self,
         context: &Context<'_, G, C, R, S>,
@@ -90,9 +89,9 @@ where
         unreachable!()
     }
 
-    /// One step of the thread: a round, and the turns of the tickets that it leaves to the poller's own thread, 32 at
-    /// most. It is refused if the thread ends: the poller is over, a fault is recorded before the round or one of the
-    /// turns, or this step met one.
+    /// One step of the thread: a round, and then the turns of the tickets that stay with this thread, 32 at most.
+    /// Refused if the thread ends: the poller is over, a fault was recorded before the round or before one of the
+    /// turns, or this step met a fault.
     pub fn step<G: Gate, C: Clock, R: Wait + Log, S: StopFlag>(
         &mut self,
         context: &Context<'_, G, C, R, S>,
@@ -117,8 +116,7 @@ where
         }
     }
 
-    /// If the flag that stops openings is set, this poller opens no more connections, and wakes all others, which see
-    /// the flag, too.
+    /// If the flag is set, a poller that might open more opens no more, and wakes all pollers, which then see it, too.
     fn stop_if_asked<G: Gate, C: Clock, R: Wait + Log, S: StopFlag>(
         &mut self,
         context: &Context<'_, G, C, R, S>,
@@ -157,7 +155,7 @@ where
         Ended::on_fault(polled)
     }
 
-    /// Runs the tickets in hand that stay, until a fault is recorded.
+    /// Puts the tickets for workers, and runs those that stay, until a fault is recorded.
     fn run_turns<G: Gate, C: Clock, R: Wait + Log, S: StopFlag>(
         &mut self,
         context: &Context<'_, G, C, R, S>,
@@ -183,7 +181,7 @@ where
     }
 
     /// Runs the turn of the oldest ticket in hand. None if there is no ticket, or no room in hand for a slot. If the
-    /// turn ends its connection while no more may be opened, the poller of its slot is woken.
+    /// turn ends the connection, and this poller has opened all that it may, the slot's poller is woken.
     fn turn<G: Gate, C: Clock, R: Wait + Log, S: StopFlag>(
         &mut self,
         context: &Context<'_, G, C, R, S>,

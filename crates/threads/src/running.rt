@@ -22,7 +22,7 @@ pub struct Server<F: Front> {
     pub shared: Shared<F>,
     /// For each thread a seat and an end of the queue of tickets.
     pub parts: Parts,
-    /// For each poller its ends of a queue of free slots: one for its own thread, and one for each worker.
+    /// For each poller the ends of its free queue: one for its own thread, and one for each worker.
     pub free: Vec<Vec<FreeQueue>>,
     /// The pollers, in the order of their parts.
     pub pollers: Vec<Poller<F>>,
@@ -31,12 +31,12 @@ pub struct Server<F: Front> {
     pub ghost seats: { AreFresh shared.claims parts.seats.items },
 }
 
-/// Runs a server: the calling thread is one of its pollers', the others are started here, and the call returns when the
-/// last has ended. Once `is_stopped` is set, no more connections are opened, and it ends once all are closed.
+/// Runs a server. The calling thread is a poller's, all other threads are started here, and the call returns when all
+/// have ended. Once `is_stopped` is set, the server opens no more connections, and ends once all are closed.
 ///
-/// Refuses with `NoMemory` if there is none for what the threads own, before any has started; else with the fault
-/// that a thread met, or `Threads` for one that could not be started. Of several it is that of the first poller or
-/// `Threads`, whichever came first, or else that of the first of the other threads: pollers, and then workers.
+/// Refuses with `NoMemory`, before any thread has started, if there is none for what the threads own; else with the
+/// fault that a thread met, or `Threads` if one could not be started. Of several faults it is the first poller's or
+/// `Threads`, whichever came first; or else that of the next thread: pollers come before workers.
 pub fn run_threads<F, G: Gate + Sync, C: Clock + Sync, R: Wait + Threads + Log + Sync>(
     rt: &R,
     alloc: Global,
@@ -75,7 +75,6 @@ where
     ending.outcome(served)
 }
 
-/// The threads of a server, which do not run yet.
 fn threads_of<F: Front + Drop>(
     alloc: Global,
     server: Server<F>,
@@ -95,12 +94,12 @@ where
     divide(alloc, &shared, Rest { parts, free }, pollers, workers)
 }
 
-/// All threads of a server have ended. Only [`run_all`] makes one.
+/// All threads of a server have ended. Only [`run_all`] makes this value.
 #[derive(Drop)]
 pub(crate) struct Served(());
 
-/// Starts the threads of the workers and of all pollers but one, runs that one in the calling thread, and ends with
-/// the last of them. A thread that cannot be started is a fault.
+/// Starts the threads of the workers and of all pollers but one, runs that poller in the calling thread, and returns
+/// when all have ended.
 fn run_all<F, G: Gate + Sync, C: Clock + Sync, R: Wait + Threads + Log + Sync>(
     startup: &Startup<F, G, C, R>,
     workers: usize,
@@ -147,7 +146,7 @@ where
         if is_worker { self.work() } else { self.poll() }
     }
 
-    /// The next poller's thread that has not begun.
+    /// Runs the next poller that has not begun.
     fn poll(&self) {
         let next = self.threads.lock(self.context.rt).pollers.pop();
         if let Some(mut poller) = next {
@@ -156,7 +155,7 @@ where
         }
     }
 
-    /// The next worker's thread that has not begun.
+    /// Runs the next worker that has not begun.
     fn work(&self) {
         let next = self.threads.lock(self.context.rt).workers.pop();
         if let Some(mut worker) = next {
@@ -166,7 +165,7 @@ where
     }
 }
 
-/// A thread could not be started. That is a fault, which counts before those of all threads but the first.
+/// A thread could not be started. Number 0 makes this fault count before those of all threads but the first poller's.
 fn not_started<G, C, R: Wait + Log>(context: &Context<G, C, R>) -> Recorded
     ensures { result ≡ (0, ServerFault.Threads) }
 {

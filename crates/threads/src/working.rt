@@ -18,11 +18,11 @@ use turns::{Worked, worker_turn};
 #[derive(Drop)]
 pub struct Worker<F: Front> {
     pub shared: Arc<Shared<F>>,
-    /// The thread's number. Of several faults that of the lowest number is kept.
+    /// The thread's number. Of several faults the lowest number's is kept.
     pub number: usize,
-    /// Between two turns its end of a queue of free slots is the first poller's.
+    /// Between two turns its end of a free queue is the first poller's.
     pub own: Own,
-    /// Its ends of the queues of free slots of the other pollers, in order.
+    /// The worker's ends of the other pollers' free queues, in order.
     pub others: Vec<FreeQueue>,
     pub ghost same: { own.seat.table ≡ (arc_value shared).claims },
     pub ghost idle: { HoldsNothing own.seat },
@@ -69,10 +69,10 @@ where
         unreachable!()
     }
 
-    /// One step of the thread: it puts the tickets in hand, which a queue had refused, takes a ticket, for which it
-    /// may wait, and runs its turn; without room in hand it takes none. It is refused if the thread ends: the queue of
-    /// tickets is closed and empty, a fault was recorded before the taking or after it, which leaves the ticket in
-    /// hand, or this step met one.
+    /// One step of the thread: it puts the tickets in hand, which the queue refused before, takes a ticket, for which
+    /// it may sleep, and runs its turn. Without room in hand it takes none. Refused if the thread ends: the queue of
+    /// tickets is closed and empty; or a fault was recorded before the taking, or after it, which leaves the ticket in
+    /// hand; or this step met a fault.
     pub fn step<G: Gate, C: Clock, R: Wait + Log, S>(
         &mut self,
         context: &Context<'_, G, C, R, S>,
@@ -105,7 +105,7 @@ where
         }
     }
 
-    /// Puts the tickets in hand, as far as their queue has room.
+    /// Puts the tickets that are in hand, as far as their queue has room.
     fn put_hand(&mut self, rt: &impl Wait)
         ensures ran { WorkerRan [] [] self.old.own self.new.own self.old.others.items self.new.others.items }
         ensures put { PutAll self.new.own.ready self.new.own.hand.tickets }
@@ -113,7 +113,7 @@ where
         put_tickets(rt, &mut self.own.ready, &mut self.own.hand);
     }
 
-    /// Runs a turn. If its connection ends, its slot goes back to the poller that has it.
+    /// Runs the ticket's turn. If the connection ends, its slot goes back to the slot's poller.
     fn turn<G: Gate, C: Clock, R: Wait + Log, S>(
         &mut self,
         context: &Context<'_, G, C, R, S>,
@@ -147,8 +147,8 @@ where
     }
 }
 
-/// Swaps a worker's end of the first poller's queue with that of this poller, if it has one. A second call swaps them
-/// back.
+/// Swaps a worker's end of the first poller's queue with its end of this poller's, if it has one. A second call swaps
+/// them back.
 fn change_end(used: &mut FreeQueue, others: &mut Vec<FreeQueue>, poller: usize)
     ensures { Changes poller used.old used.new others.old.items others.new.items }
 {
@@ -160,7 +160,7 @@ fn change_end(used: &mut FreeQueue, others: &mut Vec<FreeQueue>, poller: usize)
     }
 }
 
-/// Gives back slots until none is in hand. A queue has room for each slot that can be in it, so this waits for nobody.
+/// Gives slots back until none is in hand. The queue has room for all its slots, so this waits for nobody.
 fn give_until_empty(rt: &impl Wait, free: &mut FreeQueue, hand: &mut Hand)
     ensures given { hand.new.slots ≡ [] }
     ensures slots { outgoing free.new.history hand.new.slots ≡ outgoing free.old.history hand.old.slots }

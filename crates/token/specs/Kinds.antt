@@ -15,7 +15,7 @@ kind_name Other = codes "other"
 abbrev pub all_kinds : List Kind
 all_kinds = Reset ∷ Pipe ∷ Aborted ∷ Refused ∷ NotConnected ∷ TimedOut ∷ Zero ∷ Other ∷ []
 
--- the first of these kinds that a word names
+-- the first kind of a list that a word names
 abbrev pub kind_among : List Kind → List ℕ → Option Kind
 kind_among [] word = None
 kind_among (kind ∷ kinds) word = if bytes_eq word (kind_name kind) then Some kind else kind_among kinds word

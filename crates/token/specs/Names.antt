@@ -8,21 +8,21 @@ pub record EndName : Type 0 where
   pub side : Side
   pub generation : ℕ
 
--- the slots that have a name
+-- the slots that a name can hold
 abbrev pub IsSlot : ℕ → Type 0
 IsSlot slot = slot ≤ 32767
 
--- 2^47 - 1, the last generation that has a name: the slot of such a connection is not used again
+-- 2^47 - 1: after a connection of this generation, its slot is not used again
 abbrev pub last_generation : ℕ
 last_generation = 140737488355327
 
--- the generations that have a name: a slot that was never opened has generation 0
+-- the generations that a name can hold: a slot that was never opened has generation 0
 abbrev pub IsGeneration : ℕ → Type 0
 IsGeneration generation = (1 ≤ generation) × (generation ≤ last_generation)
 
 abbrev pub IsEndName : EndName → Type 0
 IsEndName name = IsSlot name.slot × IsGeneration name.generation
 
--- the number of a name: the generation above sixteen bits, which are the slot and, last, the side
+-- the number of a name: the side is its last bit, the slot the 15 bits above, the generation the rest
 abbrev pub end_number : EndName → ℕ
 end_number name = name.generation * 65536 + name.slot * 2 + side_number name.side

@@ -7,7 +7,7 @@ name_number Listener = 0
 name_number Waker = 1
 name_number (End name) = end_number name
 
--- the names that there are
+-- the names whose slot and generation are in range
 abbrev pub IsName : Name → Type 0
 IsName Listener = ⊤
 IsName Waker = ⊤
@@ -19,7 +19,7 @@ side_of bit = if bit == 0 then Client else Target
 abbrev pub end_of : ℕ → EndName
 end_of number = record { slot = number % 65536 / 2; side = side_of (number % 2); generation = number / 65536 }
 
--- the name of a number, if it has one
+-- the name that a number stands for, or None
 abbrev pub name_of : ℕ → Option Name
 name_of number =
     if number == 0 then Some Listener
@@ -27,6 +27,6 @@ name_of number =
     else if nat_le 1 (number / 65536) && nat_le (number / 65536) last_generation then Some (End (end_of number))
     else None
 
--- the generation of a slot that is opened again; none after the last that has a name
+-- the generation of a slot's next connection; None after the last generation
 abbrev pub generation_after : ℕ → Option ℕ
 generation_after generation = if generation == last_generation then None else Some (generation + 1)

@@ -25,22 +25,22 @@ abbrev pub opposite : Direction → Direction
 opposite Up = Down
 opposite Down = Up
 
--- the side whose bytes go this way
+-- the side that the bytes come from
 abbrev pub source : Direction → Side
 source Up = Client
 source Down = Target
 
--- the side to which bytes go this way
+-- the side that the bytes go to
 abbrev pub destination : Direction → Side
 destination Up = Target
 destination Down = Client
 
--- the direction whose source a side is
+-- the direction whose source is this side
 abbrev pub outward : Side → Direction
 outward Client = Up
 outward Target = Down
 
--- the direction whose destination a side is
+-- the direction whose destination is this side
 abbrev pub inward : Side → Direction
 inward Client = Down
 inward Target = Up

@@ -1,11 +1,11 @@
 ghost use Rattle.std.specs.{Prelude.{◌≡◌, ◌≢◌, IfSome, IfNone}, Str.bytes_eq};
 ghost use Rattle.token.specs.{Kinds.{kind_name, kind_named}, declared.kind.Kind.Kind};
 
-/// What is said where a word names no kind.
+/// The message about a word that names no kind.
 pub const KIND_WANTED: &str =
     "one of aborted, notconnected, other, pipe, refused, reset, timedout and zero is wanted";
 
-/// How a call on a socket failed, as far as the relay distinguishes it.
+/// How a call on a socket failed: the kinds that the relay distinguishes.
 #[derive(Clone, Copy, PartialEq, Eq)]
 pub enum Kind {
     /// The peer reset the connection (ECONNRESET).
@@ -43,11 +43,11 @@ impl Kind {
         }
     }
 
-    /// The kind that a word names, if it names one.
+    /// The kind that `word` names, or None.
     pub fn named(word: &[u8]) -> Option<Kind>
         ensures value { result ≡ kind_named word.now }
 
-        // What that comes to:
+        // What follows from `value`:
         ensures some { IfSome result (λ kind. word.now ≡ kind_name kind) }
         ensures none { IfNone result ((kind : Kind) → word.now ≢ kind_name kind) }
     {

@@ -1,10 +1,9 @@
-//! The types that every layer of the relay shares, and the numbers by which a readiness queue names what it reports
-//! on.
+//! The types that every layer of the relay shares, and the names that stand in reports, each packed into one number.
 //!
-//! A connection has two [`Side`]s and two [`Direction`]s, and a call on one of its sockets fails with a [`Kind`]. An
-//! end of a connection is named by a [`Token`]: the slot of the connection, the side, and the slot's generation,
-//! which distinguishes a report for this connection from a late one for an earlier connection in the same slot.
-//! epoll(7) knows a name by its number ([`Name::number`], [`unpack`]).
+//! A connection has two [`Side`]s and two [`Direction`]s, and a call on one of its sockets fails with a [`Kind`].
+//! A [`Token`] names one end of a connection: by the slot, the side and the slot's generation. The generation tells a
+//! report for this connection from a late report for an earlier connection in the same slot. epoll(7) is given each
+//! [`Name`] as a number ([`Name::number`], [`unpack`]).
 #![tactic(auto)]
 
 mod direction;

@@ -5,7 +5,7 @@ use crate::limits::NUMBERS_PER_GENERATION;
 use crate::side::Side;
 use crate::token::Token;
 
-/// What a readiness queue reports on.
+/// What a report is about.
 #[derive(Clone, Copy, PartialEq, Eq)]
 pub enum Name {
     /// The listening socket: number 0.

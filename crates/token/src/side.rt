@@ -31,11 +31,11 @@ impl Side {
         }
     }
 
-    /// The side that a word names, if it names one.
+    /// The side that `word` names, or None.
     pub fn named(word: &[u8]) -> Option<Side>
         ensures value { result ≡ side_named word.now }
 
-        // What that comes to:
+        // What follows from `value`:
         ensures some { IfSome result (λ side. word.now ≡ side_name side) }
         ensures none { IfNone result ((side : Side) → word.now ≢ side_name side) }
     {

@@ -41,8 +41,8 @@ impl Model for Token {
 impl Token {
     /// The token of an end.
     ///
-    /// Refuses with `SlotRange` if the slot is over [`MAX_SLOT`], which is checked first, and with `GenRange` if the
-    /// generation is 0 or over [`MAX_GENERATION`].
+    /// Refuses with `SlotRange` if the slot is over [`MAX_SLOT`]. If the slot is allowed, refuses with `GenRange` if
+    /// the generation is 0 or over [`MAX_GENERATION`].
     pub fn pack(slot: usize, side: Side, generation: u64) -> Result<Token, TokenFault>
         ensures packed { IsSlot slot → IsGeneration generation
             → result ≡ Ok (record { slot = slot; side = side; generation = generation }) }
@@ -70,14 +70,14 @@ impl Token {
         self.slot
     }
 
-    /// The side of the connection that the end is on.
+    /// Which end of the connection the token names.
     pub fn side(self) -> Side
         ensures { result ≡ self.side }
     {
         self.side
     }
 
-    /// How many times the slot had been opened when the connection began.
+    /// How many connections the slot has had, this one included.
     pub fn generation(self) -> u64
         ensures value { result ≡ self.generation }
         ensures range { IsGeneration result }
@@ -94,8 +94,8 @@ impl Token {
     }
 }
 
-/// The generation that a slot gets when it is opened again, or none after [`MAX_GENERATION`]. That of a slot that was
-/// never opened is 0.
+/// The generation of a slot's next connection, or None after [`MAX_GENERATION`]. A slot that was never opened has
+/// generation 0.
 pub fn next_gen(generation: u64) -> Option<u64>
     requires { generation ≤ last_generation }
     ensures { result ≡ generation_after generation }

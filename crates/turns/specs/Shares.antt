@@ -22,17 +22,17 @@ pub record Stays (stayed : ℕ) (heavy : List ℕ) (ticket : Ticket) : Type 0 wh
   pub light : IsLight heavy ticket
   pub few : stayed < first_light
 
--- What becomes of one ticket in hand, after this many that stayed: a light one stays while fewer than 16 have, and
--- later ones may. Any other is put, or is in hand if the queue was full at one moment. Then this many have stayed, this
--- is in hand after the others, and the queue's end has come to this
+-- What becomes of a ticket in hand, once `stayed` others have stayed. A light one stays while fewer than 16 have, and a
+-- later one may. Any other is put, or is in hand if the queue was full at one moment. After that, `then` tickets have
+-- stayed, `behind` has the ticket if it is in hand, and `next` is the queue's end
 abbrev pub OneShared : ℕ → List ℕ → Ticket → EndState Ticket → ℕ → List Ticket → EndState Ticket → Type 0
 OneShared stayed heavy ticket queue then behind next =
     (IsLight heavy ticket × (then ≡ suc stayed) × (behind ≡ ticket ∷ []) × (next ≡ queue))
     ⊎ ((Stays stayed heavy ticket → ⊥) × (then ≡ stayed)
     × ((Puts ticket queue next × (behind ≡ [])) ⊎ (Refuses queue next × (behind ≡ ticket ∷ []))))
 
--- The same of these tickets, in order. Each that was looked at takes one of its slot's marks away. Then these are in
--- hand, these marks are left, and the queue's end has come to this
+-- What becomes of these tickets, in order. Each uses up one of its slot's marks, if there is any. Then the tickets
+-- `kept` are in hand, the marks `left` are left, and `end` is the queue's end
 abbrev pub AreShared : ℕ → List ℕ → List Ticket → EndState Ticket → List Ticket → List ℕ → EndState Ticket → Type 0
 AreShared stayed heavy [] queue kept left end = (kept ≡ []) × (left ≡ heavy) × (end ≡ queue)
 AreShared stayed heavy (t ∷ ts) queue kept left end =
@@ -46,7 +46,7 @@ Passed ticket old new =
     (Puts ticket old.ready new.ready × (new.hand ≡ old.hand))
     ⊎ (Refuses old.ready new.ready × (new.hand ≡ record old.hand { tickets = old.hand.tickets ++ ticket ∷ [] }))
 
--- the tickets in hand were shared, by the heavy marks before and after, and nothing else changed
+-- the tickets in hand were shared. The marks were `heavy` and are `left`. Nothing else changed
 pub record TicketsShared (heavy left : List ℕ) (old new : Own) : Type 0 where
   pub tickets : AreShared 0 heavy old.hand.tickets old.ready new.hand.tickets left new.ready
   pub took : new.ready.history.taken ≡ old.ready.history.taken

@@ -1,4 +1,4 @@
--- What a worker's turn does to what its thread owns, by its answer. Part of the promises.
+-- What a turn does to what its thread owns, by its answer. Part of the promises.
 use Rattle.std.specs.Prelude.{◌≡◌, ◌⊎◌, ℕ, zero, suc, ◌<◌, ◌≤◌, Bool, true, false, nat_lt, if◌then◌else◌, Option, Some, None, Result, Ok, Err, List, [], ◌∷◌, drop, length, slice_set}
 use Rattle.claims.specs.{declared.view.Exchange.{Exchange, TheVariants.{Post, Busy, Held, Take, Release, Retire}}, Views.minted_by, Seats.{TableId, account_at, Adds}}
 use Rattle.ready.specs.declared.ticket.Ticket.{Ticket}
@@ -16,8 +16,8 @@ abbrev pub WasHeld : Result Worked ServerFault → Type 0
 WasHeld (Ok worked.Busy) = ⊥
 WasHeld result = Unit {0}
 
--- The exchanges of a turn at its slot, by its answer, if its claim found this many notes, its take this many, and its
--- release answered Wake or not. A post that finds the seat worn makes none
+-- The exchanges of a turn at its slot, by its answer: its claim found `found` notes, its take `noted`, and its release
+-- answered Wake if `woke`. A post that finds the seat worn makes no exchange
 abbrev pub program : Result Worked ServerFault → ℕ → ℕ → Bool → List Exchange
 program (Ok worked.Busy) found noted woke = Busy ∷ []
 program (Ok worked.Gone) found noted woke = Held found ∷ Take noted ∷ Release woke ∷ []
@@ -26,8 +26,8 @@ program (Ok worked.Again) found noted woke = Held found ∷ Take noted ∷ Post 
 program (Ok worked.Ended) found noted woke = Held found ∷ Take noted ∷ Retire ∷ []
 program (Err fault) found noted woke = Held found ∷ Take noted ∷ Release woke ∷ []
 
--- The acts of a turn but its calls, in order, by its answer, for a ticket of this generation: if another connection was
--- in the place or not, and its release answered Wake or not
+-- The acts of a turn but its calls, in order, by its answer and the ticket's generation. `other`: another connection
+-- was in the place. `woke`: the release answered Wake
 abbrev pub acts_of : Result Worked ServerFault → ℕ → Bool → Bool → List Act
 acts_of (Ok worked.Busy) generation other woke = busy_turn
 acts_of (Ok worked.Gone) generation other woke = gone_turn other woke
@@ -36,7 +36,7 @@ acts_of (Ok worked.Again) generation other woke = again_turn true
 acts_of (Ok worked.Ended) generation other woke = ended_turn (nat_lt generation last_generation)
 acts_of (Err fault) generation other woke = again_turn woke
 
--- what is left of them after the first n was made
+-- the acts of a turn but its first n were made
 abbrev pub ActsLeft : {S : Type 0} → (Act → ℕ → S → S → Type 0) → Ticket → Result Worked ServerFault → ℕ → Bool → Bool → S → S → Type 0
 ActsLeft made ticket result n other woke from to = AreMade made ticket.slot (drop n (acts_of result ticket.generation other woke)) from to
 
@@ -47,12 +47,12 @@ pub record AtWork (claims : TableId) (slot : ℕ) (own : Own) : Type 0 where
   pub holder : HoldsOnly slot own.seat
   pub room : HasRoom own.hand
 
--- the ticket is put, or it is the last in hand, and beside it the tickets that were to be put are the same
+-- the ticket was put, or is the last in hand. The other tickets that the thread had to put stay
 pub record TicketPut (ticket : Ticket) (old new : Own) : Type 0 where
   pub kept : KeepsTicket ticket new.ready.history new.hand
   pub tickets : Inserted ticket (tickets_out old) (tickets_out new)
 
--- the ticket was put if exchanges made it, which they do once at most
+-- the ticket was put if the exchanges made one. They make one at most
 abbrev pub TicketsKept : Ticket → ℕ → Own → Own → Type 0
 TicketsKept ticket zero old new = tickets_out new ≡ tickets_out old
 TicketsKept ticket (suc n) old new = TicketPut ticket old new
@@ -68,15 +68,15 @@ abbrev pub SlotsKept : Ticket → Result Worked ServerFault → Own → Own → 
 SlotsKept ticket (Ok worked.Ended) old new = SlotGiven ticket old new
 SlotsKept ticket result old new = slots_out new ≡ slots_out old
 
--- What the exchanges of a turn do to what its thread owns: they are all that the seat made, for each that answered Wake
--- the ticket was put, and the slot is given if the connection ended
+-- What a turn with these exchanges does to what its thread owns: the seat made no others, the ticket was put if one of
+-- them answered Wake, and the slot was given if the connection ended
 pub record TurnDone (ticket : Ticket) (exchanges : List Exchange) (result : Result Worked ServerFault) (old new : Own) : Type 0 where
   pub seat : Adds ticket.slot exchanges old.seat new.seat
   pub tickets : TicketsKept ticket (minted_by exchanges) old new
   pub slots : SlotsKept ticket result old new
   pub took : TookNothing old new
 
--- the rest of a turn after this many of its exchanges and of its acts, if another connection was in the place or not
+-- the rest of a turn, after `exchanged` of its exchanges and `acted` of its acts
 pub record TurnRest {S : Type 0} (made : Act → ℕ → S → S → Type 0) (ticket : Ticket) (result : Result Worked ServerFault)
     (other : Bool) (exchanged acted : ℕ) (old new : Own) (from to : S) : Type 0 where
   pub noted : ℕ
@@ -92,8 +92,8 @@ pub record LeftSlot {S : Type 0} (made : Act → ℕ → S → S → Type 0) (ti
   pub done : TurnDone ticket (Release woke ∷ []) (Ok worked.Quiet) old new
   pub acts : AreMade made ticket.slot (leaving woke) from to
 
--- the exchanges of a turn with a ticket of this slot. Claim words that lack the slot are not touched, and the answer is
--- Gone then
+-- the exchanges of a turn with a ticket of this slot. If the claim words lack the slot, there are none, and the answer
+-- is Gone
 pub record IsTurnOf (words slot : ℕ) (result : Result Worked ServerFault) (exchanges : List Exchange) : Type 0 where
   pub found : ℕ
   pub noted : ℕ
@@ -108,14 +108,14 @@ pub record TurnMade (words : ℕ) (ticket : Ticket) (result : Result Worked Serv
   pub done : TurnDone ticket exchanges result old new
   pub outside : words ≤ ticket.slot → new.seat ≡ old.seat
 
--- the same, with the order of all acts of the turn but its calls. If the claim words lack the slot, none is made
+-- `TurnMade`, with the acts of the turn but its calls, in order. If the claim words lack the slot, no act is made
 abbrev pub TurnInOrder : {S : Type 0} → (Act → ℕ → S → S → Type 0) → ℕ → Ticket → Result Worked ServerFault → Own → Own → S → S → Type 0
 TurnInOrder made words ticket result old new from to =
     (turn : TurnMade words ticket result old new)
     × (ticket.slot < words → (other : Bool) × ActsLeft made ticket result 0 other turn.are.woke from to)
     × (words ≤ ticket.slot → to ≡ from)
 
--- a poller's own turn with the oldest ticket in hand, which is no longer there; after None nothing changed
+-- a poller's own turn with the oldest ticket in hand, which it takes out. After None nothing has changed
 abbrev pub OwnTurn : ℕ → Ticket → Result (Option Worked) ServerFault → Own → Own → Type 0
 OwnTurn words ticket (Ok None) old new = new ≡ old
 OwnTurn words ticket (Ok (Some worked)) old new = TurnMade words ticket (Ok worked) (without_first old) new
@@ -128,12 +128,12 @@ OwnTurnInOrder made words ticket (Ok (Some worked)) old new from to =
     TurnInOrder made words ticket (Ok worked) (without_first old) new from to
 OwnTurnInOrder made words ticket (Err fault) old new from to = TurnInOrder made words ticket (Err fault) (without_first old) new from to
 
--- the heavy marks after an own turn: a connection that spent its budget has all of them
+-- the heavy marks after an own turn: a slot whose connection spent the budget has all 16
 abbrev pub marks_after : Option Ticket → Result (Option Worked) ServerFault → List ℕ → List ℕ
 marks_after (Some ticket) (Ok (Some worked.Again)) heavy = slice_set heavy ticket.slot heavy_marks
 marks_after ticket result heavy = heavy
 
--- why a poller's thread runs no turn: no ticket is in hand, or no slot more fits there
+-- why a poller's thread runs no turn: no ticket is in hand, or no further slot fits there
 abbrev pub NoOwnTurn : Own → Type 0
 NoOwnTurn own = (own.hand.tickets ≡ []) ⊎ (own.hand.capacity ≤ length own.hand.slots)
 
@@ -141,11 +141,11 @@ NoOwnTurn own = (own.hand.tickets ≡ []) ⊎ (own.hand.capacity ≤ length own.
 abbrev pub noted_by : ℕ → PairState → PairState
 noted_by notes pair = if nat_lt 0 notes then noted pair else pair
 
--- A wire is served so: at this second it came from one state to another by these answers to a pair's calls on a side
+-- How a wire is served: at this second these answers to a pair's calls on a side led it from one state to another
 abbrev pub Serves : Type 0 → Type 1
 Serves S = ℕ → S → S → Side → PairState → List AnswerValue → Type 0
 
--- a connection, to which this many notes were given, had one turn on its two wires, as its terms allow
+-- a connection had one turn on its two wires, as its terms allow, after this many notes were taken
 abbrev pub Plays : {C T : Type 0} → Serves C → Serves T → Terms → ℕ → Berth C T → Berth C T → Type 0
 Plays client target terms notes old new =
     IsTurn terms.budget terms.moment.second terms.moment.limit (noted_by notes old.pair) new.pair

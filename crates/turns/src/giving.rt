@@ -12,8 +12,8 @@ use ready::{Full, Ticket};
 use std::sync::Wait;
 use token::MAX_GENERATION;
 
-/// Puts the ticket of a slot that was released. A ticket that were put before could be taken at once, find its slot
-/// held, and be lost.
+/// Puts the ticket of a slot that was released. If it were put before, another thread could take it, find the slot
+/// held, and drop it.
 pub(crate) fn put_ticket<A: Acts, R: Wait>(rt: &R, acts: &mut A, own: &mut Own, ticket: Ticket)
     requires released { HoldsNot own.old.seat ticket.slot }
     requires room { length own.old.hand.tickets < own.old.hand.capacity }
@@ -55,7 +55,7 @@ pub(crate) fn give_back<A: Acts, R: Wait>(
     closed.spend();
 }
 
-/// Gives back a slot that was retired. A slot that were given back before could be found held, and be used no longer.
+/// Gives back a slot that was retired. If it were given back before, its poller could find it held, and lose it.
 fn give_slot<A: Acts, R: Wait>(rt: &R, acts: &mut A, own: &mut Own, slot: usize)
     requires retired { HoldsNot own.old.seat slot }
     requires room { length own.old.hand.slots < own.old.hand.capacity }

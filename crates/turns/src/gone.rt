@@ -7,8 +7,8 @@ use relay_core::{Fault, Verdict};
 use relay_log::{Gone, Known, Why, logs_gone};
 use token::Side;
 
-/// Logs whose connection has ended by this second, how far it got, and why. A connection that is done is logged only if
-/// the log has all clients.
+/// Logs a connection that has ended by this second: whose it was, how far it got, and why. One that is done is logged
+/// only if the log has all clients.
 pub(crate) fn log_gone<F: Front, R: Log>(
     rt: &R,
     clients: ClientsAt,
@@ -44,8 +44,8 @@ fn log_ended<F: Front, R: Log>(
     relay_log::log_gone(rt, clients, gone);
 }
 
-/// Whether the target was ever connected. If no call has shown that, and none has failed, the system is asked: a target
-/// that accepted and says nothing is another case than one that never answered.
+/// Whether the target was ever connected. If no call has shown that and none has failed, the system is asked, to tell a
+/// target that accepted and stays silent from one that never answered.
 fn connected<F: Front>(visit: &Visit<F>) -> Option<bool> {
     let pair = visit.pair();
     if pair.joined(Side::Target) {

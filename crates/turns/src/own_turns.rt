@@ -20,14 +20,14 @@ enum Stay {
     Early,
     /// Workers run no light tickets.
     Alone,
-    /// Nobody sleeps who could run it at once.
+    /// No worker sleeps, to run it at once.
     Busy(AllBusy),
 }
 
-/// Puts the tickets in hand that the poller's thread leaves to the workers: those of connections that spent all of its
-/// budget a short while ago, and, if workers run light tickets, too, every ticket after the first 16 that stay, from
-/// the point where a worker's end of the ready queue is found asleep. The others stay in hand, in order, since workers
-/// that are all awake may all be at work on much larger turns. So do those that the queue refuses.
+/// Puts the tickets in hand that the poller's thread leaves to the workers. These are the heavy tickets. If workers run
+/// light tickets, too, the light ones after the first 16 are also put, once a worker's end of the ready queue is found
+/// asleep: while none sleeps, all workers may be at work on much larger turns. All other tickets stay in hand, in
+/// order, and so do those that the queue refuses.
 pub fn share_tickets<R: Wait>(rt: &R, shares_light: bool, own: &mut Own, heavy: &mut HeavyMarks)
     requires idle { HoldsNothing own.old.seat }
     ensures shared { TicketsShared heavy.old heavy.new own.old own.new }
@@ -47,8 +47,8 @@ pub fn share_tickets<R: Wait>(rt: &R, shares_light: bool, own: &mut Own, heavy: 
     }
 }
 
-/// Why a ticket stays in hand, or None. `kept` have stayed before it, and `asleep` says whether an end of the queue was
-/// found asleep. That end runs the next tickets, too: one wake for each would cost more than their turns.
+/// Why a ticket stays in hand. None: it is put. `kept` tickets have stayed before it. `asleep`: an end of the queue was
+/// found asleep. That end runs the next tickets, too: a wake for each would cost more than their turns.
 fn stays(
     ready: &ReadyQueue,
     shares_light: bool,
@@ -82,7 +82,7 @@ fn stays(
     busy.map(Stay::Busy)
 }
 
-/// Keeps a ticket in hand, after this many that stayed.
+/// Keeps a ticket in hand. `_kept` tickets have stayed before it.
 fn keep(hand: &mut Hand, ticket: Ticket, _kept: usize, _shares_light: bool, _stay: Stay)
     requires room { length hand.old.tickets < hand.old.capacity }
     requires early { _stay ≡ Stay.Early → _kept < first_light }
@@ -92,13 +92,13 @@ fn keep(hand: &mut Hand, ticket: Ticket, _kept: usize, _shares_light: bool, _sta
     hand.keep_ticket(ticket);
 }
 
-/// Runs the turn of the oldest ticket in hand, with at most 8 calls. The next tickets of a connection that spends them
-/// are for the workers. None if there is no ticket, or no room in hand for a slot: then nothing changes. The only
-/// refusal is `Worn`, as for a worker's turn.
+/// Runs the turn of the oldest ticket in hand, with at most 8 calls. If the connection spends them, its slot's next
+/// tickets are for the workers. None if no ticket is in hand, or there is no room for a slot: then nothing changes. The
+/// only refusal is `Worn`, as for a worker's turn.
 ///
 /// If a connection ends, nobody has to be woken: the next round looks for a free slot before it waits, if a client may
-/// be waiting. With `is_closing`, which says that the poller may open no more connections, that round does not wait, so
-/// that the poller's end is found at once.
+/// be waiting. If `is_closing`, the poller may open no more connections: then that round does not wait, so that the
+/// poller's end is found at once.
 pub fn own_turn<F: Front, G: Gate, C: Clock, R: Wait + Log>(
     rt: &R,
     shared: &Shared<F>,
@@ -123,7 +123,7 @@ pub fn own_turn<F: Front, G: Gate, C: Clock, R: Wait + Log>(
     own_turn_with(rt, &mut (), shared, own, gate, heavy, is_closing, timing)
 }
 
-/// [`own_turn`], made of these acts. The clause `turn` also says which of them it makes, in which order.
+/// [`own_turn`], over any acts. The clause `turn` also says which acts it makes, in which order.
 pub fn own_turn_with<F: Front, A: Moves<F>, G: Gate, C: Clock, R: Wait + Log>(
     rt: &R,
     acts: &mut A,

@@ -13,7 +13,7 @@ pub(crate) struct Terms {
 }
 
 impl Terms {
-    /// Those of a poller's own turn: 8 calls at most, so that the reports of other connections wait no longer.
+    /// The terms of an own turn: 8 calls at most, so that other connections' reports wait no longer than these.
     pub(crate) fn own(budget: usize, moment: Moment) -> Terms
         ensures { result ≡ record { budget = min budget own_budget; moment = moment } }
     {

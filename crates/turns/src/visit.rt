@@ -16,22 +16,22 @@ use std::net::SocketAddr;
 use std::sync::Wait;
 use token::Side;
 
-/// A connection that was taken out of the place of a slot that is held. Only [`take_out`] makes a visit, and only
-/// [`put_in`] and [`Visit::close`] end it, since it cannot be dropped: what is put back is what was taken out.
+/// A connection that was taken out of the place of a held slot. Only [`take_out`] makes a visit. It cannot be dropped,
+/// and only [`put_in`] and [`Visit::close`] end it. So what is put back or closed is what was taken out.
 pub(crate) struct Visit<F: Front> {
     pub(crate) ticket: Ticket,
     berth: Box<Berth<F::Client, F::Target>>,
 }
 
-/// No connection of this slot is out of its place. Only then may the slot be released: else the next holder would find
-/// the place empty, and the connection would never be run again. This value cannot be dropped, so each visit has one
-/// release. In a clause it is the slot.
+/// Shows that no connection of this slot is out of its place. Only then may the slot be released: otherwise the next
+/// holder would find the place empty, and the connection would never run again. This value cannot be dropped, so each
+/// is followed by one release. In a clause it is the slot.
 pub(crate) struct Back {
     slot: usize,
 }
 
-/// The connection of this slot is closed. This value cannot be dropped, so after each closing the slot is given back,
-/// unless it had its last generation. In a clause it is the slot.
+/// Shows that the connection of this slot is closed. This value cannot be dropped, so after each closing the slot is
+/// given back, unless it had its last generation. In a clause it is the slot.
 pub(crate) struct Closed {
     slot: usize,
 }
@@ -52,8 +52,8 @@ impl Model for Closed {
     ghost view = { λ c. c.slot };
 }
 
-/// Takes the connection out of the place of a ticket's slot, which is held, unless the place is empty. It may be
-/// another connection than the ticket's.
+/// Takes the connection out of the place of the ticket's slot, which the caller holds. The connection may be another
+/// than the ticket's. `Back`: the place is empty.
 pub(crate) fn take_out<F: Front, A: Moves<F>, R: Wait>(
     rt: &R,
     acts: &mut A,
@@ -83,8 +83,8 @@ fn tell_notes(pair: &mut Pair, notes: u64)
     }
 }
 
-/// Counts the connection's bytes, and puts it back into its place. A place that is not empty, which happens in no run,
-/// keeps what it has, and the connection is closed.
+/// Counts the connection's bytes, and puts it back into its place. If the place is not empty, which happens in no run,
+/// it keeps what it has, and the connection is closed.
 pub(crate) fn put_in<F: Front, A: Moves<F>, R: Wait>(
     rt: &R,
     acts: &mut A,
@@ -151,12 +151,12 @@ impl<F: Front> Visit<F> {
         F::peer(&self.berth.client)
     }
 
-    /// Whether the target's socket is connected, as the system says, if it says that.
+    /// Whether the system says that the target's socket is connected. None: that is not known.
     pub(crate) fn is_connected(&self) -> Option<bool> {
         self.berth.target.is_connected()
     }
 
-    /// The system's error of the last call that failed on a side's socket.
+    /// The errno(3) of the last call that failed on a side's socket, if it was kept.
     pub(crate) fn error(&self, side: Side) -> Option<i32> {
         match side {
             Side::Client => self.berth.client.error(),
@@ -184,14 +184,14 @@ impl<F: Front> Visit<F> {
 }
 
 impl Back {
-    /// The slot is released.
+    /// The slot was released.
     pub(crate) fn spend(self) {
         let Back { slot: _ } = self;
     }
 }
 
 impl Closed {
-    /// The slot is given back, unless it had its last generation.
+    /// The slot was given back, unless it had its last generation.
     pub(crate) fn spend(self) {
         let Closed { slot: _ } = self;
     }

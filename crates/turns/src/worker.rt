@@ -26,7 +26,7 @@ use std::sync::Wait;
 pub enum Worked {
     /// The slot was held or free, so its connection was left alone. The ticket is dropped.
     Busy,
-    /// There was no such connection in the slot.
+    /// The ticket's connection was not in the slot, or there is no such slot.
     Gone,
     /// The connection is done or has failed. Its sockets are closed, and its slot is free.
     Ended,
@@ -38,13 +38,13 @@ pub enum Worked {
 
 /// Runs one turn of the connection that a ticket names.
 ///
-/// Whatever is in hand is put first, until an item is refused. Then the slot is claimed, the connection is taken out of
-/// its place, its flags are raised if notes wait, and it is run on its two wires, between the gate's two calls. A
+/// What is in hand is put first, until a queue refuses an item. Then the slot is claimed, the connection is taken out
+/// of its place, its flags are raised if notes wait, and it is run on its two wires, between the gate's two calls. A
 /// connection that is done or failed is logged and closed, its slot is given back unless its generation is the last
 /// one, and the poller is woken. Any other connection is put back before the slot is released. If the release finds
 /// notes, a ticket is put for them. What a queue refuses stays in hand.
 ///
-/// A connection that is left without a call at the turn's second, and has moved nothing for the idle limit, fails.
+/// A connection fails if it is left without a call and, by the turn's second, has moved nothing for the idle limit.
 ///
 /// The only refusal is `Worn`: the seat has posted 2^56 times. The slot is released then, too.
 pub fn worker_turn<F: Front, G: Gate, C: Clock, R: Wait + Log>(
@@ -68,7 +68,7 @@ pub fn worker_turn<F: Front, G: Gate, C: Clock, R: Wait + Log>(
     worker_turn_with(rt, &mut (), shared, own, gate, ticket, timing)
 }
 
-/// [`worker_turn`], made of these acts. The clause `made` also says which of them it makes, in which order.
+/// [`worker_turn`], over any acts. The clause `made` also says which acts it makes, in which order.
 pub fn worker_turn_with<F: Front, A: Moves<F>, G: Gate, C: Clock, R: Wait + Log>(
     rt: &R,
     acts: &mut A,
@@ -160,7 +160,7 @@ fn claimed<F: Front, A: Moves<F>, G: Gate, R: Wait + Log>(
     }
 }
 
-/// Leaves a slot whose connection is missing.
+/// Throws the notes away and releases a slot without the ticket's connection.
 fn give_up<F: Front, A: Acts, R: Wait>(
     rt: &R,
     acts: &mut A,
@@ -246,7 +246,7 @@ fn play<F: Front, A: Acts, G: Gate>(
     outcome
 }
 
-/// Puts a connection back whose budget is spent, and keeps it due.
+/// Puts back a connection that has spent its budget, and keeps it due.
 fn again<F: Front, A: Moves<F>, R: Wait>(
     rt: &R,
     acts: &mut A,
@@ -288,7 +288,7 @@ fn stay_due<F: Front, A: Acts, R: Wait>(
     }
 }
 
-/// Puts a connection back that has no call worth trying. What its sockets held back is sent.
+/// Puts back a connection that has no call worth trying, once its sockets have sent what they held back.
 fn rest<F: Front, A: Moves<F>, R: Wait>(
     rt: &R,
     acts: &mut A,
@@ -359,7 +359,7 @@ fn end<F: Front, A: Moves<F>, R: Wait + Log>(
     give_back(rt, acts, own, ticket, closed);
 }
 
-/// Wakes the poller, which may be waiting for the slot: not before the slot is given back, or it could keep waiting.
+/// Wakes the poller, which may wait for the slot. If it were woken before the slot is given back, it could wait on.
 fn wake_poller<F: Front>(shared: &Shared<F>, _own: &Own, ended: Ticket)
     requires given { ended.generation < last_generation → KeepsSlot ended.slot _own.now.free.history _own.now.hand }
     ensures woken { F.woke shared.now.waker ended.slot }

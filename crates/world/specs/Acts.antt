@@ -3,12 +3,12 @@ use Rattle.std.specs.Prelude.{◌≡◌, Bool, [], Option, Some, None, IsSome, I
 use Rattle.kernel_model.specs.declared.refusal.Refusal.{Refusal, TheVariants.{NotAllowed, NoMemory}}
 use Rattle.world.specs.{declared.actors.Doing.Doing, Slots.WorkerState}
 
--- a worker that is about this, and has no ticket to put
+-- a worker that is doing this, and has no ticket to put
 abbrev pub busy : Doing → WorkerState
 busy d = record { doing = d; hand = [] }
 
--- the call made the value that is defined, or was refused and left the old one; only where it may need memory was that
--- since memory ran out
+-- the call made the defined value, or was refused and left the old one; NoMemory is answered only if the call may need
+-- memory
 abbrev pub MeetsIn : {X : Type 0} → Bool → Option X → X → X → Result (Unit {0}) Refusal → Type 0
 MeetsIn allocates defined old new (Ok x) = defined ≡ Some new
 MeetsIn allocates defined old new (Err NotAllowed) = (defined ≡ None) × (new ≡ old)

@@ -7,7 +7,7 @@ use Rattle.world.specs.declared.connection.Connection.{Connection}
 use Rattle.kernel_model.specs.declared.reply.Reply.TheVariants as reply
 use Rattle.relay_core.specs.Replies as answer
 
--- the value where the test passes, if there is one
+-- the value, if the test passes
 abbrev pub when : {X : Type 0} → Bool → Option X → Option X
 when allowed o = if allowed then o else None
 
@@ -19,7 +19,7 @@ abbrev pub descriptor : Descriptors → Side → ℕ
 descriptor ends Client = ends.client
 descriptor ends Target = ends.target
 
--- what the pair is given of a reply that brings no bytes
+-- the answer that the pair gets for a reply that brings no bytes
 abbrev pub plain : Reply → Option answer.AnswerValue
 plain (reply.Bytes n) = None
 plain reply.End = Some answer.End
@@ -30,14 +30,14 @@ plain reply.Blocked = Some answer.Blocked
 plain reply.Interrupted = Some answer.Interrupted
 plain (reply.Failed kind) = Some (answer.Failed kind)
 
--- what the pair is given of a reply: with the bytes that a read handed over
+-- the answer that the pair gets for a reply: of a read, with the bytes
 abbrev pub told_of : OpenConnection → Call → Reply → Option answer.AnswerValue
 told_of l (Read side most) (reply.Bytes n) =
     option_map (λ (bytes : List ℕ). answer.Bytes bytes)
     (option_and_then (λ (r : Registered). bytes_read r.socket most n) (end_at l.kernel.ends (descriptor l.connection.ends side)))
 told_of l call r = plain r
 
--- the kernel after the call, where it may reply so
+-- the kernel after the call, if it may reply so
 abbrev pub made : OpenConnection → Call → Reply → Option KernelState
 made l (Read side most) r = read l.kernel (descriptor l.connection.ends side) most r
 made l (Write side) r = write l.kernel (descriptor l.connection.ends side) (offer l.connection.pair side) r
@@ -53,6 +53,6 @@ replied now l call r = option_and_then
     (made l call r)))
     (told_of l call r)
 
--- the same for the connection's next call; without one, no reply can come
+-- the connection's next call with its reply; None if there is no next call
 unfoldable pub called : ℕ → OpenConnection → Reply → Option OpenConnection
 called now l r = option_and_then (λ (call : Call). replied now l call r) (next_call l.connection.pair)

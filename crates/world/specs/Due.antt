@@ -16,7 +16,7 @@ abbrev pub takes : Option Registered → Bool
 takes None = false
 takes (Some r) = is_writable r.socket
 
--- more bytes may come in, and the ring of at most r bytes is shorter than that
+-- the end of input was not read, and the ring is shorter than r bytes, its most
 abbrev pub has_place : ℕ → Stream → Bool
 has_place r stream = not stream.end_seen && nat_lt (length stream.ring) r
 
@@ -27,11 +27,11 @@ flows r k c d =
     || ((is_waiting (stream_of c.pair d) && takes (end_at k.ends (descriptor c.ends (destination d))))
     || (is_drained (stream_of c.pair d) && (is_joined c.pair (destination d) || takes (end_at k.ends (descriptor c.ends (destination d))))))
 
--- a connection could move: it is done or failed and to be closed, or one of its directions could
+-- a connection could move: it is done or failed and to be closed, or one of its directions could move
 abbrev pub moves : ℕ → KernelState → Connection → Bool
 moves r k c = not (is_live (verdict c.pair)) || (flows r k c Up || flows r k c Down)
 
--- the name is that of one of the two ends of this slot's connection of this generation
+-- the name is of an end of this slot's connection of this generation
 abbrev pub is_report : ℕ → ℕ → Name → Bool
 is_report s g Listener = false
 is_report s g Waker = false
@@ -47,11 +47,11 @@ tries s g d = false
 abbrev pub has_ticket : ℕ → ℕ → WorkerState → Bool
 has_ticket s g k = tries s g k.doing || list_any (is_ticket s g) k.hand
 
--- a report of it is queued or in the batch
+-- a report of the connection is queued or in the batch
 abbrev pub is_reported : State → ℕ → ℕ → Bool
 is_reported st s g = list_any (is_report s g) st.kernel.queue || list_any (is_report s g) st.batch
 
--- a ticket of it is in the ready queue or with any actor
+-- a ticket of the connection is in the ready queue or with an actor
 abbrev pub is_ticketed : State → ℕ → ℕ → Bool
 is_ticketed st s g = list_any (is_ticket s g) st.ready || (list_any (is_ticket s g) st.hand || list_any (has_ticket s g) st.workers)
 
@@ -63,7 +63,7 @@ abbrev pub movable_at : State → Option SlotState → Bool
 movable_at st None = false
 movable_at st (Some p) = moves_if_any st.limits.ring st.kernel p.connection
 
--- whether the slot's connection could move; a slot without one could not
+-- whether the slot's connection could move; false without one
 abbrev pub movable : State → ℕ → Bool
 movable st s = movable_at st (slice_get st.slots s)
 
@@ -75,7 +75,6 @@ abbrev pub due_at : State → ℕ → Option SlotState → Bool
 due_at st s None = false
 due_at st s (Some p) = due_place st s p p.connection
 
--- whether the slot's connection is due to be tried: a report of it is queued or in the batch, a ticket of it
--- is in the ready queue or with an actor, or a worker holds it
+-- whether the slot's connection is due to be tried: it is reported, it has a ticket, or a worker holds the slot
 abbrev pub due : State → ℕ → Bool
 due st s = due_at st s (slice_get st.slots s)

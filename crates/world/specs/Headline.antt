@@ -1,6 +1,6 @@
--- The headline: what holds after every run of events, clause by clause. Part of the promises. No definition here
--- depends on how the relay achieves it, but for `next_fails`, which cites the order of calls (`next_call` of the
--- core). What the clause about due connections depends on is in `Support`.
+-- The headline: what holds after every run of events, clause by clause. Part of the promises. Only `next_fails`
+-- depends on how the relay achieves it: it cites the order of calls (`next_call` of the core). What the clause about
+-- due connections depends on is in `Support`.
 use Rattle.std.specs.{Prelude.{◌≡◌, ℕ, ◌+◌, ◌≤◌, ◌==◌, Bool, true, false, ◌&&◌, ◌||◌, if◌then◌else◌, ◌⊎◌, List, [], ◌∷◌, ◌++◌, Option, Some, None, IsSome, slice_get, option_map, option_and_then, unwrap_or}, List.list_all}
 use Rattle.token.specs.{declared.{kind.Kind.Kind, side.Side.{Side, TheVariants.{Client, Target}}, direction.Direction.{Direction, TheVariants.{Up, Down}}}, Sides.{source, destination, side_number}}
 use Rattle.flow.specs.Stream.{Stream}
@@ -28,15 +28,15 @@ given_by st s g side (event.Network t other (Arrive bytes)) =
     if (t == s && side_number other == side_number side) && has_generation (slice_get st.slots s) g then bytes.items else []
 given_by st s g side e = []
 
--- all bytes that a list of events brings there, in order
+-- all bytes that a list of events brings to that side, in order
 abbrev pub given : State → List Event → ℕ → ℕ → Side → List ℕ
 given st [] s g side = []
 given st (e ∷ es) s g side = given_by st s g side e ++ unwrap_or (option_map (λ (q : State). given q es s g side) (step st e)) []
 
--- Bytes and ends, for a direction: `gave` are the bytes that were given to its source x, and y is its destination. The
--- preamble `before` is sent before them
+-- Bytes and ends of one direction: x is its source, y its destination, and `gave` the bytes that were given to x. The
+-- preamble `before` is sent before these
 
--- what the target is sent before the client's bytes; the client is sent nothing before the target's
+-- what the target is sent before the client's bytes; the client is sent nothing before the target's bytes
 abbrev pub preamble : Limits → Direction → List ℕ
 preamble l Up = l.lead
 preamble l Down = []
@@ -46,7 +46,7 @@ preamble l Down = []
 abbrev pub KeepsBytes : List ℕ → List ℕ → Stream → EndState → EndState → Type 0
 KeepsBytes before gave stream x y = before ++ gave ≡ y.taken ++ (stream.lead ++ (stream.ring ++ x.unread))
 
--- an end that was passed on came last: the source is at its end of input, and every byte was sent
+-- if an end was passed on, it came last: the source is at its end of input, and every byte was sent
 pub record EndCameLast (before gave : List ℕ) (stream : Stream) (x y : EndState) : Type 0 where
   pub ended : x.fin ≡ true
   pub read : x.unread ≡ []
@@ -58,7 +58,7 @@ pub record DirectionHolds (before gave : List ℕ) (stream : Stream) (x y : EndS
   pub bytes : KeepsBytes before gave stream x y
   pub last : stream.shut ≡ true → EndCameLast before gave stream x y
 
--- in each direction of the connection in a slot; both of its ends are open
+-- both ends of a connection in a slot are open, and `DirectionHolds` in each direction
 pub record ConnectionHolds (first st : State) (events : List Event) (s : ℕ) (c : Connection) : Type 0 where
   pub open_ends : (side : Side) → IsSome (end_of st c side)
   pub directions : (d : Direction) (x y : Registered) → end_of st c (source d) ≡ Some x → end_of st c (destination d) ≡ Some y
@@ -67,7 +67,7 @@ pub record ConnectionHolds (first st : State) (events : List Event) (s : ℕ) (c
 abbrev pub BytesAndEndsHold : State → State → List Event → Type 0
 BytesAndEndsHold first st events = (s : ℕ) (c : Connection) → connection_at st s ≡ Some c → ConnectionHolds first st events s c
 
--- the end of one side, among the two that a connection had
+-- the end that a closed connection had on this side
 abbrev pub socket_of : Sockets → Side → EndState
 socket_of ends Client = ends.client
 socket_of ends Target = ends.target
@@ -76,8 +76,8 @@ socket_of ends Target = ends.target
 abbrev pub all_to_send : State → List Event → ℕ → ℕ → Direction → List ℕ
 all_to_send first events s g d = preamble first.limits d ++ given first events s g (source d)
 
--- of a closed connection: what was sent is a beginning of the preamble and what was given, and all of it where it was
--- done
+-- in each direction of a closed connection, the sent bytes are a beginning of all that there was to send; if the
+-- connection was done, they are all of it
 pub record ClosedHolds (first : State) (events : List Event) (p : Past) : Type 0 where
   pub beginning : (d : Direction) → (rest : List ℕ)
       × (all_to_send first events p.slot p.generation d ≡ (socket_of p.ends (destination d)).taken ++ rest)
@@ -90,14 +90,14 @@ abbrev pub Throughout : (State → Event → Type 0) → State → List Event �
 Throughout Each st [] = Unit {0}
 Throughout Each st (e ∷ es) = Each st e × ((q : State) → step st e ≡ Some q → Throughout Each q es)
 
--- a worker that holds a slot takes notes of its connection's generation alone
+-- the notes in a slot that a worker holds are of its connection's generation
 abbrev pub TakesOwnNotes : State → Doing → Type 0
 TakesOwnNotes st (Holds s left) =
     (p : SlotState) (c : Connection) → slice_get st.slots s ≡ Some p → p.connection ≡ Some c
     → list_all (λ g. g == c.pair.generation) p.notes ≡ true
 TakesOwnNotes st d = Unit {0}
 
--- a ticket names the generation of its slot's connection
+-- a worker's ticket names the generation of its slot's connection
 abbrev pub ClaimsByOwnTicket : State → Doing → Type 0
 ClaimsByOwnTicket st (Tries t) = (c : Connection) × (connection_at st t.slot ≡ Some c) × (c.pair.generation ≡ t.generation)
 ClaimsByOwnTicket st d = Unit {0}
@@ -133,7 +133,7 @@ failure s g fault = record { slot = s; generation = g; fault = fault }
 abbrev pub next_fails : Kind → ℕ → Connection → Option Failure
 next_fails kind s c = option_map (λ (call : Call). failure s c.pair.generation (fault_of kind call)) (next_call c.pair)
 
--- the failure that an event brings: a worker's call fails, in the slot that it holds
+-- the failure that an event brings: the worker's call fails in the slot that the worker holds
 abbrev pub failure_by : State → Event → Option Failure
 failure_by st (event.Work w (act.Call (reply.Failed kind))) =
     option_and_then (λ (s : ℕ). option_and_then (λ (c : Connection). next_fails kind s c) (connection_at st s)) (held_by st w)
@@ -161,7 +161,7 @@ abbrev pub held_connection : State → ℕ → Option Named
 held_connection st w =
     option_and_then (λ (s : ℕ). option_map (λ (c : Connection). named s c.pair.generation) (connection_at st s)) (held_by st w)
 
--- bytes or an end came in, bytes went out, the socket is connected, or an end was passed on
+-- the reply moved something: bytes or an end came in, bytes went out, the socket is connected, or an end was passed on
 abbrev pub is_movement : Reply → Bool
 is_movement (reply.Bytes n) = true
 is_movement reply.End = true
@@ -170,18 +170,18 @@ is_movement reply.Joined = true
 is_movement reply.Shut = true
 is_movement r = false
 
--- the connection that an event opens, or of which it moves something
+-- the connection that an event opens or moves
 abbrev pub moved_by : State → Event → Option Named
 moved_by st (event.Poll polling.Open) = next_opened st
 moved_by st (event.Work w (act.Call r)) = if is_movement r then held_connection st w else None
 moved_by st e = None
 
--- where the event opens or moves this connection, it comes at least `limit` seconds before the second `now`
+-- if the event opens or moves this connection, the event comes at least `limit` seconds before the second `now`
 abbrev pub LiesBack : ℕ → ℕ → Named → State → Event → Type 0
 LiesBack now limit x st e = moved_by st e ≡ Some x → st.second + limit ≤ now
 
--- among the events a worker that held this connection let it expire, at a second that is at least the idle limit
--- after the connection was opened and after each time that it moved
+-- one of the events is a worker's `Expire` of this connection, at a second that is at least the idle limit after the
+-- connection was opened and after each time that it moved
 pub record ExpiredBy (first : State) (events : List Event) (x : Named) : Type 0 where
   pub before : List Event
   pub after : List Event
@@ -192,12 +192,12 @@ pub record ExpiredBy (first : State) (events : List Event) (x : Named) : Type 0 
   pub held : held_connection state worker ≡ Some x
   pub idle : Throughout (LiesBack state.second first.limits.idle x) first before
 
--- why a connection failed: a call of it did, or it moved nothing for the idle limit
+-- why a connection failed: one of its calls did, or it moved nothing for the idle limit
 abbrev pub FailedAfter : State → List Event → ℕ → ℕ → Fault → Type 0
 FailedAfter first events s g (Broken side call kind) = FailedBy first events (failure s g (Broken side call kind))
 FailedAfter first events s g Idle = ExpiredBy first events (named s g)
 
--- a connection failed only after a failed call, or after moving nothing for the idle limit: live ones, and closed ones
+-- a connection, in a slot or closed, failed only after a failed call, or after moving nothing for the idle limit
 pub record FailuresHold (first st : State) (events : List Event) : Type 0 where
   pub lying : (s : ℕ) (c : Connection) (fault : Fault) → connection_at st s ≡ Some c → verdict c.pair ≡ Failed fault
       → FailedAfter first events s c.pair.generation fault
@@ -209,11 +209,11 @@ pub record FailuresHold (first st : State) (events : List Event) : Type 0 where
 abbrev pub DueHolds : State → Type 0
 DueHolds st = (s : ℕ) → movable st s ≡ true → due st s ≡ true
 
--- the listener: with the flag down nobody waits, or its name is queued or in the batch
+-- if the accept flag is down, nobody waits at the listener, or its name is queued or in the batch
 abbrev pub ListenerHolds : State → Type 0
 ListenerHolds st = st.flag ≡ false → (st.kernel.backlog == 0) || (has name.Listener st.kernel.queue || has name.Listener st.batch) ≡ true
 
--- The headline: what holds of a list of events from the opening world on, and of the state after it
+-- What holds of a list of events from the opening world on, and of the state after it
 
 pub record HeadlineHolds (l : Limits) (events : List Event) (st : State) : Type 0 where
   pub bytes : BytesAndEndsHold (opening l) st events

@@ -12,7 +12,7 @@ given_back len bytes p =
     let room : len ≤ length bytes = (let whole : length bytes ≡ 107 = p.whole in let within : len ≤ 107 = p.within in omega arith) in
     inside (length (take len bytes)) len (padded (take len bytes)) bytes (length-take-le len bytes room) (sym p.zeros)
 
--- bytes with zeros after them are a lead's
+-- at most 107 bytes, with zeros after them, are a lead's array
 pub is_padded : (bytes : List ℕ) → length bytes ≤ 107 → IsPadded (length bytes) (padded bytes)
 is_padded bytes within = record {
   whole = (let all : length (padded bytes) ≡ length bytes + length (replicate {A = ℕ} (107 - length bytes) 0) =
@@ -23,6 +23,6 @@ is_padded bytes within = record {
   zeros = ap padded (sym (take-append_seam bytes (replicate (107 - length bytes) 0)));
 }
 
--- zeros that bytes were written over
+-- bytes that are written over zeros have zeros after them
 pub written_over : (bytes : List ℕ) → bytes ++ drop (length bytes) (replicate 107 0) ≡ padded bytes
 written_over bytes = ap (λ (rest : List ℕ). bytes ++ rest) (drop-replicate (length bytes) 107 0)

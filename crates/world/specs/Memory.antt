@@ -1,4 +1,4 @@
--- The events for which memory may run out: those that make a list longer, if they are allowed. Part of the promises.
+-- The events for which memory may run out: those that, if they are allowed, make a list longer. Part of the promises.
 -- Any other event happens if it is allowed.
 use Rattle.std.specs.Prelude.{ℕ, Bool, true, false, ◌||◌, nat_lt, length, Option, Some, None, slice_get}
 use Rattle.token.specs.declared.{side.Side.Side, name.Name.Name}
@@ -9,17 +9,16 @@ use Rattle.world.specs.declared.event.Event.TheVariants as event
 use Rattle.world.specs.declared.event.Polling.TheVariants as polling
 use Rattle.world.specs.declared.event.Act.TheVariants as act
 
--- a name that is delivered becomes a note if it is that of an end, with the generation of the table
+-- a delivered name becomes a note if it is of an end and has the table's generation
 abbrev pub becomes_note : State → Option Name → Bool
 becomes_note st (Some (name.End n)) = is_entry (slice_get st.table n.slot) n.generation
 becomes_note st m = false
 
--- a list is longer after the event, if that is allowed
+-- an event is allowed, and makes a list longer
 abbrev pub grows : (State → ℕ) → State → Option State → Bool
 grows count st None = false
 grows count st (Some after) = nat_lt (count st) (count after)
 
--- of the names that are queued, of the batch, of the free queue
 abbrev pub queue_length : State → ℕ
 queue_length st = length st.kernel.queue
 
@@ -33,7 +32,7 @@ abbrev pub brings_bytes : Change → Bool
 brings_bytes (Arrive bytes) = true
 brings_bytes change = false
 
--- bytes come, or a report is queued
+-- bytes arrive, or a report is queued
 abbrev pub network_allocates : State → ℕ → Side → Change → Bool
 network_allocates st s side change = brings_bytes change || grows queue_length st (network st s side change)
 

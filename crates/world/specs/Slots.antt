@@ -2,15 +2,15 @@
 use Rattle.std.specs.Prelude.{ℕ, Bool, true, false, List, Option}
 use Rattle.world.specs.declared.{connection.Connection.Connection, actors.{Ticket.Ticket, Holder.{Holder, TheVariants.{Nobody, By, Free}}, Doing.Doing}}
 
--- A place for one connection. `generation` is that of the connection that was opened in it last. Each note is a
--- report that was delivered, by the generation that it was for
+-- A slot. `generation` is that of the connection that was opened in it last. Each note is the generation that it is
+-- for
 pub record SlotState : Type 0 where
   pub generation : ℕ
   pub connection : Option Connection
   pub holder : Holder
   pub notes : List ℕ
 
--- what the worker is about, and the tickets that it has to put
+-- what the worker is doing, and the tickets that it has to put
 pub record WorkerState : Type 0 where
   pub doing : Doing
   pub hand : List Ticket

@@ -4,10 +4,10 @@ use Rattle.token.specs.{declared.name.Name.Name, Names.last_generation}
 use Rattle.kernel_model.specs.Kernel.{KernelState, idle}
 use Rattle.world.specs.{declared.{limits.Limits.Limits, actors.{Ticket.Ticket, Holder.TheVariants.Free, Doing.TheVariants.Idle}, past.Past.Past}, Slots.{SlotState, WorkerState}}
 
--- `second` is the second that it is; nothing but the clock changes it. `kernel` has the ends, the readiness queue and
--- the listener's backlog. The poller has `flag`, which says that an accept is worth a try, perhaps an `accepted`
--- connection, its `table` of the slots' generations, the rest of its `batch`, and the tickets in its `hand`. `ready`
--- and `free` are the two queues between the poller and the workers, and `past` are the closed connections, in order
+-- `second` is how many seconds have passed. `kernel` has the ends, the readiness queue and the listener's backlog. The
+-- poller has the accept flag (`flag`), perhaps a connection that was `accepted`, the `table` of the slots'
+-- generations, the rest of its `batch`, and the tickets in its `hand`. `ready` and `free` are the two queues between
+-- the poller and the workers. `past` has the closed connections, in order
 pub record State : Type 0 where
   pub limits : Limits
   pub second : ℕ

@@ -1,5 +1,5 @@
--- What one event does to the machine. Part of the promises. Each choice is part of the event, so a step has one result
--- or, if the event is not allowed, none.
+-- What one event does to the machine. Part of the promises. Each choice is part of the event, so a step has one
+-- result; or none, if the event is not allowed.
 use Rattle.std.specs.{Prelude.{ℕ, ◌+◌, ◌-◌, ◌==◌, Bool, true, false, not, ◌&&◌, ◌||◌, nat_lt, nat_le, if◌then◌else◌, List, [], ◌∷◌, ◌++◌, length, slice_get, slice_set, drop, Option, Some, None, option_map, option_and_then}, Option.is_none}
 use Rattle.token.specs.{declared.{side.Side.{Side, TheVariants.{Client, Target}}, name.Name.Name}, Names.{EndName, last_generation}}
 use Rattle.kernel_model.specs.{declared.{reply.Reply.Reply, watched.Watched.Watched, accepting.Accepting.{Accepting, TheVariants.{Accepted, Blocked, Again, Starved}}, both.{Descriptors.Descriptors, Sockets.Sockets}}, Outcome.{guard, Told}, Ends.is_nonempty, Kernel.KernelState}
@@ -22,7 +22,7 @@ over_kernel st k = option_map (λ (q : KernelState). record st { kernel = q }) k
 
 -- Time
 
--- the events of the idle limit need one
+-- there is an idle limit, which ticks and sweeps need
 abbrev pub is_limited : State → Bool
 is_limited st = nat_lt 0 st.limits.idle
 
@@ -59,11 +59,11 @@ vanish st who = option_and_then (λ (w : Watched). over_kernel st (kernel.vanish
 
 -- The listener
 
--- the poller accepts only with a slot to open, and one connection at a time
+-- the poller accepts one connection at a time, and only while it has a free slot
 abbrev pub may_accept : State → Bool
 may_accept st = st.flag && (not st.accepted && is_nonempty st.free)
 
--- what the poller makes of the reply: only blocked clears the flag
+-- what the reply changes at the poller: only blocked clears the flag
 abbrev pub after_accept : State → Accepting → State
 after_accept st Accepted = record st { accepted = true }
 after_accept st Blocked = record st { flag = false }
@@ -77,11 +77,11 @@ listen st listening.Drop = guard st.accepted (record st { accepted = false })
 
 -- The poller
 
--- the token of one end in a slot, where slot and generation have one
+-- the token of one end, if this slot and generation can have one
 abbrev pub token_of : ℕ → Side → ℕ → Option EndName
 token_of s side g = guard (nat_le s 32767 && (nat_le 1 g && nat_le g last_generation)) (record { slot = s; side = side; generation = g })
 
--- a slot with the fresh connection of this second, made as the limits say, and the note of its opening
+-- a slot with the connection that is opened at second `now`, as the limits say, and the note of its opening
 abbrev pub opened_place : ℕ → ℕ → Limits → ℕ → Descriptors → SlotState
 opened_place s g l now ends = record {
   generation = g;
@@ -115,7 +115,7 @@ opening_of st s = option_and_then
 abbrev pub with_note : SlotState → ℕ → SlotState
 with_note p g = record p { notes = p.notes ++ g ∷ [] }
 
--- a note brings a ticket: it is the first, and nobody holds the slot
+-- a note brings a ticket if it is the first, and the slot is neither held nor free
 abbrev pub brings_ticket : SlotState → Bool
 brings_ticket p = not (is_held p.holder || is_nonempty p.notes)
 
@@ -133,7 +133,7 @@ posted st s g p = record st {
 abbrev pub post_at : State → ℕ → ℕ → Option State
 post_at st s g = option_map (λ (p : SlotState). posted st s g p) (slice_get st.slots s)
 
--- a report of an end: only where its generation is the table's
+-- a report of an end is posted if its generation is the table's, and else dropped
 abbrev pub delivered_at : State → EndName → Option ℕ → Option State
 delivered_at st n None = Some st
 delivered_at st n (Some g) = if g == n.generation then post_at st n.slot g else Some st
@@ -149,7 +149,7 @@ deliver st = option_and_then
     (λ (n : Name). option_map (λ (q : State). record q { batch = drop 1 st.batch }) (delivered st n))
     (slice_get st.batch 0)
 
--- it posts, as for a report, to a slot that was ever opened
+-- the poller posts, as for a report, to a slot that was ever opened
 abbrev pub sweep : State → ℕ → Option State
 sweep st s = when (is_limited st) (option_and_then (λ (g : ℕ). when (nat_lt 0 g) (post_at st s g)) (slice_get st.table s))
 
@@ -168,7 +168,7 @@ polled st polling.Deliver = deliver st
 polled st (polling.Sweep s) = sweep st s
 polled st polling.Put = put_by_poller st st.hand
 
--- A worker, by its number w and as it is, k
+-- A worker: w is its number, and k its state
 
 abbrev pub of_worker : State → ℕ → (WorkerState → Option State) → Option State
 of_worker st w f = option_and_then f (slice_get st.workers w)
@@ -182,12 +182,12 @@ with_place st s p = record st { slots = slice_set st.slots s p }
 abbrev pub doing : State → ℕ → WorkerState → Doing → State
 doing st w k d = with_worker st w (record k { doing = d })
 
--- its first ticket goes to the end of the ready queue
+-- the worker's first ticket goes to the end of the ready queue
 abbrev pub put_by_worker : State → ℕ → WorkerState → List Ticket → Option State
 put_by_worker st w k [] = None
 put_by_worker st w k (t ∷ rest) = Some (with_worker (record st { ready = st.ready ++ t ∷ [] }) w (record k { hand = rest }))
 
--- with nothing to put, it takes the first ticket of the ready queue
+-- with nothing to put, the worker takes the first ticket of the ready queue
 abbrev pub popped : State → ℕ → WorkerState → List Ticket → Option State
 popped st w k [] = None
 popped st w k (t ∷ rest) = Some (doing (record st { ready = rest }) w k (Tries t))
@@ -196,7 +196,7 @@ abbrev pub pop : State → ℕ → WorkerState → Doing → Option State
 pop st w k Idle = when (length k.hand == 0) (popped st w k st.ready)
 pop st w k d = None
 
--- it holds its ticket's slot with a whole budget, or drops the ticket where the slot is held
+-- the worker holds its ticket's slot with a whole budget; or drops the ticket, if the slot is held
 abbrev pub claimed : State → ℕ → WorkerState → ℕ → SlotState → State
 claimed st w k s p =
     if is_held p.holder then doing st w k Idle
@@ -206,7 +206,7 @@ abbrev pub claim : State → ℕ → WorkerState → Doing → Option State
 claim st w k (Tries t) = option_map (λ (p : SlotState). claimed st w k t.slot p) (slice_get st.slots t.slot)
 claim st w k d = None
 
--- all notes leave the slot; if there was one, every call is worth a try again
+-- all notes leave the slot; if there was a note, every call is worth a try again
 abbrev pub heard : Connection → List ℕ → Connection
 heard c notes = if is_nonempty notes then record c { pair = noted c.pair } else c
 
@@ -219,12 +219,12 @@ take st (Holds s left) = option_and_then
     (slice_get st.slots s)
 take st d = None
 
--- a slot, and the kernel that has the ends of its connection
+-- a slot, and the kernel with the ends of its connection
 pub record OpenSlot : Type 0 where
   pub kernel : KernelState
   pub place : SlotState
 
--- its connection's next call gets a reply at the second `now`
+-- the next call of the slot's connection gets a reply at the second `now`
 unfoldable pub slot_call : ℕ → OpenSlot → Reply → Option OpenSlot
 slot_call now l r = option_and_then
     (λ (c : Connection). option_map
@@ -240,7 +240,7 @@ call st w k (Holds s left) r = when (nat_lt 0 left) (option_and_then
     (slice_get st.slots s))
 call st w k d r = None
 
--- it posts to its slot, which it holds: so no ticket
+-- the worker posts to the slot that it holds, so it makes no ticket
 abbrev pub post : State → Doing → Option State
 post st (Holds s left) = option_and_then
     (λ (p : SlotState). option_and_then
@@ -249,11 +249,11 @@ post st (Holds s left) = option_and_then
     (slice_get st.slots s)
 post st d = None
 
--- it may let a live connection go once there is nothing to try, or a note to try again for
+-- a worker may release a live connection that has no call to make, or has a note to try again for
 unfoldable pub may_release : Connection → Bool → Bool
 may_release c has_note = is_live (verdict c.pair) && (is_none (next_call c.pair) || has_note)
 
--- with notes in the slot, it takes their ticket in hand
+-- the worker takes the slot's ticket in hand if there are notes in the slot
 abbrev pub release : State → ℕ → WorkerState → Doing → Option State
 release st w k (Holds s left) = option_and_then
     (λ (p : SlotState). option_and_then
@@ -272,14 +272,14 @@ expired_place now limit p =
     option_and_then (λ (c : Connection). option_map (λ (d : Connection). record p { connection = Some d }) (expired now limit c))
     p.connection
 
--- the connection of its slot fails, since it moved nothing for the idle limit and has no call to make
+-- the connection of the worker's slot fails, since it moved nothing for the idle limit and has no call to make
 abbrev pub expire : State → Doing → Option State
 expire st (Holds s left) = option_and_then
     (λ (p : SlotState). option_map (λ (q : SlotState). with_place st s q) (expired_place st.second st.limits.idle p))
     (slice_get st.slots s)
 expire st d = None
 
--- both ends of a connection that is done or failed are closed, and it is kept as it was
+-- both ends of a connection that is done or failed are closed, and `past` keeps the connection as it was
 abbrev pub closed_world : State → ℕ → WorkerState → ℕ → SlotState → Connection → Told KernelState Sockets → State
 closed_world st w k s p c t =
     doing (with_place (record st {

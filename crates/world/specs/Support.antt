@@ -1,5 +1,5 @@
--- What "whatever could move is due" depends on: where the tickets are, that a connection at rest has no call to make,
--- the poller's table, and what covers each flag that is down. Promised too, but the headline can be read without it.
+-- What "whatever could move is due" depends on: where tickets are, that a connection at rest has no call to make, the
+-- poller's table, and what covers each flag that is down. Promised too, but the headline can be read without it.
 use Rattle.std.specs.Prelude.{◌≡◌, ℕ, ◌+◌, ◌==◌, Bool, true, false, not, ◌&&◌, ◌||◌, List, [], ◌∷◌, Some, None, slice_get}
 use Rattle.token.specs.{declared.side.Side.Side, Names.EndName}
 use Rattle.kernel_model.specs.{Ends.{EndState, is_nonempty, is_readable, is_writable}, Kernel.Registered, Names.has}
@@ -30,12 +30,12 @@ worker_tickets s k = tried s k.doing + total (of_slot s) k.hand
 abbrev pub tickets : State → ℕ → ℕ
 tickets st s = total (of_slot s) st.ready + (total (of_slot s) st.hand + total (worker_tickets s) st.workers)
 
--- a slot with notes that is neither held nor free has one ticket, and every other none
+-- a slot with notes that is neither held nor free has one ticket, and every other slot none
 abbrev pub TicketsHold : State → Type 0
 TicketsHold st = (s : ℕ) (p : SlotState) → slice_get st.slots s ≡ Some p
     → tickets st s ≡ one (not (is_held p.holder) && is_nonempty p.notes)
 
--- a live connection that nobody holds and that has no notes has no call to make
+-- a connection in a slot that nobody holds and that has no notes has no call to make
 abbrev pub RestHolds : State → Type 0
 RestHolds st = (s : ℕ) (p : SlotState) (c : Connection) → slice_get st.slots s ≡ Some p → p.connection ≡ Some c
     → p.holder ≡ Nobody → p.notes ≡ [] → next_call c.pair ≡ None
@@ -43,8 +43,7 @@ RestHolds st = (s : ℕ) (p : SlotState) (c : Connection) → slice_get st.slots
 abbrev pub TableHolds : State → Type 0
 TableHolds st = (s : ℕ) (p : SlotState) → slice_get st.slots s ≡ Some p → slice_get st.table s ≡ Some p.generation
 
--- A flag that is down is covered: the end is armed for the kind and not ready for it, or ready for it and
--- reported
+-- A flag is up or covered: the end is armed for the kind and not ready for it, or ready for it and reported
 abbrev pub is_covered : Bool → Bool → Bool → Bool → Bool
 is_covered flag armed ready reported = flag || ((armed && not ready) || (ready && reported))
 
@@ -56,7 +55,7 @@ pub record EndCovered (flags : Flags) (x : EndState) (reported : Bool) : Type 0 
   pub read : is_covered flags.read x.read_armed (is_readable x) reported ≡ true
   pub write : is_covered flags.write x.write_armed (is_writable x) reported ≡ true
 
--- no flag of a connection's ends is down without cover
+-- every flag of a connection that is down is covered
 abbrev pub EdgesHold : State → Type 0
 EdgesHold st = (s : ℕ) (p : SlotState) (c : Connection) (side : Side) (x : Registered)
     → slice_get st.slots s ≡ Some p → p.connection ≡ Some c → end_of st c side ≡ Some x

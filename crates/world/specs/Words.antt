@@ -1,5 +1,5 @@
--- The claim word of a slot. Part of the promises, for the clause `words` of `World::step` alone. It has the word of a
--- place, and which steps an event makes. What a step makes of a word and answers is defined in `claims`.
+-- The claim word of a slot, and the steps that an event makes there. Part of the promises, for the clause `words` of
+-- `World::step` alone. What a step makes of a word and answers is defined in `claims`.
 use Rattle.std.specs.Prelude.{◌≡◌, ℕ, ◌+◌, ◌==◌, Bool, true, false, if◌then◌else◌, List, [], ◌∷◌, length, slice_get, Option, Some, None}
 use Rattle.claims.specs.{declared.view.Exchange.{Exchange, TheVariants.{Post, Release}}, Words.{WordState, StepKind, post, claim, take, release, retire, adopt, word_of, word_after, made}}
 use Rattle.token.specs.declared.name.Name.{Name}
@@ -14,7 +14,7 @@ is_free Nobody = false
 is_free (By worker) = false
 is_free Free = true
 
--- the claim word of a place: a free slot counts as held
+-- the claim word of a slot: a free slot counts as held
 abbrev pub word_at : SlotState → WordState
 word_at p = record { pending = length p.notes; free = is_free p.holder; held = is_held p.holder }
 
@@ -27,7 +27,7 @@ is_wake (Post woke) = woke
 is_wake (Release woke) = woke
 is_wake e = false
 
--- how many of them answer that a ticket must be made
+-- how many of these steps answer Wake
 abbrev pub count_wakes : List StepKind → WordState → ℕ
 count_wakes [] w = 0
 count_wakes (k ∷ ks) w = one (is_wake (made k w)) + count_wakes ks (word_after k w)
@@ -36,7 +36,7 @@ abbrev pub is_claim : StepKind → Bool
 is_claim claim = true
 is_claim k = false
 
--- how many of them are claims, each of which uses up its ticket
+-- how many of these steps are claims: each uses up its ticket
 abbrev pub claims : List StepKind → ℕ
 claims [] = 0
 claims (k ∷ ks) = one (is_claim k) + claims ks
@@ -46,12 +46,12 @@ claims (k ∷ ks) = one (is_claim k) + claims ks
 abbrev pub at_slot : ℕ → ℕ → List StepKind → List StepKind
 at_slot s t steps = if t == s then steps else []
 
--- it is adopted, its old notes are thrown away, the note of the opening is posted, and it is released
+-- the slot is adopted, its old notes are thrown away, the note of the opening is posted, and the slot is released
 abbrev pub opening_steps : Option ℕ → ℕ → List StepKind
 opening_steps None s = []
 opening_steps (Some t) s = at_slot s t (adopt ∷ take ∷ post ∷ release ∷ [])
 
--- a report of an end is posted where its generation is the table's
+-- a report of an end is posted if its generation is the table's
 abbrev pub delivery_steps : State → Option Name → ℕ → List StepKind
 delivery_steps st None s = []
 delivery_steps st (Some name.Listener) s = []
@@ -77,8 +77,8 @@ steps st (event.Poll (polling.Sweep t)) s = at_slot s t (post ∷ [])
 steps st (event.Work w a) s = worker_steps (slice_get st.workers w) a s
 steps st e s = []
 
--- By an event slot s goes from p on to a place whose word is what the event's steps make of the word of p, and a
--- ticket of the slot is made exactly where a step answers Wake
+-- What an event does to slot s, which is p: its word becomes what the event's steps there make of it. Its tickets are
+-- one more for each step that answers Wake, and one less for each claim
 pub record WordMoves (st next : State) (e : Event) (s : ℕ) (p : SlotState) : Type 0 where
   pub place : SlotState
   pub there : slice_get next.slots s ≡ Some place

@@ -1,4 +1,4 @@
-/// The right to try a slot, for the connection of one generation.
+/// The right to try a slot's connection, if it has this generation.
 #[derive(Clone, Copy)]
 pub struct Ticket {
     pub slot: usize,
@@ -11,7 +11,7 @@ pub enum Holder {
     Nobody,
     /// The worker with this number.
     By(usize),
-    /// Nobody may hold it, since it has no connection. It counts as held.
+    /// The slot has no connection, so nobody may hold it. It counts as held.
     Free,
 }
 
@@ -23,7 +23,7 @@ pub enum Doing {
     Tries(Ticket),
     /// It holds a slot, with this many calls left in its turn.
     Holds(usize, usize),
-    /// It closed the connection of a slot, which it still holds.
+    /// It closed the connection of a slot, and still holds the slot.
     Closed(usize),
     /// It retired a slot, and has to put it into the free queue.
     Retired(usize),

@@ -22,7 +22,7 @@ impl Connection {
     ghost use Rattle.kernel_model.specs.{Outcome.{Meets, MeetsAlways}, Replies.needs_memory};
     ghost use Rattle.world.specs.{Calls.{descriptor, OpenConnection, made, replied, called}, Steps.{may_release, expired}};
 
-    /// The descriptor of one side's end.
+    /// The descriptor of the end on this side.
     pub fn descriptor(&self, side: Side) -> usize
         ensures { result ≡ descriptor self.now.ends side }
     {
@@ -32,7 +32,7 @@ impl Connection {
         }
     }
 
-    /// Takes a report, if `any`: every call is worth trying again.
+    /// If `any` note was taken, raises all flags: every call is worth trying again.
     pub fn hear(&mut self, any: bool)
         ensures { self.new ≡ (if any then record self.old { pair = noted self.old.pair } else self.old) }
     {
@@ -41,7 +41,8 @@ impl Connection {
         }
     }
 
-    /// Whether a worker may release it: it is live, and has no call to try, or a note, so that it is tried again.
+    /// Whether a worker may release the slot: the connection is live, and either it has no call to make, or the slot
+    /// has a note (`noted`) for another try.
     #[tactic(auto, unfolding(crate::specs::Steps::may_release))]
     pub fn may_release(&self, noted: bool) -> bool
         ensures { result ≡ may_release self.now noted }
@@ -49,8 +50,8 @@ impl Connection {
         is_live(self.pair.verdict()) && (self.pair.next().is_none() || noted)
     }
 
-    /// Fails it, if it is live, has no call to make, and moved nothing for `limit` seconds at the second `now`; a limit
-    /// of 0 is none. Otherwise it refuses with `NotAllowed`, and changes nothing.
+    /// Fails the connection if it is live, has no call to make, and has moved nothing for `limit` seconds at the
+    /// second `now`. Otherwise, and always if `limit` is 0, refuses with `NotAllowed` and changes nothing.
     pub fn expire(&mut self, now: u64, limit: u64) -> Result<(), Refusal>
         ensures { MeetsAlways (expired now limit self.old) self.old self.new result }
     {
@@ -61,10 +62,10 @@ impl Connection {
         }
     }
 
-    /// Makes the next call on the kernel's end, which gets this reply at the second `now`.
+    /// Makes the next call on the kernel's end. The call gets this reply at the second `now`.
     ///
-    /// Refuses with `NotAllowed` if there is no next call, or it may not be answered so, and with `NoMemory` if there
-    /// is none for the bytes that a write takes. A refusal changes nothing.
+    /// Refuses with `NotAllowed` if there is no next call or it may not get this reply, and with `NoMemory` if there
+    /// is no memory for the bytes that a write takes. A refusal changes nothing.
     #[tactic(auto, unfolding(crate::specs::Calls::called))]
     pub fn call(&mut self, kernel: &mut Kernel, reply: Reply, now: u64) -> Result<(), Refusal>
         ensures outcome { Meets (called now (record { kernel = kernel.old; connection = self.old }) reply)
@@ -83,7 +84,7 @@ impl Connection {
         }
     }
 
-    /// A read that brings bytes, if a read is the next call.
+    /// Makes the next call, a read that brings `count` bytes.
     fn read(
         &mut self,
         kernel: &mut Kernel,
@@ -112,7 +113,7 @@ impl Connection {
         kernel.read(descriptor, most, Reply::Bytes(count))
     }
 
-    /// A call whose reply brings no bytes, if it is the next one.
+    /// Makes the next call with a reply that brings no bytes.
     fn make(
         &mut self,
         kernel: &mut Kernel,
@@ -138,7 +139,7 @@ impl Connection {
         Ok(())
     }
 
-    /// The kernel's part of a call.
+    /// Makes a call on the kernel; the pair stays as it is.
     fn ask(&mut self, kernel: &mut Kernel, call: Call, reply: Reply) -> Result<(), Refusal>
         ensures kernel { Meets (made (record { kernel = kernel.old; connection = self.old }) call reply) kernel.old kernel.new result }
         ensures memory { IsErrOf result Refusal.NoMemory → IsTrue (needs_memory reply) }
@@ -156,7 +157,7 @@ impl Connection {
     }
 }
 
-/// The answer that the pair gets for a reply that brings no bytes.
+/// The answer that the pair gets for a reply. None if the reply brings bytes.
 fn plain(reply: Reply) -> Option<Answer<'static>>
     ensures { option_map reply_of result ≡ plain reply }
 {

@@ -15,8 +15,8 @@ use relay_core::Pair;
 use token::{Direction, Name};
 
 impl World {
-    /// Whether the connection in a slot could move: it is done or failed and not closed yet; or in some direction bytes
-    /// or an end of input could come in, bytes could go out, or the end could be passed on. `false` without one.
+    /// Whether the connection in a slot could move: it is done or failed, and not closed; or in one direction bytes or
+    /// an end of input could come in, bytes could go out, or the end could be passed on. False without a connection.
     pub fn movable(&self, slot: usize) -> bool
         ensures { result ≡ movable self.now slot }
     {
@@ -26,8 +26,8 @@ impl World {
         }
     }
 
-    /// Whether the connection in a slot is due to be tried: a report about it is queued or in the batch, a ticket for
-    /// it is in the ready queue or with the poller or a worker, or a worker holds the slot. `false` without one.
+    /// Whether the connection in a slot is due to be tried: a report of it is queued or in the batch, a ticket for it
+    /// is in the ready queue or with the poller or a worker, or a worker holds the slot. False without a connection.
     pub fn due(&self, slot: usize) -> bool
         ensures { result ≡ due self.now slot }
     {

@@ -10,7 +10,7 @@ pub enum Event {
     Network(usize, Side, Change),
     /// A report is queued without cause.
     Spurious(Reported),
-    /// A queued report is withdrawn before it is polled.
+    /// A queued report is withdrawn before a poll gives it.
     Vanish(Reported),
     /// Something happens at the listener.
     Listen(Listening),
@@ -56,13 +56,13 @@ pub enum Listening {
 /// What the poller does.
 #[derive(Drop)]
 pub enum Polling {
-    /// It opens a free slot for the connection that it accepted.
+    /// Opens a free slot for the connection that was accepted.
     Open,
-    /// It takes these names from the queue as a batch, at most 256.
+    /// Takes these names from the queue as a batch, at most 256.
     Poll(Vec<Name>),
-    /// It delivers the first name of its batch.
+    /// Delivers the first name of the batch.
     Deliver,
-    /// It posts to this slot, so that a worker looks whether the connection is past the idle limit.
+    /// Posts to this slot, so that a worker looks whether its connection is past the idle limit.
     Sweep(usize),
     /// It puts the first ticket in its hand into the ready queue.
     Put,
@@ -73,24 +73,24 @@ pub enum Polling {
 pub enum Act {
     /// It puts the first ticket in its hand into the ready queue.
     Put,
-    /// It takes the first ticket from the ready queue.
+    /// Takes the first ticket from the ready queue.
     Pop,
-    /// It tries to hold its ticket's slot.
+    /// Tries to hold the slot of its ticket.
     Claim,
-    /// It takes the notes of its slot.
+    /// Takes the notes of its slot.
     Take,
-    /// It makes the connection's next call, and gets this reply.
+    /// Makes the connection's next call, which gets this reply.
     Call(Reply),
-    /// It posts a note to its own slot, since its budget is spent.
+    /// Posts a note to its slot, since its budget is spent.
     Post,
-    /// It releases its slot.
+    /// Releases its slot.
     Release,
-    /// It fails the connection of its slot, which moved nothing for the idle limit and has no call to make.
+    /// Fails the connection of its slot, which moved nothing for the idle limit and has no call to make.
     Expire,
-    /// It closes the connection of its slot.
+    /// Closes the connection of its slot.
     Close,
-    /// It retires its slot, which is free from then on.
+    /// Retires its slot, which is free from then on.
     Retire,
-    /// It puts the slot that it retired into the free queue.
+    /// Puts the slot that it retired into the free queue.
     Free,
 }

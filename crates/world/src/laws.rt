@@ -5,15 +5,15 @@ ghost use Rattle.world.specs.{CoreLaws.CoreLaws, Headline.EveryRunHolds};
 
 use relay_core::laws;
 
-/// After every list of events that can happen, from the opening world with any limits, what [`crate::replay`] promises
-/// of its world.
+/// What [`crate::replay`] promises of its world, but for `support`, holds after every list of events that can happen,
+/// from the opening world with any limits.
 pub fn every_run_holds()
     ensures { EveryRunHolds }
 {
     rests_on_core();
 }
 
-/// The core's laws for every pair, on which this depends.
+/// The core's laws for every pair, on which the law above depends.
 pub(crate) fn rests_on_core()
     ensures { CoreLaws }
 {

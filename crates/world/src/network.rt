@@ -28,7 +28,7 @@ impl World {
         }
     }
 
-    /// Some seconds pass, if there is an idle limit.
+    /// Seconds pass, which is refused without an idle limit.
     pub(crate) fn tick(&mut self, seconds: u64) -> Result<(), Refusal>
         ensures { MeetsAlways (tick self.old seconds) self.old self.new result }
     {
@@ -42,7 +42,6 @@ impl World {
         Ok(())
     }
 
-    /// The network changes something at one end of the connection in a slot.
     pub(crate) fn network(
         &mut self,
         slot: usize,
@@ -59,7 +58,6 @@ impl World {
         change_at(&mut self.kernel, descriptor, change)
     }
 
-    /// A report is queued without cause.
     pub(crate) fn spurious(&mut self, who: Reported) -> Result<(), Refusal>
         ensures event { Meets (spurious self.old who) self.old self.new result }
         ensures memory { IsErrOf result Refusal.NoMemory → IsTrue (grows queue_length self.old (spurious self.old who)) }
@@ -70,7 +68,6 @@ impl World {
         }
     }
 
-    /// A queued report is withdrawn.
     pub(crate) fn vanish(&mut self, who: Reported) -> Result<(), Refusal>
         ensures { MeetsAlways (vanish self.old who) self.old self.new result }
     {
@@ -80,7 +77,6 @@ impl World {
         }
     }
 
-    /// Something happens at the listener.
     pub(crate) fn listen(&mut self, event: Listening) -> Result<(), Refusal>
         ensures event { Meets (listen self.old event) self.old self.new result }
         ensures memory { IsErrOf result Refusal.NoMemory → IsTrue (grows queue_length self.old (listen self.old event)) }

@@ -20,7 +20,6 @@ impl World {
     ghost use Rattle.relay_core.specs.Pairs.{fresh};
     ghost use Rattle.world.specs.{Memory.{becomes_note, batch_length, grows, polling_allocates}, States.is_entry, Steps.{opened_world, opening_of, delivered, delivered_at, deliver, sweep, batched, put_by_poller, post_at, polled}};
 
-    /// The poller does something.
     pub(crate) fn poll(&mut self, event: &Polling) -> Result<(), Refusal>
         ensures event { Meets (polled self.old event.now) self.old self.new result }
         ensures memory { IsErrOf result Refusal.NoMemory → IsTrue (polling_allocates self.old event.now) }

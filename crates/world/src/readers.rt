@@ -18,7 +18,7 @@ impl World {
         self.limits
     }
 
-    /// The second that it is.
+    /// The seconds that have passed since the opening.
     pub fn second(&self) -> u64
         ensures { result ≡ self.now.second }
     {
@@ -46,7 +46,7 @@ impl World {
         self.accepted
     }
 
-    /// The names that the poller has still to deliver, in order.
+    /// The names of the batch that the poller has still to deliver, in order.
     pub fn batch(&self) -> &[Name]
         ensures { result.now ≡ self.now.batch }
     {

@@ -1,4 +1,4 @@
-// A list of events from the opening world on.
+// Makes a list of events happen, from the opening world on.
 #![tactic(auto, using(std::proofs::lemmas::Option::gets, std::proofs::lemmas::Grind::common_steps))]
 
 ghost use Rattle.std.specs.Prelude.{◌≡◌, IfOk, IfErr, Some};
@@ -11,27 +11,26 @@ use crate::world::World;
 use kernel_model::Refusal;
 use std::alloc::Global;
 
-/// The world after these events, starting with the opening world.
+/// The world to which these events lead from the opening world.
 ///
-/// If not all of them can happen, the answer is the index of the first that fails, and why: `NotAllowed` if it cannot
-/// happen after those before it; `NoMemory` if it can, and needs memory. At index 0, `NoMemory` may also mean the world
-/// itself.
+/// If an event fails, returns its index and why: `NotAllowed` if it cannot happen after those before it; `NoMemory` if
+/// it can, and needs memory. At index 0, `NoMemory` may also mean that there was none for the opening world.
 ///
-/// About the world after every list of events:
+/// After every list of events this holds of the world:
 ///
-/// - In each direction of a connection in a slot, the preamble and then the bytes that arrived are those that were
-///   sent, then the rest of the preamble, then those in the ring, then those that are unread; and if its end was passed
-///   on, that was after every byte (`bytes`). The preamble is the lead of the limits on the way to the target, and
-///   empty on the way back. What a closed connection sent is a prefix of the preamble and what arrived for it, and all
-///   of it if the connection was done (`closed`).
+/// - In each direction of a connection in a slot, the preamble and then the bytes that arrived are, in this order: the
+///   sent bytes, the rest of the preamble, the bytes in the ring, the unread bytes. If the end of input was passed on,
+///   that was after every byte (`bytes`). The preamble is the lead of the limits on the way to the target, and empty
+///   on the way back. In each direction of a closed connection, the sent bytes are a prefix of the preamble and the
+///   bytes that arrived, and all of these if the connection was done (`closed`).
 /// - No connection was tried on a note or a ticket of another generation (`own`).
 /// - A connection failed only after a failed call, or after moving nothing for the idle limit (`failures`).
 /// - A connection that could move is due to be tried (`due`). While the accept flag is down, nobody waits at the
 ///   listener, or its name is queued or in the batch (`listener`).
-/// - What this depends on (`support`): a slot with notes that is neither held nor free has one ticket, and every other
-///   none; a connection that nobody holds and that has no notes has no call to make; the poller's table has each slot's
-///   generation; and if a flag of a pair is down, its end is armed for it and not ready, or ready and a report of it is
-///   queued, in the batch or noted.
+/// - What `due` depends on (`support`): a slot with notes that is neither held nor free has one ticket, and every
+///   other slot none; a connection that nobody holds and that has no notes has no call to make; the poller's table has
+///   each slot's generation; and if a flag of a pair is down, its end is armed for it and not ready, or ready and a
+///   report of it is queued, in the batch or noted.
 pub fn replay(alloc: Global, limits: Limits, events: &[Event]) -> Result<World, (usize, Refusal)>
     requires { IsWithinLimits limits }
     ensures world { IfOk result (λ world. run (opening limits) events.now ≡ Some world) }

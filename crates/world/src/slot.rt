@@ -6,7 +6,7 @@ use kernel_model::{Kernel, Refusal, Reply};
 use std::alloc::{AllocError, Global};
 use std::marker::Model;
 
-/// A place for one connection.
+/// A slot: its connection, if it has one, its holder and its notes.
 #[derive(Drop)]
 pub struct Slot {
     pub(crate) generation: u64,
@@ -40,35 +40,35 @@ impl Slot {
         }
     }
 
-    /// The generation of the connection that was last opened in it.
+    /// The generation of the connection that was opened last in the slot; before any, the limits' generation.
     pub fn generation(&self) -> u64
         ensures { result ≡ self.now.generation }
     {
         self.generation
     }
 
-    /// The connection in it.
+    /// The connection in the slot.
     pub fn connection(&self) -> Option<&Connection>
         ensures { option_copied result ≡ self.now.connection }
     {
         self.connection.as_ref()
     }
 
-    /// Who holds it.
+    /// Who holds the slot.
     pub fn holder(&self) -> Holder
         ensures { result ≡ self.now.holder }
     {
         self.holder
     }
 
-    /// Its notes, oldest first, each with the generation that it is for.
+    /// The slot's notes, oldest first. Each is the generation that the note is for.
     pub fn notes(&self) -> &[u64]
         ensures { result.now ≡ self.now.notes }
     {
         self.notes.as_slice()
     }
 
-    /// Whether it is free or held by a worker.
+    /// Whether the slot is free or held by a worker.
     pub fn is_held(&self) -> bool
         ensures { result ≡ is_held self.now.holder }
     {
@@ -78,7 +78,7 @@ impl Slot {
         }
     }
 
-    /// Whether it has a note.
+    /// Whether the slot has a note.
     pub fn has_notes(&self) -> bool
         ensures { result ≡ is_nonempty self.now.notes }
     {
@@ -94,8 +94,8 @@ impl Slot {
         Ok(())
     }
 
-    /// Adds a note. Returns whether that makes a ticket: it is the first, and nobody holds the slot. An error changes
-    /// nothing.
+    /// Adds a note. Returns whether the note makes a ticket: it does if it is the first, and the slot is neither held
+    /// nor free. An error changes nothing.
     pub(crate) fn post(&mut self, generation: u64) -> Result<bool, Refusal>
         ensures { Tells (Some (record { value = with_note self.old generation; told = brings_ticket self.old })) self.old self.new result }
     {
@@ -104,7 +104,7 @@ impl Slot {
         Ok(!is_quiet)
     }
 
-    /// A new connection is opened in it, for this generation, with these notes. Nobody holds it.
+    /// Opens a new connection in the slot, for this generation, with these notes. Nobody holds the slot then.
     pub(crate) fn open(&mut self, generation: u64, connection: Connection, notes: Vec<u64>)
         ensures { self.new ≡ record { generation = generation; connection = Some connection; holder = Holder.Nobody; notes = notes.items } }
     {
@@ -114,15 +114,14 @@ impl Slot {
         self.notes = notes;
     }
 
-    /// It has no connection any more.
     pub(crate) fn clear(&mut self)
         ensures { self.new ≡ record self.old { connection = None } }
     {
         self.connection = None;
     }
 
-    /// Removes all notes. If there was one, every call is worth trying again. Without a connection it refuses with
-    /// `NotAllowed`, and changes nothing.
+    /// Removes all notes. If there was a note, every call is worth trying again. Refuses with `NotAllowed`, and
+    /// changes nothing, if the slot has no connection.
     pub fn take_notes(&mut self) -> Result<(), Refusal>
         ensures { MeetsAlways (noted_slot self.old) self.old self.new result }
     {
@@ -135,7 +134,7 @@ impl Slot {
         Ok(())
     }
 
-    /// Fails its connection ([`Connection::expire`]), and refuses so without one.
+    /// Fails the connection ([`Connection::expire`]). Refuses with `NotAllowed` also without one.
     pub fn expire(&mut self, now: u64, limit: u64) -> Result<(), Refusal>
         ensures { MeetsAlways (expired_place now limit self.old) self.old self.new result }
     {
@@ -145,7 +144,7 @@ impl Slot {
         }
     }
 
-    /// Makes the connection's next call ([`Connection::call`]). Without a connection it refuses with `NotAllowed`.
+    /// Makes the connection's next call ([`Connection::call`]). Refuses with `NotAllowed` also without a connection.
     #[tactic(auto, unfolding(crate::specs::Steps::slot_call))]
     pub fn call(&mut self, kernel: &mut Kernel, reply: Reply, now: u64) -> Result<(), Refusal>
         ensures outcome { Meets (slot_call now (record { kernel = kernel.old; place = self.old }) reply)

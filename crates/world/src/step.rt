@@ -10,13 +10,13 @@ impl World {
     ghost use Rattle.std.specs.Prelude.{◌≡◌, Some, IfOk, IfErr, OnOk, IsErrOf, IsTrue};
     ghost use Rattle.world.specs.{Memory.may_allocate, Runs.{run, FailsAt}, Steps.step, Words.WordsMoveInRuns};
 
-    /// One event happens.
+    /// Makes one event happen.
     ///
-    /// Refuses with `NotAllowed` if it cannot happen now, and with `NoMemory` if it can, but a list cannot grow for
-    /// it. A refusal changes nothing. Only events that may make a list longer are refused with `NoMemory` (`memory`).
+    /// Refuses with `NotAllowed` if the event cannot happen now, and with `NoMemory` if it can, but a list cannot grow
+    /// for it (`memory` says for which events a list may). A refusal changes nothing.
     ///
-    /// In a world that a run reaches, the event changes the claim word of its slot, and no other, by the steps of the
-    /// event's kinds in order, and a ticket is made exactly when a step says so (`words`).
+    /// In a world that a run reaches, each slot's claim word changes by the steps that the event makes there, in
+    /// order. A ticket of the slot is made exactly when one of these steps answers Wake (`words`).
     #[tactic(auto, using(crate::proofs::Headline::words_met))]
     pub fn step(&mut self, event: &Event) -> Result<(), Refusal>
         ensures event { Meets (step self.old event.now) self.old self.new result }
@@ -27,10 +27,9 @@ impl World {
         self.happen(event)
     }
 
-    /// These events happen, one after the other.
+    /// Makes these events happen, one after the other.
     ///
-    /// If not all of them can happen, the answer is the index of the first that fails, and why, as of [`World::step`].
-    /// The world is then the one after the events before it.
+    /// If an event fails, returns its index and why ([`World::step`]). The events before it have happened then.
     #[tactic(auto, using(crate::proofs::Headline::run_more, std::proofs::lemmas::Option::gets, std::proofs::lemmas::Grind::common_steps))]
     pub fn play(&mut self, events: &[Event]) -> Result<(), (usize, Refusal)>
         ensures world { OnOk result (run self.old events.now ≡ Some self.new) }

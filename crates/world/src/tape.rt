@@ -5,7 +5,7 @@ use kernel_model::Refusal;
 use std::alloc::{AllocError, Global};
 use std::marker::Model;
 
-/// A world from its opening on, with each event that has happened in it.
+/// A world, with all events that happened in it since its opening.
 #[derive(Drop)]
 pub struct Tape {
     limits: Limits,
@@ -40,7 +40,8 @@ impl Tape {
         })
     }
 
-    /// An event happens. A refusal is that of the world, or `NoMemory`, and changes nothing.
+    /// Makes an event happen. Refuses it as [`World::step`] does, and with `NoMemory` also if the list of events
+    /// cannot grow. A refusal returns the event, and changes nothing.
     pub fn put(&mut self, event: Event) -> Result<(), (Refusal, Event)>
         ensures put { OnOk result (self.new.events ≡ self.old.events ++ event ∷ []) }
         ensures limits { self.new.limits ≡ self.old.limits }

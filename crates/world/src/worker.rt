@@ -3,10 +3,10 @@
 use crate::actors::{Doing, Ticket};
 use std::marker::Model;
 
-/// A worker: what it is doing, and the ticket that it still has to put, if any.
+/// A worker: what it is doing, and the ticket that it has still to put, if any.
 ///
-/// It takes a ticket from the queue with an empty hand, so it has none in hand while it does something. That leaves a
-/// place for the ticket that it may take when it releases a slot, which therefore takes no memory.
+/// A worker takes a ticket from the queue only with an empty hand, so its hand is empty while it does something. So
+/// there is room in the hand for the ticket of a release, which takes no memory.
 #[derive(Drop)]
 pub struct Worker {
     doing: Doing,
@@ -38,7 +38,7 @@ impl Worker {
         }
     }
 
-    /// What it is doing.
+    /// What the worker is doing.
     pub fn doing(&self) -> Doing
         ensures doing { result ≡ self.now.doing }
         ensures hand { (result ≡ Doing.Idle) ⊎ (self.now.hand ≡ []) }
@@ -46,28 +46,25 @@ impl Worker {
         self.doing
     }
 
-    /// The tickets that it still has to put, in order.
+    /// The ticket that the worker has still to put, if any.
     pub fn hand(&self) -> &[Ticket]
         ensures { result.now ≡ self.now.hand }
     {
         self.hand.as_slice()
     }
 
-    /// The ticket that it has to put.
     pub(crate) fn ticket(&self) -> Option<Ticket>
         ensures { self.now.hand ≡ option_to_list result }
     {
         self.hand
     }
 
-    /// It has put its ticket.
     pub(crate) fn put(&mut self)
         ensures { self.new ≡ record self.old { hand = [] } }
     {
         self.hand = None;
     }
 
-    /// It does something else.
     pub(crate) fn turn_to(&mut self, doing: Doing)
         requires { (doing ≡ Doing.Idle) ⊎ (self.old.hand ≡ []) }
         ensures { self.new ≡ record self.old { doing = doing } }
@@ -75,7 +72,7 @@ impl Worker {
         self.doing = doing;
     }
 
-    /// It is idle again. If there are notes in the slot that it held, it takes a ticket for it in hand.
+    /// Makes the worker idle. If its slot has notes (`noted`), it takes the slot's ticket in hand.
     pub(crate) fn release(&mut self, noted: bool, slot: usize, generation: u64)
         requires { self.old.hand ≡ [] }
         ensures { self.new ≡ record { doing = Doing.Idle; hand = with_ticket noted slot generation self.old.hand } }

@@ -27,7 +27,6 @@ impl World {
     ghost use Rattle.kernel_model.specs.{Outcome.{Meets, MeetsAlways}, Replies.needs_memory};
     ghost use Rattle.world.specs.{Acts.{busy, MeetsIn}, Memory.{act_allocates, grows, free_length}, Slots.WorkerState, Steps.{of_worker, claim, take, call, post, release, expire, close, retire, free, pop, worked}};
 
-    /// A worker does something.
     pub(crate) fn work(&mut self, worker: usize, act: Act) -> Result<(), Refusal>
         ensures { MeetsIn (act_allocates self.old worker act) (worked self.old worker act) self.old self.new result }
     {

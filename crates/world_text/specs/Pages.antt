@@ -26,13 +26,13 @@ pieces_text [] = []
 pieces_text (piece ∷ []) = piece_text piece
 pieces_text (piece ∷ next ∷ pieces) = piece_text piece ++ pieces_text (next ∷ pieces)
 
--- What is written is the text before and these bytes, unless it was lost: then it is lost for good.
+-- The text afterwards is the text before and then these bytes, unless it is lost. A lost text stays lost.
 abbrev pub Adds : Option (List ℕ) → Option (List ℕ) → List ℕ → Type 0
 Adds old new bytes = IfSome new (λ text. option_map (λ before. before ++ bytes) old ≡ Some text)
 
 -- How names and tickets are written.
 
--- each with a space in front
+-- the texts of all, each after a space
 abbrev pub spaced : {X : Type 0} → (X → List ℕ) → List X → List ℕ
 spaced text xs = flat_map (λ x. codes " " ++ text x) xs
 

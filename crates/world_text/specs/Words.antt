@@ -1,4 +1,4 @@
--- The words by which the lines of a script begin, and which of them an event has. Part of the promises.
+-- The words by which the lines of a script begin, and the word of each event. Part of the promises.
 use Rattle.std.specs.{Prelude.{ℕ, List, [], ◌∷◌, codes, if◌then◌else◌, Option, Some, None}, Str.bytes_eq}
 use Rattle.world.specs.declared.event.{Event.Event, Change.Change, Listening.Listening, Polling.Polling, Act.Act}
 use Rattle.world_text.specs.declared.word.Word.{Word}
@@ -48,7 +48,7 @@ all_words =
     ∷ word.Free ∷ word.Idle ∷ word.Open ∷ word.Poll ∷ word.Pop ∷ word.Post ∷ word.Put ∷ word.Read ∷ word.Release ∷ word.Reset
     ∷ word.Retire ∷ word.Room ∷ word.Shut ∷ word.Spurious ∷ word.Sweep ∷ word.Take ∷ word.Tick ∷ word.Vanish ∷ word.Wrote ∷ []
 
--- the first of these words that a text is
+-- the first of these words that is written as the text
 abbrev pub word_among : List Word → List ℕ → Option Word
 word_among [] text = None
 word_among (w ∷ ws) text = if bytes_eq text (word_text w) then Some w else word_among ws text

@@ -8,28 +8,28 @@ use std::alloc::{AllocError, Global};
 use token::{Direction, Name};
 use world::{Doing, Event, Polling, Reported, World};
 
-/// The part of a report, before an event, that this event may change: no other slot or worker, and no bytes. So the
-/// time for an event does not depend on these.
+/// The part of a report, before an event, that this event may change. It has no other slot or worker, and no bytes, so
+/// the time for an event does not depend on these.
 #[derive(Drop)]
 pub struct Outline {
     worker: usize,
     slot: usize,
-    /// Of the queues, the worker and the slot.
+    /// The lines of the queues, the worker and the slot.
     lines: String,
     up: Way,
     down: Way,
     past: usize,
 }
 
-/// The number of no worker and no slot.
+/// Stands for no worker or no slot.
 const NONE: usize = usize::MAX;
 
-/// Whether a slot has a connection, how many bytes each part of the line of one direction has, and how far its end is.
-/// An event either adds bytes to a part or takes some from it.
+/// What tells whether the line of one direction changes: whether there is a connection, how many bytes each part of
+/// the line has, and whether the end was read and passed on. An event adds bytes to a part or takes some.
 type Way = [usize; 7];
 
 impl Outline {
-    /// The part that this event may change, before it.
+    /// The part that this event may change, before the event.
     pub fn new(alloc: Global, world: &World, event: &Event) -> Result<Outline, AllocError> {
         let worker = match event {
             Event::Work(worker, _) => *worker,
@@ -46,7 +46,7 @@ impl Outline {
         })
     }
 
-    /// The lines of the report after the event that are not in the report before, in their order.
+    /// The lines of the report after the event that were not in the report before, in their order.
     pub fn changes(&self, alloc: Global, world: &World) -> Result<String, AllocError> {
         let after = lines(alloc, world, self.worker, self.slot)?;
         let mut page = Page::new(alloc);
@@ -91,7 +91,7 @@ fn slot_of(world: &World, event: &Event) -> Option<usize> {
             Doing::Tries(ticket) => Some(ticket.slot),
             Doing::Holds(slot, _) | Doing::Closed(slot) | Doing::Retired(slot) => Some(slot),
         },
-        // A report or a ticket that is passed on is still one of the same connection.
+        // A report or a ticket that is passed on is still of its connection, so no line of a slot changes.
         Event::Poll(Polling::Poll(_) | Polling::Put)
         | Event::Tick(_)
         | Event::Spurious(_)

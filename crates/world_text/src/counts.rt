@@ -54,7 +54,7 @@ pub struct Counts {
 }
 
 impl Counts {
-    /// None has happened.
+    /// No events.
     pub const NONE: Counts = Counts { kinds: [0; KINDS] };
 
     /// Counts an event.
@@ -75,7 +75,7 @@ impl Counts {
         }
     }
 
-    /// How many there are of all kinds.
+    /// How many events of all kinds have happened.
     pub fn sum(&self) -> u64 {
         let mut sum: u64 = 0;
         for count in &self.kinds {

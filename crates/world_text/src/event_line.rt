@@ -1,5 +1,5 @@
-//! The header of a world's script, and the line of an event, as the crate `script_text` reads them. No clause says what
-//! they are: tests have `sim` read what is written of a drill or of a recording.
+//! The header of a world's script, and the line of an event, as the crate `script_text` reads them. No clause says
+//! what is written: in tests, `sim` reads what a drill or a recording has written.
 
 use crate::page::{Page, Piece, put_all};
 use crate::word::word_of;
@@ -7,7 +7,7 @@ use kernel_model::{Accepting, Reply};
 use token::Side;
 use world::{Act, Change, Event, Limits, Listening, Polling, Reported};
 
-/// Adds the header of a world with these limits, and its end.
+/// Adds the header of a world with these limits, and a line feed.
 pub fn put_header(page: &mut Page, limits: &Limits) {
     page.put(&[
         Piece::Named("world slots=", limits.slots as u64),
@@ -26,7 +26,7 @@ pub fn put_header(page: &mut Page, limits: &Limits) {
     page.put(&[Piece::Text("\n")]);
 }
 
-/// Adds the line of an event, without its end.
+/// Adds the line of an event, without a line feed.
 pub fn put_event(page: &mut Page, event: &Event) {
     page.put(&[Piece::Text(word_of(event).text())]);
     match event {
@@ -106,7 +106,7 @@ fn reply_word(reply: Reply) -> &'static str {
     }
 }
 
-/// The kind by which an event is counted: the first word of its line, and the rest if others begin so, too.
+/// The kind by which an event is counted: its line's first word, and what tells kinds with this word apart.
 pub(crate) fn kind_of(event: &Event) -> (&'static str, &'static str) {
     let more = match event {
         Event::Spurious(Reported::Listener) => "listener",

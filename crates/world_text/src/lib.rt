@@ -1,8 +1,8 @@
 //! What is written of a world and of its events, as `docs/FORMATS.md` describes it.
 //!
-//! [`print`] gives the report of a world, [`Outline`] the lines of it that an event changes, and [`event_reason`] says
-//! why an event is not allowed in it. [`put_header`] and [`put_event`] add the lines of a script to a [`Page`], on
-//! which all these texts are written, [`Word`] is the first word of such a line, and [`Counts`] counts events by kinds.
+//! [`print`] gives the report of a world, [`Outline`] the lines of a report that an event changes, and
+//! [`event_reason`] why an event is not allowed. [`put_header`] and [`put_event`] add lines of a script to a [`Page`],
+//! on which all these texts are written; [`Word`] is the first word of such a line. [`Counts`] counts events by kinds.
 //!
 //! `specs/` has definitions: `Words` for first words; `WorldReports` for the report, and `Pages` for its parts and for
 //! what adds to a page.

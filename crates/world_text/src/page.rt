@@ -18,7 +18,7 @@ pub enum Piece<'a> {
     Bytes(&'a [u8]),
 }
 
-/// A text that grows. Once memory for a piece ran out, the text is lost, which is reported when it is finished.
+/// A text that grows. Once memory for a piece ran out, the text is lost, and [`Page::finish`] reports that.
 #[derive(Drop)]
 pub struct Page {
     alloc: Global,
@@ -46,12 +46,11 @@ impl Page {
         }
     }
 
-    /// Where its memory comes from.
     pub(crate) fn alloc(&self) -> Global {
         self.alloc
     }
 
-    /// Memory for a piece ran out.
+    /// Notes that memory for a piece ran out: the text is lost.
     pub(crate) fn lose(&mut self, error: AllocError)
         ensures { self.new ≡ None }
     {
@@ -95,7 +94,7 @@ impl Page {
     }
 }
 
-/// What is written in a list, one after the other.
+/// What can be written as an item of a list.
 pub(crate) trait Listed {
     ghost use Rattle.std.specs.Prelude.{ℕ, List};
     ghost use Rattle.world_text.specs.Pages.{Adds};
@@ -106,7 +105,7 @@ pub(crate) trait Listed {
         ensures { Adds page.old page.new (Self.text self.now) };
 }
 
-/// Adds all of a list.
+/// Adds all items of a list.
 pub(crate) fn put_all<T: Listed>(page: &mut Page, items: &[T])
     ensures { Adds page.old page.new (flat_map T.text items.now) }
 {
@@ -115,7 +114,7 @@ pub(crate) fn put_all<T: Listed>(page: &mut Page, items: &[T])
     }
 }
 
-/// As a poll has it, with a space in front.
+/// A space, and then the name as the line of a poll has it.
 impl Listed for Name {
     ghost use Rattle.std.specs.Prelude.{◌++◌, codes};
     ghost use Rattle.world_text.specs.Pages.{name_text};
@@ -160,7 +159,7 @@ impl Listed for usize {
     }
 }
 
-/// Adds what is written of one direction after the bytes that were sent, and a lead.
+/// Adds the rest of the line of one direction, after the sent bytes and perhaps a lead.
 pub fn put_stream<'a>(page: &mut Page, ring: &'a [u8], unread: &'a [u8], ended: bool, shut: bool)
     ensures { Adds page.old page.new (stream_text ring.now unread.now ended shut) }
 {
@@ -184,7 +183,6 @@ pub(crate) fn yes_or_no(is_so: bool) -> &'static str
     if is_so { "yes" } else { "no" }
 }
 
-/// One of two words.
 pub(crate) fn one_of(is_first: bool, first: &'static str, second: &'static str) -> &'static str
     ensures { result.now ≡ (if is_first then first.now else second.now) }
 {

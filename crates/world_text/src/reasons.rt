@@ -1,4 +1,4 @@
-//! Why an event is not allowed, by the world before it: the first reason that holds.
+//! Why an event is not allowed, by the world before it: the first reason that applies.
 
 use kernel_model::{Accepting, End, Kernel, MAX_BACKLOG, Open, Reply};
 use relay_core::{Call, Pair, Verdict};
@@ -12,7 +12,7 @@ pub const NOT_HERE: &str = "it is not possible in this state";
 
 const BROKEN: &str = "an error has come to the socket";
 
-/// Why no bytes, and no end of input, come to an end.
+/// Why neither bytes nor the end of input can arrive at this socket.
 pub fn ended_reason(end: &End) -> &'static str {
     match end {
         _ if end.has_fin() => "the end of input has come",
@@ -21,7 +21,7 @@ pub fn ended_reason(end: &End) -> &'static str {
     }
 }
 
-/// Why an end does not get room for writes.
+/// Why a socket cannot get room for writes.
 pub fn room_reason(end: &End) -> &'static str {
     match end {
         _ if end.has_room() => "the socket has room",
@@ -30,7 +30,7 @@ pub fn room_reason(end: &End) -> &'static str {
     }
 }
 
-/// Why a read of at most `most` bytes does not give this many.
+/// Why a read of at most `most` bytes cannot give `count` bytes.
 pub fn read_reason(end: &End, most: usize, count: usize) -> &'static str {
     match count {
         0 => "a read gives at least 1 byte",
@@ -40,7 +40,7 @@ pub fn read_reason(end: &End, most: usize, count: usize) -> &'static str {
     }
 }
 
-/// Why a read does not give the end of input.
+/// Why a read cannot give the end of input.
 pub fn end_reason(end: &End) -> &'static str {
     match end {
         _ if !end.unread().is_empty() => "bytes are unread",
@@ -49,7 +49,7 @@ pub fn end_reason(end: &End) -> &'static str {
     }
 }
 
-/// Why a write of what is left of a lead, or else of a ring, does not take this many bytes.
+/// Why a write cannot take `count` bytes. The write offers the rest of the lead, or if `lead` is 0 the ring.
 pub fn wrote_reason(end: &End, lead: usize, ring: usize, count: usize) -> &'static str {
     match count {
         _ if !end.has_room() => "the socket has no room",
@@ -78,7 +78,7 @@ const READABLE: &str = "the socket is readable";
 
 const WRITABLE: &str = "the socket is writable";
 
-/// Why an event is not allowed in a world, for a person. Only rows of scripts that are refused show it.
+/// Why an event is not allowed in a world, for a person. No clause says it: rows of refused scripts show it.
 pub fn event_reason(world: &World, event: &Event) -> &'static str {
     match event {
         Event::Tick(seconds) => tick_reason(world, *seconds),
@@ -109,7 +109,6 @@ fn tick_reason(world: &World, seconds: u64) -> &'static str {
     }
 }
 
-/// Why the poller does not post to a slot.
 fn sweep_reason(world: &World, slot: usize) -> &'static str {
     match world.table_entry(slot) {
         _ if is_unlimited(world) => UNLIMITED,
@@ -267,7 +266,6 @@ fn release_reason(slot: &Slot, connection: &Connection, left: usize) -> &'static
     }
 }
 
-/// Why the next call of a connection does not get this reply.
 fn call_reason(kernel: &Kernel, connection: &Connection, reply: Reply) -> &'static str {
     let pair = &connection.pair;
     let Some(call) = pair.next() else {
@@ -282,7 +280,6 @@ fn call_reason(kernel: &Kernel, connection: &Connection, reply: Reply) -> &'stat
     }
 }
 
-/// Why a call on this socket does not get this reply.
 fn answer_reason(pair: &Pair, socket: &End, call: Call, reply: Reply) -> &'static str {
     match (call, reply) {
         (Call::Read(_, most), Reply::Bytes(count)) => read_reason(socket, most, count),
@@ -309,7 +306,7 @@ fn answer_reason(pair: &Pair, socket: &End, call: Call, reply: Reply) -> &'stati
     }
 }
 
-/// Which call is next, if it never gets such an answer.
+/// Which call is next, if that call never gets such a reply.
 fn other_call(call: Call) -> &'static str {
     match call {
         Call::Read(Side::Client, _) => "the next call is a read of the client",

@@ -4,7 +4,7 @@ ghost use Rattle.world_text.specs.Words.{word_text, word_named, event_word};
 use std::fmt;
 use world::{Act, Change, Event, Listening, Polling};
 
-/// The first word of a step or an event, with which a fault names it. A script has it in lower case.
+/// The first word of a step or an event, by which a fault names it. A script has it in lower case.
 #[derive(Clone, Copy)]
 pub enum Word {
     Accept,
@@ -38,7 +38,7 @@ pub enum Word {
     Wrote,
 }
 
-/// Each word at its place, and how it is written.
+/// Each word, at its number in `Word`, with how it is written.
 static WORDS: [(Word, &str); 29] = [
     (Word::Accept, "accept"),
     (Word::Arrive, "arrive"),
@@ -72,7 +72,7 @@ static WORDS: [(Word, &str); 29] = [
 ];
 
 impl Word {
-    /// The word that a text is, if it is one.
+    /// The word that is written so, or None.
     pub fn named(text: &[u8]) -> Option<Word>
         ensures { result ≡ word_named text.now }
     {

@@ -29,7 +29,16 @@ returns-in_err-look g c =
       round = λ _. round_ended (rw (looked.poller, c.begin.ensures.poller)) failed.2 looked.took;
       ended = not_ok _ _ c.from_residual.ensures.0;
       keeps = keeps same (inl (rw (looked.poller, c.begin.ensures.poller))) (rw looked.took.ready);
-      refused = passed_up _ _ _ c.from_residual.ensures.1 (inl (failed.0, record { failed = failed.1; none = failed.2; read = looked.batch }));
+      refused = passed_up _ _ _ c.from_residual.ensures.1 (inl (
+        failed.0,
+        record {
+          failed = failed.1;
+          none = failed.2;
+          read = looked.batch;
+          poller = rw c.begin.ensures.poller at looked.poller;
+          took = looked.took;
+        },
+      ));
     }
 
 pub returns-in_err-deliver_batch : goal.returns-in_err-deliver_batch
