@@ -67,7 +67,7 @@ impl Hand {
         self.tickets.len()
     }
 
-    /// How many slots there are.
+    /// How many slots it has.
     pub fn slots(&self) -> usize
         ensures { result ≡ length self.now.slots }
     {

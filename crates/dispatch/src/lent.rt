@@ -37,7 +37,7 @@ impl<'a, C: Clock> Timing<'a, C> {
     }
 }
 
-/// What the threads call once all of them have been started, and around each turn.
+/// Called once all threads have been started, and around each turn: for what is printed, recorded or checked then.
 pub trait Gate {
     /// All threads have been started. The thread that serves calls this before it polls.
     fn all_started(&self) {}

@@ -67,9 +67,8 @@ impl Fullness {
     }
 }
 
-/// A front of a server whose threads count. Every front implements this trait. It leaves open what `counted` means:
-/// over any such front a proof has a fact `counted ..` only from a call that was made. For one front alone the fact
-/// says nothing.
+/// A front whose threads may count events. Every front implements this trait, which leaves open what `counted` means:
+/// over any front, a proof has such a fact only from a call that was made. Of a given front the fact says nothing.
 pub trait Counting: Front {
     ghost use Rattle.std.specs.Prelude.{ℕ};
     ghost use Rattle.statistics.specs.declared.event.Event.{Event};

@@ -110,7 +110,7 @@ impl Outside {
         self.must(is_made);
     }
 
-    /// Makes an event of the server in the machine of this poller's listener.
+    /// Has the machine of this poller's listener make an event of the server.
     pub fn record_at_poller(&mut self, poller: usize, event: Event) {
         let model = self.pollers.get_mut(poller);
         let is_made = model.is_some_and(|model| model.machine.put(event));

@@ -298,7 +298,7 @@ fn own_names(alloc: Global, names: &[Name], slot: Option<usize>) -> Result<Vec<N
     Ok(own)
 }
 
-/// An end's name, with this slot. Other names stay.
+/// An end's name gets this slot; other names stay. None if no name has this slot.
 fn named_at(name: Name, slot: usize) -> Option<Name> {
     match name {
         Name::End(token) => {

@@ -54,7 +54,7 @@ pub enum Planned {
     Poll(Polled),
 }
 
-/// What a call of a turn gets.
+/// How a call of a turn ends.
 #[derive(Clone, Copy)]
 pub enum Wanted {
     /// What the kernel has.

@@ -14,7 +14,7 @@ kind_of_error NotConnected = kind.NotConnected
 kind_of_error TimedOut = kind.TimedOut
 kind_of_error error = kind.Other
 
--- the kind as an error can show it: no error means Zero, that a write took no byte
+-- the kind that an error can show: Other for Zero, which no error means
 abbrev pub kind_told : Kind → Kind
 kind_told kind.Zero = kind.Other
 kind_told kind = kind

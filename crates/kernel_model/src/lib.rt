@@ -4,10 +4,10 @@
 //! An [`End`] is one stream socket in non-blocking mode, as plain values. A [`Kernel`] has the open ends of a process
 //! by descriptor, each with its token; the queue of the names to report; and a listening socket.
 //!
-//! Nothing here happens by itself. Each call is given a change or a reply, and makes it happen. It refuses one that no
-//! kernel could make or give with [`Refusal::NotAllowed`] (`specs/Ends.antt`, `specs/Replies.antt`,
-//! `specs/Kernel.antt`), never with [`Refusal::NoMemory`]. It refuses others with `NoMemory` only if its comment says
-//! so. A refused call changes nothing.
+//! Nothing here happens by itself. Each call is given a change or a reply, and makes it happen. If no kernel could make
+//! that change, or give that reply, the call is refused with [`Refusal::NotAllowed`] (`specs/Ends.antt`,
+//! `specs/Replies.antt`, `specs/Kernel.antt`), and only otherwise, if its comment says so, with [`Refusal::NoMemory`].
+//! A refused call changes nothing.
 //!
 //! The rules follow epoll(7), read(2), write(2), shutdown(2), connect(2) and accept(2).
 #![tactic(auto)]

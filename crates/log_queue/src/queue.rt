@@ -27,7 +27,7 @@ pub struct Written(());
 impl LogQueue {
     /// An empty queue. It takes memory for all its lines; no later call takes any.
     pub fn new(alloc: Global, form: Form) -> Result<LogQueue, AllocError>
-        ensures room { IfOk result (λ made. made.lines ≡ MAX_LINES ∷ []) }
+        ensures room { IfOk result (λ made. made.lines ≡ 4096 ∷ []) }
     {
         Ok(LogQueue {
             lines: ParkedQueue::new([ArrayQueue::new(alloc, MAX_LINES)?]),

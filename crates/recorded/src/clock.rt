@@ -30,8 +30,8 @@ impl Clock {
         })
     }
 
-    /// The earliest and the latest second that a thread can have read between these two counts, if it did nothing else
-    /// there that is recorded. If no reading is recorded there, what the clock can have shown.
+    /// The earliest and the latest second that a thread can have read between these two counts, if nothing else that it
+    /// did there is recorded. Without a recorded reading there, it is what the clock can have shown.
     pub fn between(&self, from: u64, to: u64) -> (u64, u64) {
         let readings = self.before.as_slice();
         let last = count_below(readings, to).saturating_sub(1);

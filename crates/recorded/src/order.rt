@@ -29,7 +29,7 @@ pub fn put_in_order(recording: &mut Recording) -> Result<(), ReplayFault> {
     Ok(())
 }
 
-/// Sets `whole` to the first count of no record, and returns the first count of a lost one.
+/// Sets `whole` to the first count that no record has, and returns the first count of a lost record.
 fn find_lost(recording: &mut Recording) -> Result<Option<u64>, ReplayFault> {
     let counts = counts_of(recording)?;
     check_counts(recording, counts.as_slice())?;
@@ -132,8 +132,8 @@ fn begun(recording: &Recording) -> Result<Vec<u64>, AllocError> {
     Ok(begun)
 }
 
-/// The least count of an act of this list that has not ended: after the last act of a poller, which may be waiting for
-/// reports, or of a turn that has not ended. Else `u64::MAX`.
+/// The least count that an act of this list without a record can have: after the last act of a poller, which may wait
+/// for reports, or of a turn that has not ended. `u64::MAX` if there is no such act.
 fn next_begun(recording: &Recording, at: usize) -> u64 {
     let is_poller = at >= recording.header.slots && at < recording.lists.len().saturating_sub(1);
     match recording.list(at).last() {

@@ -45,7 +45,7 @@ fn all_spans(recording: &Recording) -> Result<Vec<Span>, AllocError> {
     let mut spans = Vec::new(recording.alloc);
     for slot in 0..recording.header.slots {
         for span in spans_of(recording, slot)?.as_slice() {
-            // A span that has not ended lasts up to the first count of no record, which may be that of its next act.
+            // A span that has not ended lasts up to the first count that no record has: its next act may have it.
             let least = if span.is_over { 0 } else { recording.whole };
             let to = span.to.max(least);
             spans.push(Span { to, ..*span })?;
@@ -197,8 +197,8 @@ impl Span {
     }
 }
 
-/// The line of the first of these changes after which more is in progress than these threads can do: each poller one
-/// thing of its own, and the workers the rest.
+/// The line of the first change after which more is in progress than all threads can do: each poller does one thing of
+/// its own, and the workers do the rest.
 fn first_over(recording: &Recording, changes: &[Change]) -> Result<Option<u64>, AllocError> {
     let mut own = vec![in recording.alloc; 0usize; recording.header.pollers]?;
     let mut workers: usize = 0;

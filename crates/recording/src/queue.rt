@@ -45,7 +45,7 @@ pub struct RecordQueue {
 impl RecordQueue {
     /// Empty queues for a relay whose pollers have these slots. No later call takes memory.
     pub fn new(alloc: Global, split: Split) -> Result<RecordQueue, AllocError>
-        ensures room { IfOk result (λ made. made.waiting ≡ replicate QUEUES MAX_RECORDS) }
+        ensures room { IfOk result (λ made. made.waiting ≡ replicate 4 131072) }
     {
         Ok(RecordQueue {
             waiting: ParkedQueue::new([

@@ -18,7 +18,7 @@ pub(crate) enum Flaw {
     NextCall,
     /// The record at hand fits nowhere.
     Because(&'static str),
-    /// Memory ran out, so that nothing is wrong with the record.
+    /// Memory ran out. Nothing is wrong with the record.
     NoMemory,
 }
 
@@ -85,7 +85,7 @@ impl Machine {
         Ok(())
     }
 
-    /// A turn begins: its ticket is put and taken, wherever it is, the slot is claimed, and its notes are taken.
+    /// A turn begins: its ticket, wherever it is, is put and taken; the slot is claimed, and its notes are taken.
     pub(crate) fn claim(&mut self) -> Result<(), Flaw> {
         if self.world().poller_hand().is_empty() {
             self.put(Event::Work(0, Act::Put))?;

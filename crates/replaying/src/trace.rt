@@ -75,7 +75,7 @@ fn may_close(failed: Option<u64>, run: &[Action], records: &[Action]) -> bool
     }
 }
 
-/// How many records belong to the connection that the first of these opened: those before the next opening.
+/// How many of these records are of one connection. The first is its opening; they end before the next opening.
 pub(crate) fn connection_len(records: &[Numbered]) -> usize
     requires { 0 < length records.now }
     ensures some { 0 < result }

@@ -14,7 +14,7 @@ pub struct Episodes {
     /// Whether all the poller's slots were found taken while a client waited, and accept(2) has not found the backlog
     /// empty since.
     pub(crate) full: bool,
-    /// What was logged and is counted of drops.
+    /// Which drops were logged, or are counted.
     pub(crate) drops: Drops,
 }
 

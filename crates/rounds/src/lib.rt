@@ -12,7 +12,7 @@
 //! - `WaitsAsMay` says when a round waits for reports, and for how long (`poll`: `wait`, `waited`). A wait is a fault
 //!   exactly if it gave an error other than a signal (`polled`). The batch is delivered (`deliver_batch`).
 //! - Each error of accept(2) has its class, and only the answer that no client waits lowers the accept flag
-//!   (`unaccepted_of`, `not_accepted`: `flag`). It is starved until that answer or a connection (`starved_after`).
+//!   (`unaccepted_of`, `not_accepted`: `flag`). A lack lasts until that answer or a connection (`starved_after`).
 //! - A drop is counted, or has a line of its own (`dropped_at`, `owed_for`). A count is cleared only if a line of its
 //!   cause logs it (`logged_at`, `tell_of`; an `Owed` cannot be dropped, and only the log takes it). At an opening all
 //!   counts are logged (`end_episodes`). A starved accept(2) has no new line before an opening (`episodes_after`). A

@@ -141,8 +141,8 @@ impl<F: Front> Poller<F> {
         })
     }
 
-    /// From now on this slot counts as having had this many connections. A server starts at 0; `drill` starts near the
-    /// last generation, 2^47 - 1.
+    /// From now on this slot counts as having had this many connections. A server starts at 0. A test may start near
+    /// the last generation, 2^47 - 1.
     #[tactic(auto, using(crate::proofs::Acts::own_set))]
     pub fn start_at(&mut self, slot: usize, generation: u64)
         requires inside { slot < length self.old.table }
@@ -222,7 +222,7 @@ impl<F: Front> Poller<F> {
         self.second = second;
     }
 
-    /// A round begins to accept: it has all its tries of accept(2), and has left no client.
+    /// A round begins to accept: it has made no try of accept(2) yet, and left no client.
     pub(crate) fn reset_tries(&mut self)
         ensures { self.new ≡ record self.old { tries = max_accepts; left = false } }
     {

@@ -27,7 +27,7 @@ use std::sync::Wait;
 /// stay there, before those of the round. The round asks once for reports and delivers them ([`deliver`]). It waits for
 /// reports only if no sweep is due and no ticket is in hand: for as long as its front waits, if no client can be
 /// accepted or accept(2) was starved; else for a millisecond at most, if the last round left a client to others. A
-/// sweep is due if, at the second that the last round read, the idle limit had passed since the last sweep, or since
+/// sweep is due if, at the second that the last round read, an idle limit had passed since the last sweep, or since
 /// the poller began: the round then posts a note at each slot in which the poller ever opened a connection, in rising
 /// order. Then it reads its second. While a client may be waiting and a slot is free, it accepts and opens connections,
 /// with at most 4 calls of accept(2), until its front leaves a client to others.
@@ -36,9 +36,9 @@ use std::sync::Wait;
 /// then, or else from the round's end.
 ///
 /// An opened connection has the slot's next generation, one note and one ticket, and is logged. If an opening fails,
-/// the connection is closed, the drop is logged or counted, and the slot is in hand. At its end the round logs the
-/// counted drops, once a second. If the listener was reported and no slot is free, the last poller to find that logs
-/// it.
+/// the connection is closed; the drop is logged or counted, and the slot is in hand, or the slot is no longer used. At
+/// its end the round logs the counted drops, once a second. If the listener was reported and no slot is free, the last
+/// poller to find that logs it.
 ///
 /// Refusals: `Poll` if the wait for reports failed; the round then at most took free slots in hand and stopped
 /// listening. `Worn` if the seat has posted 2^56 times; a part of the round may be done then. Even so the seat holds no
@@ -344,7 +344,7 @@ fn take_one<R: Wait>(rt: &R, own: &mut Own) -> bool
     }
 }
 
-/// Returns what an error of accept(2) means, and notes it. That accept(2) is starved is logged once between openings.
+/// Returns what an error of accept(2) means, and keeps it. That accept(2) is starved is logged once between openings.
 fn not_accepted<F: Front, R: Log>(
     rt: &R,
     shared: &Shared<F>,

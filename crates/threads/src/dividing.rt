@@ -98,7 +98,7 @@ where
     Ok(threads)
 }
 
-/// The thread of a poller. It refuses a table that is not as long as there are slots; `build` makes no such table.
+/// The thread of a poller. Refuses a table whose length is not the number of slots; `build` makes no such table.
 fn thread_of<F: Front + Drop>(
     alloc: Global,
     shared: &Arc<Shared<F>>,

@@ -36,7 +36,7 @@ pub struct Server<F: Front> {
 ///
 /// Refuses with `NoMemory`, before any thread has started, if there is none for what the threads own; else with the
 /// fault that a thread met, or `Threads` if one could not be started. Of several faults it is the first poller's or
-/// `Threads`, whichever came first; or else that of the next thread: pollers come before workers.
+/// `Threads`, the earlier of the two; or else that of the lowest thread: pollers come before workers.
 pub fn run_threads<F, G: Gate + Sync, C: Clock + Sync, R: Wait + Threads + Log + Sync>(
     rt: &R,
     alloc: Global,
