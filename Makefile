@@ -21,7 +21,7 @@ help:
 	@command -v rt >/dev/null || echo 'The command `rt` of the Rattle toolchain is not in PATH. Without it nothing is built or tested; an archive or a package of a built relayd needs none (README.md).'
 	@sed -n 's/^## //p' $(MAKEFILE_LIST)
 
-## make build         proves and builds crates/relayd/out/relayd; takes twenty minutes or more the first time
+## make build         proves and builds crates/relayd/out/relayd; takes a quarter of an hour or more the first time
 build:
 	@.ci/build relayd
 
