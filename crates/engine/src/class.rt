@@ -1,3 +1,4 @@
+//! What the error of a system call means to a turn.
 ghost use Rattle.std.specs.Prelude.{◌≡◌, Bool, true};
 ghost use Rattle.relay_core.specs.Calls.{side_of};
 ghost use Rattle.engine.specs.Classes.{class_by, class_of, kind_of_error, kind_told, pending_kind};

@@ -1,3 +1,4 @@
+//! One step of a turn: the next call on its wire, and the answer to the pair.
 ghost use Rattle.std.specs.{Prelude.{◌≡◌, Some}, Io.{WritesAtMost, KnownBytes.{Keeps, WriteAppends}}, IoError.error_kind};
 ghost use Rattle.relay_core.specs.{Order.{next_call, offer}, Replies.reply_of, Laws.IsPossible};
 ghost use Rattle.engine.specs.{Classes.kind_of_error, Wires.{CountsError, CountsWrite, write_gave}, Steps.{IsStep, IsError}};

@@ -1,3 +1,4 @@
+//! What a wire counts of its answers, by which a turn knows the class of an error.
 ghost use Rattle.std.specs.Prelude.{◌≡◌};
 ghost use Rattle.engine.specs.Classes.{class_by, tally, connected, counted, fault_more};
 

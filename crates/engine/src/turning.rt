@@ -1,3 +1,4 @@
+//! A turn: steps until there is no next call or the budget is spent.
 ghost use Rattle.std.specs.Prelude.{◌≡◌, ◌≤◌, Some};
 ghost use Rattle.relay_core.specs.{Order.next_call, Idle.expired, Laws.IsPossible};
 ghost use Rattle.engine.specs.{Steps.IsMove, Turns.{outcome_of, IsServed, IsTurn}};

@@ -1,3 +1,4 @@
+//! What a turn needs of a socket.
 ghost use Rattle.std.specs.{Prelude.{◌≡◌, length}, Io.{WritesAtMost, KnownBytes.{Keeps, WriteAppends}}};
 ghost use Rattle.engine.specs.Wires.{Asked, Given, WireView, ReadTakes, CountsAnswer, CountsWrite, CountsShut, read_gave, write_gave, call_gave};
 ghost use Rattle.engine.specs.Wires as ask;

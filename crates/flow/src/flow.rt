@@ -1,3 +1,4 @@
+//! One direction of a connection: its lead, its ring, its end of input and its shutdown.
 ghost use Rattle.std.specs.Prelude.{◌≡◌, ◌+◌, ◌-◌, ◌<◌, ◌≤◌, [], length, true, false, IsTrue, ◌↔◌, IfOk, slice_index, drop};
 ghost use Rattle.circular_buffer.specs.Buffer.{buffer};
 ghost use Rattle.flow.specs.Stream.{empty_stream, free_room, waiting, front, taken_in, dropped, ended, closed};

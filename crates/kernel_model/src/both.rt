@@ -1,3 +1,4 @@
+//! The two ends of one connection, and their descriptors.
 use crate::end::End;
 
 /// The descriptors of a connection's two ends.

@@ -1,3 +1,4 @@
+//! A socket as plain values: what the network does to it, and what it may reply to a call.
 ghost use Rattle.std.specs.{Prelude.{◌≡◌, Ok, Err, IsErrOf, IsTrue, IsSome, IfSome, ◌↔◌, false, if◌then◌else◌}, Option.option_copied};
 ghost use Rattle.kernel_model.specs.{Outcome.{guard, Meets, MeetsAlways, Tells, TellsAlways}, Ends.{IsTailOf, opened, is_readable, is_writable, arrival, finish, failure, new_room}, Changes.{brings_bytes, change_of}, Replies.{bytes_read, failed, blocked_write, wrote, after_read, after_write, needs_memory, after_join, after_shut}};
 

@@ -1,3 +1,4 @@
+//! Why a call of the model was refused.
 ghost use Rattle.std.specs.Prelude.{◌≡◌};
 ghost use Rattle.kernel_model.specs.declared.refusal.Refusal.TheVariants.{NoMemory};
 

@@ -1,3 +1,4 @@
+//! What a socket of the model replies to a call.
 use token::Kind;
 
 /// What a socket replies to a call: counts stand for the bytes (`specs/Replies.antt`).

@@ -1,3 +1,4 @@
+//! How many lines found the queue full.
 ghost use Rattle.log_queue.specs.Lines.{CountStep, Added, Taken};
 
 use std::sync::atomic::{AtomicU64, Ordering};

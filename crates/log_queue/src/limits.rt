@@ -1,3 +1,4 @@
+//! The sizes of the log's queue, and how long its writer rests.
 use std::time::Duration;
 
 /// The most bytes of a line's text. What follows is cut off.

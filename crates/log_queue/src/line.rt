@@ -1,3 +1,4 @@
+//! One line of the log, in a fixed number of bytes.
 ghost use Rattle.std.specs.Prelude.{◌≡◌, ◌↔◌, ◌<◌, ◌≤◌, ◌++◌, ◌+◌, ◌-◌, Some, true, false, [], length, take, IsOk, IsTrue};
 ghost use Rattle.log_queue.specs.Lines.{LineState, IsFirst, IsCut, IsAdded, shown, left_out_text, ending as ending_of};
 

@@ -1,3 +1,4 @@
+//! Queues for a thread that writes, and sleeps while there is nothing to write.
 ghost use Rattle.std.specs.Prelude.{◌≡◌, ◌<◌, IfSome, map, true, false};
 ghost use Rattle.crossbeam_queue.specs.Passes.{queue_capacity};
 

@@ -1,3 +1,4 @@
+//! The queue of the log's lines.
 ghost use Rattle.std.specs.Prelude.{◌≡◌, [], ◌∷◌, IfOk};
 
 use crate::left_out::Missing;

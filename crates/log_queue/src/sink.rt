@@ -1,3 +1,4 @@
+//! Loggers: into the queue, or to standard error at once.
 ghost use Rattle.std.specs.Prelude.{◌≡◌, Some, true, []};
 ghost use Rattle.log_queue.specs.Lines.{mark_of};
 

@@ -1,3 +1,4 @@
+//! The thread that writes the log.
 use crate::limits::soon;
 use crate::line::LeftOut;
 use crate::parked::Drain;

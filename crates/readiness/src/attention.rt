@@ -1,3 +1,4 @@
+//! Whether a wire reads its socket, or knows that a read would block.
 ghost use Rattle.std.specs.Prelude.{◌≡◌, ◌||◌, true, false};
 
 use std::marker::Model;

@@ -1,3 +1,4 @@
+//! Where a poller leaves for a wire that a report named reading.
 ghost use Rattle.std.specs.{Prelude.{◌≡◌, Some, None, IfOk, IfSome, IfNone, vec_len}, Arc.arc_value};
 ghost use Rattle.readiness.specs.Words.{of_side, word_of, words_of};
 

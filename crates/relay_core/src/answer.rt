@@ -1,3 +1,4 @@
+//! What a socket answered to a call.
 ghost use Rattle.std.specs.Prelude.{◌≡◌};
 ghost use Rattle.relay_core.specs.Replies.{reply_of, moves};
 

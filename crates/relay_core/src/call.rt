@@ -1,3 +1,4 @@
+//! The calls for which a pair may ask.
 ghost use Rattle.std.specs.Prelude.{◌≡◌};
 ghost use Rattle.relay_core.specs.Calls.{side_of, kind_of, call_name, direction_of};
 

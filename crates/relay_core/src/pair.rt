@@ -1,3 +1,4 @@
+//! One connection: which call comes next, and what its answer does.
 ghost use Rattle.std.specs.Prelude.{◌≡◌, ◌≤◌, ◌<◌, ◌&&◌, true, false, Some, length, slice_index, ◌↔◌, IfOk, IfSome, OnSome};
 ghost use Rattle.token.specs.{Sides.{destination, inward}, declared.direction.Direction.Direction};
 ghost use Rattle.relay_core.specs.{Calls.side_of, Pairs.{fresh, stream_of, flags_of, with_flags, is_joined, mark_joined, noted, verdict, is_live}, Order.{is_waiting, call_for, next_call, offer}, Replies.{Interrupted, fits, after, count_more, without_flag, reply_of}, Idle.{is_overdue, expired}, Laws.{IsPossible, IsOverdue, KeepsOrder, PassesEndLast, TellsOf}, declared.verdict.Fault.Fault};

@@ -1,3 +1,4 @@
+//! The line of the PROXY protocol that a target may be sent first.
 ghost use Rattle.std.specs.Prelude.{◌≡◌, ◌≤◌, ◌+◌, ◌++◌, length, decimal, IfOk, OnOk};
 ghost use Rattle.relay_core.specs.Proxy.{dotted, proxy_line};
 

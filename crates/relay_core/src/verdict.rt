@@ -1,3 +1,4 @@
+//! What has become of a connection, and why one failed.
 use crate::call::CallKind;
 use token::{Kind, Side};
 

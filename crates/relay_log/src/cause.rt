@@ -1,3 +1,4 @@
+//! Why a client was dropped.
 ghost use Rattle.std.specs.Prelude.{◌≡◌};
 ghost use Rattle.relay_log.specs.Messages.{cause_name};
 

@@ -1,3 +1,4 @@
+//! Why a server ended early.
 ghost use Rattle.std.specs.Prelude.{◌≡◌};
 ghost use Rattle.relay_log.specs.declared.faults.ServerFault.TheVariants.{NoMemory};
 

@@ -1,3 +1,4 @@
+//! The message about a connection that has ended, with its client and the system's cause.
 ghost use Rattle.std.specs.Prelude.{◌≡◌, ◌-◌, Some};
 ghost use Rattle.relay_log.specs.Messages.{client_level, gone_counts, gone_text, yes_or_no};
 

@@ -1,3 +1,4 @@
+//! When a socket sends at once, and when it waits for more (TCP_NODELAY).
 ghost use Rattle.std.specs.Prelude.{◌≡◌, ◌↔◌, true, false, IsTrue};
 ghost use Rattle.sockets.specs.Wires.{waiting, prompt, IsOffered};
 

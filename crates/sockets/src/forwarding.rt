@@ -1,3 +1,4 @@
+//! Where clients are connected to, and how long is waited for a peer.
 ghost use Rattle.std.specs.Prelude.{◌≡◌};
 ghost use Rattle.sockets.specs.{Fronts.IsAt, Wires.unlimited};
 

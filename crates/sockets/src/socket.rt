@@ -1,3 +1,4 @@
+//! The system's TCP socket as a `Stream`.
 use crate::loads::Load;
 use crate::options;
 use crate::stream::Stream;

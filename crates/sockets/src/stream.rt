@@ -1,3 +1,4 @@
+//! What a wire needs of a system's socket.
 ghost use Rattle.std.specs.{Prelude.{length, OnOk}, Io.WritesAtMost};
 ghost use Rattle.engine.specs.Wires.{read_gave, write_gave, call_gave};
 ghost use Rattle.sockets.specs.Wires.{Made, Called, Pending, Named, NamedHere, SentAtOnce, GivesUpAfter, Probes, Registered, Looked};

@@ -1,3 +1,4 @@
+//! The wire over a system's socket.
 ghost use Rattle.std.specs.{Prelude.{◌≡◌, true, false, Some, None, IfSome, OnOk, OnErr}, IoError.error_kind};
 ghost use Rattle.token.specs.Names.{end_number};
 ghost use Rattle.engine.specs.{Classes.{class_by, pending_kind, connected, counted}, Wires.call_gave};

@@ -1,3 +1,4 @@
+//! The events that are counted.
 use relay_core::Verdict;
 
 /// What is counted.

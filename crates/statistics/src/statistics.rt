@@ -1,3 +1,4 @@
+//! The counts of all slots, and their sums.
 ghost use Rattle.std.specs.Prelude.{◌≡◌, ◌≤◌, IfOk, IfSome, length, slice_get};
 ghost use Rattle.statistics.specs.Counts.{AreSums, IsCounted, no_sums};
 

@@ -135,6 +135,7 @@ where
         change_end(&mut self.own.free, &mut self.others, poller);
         let worked = worker_turn(
             context.rt,
+            &mut (),
             &self.shared,
             &mut self.own,
             context.gate,

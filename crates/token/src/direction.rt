@@ -1,3 +1,4 @@
+//! The two directions of a connection.
 ghost use Rattle.std.specs.Prelude.{◌≡◌};
 ghost use Rattle.token.specs.Sides.{opposite, source, destination};
 

@@ -1,3 +1,4 @@
+//! The kinds of failure of a call, with their words.
 ghost use Rattle.std.specs.{Prelude.{◌≡◌, ◌≢◌, IfSome, IfNone}, Str.bytes_eq};
 ghost use Rattle.token.specs.{Kinds.{kind_name, kind_named}, declared.kind.Kind.Kind};
 

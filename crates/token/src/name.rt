@@ -1,3 +1,4 @@
+//! What a report is about, as one number and back.
 ghost use Rattle.std.specs.Prelude.{◌≡◌, ◌≤◌, ◌↔◌, Some};
 ghost use Rattle.token.specs.{Numbers.{IsName, name_number, name_of}, declared.name.Name.Name};
 

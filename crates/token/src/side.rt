@@ -1,3 +1,4 @@
+//! The two ends of a connection.
 ghost use Rattle.std.specs.Prelude.{◌≡◌, ◌≢◌, IfSome, IfNone};
 ghost use Rattle.token.specs.{Sides.{other_side, side_name, side_named, side_number}, declared.side.Side.Side};
 

@@ -1,3 +1,4 @@
+//! The name of one end of one connection: its slot, its side and its generation.
 ghost use Rattle.std.specs.Prelude.{◌≡◌, ◌≤◌, ◌<◌, ◌+◌, ◌↔◌, Some, Ok, Err, IsErrOf};
 ghost use Rattle.token.specs.{Names.{EndName, IsSlot, IsGeneration, end_number, last_generation}, Numbers.{name_of, generation_after}, declared.name.Name.TheVariants.End};
 

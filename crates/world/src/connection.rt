@@ -1,3 +1,4 @@
+//! A connection of the machine, and what its turn does to it.
 #![tactic(auto, using(std::proofs::lemmas::Option::gets, std::proofs::lemmas::Grind::common_steps))]
 
 ghost use Rattle.std.specs.Prelude.{◌≡◌, Some, option_map};

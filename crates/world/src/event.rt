@@ -1,3 +1,4 @@
+//! What can happen in the machine, by the actor that causes it.
 use kernel_model::{Accepting, Reply};
 use token::{Name, Side};
 

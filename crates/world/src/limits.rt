@@ -1,3 +1,4 @@
+//! The sizes of a world, and the limits of one event.
 use crate::lead::Lead;
 
 /// The most bytes that one arrival brings.

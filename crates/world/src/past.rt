@@ -1,3 +1,4 @@
+//! What the machine keeps of a closed connection.
 use kernel_model::Sockets;
 use relay_core::Verdict;
 

@@ -1,3 +1,4 @@
+//! A slot of the machine: its connection, its holder and its notes.
 #![tactic(auto, using(std::proofs::lemmas::Option::gets, std::proofs::lemmas::Grind::common_steps))]
 
 use crate::actors::Holder;

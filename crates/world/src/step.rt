@@ -1,3 +1,4 @@
+//! A step of the machine: which part of it makes which event happen.
 #![tactic(auto, using(std::proofs::lemmas::Option::gets, std::proofs::lemmas::Grind::common_steps))]
 
 use crate::event::Event;

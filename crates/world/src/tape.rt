@@ -1,3 +1,4 @@
+//! A world together with the events that led to it.
 use crate::event::Event;
 use crate::limits::Limits;
 use crate::world::World;

@@ -1,3 +1,4 @@
+//! A worker of the machine: what it is doing, and its hand.
 #![tactic(auto, using(std::proofs::lemmas::Option::gets, std::proofs::lemmas::Grind::common_steps))]
 
 use crate::actors::{Doing, Ticket};

@@ -1,3 +1,4 @@
+//! How often each kind of event happened, and the lines that say so.
 use crate::event_line::kind_of;
 use crate::page::{Page, Piece};
 use world::Event;

@@ -1,3 +1,4 @@
+//! A text that is put together piece by piece, and is lost once memory runs out.
 ghost use Rattle.std.specs.{Prelude.{◌≡◌, [], Some, None, IfOk, string_bytes, if◌then◌else◌, flat_map}, Fmt.decimal};
 ghost use Rattle.world_text.specs.Pages.{Adds, piece_text, pieces_text, stream_text, yes_or_no};
 

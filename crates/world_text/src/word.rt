@@ -1,3 +1,4 @@
+//! The words with which the lines of steps and events begin.
 ghost use Rattle.std.specs.Prelude.{◌≡◌};
 ghost use Rattle.world_text.specs.Words.{word_text, word_named, event_word};
 
