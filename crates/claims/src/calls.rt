@@ -1,6 +1,6 @@
 // The calls on the claim words, each one atomic exchange.
-ghost use Rattle.std.specs.Prelude.{◌≡◌, ◌≢◌, ◌<◌, ◌≤◌, ◌^◌, [], ◌∷◌};
-ghost use Rattle.claims.specs.{Words.{post, claim, take, release, retire, adopt}, Seats.{account_at, Holds, Adds, Stepped}, Calls.{PostChange, ClaimChange, ReleaseChange, AdoptChange}};
+ghost use Rattle.std.specs.Prelude.{◌≡◌, ◌≢◌, ◌↔◌, ◌<◌, ◌≤◌, ◌^◌, [], ◌∷◌};
+ghost use Rattle.claims.specs.{Words.{post, claim, take, release, retire, adopt}, Seats.{account_at, posts_of, Holds, Adds, Stepped}, Calls.{PostChange, ClaimChange, ReleaseChange, AdoptChange}};
 ghost use Rattle.claims.specs.declared.view.Exchange.TheVariants as exchange;
 
 use crate::answers::{Adopted, Claimed, Posted, Released};
@@ -66,6 +66,7 @@ impl Claims {
         requires inside { slot < self.now.words }
         ensures change { PostChange slot seat.old result seat.new }
         ensures lawful { result ≢ Posted.Worn → Stepped post slot seat.old seat.new }
+        ensures worn { result ≡ Posted.Worn ↔ posts_of seat.old ≡ 2 ^ 56 }
     {
         if seat.posts == MAX_POSTS {
             return Posted::Worn;

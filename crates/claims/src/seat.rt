@@ -1,7 +1,8 @@
 // The seat of one thread.
-ghost use Rattle.std.specs.Prelude.{◌≡◌, ◌<◌};
-ghost use Rattle.claims.specs.Seats.{account_at};
+ghost use Rattle.std.specs.Prelude.{◌≡◌, ◌↔◌, ◌<◌, ◌^◌, IsTrue};
+ghost use Rattle.claims.specs.Seats.{account_at, posts_of};
 
+use crate::limits::MAX_POSTS;
 use crate::view::View;
 use atomic_table::Seat;
 use std::marker::Model;
@@ -36,5 +37,12 @@ impl ClaimSeat {
         ensures { result ≡ (account_at self.now slot).holds }
     {
         self.held[slot]
+    }
+
+    /// Whether this seat has posted 2^56 times, so that it posts no more.
+    pub fn is_worn(&self) -> bool
+        ensures { IsTrue result ↔ (posts_of self.now ≡ 2 ^ 56) }
+    {
+        self.posts == MAX_POSTS
     }
 }

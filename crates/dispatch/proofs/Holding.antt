@@ -1,6 +1,6 @@
 -- A seat that holds one slot, after exchanges there; and one that is worn stays so while it posts nothing more.
 use Rattle.std.{proofs.{Common.{◌≡◌, ℕ, ◌+◌, Bool, true, false, List, [], ◌∷◌, refl, ap, ◌∙◌, arith, suc, map}, lemmas.List.Sums.sum_by-cons}, specs.Prelude.{sum_by, slice_index_or}}
-use Rattle.claims.{specs.{declared.{answers.{Posted.Posted, Released.{Released, TheVariants.{Wake, Quiet}}}, view.{Account.Account, Exchange.{Exchange, TheVariants.{Post, Release}}}}, Words.one, Views.{account_of, after_all}, Seats.{SeatState, account_at, Holds, HoldsNot, HoldsNothing, Adds, OnlyAt}, Calls.{PostChange, ReleaseChange}}, proofs.Seats.{account_after, posted_of}}
+use Rattle.claims.{specs.{declared.{answers.{Posted.Posted, Released.{Released, TheVariants.{Wake, Quiet}}}, view.{Account.Account, Exchange.{Exchange, TheVariants.{Post, Release}}}}, Words.one, Views.{account_of, after_all}, Seats.{SeatState, account_at, posts_of, Holds, HoldsNot, HoldsNothing, Adds, OnlyAt}, Calls.{PostChange, ReleaseChange}}, proofs.Seats.{account_after, posted_of}}
 use Rattle.dispatch.specs.Posts.{HoldsOnly, IsWorn}
 use Rattle.claims.specs.declared.answers.Posted.TheVariants as posted
 use mathlib.Core.Logic.{dite}
@@ -67,6 +67,9 @@ posts_alike (x ∷ xs) [] each = omega (arith, more_posts x xs, each 0, posts_al
 posts_alike (x ∷ xs) (y ∷ ys) each = omega (arith, more_posts x xs, more_posts y ys, each 0, posts_alike xs ys (λ i. each (suc i)))
 
 -- nothing was posted at this slot, and at no other slot anything changed
+pub posts_still : {slot : ℕ} {old new : SeatState} → OnlyAt slot old new → (account_at new slot).posted ≡ (account_at old slot).posted → posts_of new ≡ posts_of old
+posts_still {slot} {old} {new} only here =
+    posts_alike new.traces old.traces (λ i. dite (ℕ_discrete i slot) (λ same. rw same here) (λ other. rw (only.others i other)))
+
 pub worn_still : (slot : ℕ) (old new : SeatState) → OnlyAt slot old new → (account_at new slot).posted ≡ (account_at old slot).posted → IsWorn old → IsWorn new
-worn_still slot old new only here worn =
-    posts_alike new.traces old.traces (λ i. dite (ℕ_discrete i slot) (λ same. rw same here) (λ other. rw (only.others i other))) ∙ worn
+worn_still slot old new only here worn = posts_still only here ∙ worn

@@ -17,8 +17,9 @@ use token::Token;
 /// which acts they make, in which order: a proof has `made ..` only from a call. The server's `()` makes each act and
 /// nothing else.
 pub trait Acts {
-    ghost use Rattle.std.specs.Prelude.{◌≡◌, ◌<◌, ℕ, [], ◌∷◌, length, slice_set, IfErr, OnOk, OnErr};
+    ghost use Rattle.std.specs.Prelude.{◌≡◌, ◌↔◌, ◌<◌, ℕ, [], ◌∷◌, length, slice_set, IfErr, OnOk, OnErr};
     ghost use Rattle.claims.specs.{Seats.{Holds, Adds}, Calls.{PostChange, ClaimChange, ReleaseChange, AdoptChange}};
+    ghost use Rattle.dispatch.specs.Posts.{IsWorn};
     ghost use Rattle.ready.specs.Steps.{PutOne, HeldOnce};
     ghost use Rattle.claims.specs.declared.view.Exchange.TheVariants as exchange;
     ghost use Rattle.dispatch.specs.Acts as act;
@@ -54,7 +55,8 @@ pub trait Acts {
         requires same { seat.old.table ≡ claims.now }
         requires inside { slot < claims.now.words }
         ensures made { made act.Post slot self.old self.new }
-        ensures change { PostChange slot seat.old result seat.new };
+        ensures change { PostChange slot seat.old result seat.new }
+        ensures worn { result ≡ Posted.Worn ↔ IsWorn seat.old };
 
     /// [`Claims::release`].
     fn release(&mut self, claims: &Claims, seat: &mut ClaimSeat, slot: usize) -> Released

@@ -1,10 +1,11 @@
 -- Acts, one after the other, and the posts of a round, in a poller's own slots alone.
-use Rattle.std.{proofs.{Common.{add-one, ◌≡◌, ℕ, zero, suc, ◌+◌, ◌≤◌, Bool, true, false, cond, List, [], ◌∷◌, ◌++◌, length, length-append, refl, sym, ◌∙◌, arith, inl, inr, append_assoc, ◌≢◌, ◌⊎◌, ◌↔◌, IsTrue, slice_index, replicate, slice_set, ◌==◌, ◌||◌, if◌then◌else◌, Option, Some, None, nat_lt, Contains}, lemmas.{Bool.{eq-eqb, ne_eqb, Decides.nat_tests}, List.{append-nil, map-append, length-map, length-replicate, get_or-replicate, get_or_past, get_or-set_other, Elements.{All-append}, Sums.sum_by-append}}}, specs.List.{All, cons_option}}
+use Rattle.std.{proofs.{Common.{add-one, ◌≡◌, ℕ, zero, suc, ◌+◌, ◌≤◌, Bool, true, false, cond, List, [], ◌∷◌, ◌++◌, length, length-append, refl, sym, ◌∙◌, arith, inl, inr, append_assoc, ◌≢◌, ◌⊎◌, ◌↔◌, IsTrue, slice_index, replicate, slice_set, ◌==◌, ◌||◌, if◌then◌else◌, Option, Some, None, nat_lt, Contains, Result, Ok, Err, IfOk, MatchResult}, lemmas.{Bool.{eq-eqb, ne_eqb, Decides.nat_tests}, List.{append-nil, map-append, length-map, length-replicate, get_or-replicate, get_or_past, get_or-set_other, Elements.{All-append}, Sums.sum_by-append}}}, specs.{List.{All, cons_option}, Result.result_unwrap_or}}
 use Rattle.claims.{specs.{declared.view.Account.Account, Views.{after_all, minted_by}, Seats.{SeatState, trace_at, account_at, HoldsNothing, Adds}}, proofs.Seats.after_both}
 use Rattle.ready.specs.declared.ticket.Ticket.{Ticket}
 use Rattle.rounds.specs.{Acts.{SeatAct, exchanges_at, made_by, due_of, ActsMade, IsPost, ArePosts, opening, IsTry, held_of, AreTries, at_slot, reported, all_reported, ArePosted, is_due, last_in, opened_in, opened_below, all_opened, sweep_of}, Pollers.{IsOwnTable, PollerState, AreGenerations}, Openings.AreIn}
 use Rattle.relay_core.specs.Idle.{is_past}
-use Rattle.dispatch.specs.{Hands.HandState, declared.split.Part.Part, Splits.IsIn}
+use Rattle.relay_log.specs.declared.faults.ServerFault.{ServerFault}
+use Rattle.dispatch.specs.{Hands.HandState, declared.split.Part.Part, Splits.IsIn, Posts.{IsWorn, OnlyWorn}}
 use mathlib.Core.Logic.{dite}
 use native.Mathlib.Decide.{ℕ_discrete}
 use Rattle.claims.specs.declared.view.Exchange.TheVariants as exchange
@@ -67,14 +68,28 @@ posts_hold_nothing {acts} {old} each made nothing = record {
   nowhere = λ slot. rw (made.traces slot, after_both) (posts_hold slot acts each (account_at old slot) ∙ nothing.nowhere slot);
 }
 
-posts_both : {xs ys : List Ticket} {us bs : List SeatAct} → ArePosts xs us → ArePosts ys bs → ArePosts (xs ++ ys) (us ++ bs)
-posts_both {us = us} {bs = bs} one two = record {
+-- all of the first were posted, and then others
+posts_both : {xs ys : List Ticket} {us bs : List SeatAct} {s t : SeatState} (one : ArePosts xs us s) → one.left ≡ [] → ArePosts ys bs t → ArePosts (xs ++ ys) (us ++ bs) t
+posts_both {us = us} {bs = bs} one none two = record {
+  left = two.left;
   each = All-append IsPost us bs one.each two.each;
-  in_order = rw (map-append (λ (act : SeatAct). act.ticket) us bs, one.in_order, two.in_order);
+  in_order = rw (map-append (λ (act : SeatAct). act.ticket) us bs, append_assoc, two.in_order, ← one.in_order, none, append-nil);
+  all = two.all;
 }
 
-posts_le : {xs : List Ticket} {acts : List SeatAct} → ArePosts xs acts → length (due_of acts) ≤ length xs
-posts_le {acts = acts} posts = rw (← posts.in_order, length-map) (due_le acts)
+-- the seat is worn, and others come to nothing
+posts_worn : {xs : List Ticket} (ys : List Ticket) {us : List SeatAct} {s : SeatState} → ArePosts xs us s → IsWorn s → ArePosts (xs ++ ys) us s
+posts_worn ys one worn = record { left = one.left ++ ys; each = one.each; in_order = rw (← append_assoc, one.in_order); all = inr worn }
+
+-- the seat is worn still
+pub posts_still : {xs : List Ticket} {us : List SeatAct} {s t : SeatState} → ArePosts xs us s → (IsWorn s → IsWorn t) → ArePosts xs us t
+posts_still {s = s} {t = t} one still = record { left = one.left; each = one.each; in_order = one.in_order; all = by one.all } where
+  by : (one.left ≡ []) ⊎ IsWorn s → (one.left ≡ []) ⊎ IsWorn t
+  by (inl none) = inl none
+  by (inr worn) = inr (still worn)
+
+posts_le : {xs : List Ticket} {acts : List SeatAct} {s : SeatState} → ArePosts xs acts s → length (due_of acts) ≤ length xs
+posts_le {acts = acts} posts = rw (← posts.in_order, length-append, length-map) (omega (arith, due_le acts))
 
 held-append : (xs ys : List SeatAct) → held_of (xs ++ ys) ≡ held_of xs ++ held_of ys
 held-append [] ys = refl
@@ -111,16 +126,24 @@ own_set part table slot generation own here other out = get_or-set_other table s
 
 -- nothing was posted
 pub posted_none : (s : SeatState) (h : HandState) → ArePosted [] s s h h
-posted_none s h = record { posts = []; are = record { each = all_none IsPost; in_order = refl }; made = acts_none s; hand = rw append-nil }
+posted_none s h = record { posts = []; are = record { left = []; each = all_none IsPost; in_order = refl; all = inl refl }; made = acts_none s; hand = rw append-nil }
 
--- connections, and then others
-pub posted_both : {xs ys : List Ticket} {a b c : SeatState} {h k l : HandState} → ArePosted xs a b h k → ArePosted ys b c k l → ArePosted (xs ++ ys) a c h l
-posted_both one two = record {
-  posts = one.posts ++ two.posts;
-  are = posts_both one.are two.are;
-  made = acts_both _ _ _ _ _ one.made two.made;
-  hand = rw (two.hand, one.hand, due-append one.posts two.posts, append_assoc);
-}
+-- a worn seat posted nothing
+pub posted_not : (xs : List Ticket) (s : SeatState) (h : HandState) → IsWorn s → ArePosted xs s s h h
+posted_not xs s h worn = record { posts = []; are = record { left = xs; each = all_none IsPost; in_order = refl; all = inr worn }; made = acts_none s; hand = rw append-nil }
+
+-- connections, and then others, for which a worn seat does nothing
+pub posted_both : {xs ys : List Ticket} {a b c : SeatState} {h k l : HandState} → ArePosted xs a b h k → ArePosted ys b c k l
+    → (IsWorn b → (c ≡ b) × (l ≡ k)) → ArePosted (xs ++ ys) a c h l
+posted_both {xs} {ys} {a} {b} {c} {h} {k} {l} one two still = by one.are.all where
+  by : (one.are.left ≡ []) ⊎ IsWorn b → ArePosted (xs ++ ys) a c h l
+  by (inl none) = record {
+    posts = one.posts ++ two.posts;
+    are = posts_both one.are none two.are;
+    made = acts_both _ _ _ _ _ one.made two.made;
+    hand = rw (two.hand, one.hand, due-append one.posts two.posts, append_assoc);
+  }
+  by (inr worn) = rw ((still worn).0, (still worn).1) (record { posts = one.posts; are = posts_worn ys one.are worn; made = one.made; hand = one.hand })
 
 pub none_at : (t : Ticket) (slot : ℕ) → slot ≢ t.slot → at_slot slot (t ∷ []) ≡ 0
 none_at t slot other = rw (ne_eqb t.slot slot (λ e. other (sym e)))
@@ -130,7 +153,7 @@ module _ {t : Ticket} {old new : SeatState} where
       → k ≡ record h { tickets = h.tickets ++ (made_by (minted_by (exchange.Post woke ∷ [])) t ++ []) } → ArePosted (t ∷ []) old new h k
   one_posted woke adds hand =
       let act : SeatAct = record { ticket = t; exchanges = exchange.Post woke ∷ [] } in
-      record { posts = act ∷ []; are = record { each = all_one IsPost act (woke, refl); in_order = refl }; made = acts_one act old new adds; hand = hand }
+      record { posts = act ∷ []; are = record { left = []; each = all_one IsPost act (woke, refl); in_order = refl; all = inl refl }; made = acts_one act old new adds; hand = hand }
 
   -- a post that did not wake
   pub posted_quiet : {h : HandState} → Adds t.slot (exchange.Post false ∷ []) old new → ArePosted (t ∷ []) old new h h
@@ -223,3 +246,10 @@ flag_raised told false batch is = (λ up. inr (is.0 up), by_either) where
   by_either : IsTrue false ⊎ Contains batch 0 → IsTrue told
   by_either (inl up) = absurd (cc)
   by_either (inr has) = is.1 has
+
+-- the flag after a delivery, unless the seat is worn
+pub flag_by : (r : Result Bool ServerFault) (flag : Bool) (batch : List ℕ) (seat : SeatState) → IfOk r (λ told. IsTrue told ↔ Contains batch 0)
+    → MatchResult r (λ _. IsWorn seat → ⊥) (λ fault. OnlyWorn fault seat)
+    → IsWorn seat ⊎ (IsTrue (flag || result_unwrap_or r false) ↔ (IsTrue flag ⊎ Contains batch 0))
+flag_by (Ok told) flag batch seat is unworn = inr (flag_raised told flag batch is)
+flag_by (Err fault) flag batch seat is worn = inl worn.1

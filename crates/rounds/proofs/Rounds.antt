@@ -1,11 +1,12 @@
 -- Connections that are opened one after the other, why one is closed unopened, and a round of its parts.
-use Rattle.std.proofs.{Common.{◌≡◌, ◌⊎◌, ℕ, ◌+◌, ◌<◌, ◌≤◌, List, [], ◌∷◌, ◌++◌, length, drop, slice_get, slice_set, min, cond, Bool, true, refl, sym, ◌∙◌, arith, inl, inr, append_assoc, length-append, Option, Some, None, ◌==◌, Result, Ok, Err, OnOk, IfErr, OnErr, IsErr, IsErrAnd, slice_index, ◌≢◌}, lemmas.{Bool.{cases_lt, false≢true}, List.{append-nil, length-set, get_or-set_other, get_or_past, Sums.sum_by-append}, Grind.get_or-set_at, Option.{none-some, same_Some}}}
-use Rattle.claims.{specs.{declared.answers.Posted.Posted, Calls.PostChange, Seats.{SeatState, TableId, Adds}}, proofs.Seats.adds_both}
-use Rattle.dispatch.{specs.{Posts.HoldsOnly, declared.{shared.Own.Own, front.{Unopened.Unopened, Route.Route, Waiting.{Waiting, TheVariants.{No, Brief, Long}}}}, Hands.{HandState, ticket_room}, Acts.{Act, AreMade, Register, Adopt, placing}, Told.cause_of}, proofs.Holding.{holds_still, released_all, woke_behind_post}}
+use Rattle.std.proofs.{Common.{◌≡◌, ◌⊎◌, ℕ, ◌+◌, ◌<◌, ◌≤◌, List, [], ◌∷◌, ◌++◌, length, drop, slice_get, slice_set, min, cond, Bool, true, refl, sym, ◌∙◌, arith, inl, inr, append_assoc, length-append, Option, Some, None, ◌==◌, Result, Ok, Err, IfErr, IsErrAnd, slice_index, ap, ◌↔◌, IsTrue, IsNone, false}, lemmas.{Bool.{cases_lt, false≢true}, List.{append-nil, length-set, get_or-set_other, get_or_past, Sums.sum_by-append}, Grind.get_or-set_at, Option.{none-some, same_Some}}}
+use Rattle.std.specs.Option.{ok_or}
+use Rattle.claims.{specs.{declared.answers.Posted.Posted, Calls.PostChange, Seats.{SeatState, TableId, Adds, account_at}, declared.view.{Account.Account, Exchange.Exchange}, Views.after_all}, proofs.Seats.{account_after, adds_both}}
+use Rattle.dispatch.{specs.{Posts.{HoldsOnly, IsWorn}, declared.{shared.Own.Own, front.{Unopened.Unopened, Route.Route, Waiting.{Waiting, TheVariants.{No, Brief, Long}}}}, Hands.{HandState, ticket_room}, Acts.{Act, AreMade, Register, Adopt, placing}, Told.cause_of}, proofs.Holding.{holds_still, released_all, woke_behind_post, worn_still}}
 use Rattle.ready.specs.declared.ticket.Ticket.{Ticket}
 use Rattle.token.specs.Names.{last_generation}
-use Rattle.rounds.{specs.{Acts.{SeatAct, ActsMade, AreTries, all_reported, ArePosted, Delivered, swept_after, sweep_of}, Openings.{times, slots_in, AreIn, AreOpened, OnlyTook, Between, LetGo, Started, Connected, AcceptDone, IsOpened, IsLost, IsSpent, AreLost, Fate, next_in, Opened, NotFree, DropsFor, Placed, lacks, lead_of}, Pollers.{PollerState, Counted, counted_up, HasOpenedAll}, Rounds.{AcceptEnded, HasLeft, IsOver, RoundDone, RoundKeeps, ListenerKept, ListensNoMore, ListensToOpen, Looked, MayWait, MayWaitBriefly, WaitLasted, WaitedAsMay}}, proofs.Acts.{at_slot-append, acts_none, acts_both, tries_none, tries_both, posted_none, no_sweep}}
-use Rattle.relay_log.specs.declared.{cause.Cause.Cause, faults.ServerFault.{ServerFault, TheVariants.Worn}}
+use Rattle.rounds.{specs.{Acts.{SeatAct, opening, ActsMade, AreTries, all_reported, ArePosted, Delivered, swept_after, sweep_of}, Openings.{times, slots_in, AreIn, AreOpened, OnlyTook, Between, LetGo, Started, Connected, AcceptDone, OneAccepted, IsOpened, IsLost, IsSpent, AreLost, IsNext, SameQueues, Fate, next_in, Opened, NotFree, DropsFor, Placed, lacks, lead_of}, Pollers.{PollerState, Counted, counted_up, HasOpenedAll}, Rounds.{AcceptEnded, HasLeft, IsOver, RoundDone, RoundKeeps, ListenerKept, ListensNoMore, ListensToOpen, Looked, RoundRefused, MayWait, MayWaitBriefly, WaitLasted, WaitedAsMay}}, proofs.Acts.{at_slot-append, acts_none, acts_one, acts_both, none_at, try_opened, tries_none, tries_both, posted_none, posts_still, no_sweep}}
+use Rattle.relay_log.specs.declared.{cause.Cause.{Cause}, faults.ServerFault.{ServerFault, TheVariants.Worn}}
 use Rattle.claims.specs.declared.view.Exchange.TheVariants as exchange
 use Rattle.claims.specs.declared.answers.Posted.TheVariants as posted
 use Rattle.relay_log.specs.declared.cause.Cause.TheVariants as cause
@@ -232,6 +233,16 @@ module _ {p q : PollerState} {a : Own} {hand : HandState} (taken : hand ≡ reco
     slots = λ s. omega (arith, slot_left s t.slot a b hand taken is free slots);
   }
 
+  pub placed_there : {s : PollerState} {told : Ticket → Type 0} {made : List Act → Type 0} {b : Own} {t : Ticket} → slice_get a.hand.slots 0 ≡ Some t.slot → s ≡ p
+      → Placed told made t s q (record a { hand = hand }) b → IsWorn a.seat ⊎ OneAccepted p q a b
+  placed_there {s} {b = b} {t = t} is same placed = by placed.done where
+    there : Type 0
+    there = Connected (t ∷ []) [] [] s q (record a { hand = hand }) b ⊎ Connected [] (t.slot ∷ []) (t.slot ∷ []) s q (record a { hand = hand }) b
+
+    by : IsWorn a.seat ⊎ (there × (ticket_room hand ≤ ticket_room b.hand + 1)) → IsWorn a.seat ⊎ OneAccepted p q a b
+    by (inl worn) = inl worn
+    by (inr once) = inr (record { done = opened_there is (rw same at once.0) placed.free placed.slots; room = rw taken at once.1 })
+
 -- sockets that were not registered, or are closed again
 pub registered_once : {S : Type 0} (made : Act → ℕ → S → S → Type 0) (from to : S) {name slot : ℕ} → name ≡ slot → (to ≡ from) ⊎ made Register name from to
     → AreMade made slot [] from to ⊎ AreMade made slot (Register ∷ []) from to
@@ -241,8 +252,25 @@ registered_once made from to same (inr act) = inr (to, rw (← same) act, refl)
 pub room_same : {a b : Own} → OnlyTook a b → ticket_room b.hand ≡ ticket_room a.hand
 room_same took = rw (took.capacity, took.tickets)
 
+-- what a look at a seat says
+pub not_worn : (b : Bool) (seat : SeatState) → IsTrue b ↔ IsWorn seat → b ≡ false → IsWorn seat → ⊥
+not_worn b seat is unset worn = false≢true (sym unset ∙ is.1 worn)
+
+pub unless : {A B : Type 0} → (A → ⊥) → A ⊎ B → B
+unless never (inl a) = absurd (never a)
+unless never (inr b) = b
+
+pub answered : (free : Option (Unit {0})) (old new : PollerState) (had has : Own) (answer : Result (Unit {0}) ServerFault) → IsNone free ↔ IsWorn has.seat → answer ≡ ok_or free Worn
+    → ((answer ≡ Err Worn) ↔ IsWorn has.seat) × IfErr answer (λ fault. RoundRefused fault old new had has)
+answered None old new had has answer is same = let worn = is.0 refl in rw same ((λ refused. worn, λ refused. refl), inr (refl, worn))
+answered (Some x) old new had has answer is same = rw same ((λ refused. absurd (cc refused), λ worn. absurd (false≢true (sym (is.1 worn)))), tt)
+
+-- a worn seat is the same still: after a first part, after slots were taken, and after a second part
+pub worn_on : {a b c d : SeatState} → (IsWorn a → b ≡ a) → c ≡ b → (IsWorn c → d ≡ c) → IsWorn a → d ≡ a
+worn_on first took second worn = let same = took ∙ first worn in second (rw same worn) ∙ same
+
 -- the next try is not worth making
-pub ended_by : (p : PollerState) (own : Own) → (p.starved ≡ true) ⊎ HasLeft p → AcceptEnded p own
+pub ended_by : (p : PollerState) (own : Own) → (p.starved ≡ true) ⊎ (HasLeft p ⊎ IsWorn own.seat) → AcceptEnded p own
 ended_by p own why = grind arith
 
 -- what became of an accepted connection that was placed, with the acts that were made from there on
@@ -265,29 +293,54 @@ pub passed_up : {T E : Type 0} (r : Result T E) (e : E) (P : E → Type 0) → I
 passed_up (Ok x) e P is p = tt
 passed_up (Err y) e P is p = rw is p
 
-pub not_ok : {T E : Type 0} (r : Result T E) (X : Type 0) → IsErr r → OnOk r X
-not_ok (Ok x) X is = cc
-not_ok (Err y) X is = tt
-
-pub if_fails : {T E A : Type 0} (r : Result T E) → A → OnErr r A
-if_fails (Ok x) a = tt
-if_fails (Err y) a = a
+-- a seat that is worn was so before exchanges without a post
+pub worn_before : (slot : ℕ) (es : List Exchange) (a b : SeatState) → Adds slot es a b → (after_all es (account_at a slot)).posted ≡ (account_at a slot).posted → IsWorn b → IsWorn a
+worn_before slot es a b adds none worn =
+    worn_still slot b a (record { table = sym adds.only.table; others = λ other ne. sym (adds.only.others other ne) })
+    (sym none ∙ sym (ap (λ (x : Account). x.posted) (account_after slot es a b adds))) worn
 
 -- the note of an opening was posted by the slot's holder, who then let it go
 pub started_by : (t : Ticket) (noted : ℕ) (r : Posted) (a : Own) (first second : SeatState) (b : Own) → HoldsOnly t.slot a.seat
     → Adds t.slot (exchange.Take noted ∷ []) a.seat first
-    → PostChange t.slot first r second → (r ≡ posted.Wake) ⊎ (r ≡ posted.Quiet) → LetGo t (record a { seat = second }) b → Started t a b
-started_by t noted posted.Wake a first second b only took change is left =
+    → PostChange t.slot first r second → LetGo t (record a { seat = second }) b → IsWorn a.seat ⊎ Started t a b
+started_by t noted posted.Wake a first second b only took change left =
     absurd (false≢true (sym change.1 ∙ (holds_still _ _ _ _ took only refl).here))
-started_by t noted posted.Worn a first second b only took change is left = absurd (grind arith)
-started_by t noted posted.Quiet a first second b only took change is left =
+started_by t noted posted.Worn a first second b only took change left = inl (worn_before _ _ _ _ took refl change.1)
+started_by t noted posted.Quiet a first second b only took change left =
     let holder = holds_still _ _ _ _ took only refl in
     let due = woke_behind_post t.slot first second left.woke change holder.here left.quiet in
-    record {
+    inr (record {
       noted = noted;
       seat = adds_both _ _ _ _ _ _ took (adds_both _ _ (exchange.Release true ∷ []) _ _ _ change (rw due at left.seat));
       hand = rw due at left.hand;
-    }
+    })
+
+-- a connection was opened in its slot, unless the seat is worn
+pub opened_once : {t : Ticket} {p q : PollerState} {a b : Own} {middle : SeatState} {found : ℕ} {X : Type 0} → IsWorn middle ⊎ Started t (record a { seat = middle }) b
+    → IsNext p t → Adds t.slot (exchange.Adopted found ∷ []) a.seat middle → SameQueues (record a { seat = middle }) b
+    → q ≡ record p { table = slice_set p.table t.slot t.generation; opened = counted_up p.opened 1; episodes = q.episodes }
+    → IsWorn a.seat ⊎ ((Connected (t ∷ []) [] [] p q a b ⊎ X) × (ticket_room a.hand ≤ ticket_room b.hand + 1))
+opened_once (inl worn) next adopted queues is = inl (worn_before _ _ _ _ adopted refl worn)
+opened_once {t} {p} {a = a} {found = found} (inr started) next adopted queues is =
+    let try : SeatAct = record { ticket = t; exchanges = opening found started.noted } in
+    inr (
+      inl (rw is (record {
+        why = refl;
+        tries = try ∷ [];
+        are = try_opened t found started.noted;
+        made = acts_one try _ _ (adds_both _ _ _ _ _ _ adopted started.seat);
+        table = (next.generation, refl);
+        counted = counted_one _ p.opened _ refl;
+        unused = counted_same refl;
+        batch = refl;
+        part = refl;
+        own = λ slot out. none_at t slot (λ same. out (rw same next.own));
+        tickets = rw started.hand;
+        ready = queues.ready;
+        gave = rw queues.free;
+      })),
+      rw started.hand (omega (arith, length-append a.hand.tickets (t ∷ []))),
+    )
 
 -- for who lets a slot go
 pub ruleset holding = (released_all)
@@ -316,11 +369,11 @@ module _ (may_refuse : Unopened → Type 0) (may_tell : Route → Type 0) (proxy
 
 -- A round: the reports were delivered, a sweep was made or none, and connections were opened
 
-pub round_of : (c : Own) {p q r v t : PollerState} {a b d e : Own} → Looked p q → OnlyTook a b
+pub round_of : (c : Own) {p q r v t : PollerState} {a b d e : Own} → (IsWorn c.seat → e.seat ≡ c.seat) → (IsWorn d.seat → e.seat ≡ d.seat) → Looked p q → OnlyTook a b
     → Delivered q.table q.batch b.seat c.seat b.hand c.hand → c.ready ≡ b.ready → c.free ≡ b.free → AreIn q.part (all_reported q.table q.batch) → r ≡ record q { accepting = r.accepting }
     → ArePosted (sweep_of r v) c.seat d.seat c.hand d.hand → d.ready ≡ c.ready → d.free ≡ c.free → AreIn r.part (sweep_of r v) → v ≡ record r { second = v.second; swept = v.swept }
     → AcceptDone v t d e → t.swept ≡ v.swept → RoundDone p t a e
-round_of c looked took delivered ready free own flag posted ready_then free_then own_then sweep accepted swept =
+round_of c {e = e} still_all still_then looked took delivered ready free own flag posted ready_then free_then own_then sweep accepted swept =
     let done = accepted.connected in
     record {
       reports = delivered.posts;
@@ -330,8 +383,8 @@ round_of c looked took delivered ready free own flag posted ready_then free_then
       lost = accepted.lost;
       held = accepted.held;
       why = done.why;
-      reported = rw (done.batch, sweep, flag) (rw looked at delivered.are);
-      swept = rw swept (rw (flag, looked) at posted.are);
+      reported = rw (done.batch, sweep, flag) (rw looked at (posts_still {t = e.seat} delivered.are (λ worn. rw (still_all worn) worn)));
+      swept = rw swept (rw (flag, looked) at (posts_still {t = e.seat} posted.are (λ worn. rw (still_then worn) worn)));
       tried = done.are;
       made = rw (← took.seat) (acts_both _ _ _ _ _ delivered.made (acts_both _ _ _ _ _ posted.made done.made));
       part = rw (done.part, sweep, flag, looked);
@@ -350,7 +403,7 @@ round_of c looked took delivered ready free own flag posted ready_then free_then
 pub round_ended : {p q : PollerState} {a b : Own} → Looked p q → q.batch ≡ [] → OnlyTook a b → RoundDone p q a b
 round_ended {p} {q} {a} {b} looked none took =
     let unswept : sweep_of q q ≡ [] = no_sweep q q.swept refl in
-    round_of b {v = q} looked took (rw none (posted_none b.seat b.hand)) refl refl (λ slot out. rw none) refl
+    round_of b {v = q} (λ worn. refl) (λ worn. refl) looked took (rw none (posted_none b.seat b.hand)) refl refl (λ slot out. rw none) refl
     (rw unswept (posted_none b.seat b.hand)) refl refl (λ slot out. rw unswept) refl (accept_none (still q)) refl
 
 -- why accepting ended stays the reason, since the slots are taken back only once all connections were opened
@@ -400,11 +453,6 @@ pub keeps : {limit : ℕ} {p q : PollerState} {a b : Own} → Lasting limit a p 
 keeps {p = p} {q = q} {b = b} same swept took =
     let over : q.over ≡ true → (p.over ≡ true) ⊎ IsOver q b = λ over. inl (sym same.over ∙ over) in
     assumption (kept p q same.listening)
-
--- a round that was refused so has nothing to say
-pub but_worn : {T : Type 0} {X : Type 0} (r : Result T ServerFault) (e : ServerFault) → IsErrAnd r (λ y. y ≡ e) → e ≡ Worn → r ≢ Err Worn → X
-but_worn (Ok x) e is worn other = absurd is
-but_worn (Err y) e is worn other = absurd (other (rw (is, worn)))
 
 pub over_before : {a b : Bool} {X : Type 0} → b ≡ a → (b ≡ true) ⊎ X → (a ≡ true) ⊎ X
 over_before same over = rw same at over

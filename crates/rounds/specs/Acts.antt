@@ -4,7 +4,7 @@ use Rattle.claims.specs.{declared.view.Exchange.{Exchange, TheVariants.{Post, Ta
 use Rattle.ready.specs.declared.ticket.Ticket.{Ticket}
 use Rattle.token.specs.{declared.name.Name.{Name, TheVariants.{End}}, Numbers.name_of}
 use Rattle.relay_core.specs.Idle.{is_past}
-use Rattle.dispatch.specs.Hands.{HandState}
+use Rattle.dispatch.specs.{Hands.HandState, Posts.IsWorn}
 use Rattle.rounds.specs.Pollers.{PollerState}
 
 -- exchanges of a seat at the slot of a ticket
@@ -39,10 +39,12 @@ pub record ActsMade (acts : List SeatAct) (old new : SeatState) : Type 0 where
 abbrev pub IsPost : SeatAct → Type 0
 IsPost act = (woke : Bool) × (act.exchanges ≡ Post woke ∷ [])
 
--- one note was posted for each of these connections, in order
-pub record ArePosts (tickets : List Ticket) (posts : List SeatAct) : Type 0 where
+-- One note was posted for each of these connections, in order; but for those that are left, since the seat is worn
+pub record ArePosts (tickets : List Ticket) (posts : List SeatAct) (seat : SeatState) : Type 0 where
+  pub left : List Ticket
   pub each : All IsPost posts
-  pub in_order : tickets_of posts ≡ tickets
+  pub in_order : tickets_of posts ++ left ≡ tickets
+  pub all : (left ≡ []) ⊎ IsWorn seat
 
 -- the exchanges of an opening: the slot was adopted, old notes were taken, the opening's note was posted, and the slot
 -- was released
@@ -88,11 +90,11 @@ all_reported generations batch = filter_map (reported generations) batch
 abbrev pub at_slot : ℕ → List Ticket → ℕ
 at_slot slot tickets = count_by (λ t. t.slot == slot) tickets
 
--- For each of these connections, in order, one exchange posted a note at its slot. If the post answered Wake, the
--- ticket is in hand. Nothing else of the seat or of the hand changed
+-- For each of these connections, in order, one exchange posted a note at its slot; but for the last of them, if the
+-- seat is worn. If the post answered Wake, the ticket is in hand. Nothing else of the seat or of the hand changed
 pub record ArePosted (tickets : List Ticket) (old new : SeatState) (had has : HandState) : Type 0 where
   pub posts : List SeatAct
-  pub are : ArePosts tickets posts
+  pub are : ArePosts tickets posts new
   pub made : ActsMade posts old new
   pub hand : has ≡ record had { tickets = had.tickets ++ due_of posts }
 

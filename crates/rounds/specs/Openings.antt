@@ -2,7 +2,7 @@
 use Rattle.std.specs.{Prelude.{◌≡◌, ◌⊎◌, ℕ, ◌+◌, ◌<◌, ◌≤◌, ◌==◌, Bool, true, false, List, [], ◌∷◌, ◌++◌, length, drop, map, Option, Some, None, Result, Ok, Err, slice_index, slice_set}, List.count_by, declared.net.socket_addr.SocketAddrV4.SocketAddrV4, Net.{Addr.ipv4_octets, Socket.{v4_ip, v4_port}}}
 use Rattle.claims.specs.{Seats.{SeatState, TableId, Adds, HoldsNothing, account_at}, Views.minted_by}
 use Rattle.ready.specs.declared.ticket.Ticket.{Ticket}
-use Rattle.dispatch.specs.{declared.{shared.Own.Own, front.{Unopened.Unopened, Route.Route}, split.Part.Part}, Splits.IsIn, Hands.ticket_room}
+use Rattle.dispatch.specs.{declared.{shared.Own.Own, front.{Unopened.Unopened, Route.Route}, split.Part.Part}, Splits.IsIn, Hands.ticket_room, Posts.IsWorn}
 use Rattle.token.specs.Names.{last_generation}
 use Rattle.rounds.specs.{Pollers.{PollerState, Counted, counted_up}, Acts.{SeatAct, made_by, opening, ActsMade, AreTries, at_slot}, Episodes.{dropped_for, opened_after}}
 use Rattle.log.specs.declared.level.Level.{Level}
@@ -99,18 +99,16 @@ pub record Connected (opened : List Ticket) (lost held : List ℕ) (old new : Po
 -- What became of an accepted connection, as it counts: it was opened, or closed unopened, or its slot is no longer used
 abbrev pub IsOpened : PollerState → PollerState → Type 0
 IsOpened old new =
-    (new.opened ≡ counted_up old.opened 1) × (new.dropped ≡ old.dropped) × (new.lost ≡ old.lost)
-    × (new.episodes ≡ opened_after old.episodes)
+    (new.opened ≡ counted_up old.opened 1) × (new.lost ≡ old.lost) × (new.episodes ≡ opened_after old.episodes)
 
 abbrev pub IsDropped : PollerState → PollerState → Type 0
 IsDropped old new =
-    (new.opened ≡ old.opened) × (new.dropped ≡ counted_up old.dropped 1) × (new.lost ≡ old.lost)
+    (new.opened ≡ old.opened) × (new.lost ≡ old.lost)
     × ((cause : Cause) × (new.episodes ≡ record old.episodes { drops = dropped_for cause old.second old.episodes.drops }))
 
 abbrev pub IsLost : PollerState → PollerState → Type 0
 IsLost old new =
-    (new.opened ≡ old.opened) × (new.dropped ≡ old.dropped) × (new.lost ≡ counted_up old.lost 1)
-    × (new.episodes ≡ old.episodes)
+    (new.opened ≡ old.opened) × (new.lost ≡ counted_up old.lost 1) × (new.episodes ≡ old.episodes)
 
 -- What a target is sent before the client's own bytes
 
@@ -176,15 +174,17 @@ pub record IsNext (p : PollerState) (t : Ticket) : Type 0 where
   pub generation : t.generation ≡ slice_index p.table t.slot + 1
   pub most : t.generation ≤ last_generation
 
--- placing a connection: it was opened in its slot, or the slot was found not free and is no longer used
+-- placing a connection: it was opened in its slot, or the slot was found not free and is no longer used. A seat that is
+-- worn posts no note for it
 pub record Placed (logged : Ticket → Type 0) (made : List act.Act → Type 0) (t : Ticket)
     (old new : PollerState) (had has : Own) : Type 0 where
-  pub done : Connected (t ∷ []) [] [] old new had has ⊎ Connected [] (t.slot ∷ []) (t.slot ∷ []) old new had has
+  pub done : IsWorn had.seat ⊎ (
+      (Connected (t ∷ []) [] [] old new had has ⊎ Connected [] (t.slot ∷ []) (t.slot ∷ []) old new had has)
+      × (ticket_room had.hand ≤ ticket_room has.hand + 1))
   pub counted : (IsOpened old new × logged t × made act.placing)
       ⊎ (IsLost old new × Adds t.slot (exchange.NotFree ∷ []) had.seat has.seat × made (act.Adopt ∷ []))
   pub free : has.free ≡ had.free
   pub slots : has.hand.slots ≡ had.hand.slots
-  pub room : ticket_room had.hand ≤ ticket_room has.hand + 1
 
 -- what accepting did: each slot that was taken was opened, or is in hand, or is no longer used
 pub record AcceptDone (old new : PollerState) (had has : Own) : Type 0 where
@@ -208,7 +208,6 @@ OnlyAccepted old new = new ≡ record old {
   left = new.left;
   tries = new.tries;
   opened = new.opened;
-  dropped = new.dropped;
   lost = new.lost;
   episodes = new.episodes;
 }
@@ -216,7 +215,7 @@ OnlyAccepted old new = new ≡ record old {
 -- opening a connection, or failing to, changes at most this
 abbrev pub OnlyOpened : PollerState → PollerState → Type 0
 OnlyOpened old new =
-    new ≡ record old { table = new.table; opened = new.opened; dropped = new.dropped; lost = new.lost; episodes = new.episodes }
+    new ≡ record old { table = new.table; opened = new.opened; lost = new.lost; episodes = new.episodes }
 
 pub record SameQueues (old new : Own) : Type 0 where
   pub ready : new.ready ≡ old.ready

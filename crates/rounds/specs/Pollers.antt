@@ -35,8 +35,6 @@ pub record PollerState : Type 0 where
   pub most : ℕ
   -- how many it has opened
   pub opened : ℕ
-  -- how many it has closed unopened
-  pub dropped : ℕ
   -- how many slots it no longer uses
   pub lost : ℕ
   -- the second of the last round

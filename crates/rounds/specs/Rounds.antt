@@ -1,17 +1,18 @@
 -- What a round of the poller does. Of four states the first two are the poller's, before and after, and the last two
 -- what its thread owns. Part of the promises.
-use Rattle.std.specs.Prelude.{◌≡◌, ◌≢◌, ◌⊎◌, ℕ, ◌+◌, ◌<◌, ◌≤◌, true, false, List, [], ◌++◌, length, Contains}
+use Rattle.std.specs.Prelude.{◌≡◌, ◌≢◌, ◌⊎◌, ◌↔◌, ℕ, ◌+◌, ◌<◌, ◌≤◌, true, false, List, [], ◌++◌, length, Contains, Result, Err}
 use Rattle.ready.specs.{declared.ticket.Ticket.Ticket, Steps.HeldOnce}
-use Rattle.dispatch.specs.{declared.{front.Waiting.Waiting, shared.Own.Own}, Hands.{HasRoom, ticket_room}, Outgoing.tickets_out, Posts.OnlyWorn}
+use Rattle.dispatch.specs.{declared.{front.Waiting.Waiting, shared.Own.Own}, Hands.{HasRoom, ticket_room}, Outgoing.tickets_out, Posts.{IsWorn, OnlyWorn}}
 use Rattle.rounds.specs.{Acts.{SeatAct, due_of, ActsMade, ArePosts, AreTries, all_reported, ArePosted, is_due, sweep_of, swept_after}, Openings.{AreIn, AreLost, AreOpened, OnlyTook, SlotsCounted}, Pollers.{PollerState, HasOpenedAll, Counted, spare_room}, Episodes.AreLogged}
 use Rattle.relay_log.specs.declared.faults.ServerFault.{ServerFault}
 use Rattle.dispatch.specs.declared.front.Waiting.TheVariants as waiting
 use Rattle.relay_log.specs.declared.faults.ServerFault.TheVariants as server_fault
 
 -- The reports of the batch were delivered: each that is for a connection was posted at its slot. Then came the posts of
--- a sweep, if one was made, and then connections were opened. These acts, in this order, are all that the seat did, and
--- all are at the poller's own slots. The tickets from before the round, of the reports, of the sweep and of the
--- openings are put or in hand, in this order. Each slot that was taken was opened, or is in hand, or is no longer used
+-- a sweep, if one was made, and then connections were opened. Of the posts the last ones are missing only if the seat is
+-- worn. These acts, in this order, are all that the seat did, and all are at the poller's own slots. The tickets from
+-- before the round, of the reports, of the sweep and of the openings are put or in hand, in this order. Each slot that
+-- was taken was opened, or is in hand, or is no longer used
 pub record RoundDone (old new : PollerState) (had has : Own) : Type 0 where
   pub reports : List SeatAct
   pub sweep : List SeatAct
@@ -19,8 +20,8 @@ pub record RoundDone (old new : PollerState) (had has : Own) : Type 0 where
   pub opened : List Ticket
   pub lost : List ℕ
   pub held : List ℕ
-  pub reported : ArePosts (all_reported old.table new.batch) reports
-  pub swept : ArePosts (sweep_of old new) sweep
+  pub reported : ArePosts (all_reported old.table new.batch) reports has.seat
+  pub swept : ArePosts (sweep_of old new) sweep has.seat
   pub tried : AreTries opened held tries
   pub made : ActsMade (reports ++ (sweep ++ tries)) had.seat has.seat
   pub why : AreLost new held lost
@@ -85,9 +86,9 @@ MayWaitBriefly limit p own = (is_due limit p ≡ false) × (own.hand.tickets ≡
 abbrev pub WaitedAsMay : ℕ → PollerState → PollerState → Own → Type 0
 WaitedAsMay limit old new had = new.waited ≢ 0 → MayWait limit old had ⊎ ((new.waited ≤ 1) × MayWaitBriefly limit old had)
 
--- why accepting ends: it may, or a client was left to other pollers, or accept(2) was tried 4 times
+-- why accepting ends: it may, or a client was left to other pollers, or accept(2) was tried 4 times, or the seat is worn
 abbrev pub AcceptEnded : PollerState → Own → Type 0
-AcceptEnded p own = AcceptMayEnd p own ⊎ (HasLeft p ⊎ (p.tries ≡ 0))
+AcceptEnded p own = AcceptMayEnd p own ⊎ (HasLeft p ⊎ ((p.tries ≡ 0) ⊎ IsWorn own.seat))
 
 -- a round does not begin if its hand has no room for a ticket of each slot and 512 more
 abbrev pub EndedEarly : ℕ → Own → Type 0
@@ -148,9 +149,12 @@ pub record SweepMade (limit : ℕ) (old new : PollerState) (had has : Own) : Typ
   pub posted : ArePosted (sweep_of old new) had.seat has.seat had.hand has.hand
   pub swept : new.swept ≡ swept_after limit old.second old.swept
 
--- A round that began and was not refused: it delivered what its front reported, at a second that the clock may show. A
--- sweep was made if one was due, accepting ended for a reason, and no drop is left to be logged at this second
-pub record RoundEnded (tells : ℕ → Type 0) (limit : ℕ) (old new : PollerState) (has : Own) : Type 0 where
+-- A round that began, and whose poll did not fail: it is refused exactly if the seat is worn then. It delivered what its
+-- front reported, at a second that the clock may show. A sweep was made if one was due, accepting ended for a reason,
+-- and no drop is left to be logged at this second
+pub record RoundEnded (result : Result (Unit {0}) ServerFault) (tells : ℕ → Type 0) (limit : ℕ) (old new : PollerState)
+    (has : Own) : Type 0 where
+  pub answer : (result ≡ Err server_fault.Worn) ↔ IsWorn has.seat
   pub read : new.batch ≡ new.reported
   pub second : tells new.second
   pub swept : new.swept ≡ swept_after limit old.second old.swept

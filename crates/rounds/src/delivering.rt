@@ -1,7 +1,7 @@
 //! The reports of one poll become notes at their slots.
-ghost use Rattle.std.specs.{Prelude.{◌≡◌, ℕ, ◌-◌, ◌<◌, ◌≤◌, ◌↔◌, [], length, take, IsTrue, IfOk, OnOk, IfErr, OnErr, IfSome, Contains}, List.cons_option};
+ghost use Rattle.std.specs.{Prelude.{◌≡◌, ◌-◌, ◌<◌, ◌≤◌, ◌↔◌, [], length, IsTrue, IfOk, IfSome, MatchResult, Contains}, List.cons_option};
 ghost use Rattle.claims.specs.Seats.{HoldsNothing};
-ghost use Rattle.dispatch.specs.{Hands.ticket_room, Posts.OnlyWorn};
+ghost use Rattle.dispatch.specs.{Hands.ticket_room, Posts.{IsWorn, OnlyWorn}};
 ghost use Rattle.rounds.specs.Acts.{connection, reported, ArePosted, Delivered};
 
 use claims::{ClaimSeat, Claims, Posted};
@@ -17,7 +17,8 @@ use token::{Name, Token, unpack};
 /// generation. A number that names no end, such as the waker's, leaves no note. Neither does an end whose slot the
 /// table lacks or has with another generation: that end's connection was closed after the report arrived.
 ///
-/// The only refusal is `Worn`: the seat has posted 2^56 times. Then the reports before the refused one are delivered.
+/// The only refusal is `Worn`, exactly if the seat has posted 2^56 times then. It posts no more: the last reports may not
+/// be delivered.
 pub fn deliver(
     claims: &Claims,
     seat: &mut ClaimSeat,
@@ -29,45 +30,46 @@ pub fn deliver(
     requires idle { HoldsNothing seat.old }
     requires sized { length table.now ≡ claims.now.words }
     requires room { length batch.now ≤ ticket_room hand.old }
-    ensures delivered { OnOk result (Delivered table.now batch.now seat.old seat.new hand.old hand.new) }
+    ensures delivered { Delivered table.now batch.now seat.old seat.new hand.old hand.new }
     ensures listener { IfOk result (λ reported. IsTrue reported ↔ Contains batch.now 0) }
-    ensures begun { OnErr result ((n : ℕ) × Delivered table.now (take n batch.now) seat.old seat.new hand.old hand.new) }
-    ensures worn { IfErr result (λ fault. OnlyWorn fault seat.new) }
+    ensures worn { MatchResult result (λ _. IsWorn seat.new → ⊥) (λ fault. OnlyWorn fault seat.new) }
     ensures idle { HoldsNothing seat.new }
-    ensures same { seat.new.table ≡ seat.old.table }
 {
     for number in batch {
-        post_note(claims, seat, connection(table, *number), hand)?;
+        post_note(claims, seat, connection(table, *number), hand);
+    }
+    if seat.is_worn() {
+        return Err(ServerFault::Worn);
     }
     Ok(batch.contains(&LISTENER))
 }
 
-/// Posts a note at the ticket's slot, and adds the ticket to the hand if the post answers Wake. None does nothing.
-#[tactic(auto, using(crate::proofs::Acts::posted_quiet, crate::proofs::Acts::posted_woke))]
+/// Posts a note at the ticket's slot, and adds the ticket to the hand if the post answers Wake. None does nothing, nor
+/// does a worn seat.
+#[tactic(auto, using(crate::proofs::Acts::posted_none, crate::proofs::Acts::posted_not, crate::proofs::Acts::posted_quiet, crate::proofs::Acts::posted_woke))]
 pub(crate) fn post_note(
     claims: &Claims,
     seat: &mut ClaimSeat,
     ticket: Option<Ticket>,
     hand: &mut Hand,
-) -> Result<(), ServerFault>
+)
     requires same { seat.old.table ≡ claims.now }
     requires idle { HoldsNothing seat.old }
     requires inside { IfSome ticket (λ ticket. ticket.slot < claims.now.words) }
     requires room { length hand.old.tickets < hand.old.capacity }
-    ensures posted { OnOk result (ArePosted (cons_option ticket []) seat.old seat.new hand.old hand.new) }
-    ensures seat { OnErr result (seat.new ≡ seat.old) }
-    ensures hand { OnErr result (hand.new ≡ hand.old) }
-    ensures worn { IfErr result (λ fault. OnlyWorn fault seat.new) }
+    ensures posted { ArePosted (cons_option ticket []) seat.old seat.new hand.old hand.new }
+    ensures still { IsWorn seat.old → (seat.new ≡ seat.old) × (hand.new ≡ hand.old) }
 {
     let Some(ticket) = ticket else {
-        return Ok(());
+        return;
     };
+    if seat.is_worn() {
+        return;
+    }
     match claims.post(seat, ticket.slot) {
         Posted::Wake => hand.keep_ticket(ticket),
-        Posted::Quiet => {}
-        Posted::Worn => return Err(ServerFault::Worn),
+        Posted::Quiet | Posted::Worn => {}
     }
-    Ok(())
 }
 
 /// The connection that a report is for. None if its slot no longer has it, or the report is for no connection.

@@ -1,22 +1,22 @@
 //! Opens an accepted connection.
-ghost use Rattle.std.specs.{Prelude.{◌≡◌, ◌+◌, ◌<◌, ◌≤◌, [], ◌∷◌, ◌++◌, drop, length, Err, Some, None, IfOk, IfErr, OnOk, OnErr, OnSome, IfSome, IsNone, slice_get, slice_index}, Net.{Addr.ipv4_octets, Socket.{v4_ip, v4_port}}};
+ghost use Rattle.std.specs.{Prelude.{◌≡◌, ◌+◌, ◌<◌, ◌≤◌, [], ◌∷◌, ◌++◌, drop, length, Err, Some, None, ◌⊎◌, IfOk, IfErr, OnOk, OnErr, OnSome, IfSome, IsNone, slice_get, slice_index}, Net.{Addr.ipv4_octets, Socket.{v4_ip, v4_port}}};
 ghost use Rattle.claims.specs.Seats.{HoldsNothing, OnlyAt};
 ghost use Rattle.relay_core.specs.{Pairs.fresh, Proxy.proxy_line};
 ghost use Rattle.rounds.specs.{Episodes.dropped_for, Openings.{lacks, lead_of, next_in, Between, DropCounted, DropsFor, Fate, IsNext, LeadGiven, LetGo, OneAccepted, OnlyOpened, OpeningLogged, Placed, Registered, SameQueues, Started}, Pollers.AreGenerations};
-ghost use Rattle.dispatch.specs.{Acts.{AreMade, open_slot, placing}, Posts.{HoldsOnly, OnlyWorn}, Hands.ticket_room};
+ghost use Rattle.dispatch.specs.{Acts.{AreMade, placing}, Posts.{HoldsOnly, IsWorn}, Hands.ticket_room};
 ghost use Rattle.token.specs.Names.{last_generation};
 ghost use Rattle.dispatch.specs.Acts as act;
 
 use crate::dropping::Dropped;
 use crate::poller::{Poller, Uncounted};
 use berths::Berth;
-use claims::{Adopted, Posted, Released};
+use claims::{Adopted, Released};
 use dispatch::{Acts, Counting, Front, Hand, Moves, Opened, Own, Route, Settle, Shared};
 use log::Log;
 use ready::Ticket;
 use relay_core::{Pair, proxy_line};
 use relay_log::{
-    Cause, ClientsAt, Gone, Known, Logs, ServerFault, Why, log_gone, log_open, log_peer, logs_gone,
+    Cause, ClientsAt, Gone, Known, Logs, Why, log_gone, log_open, log_peer, logs_gone,
 };
 use std::alloc::{AllocError, Global};
 use std::net::{SocketAddr, SocketAddrV4};
@@ -49,7 +49,7 @@ struct Names {
 /// the table, discards the last connection's notes, puts the connection into its place, posts the note, and releases
 /// the slot.
 ///
-/// The only refusal is `Worn`: the seat has posted 2^56 times.
+/// A seat that has posted 2^56 times posts no note, so its opening may leave no ticket.
 pub fn open<F: Front + Counting, A: Moves<F>, R: Wait + Logs>(
     rt: &R,
     alloc: Global,
@@ -59,32 +59,29 @@ pub fn open<F: Front + Counting, A: Moves<F>, R: Wait + Logs>(
     poller: &mut Poller<F>,
     client: F::Client,
     uncounted: Uncounted,
-) -> Result<(), ServerFault>
+)
     requires between { Between shared.now.claims own.old poller.old }
     requires room { 1 ≤ ticket_room own.old.hand }
     requires slot { 1 ≤ length own.old.hand.slots }
     ensures between { Between shared.now.claims own.new poller.new }
-    ensures worn { IfErr result (λ fault. OnlyWorn fault own.new.seat) }
-    ensures counted { OnOk result (IfSome (slice_get own.old.hand.slots 0) (λ slot. Fate slot
+    ensures counted { IfSome (slice_get own.old.hand.slots 0) (λ slot. Fate slot
         (OpeningLogged (R.logged rt.now) F.counted (next_in poller.old slot)) (DropCounted F.counted slot)
-        (λ made. AreMade A.made slot made acts.old acts.new) poller.old poller.new own.old.seat own.new.seat)) }
-    ensures in_order { OnErr result (IfSome (slice_get own.old.hand.slots 0)
-        (λ slot. AreMade A.made slot open_slot acts.old acts.new)) }
-    ensures done { OnOk result (OneAccepted poller.old poller.new own.old own.new) }
+        (λ made. AreMade A.made slot made acts.old acts.new) poller.old poller.new own.old.seat own.new.seat) }
+    ensures done { IsWorn own.old.seat ⊎ OneAccepted poller.old poller.new own.old own.new }
     ensures ready { own.new.ready ≡ own.old.ready }
     ensures poller { OnlyOpened poller.old poller.new }
 {
     let Some(slot) = own.hand.take_slot() else {
         poller.count_lost(uncounted);
-        return Ok(());
+        return;
     };
     if !poller.part.has(slot) {
         poller.count_lost(uncounted);
-        return Ok(());
+        return;
     }
     let Some(names) = next_names(poller.table(), slot) else {
         poller.count_lost(uncounted);
-        return Ok(());
+        return;
     };
     let generation = names.client.generation();
     let ticket = Ticket { slot, generation };
@@ -100,8 +97,7 @@ pub fn open<F: Front + Counting, A: Moves<F>, R: Wait + Logs>(
     ) {
         Ok(berth) => place(rt, acts, shared, own, poller, ticket, berth, uncounted),
         Err(dropped) => {
-            poller.count_dropped(shared, slot, dropped, uncounted);
-            Ok(())
+            uncounted.count_dropped(shared, slot, dropped);
         }
     }
 }
@@ -328,16 +324,14 @@ fn place<F: Front + Counting, A: Moves<F>, R: Wait + Logs>(
     ticket: Ticket,
     berth: Box<Berth<F::Client, F::Target>>,
     uncounted: Uncounted,
-) -> Result<(), ServerFault>
+)
     requires between { Between shared.now.claims own.old poller.old }
     requires next { IsNext poller.old ticket }
     requires berth { (berth.value.pair.slot ≡ ticket.slot) × (berth.value.pair.generation ≡ ticket.generation) }
     requires room { 1 ≤ ticket_room own.old.hand }
     ensures between { Between shared.now.claims own.new poller.new }
-    ensures worn { IfErr result (λ fault. OnlyWorn fault own.new.seat) }
-    ensures placed { OnOk result (Placed (OpeningLogged (R.logged rt.now) F.counted)
-        (λ made. AreMade A.made ticket.slot made acts.old acts.new) ticket poller.old poller.new own.old own.new) }
-    ensures in_order { OnErr result (AreMade A.made ticket.slot placing acts.old acts.new) }
+    ensures placed { Placed (OpeningLogged (R.logged rt.now) F.counted)
+        (λ made. AreMade A.made ticket.slot made acts.old acts.new) ticket poller.old poller.new own.old own.new }
     ensures poller { poller.new ≡ record poller.old {
       table = poller.new.table;
       opened = poller.new.opened;
@@ -353,12 +347,11 @@ fn place<F: Front + Counting, A: Moves<F>, R: Wait + Logs>(
         Adopted::NotFree => poller.count_lost(uncounted),
         Adopted::Adopted => {
             poller.count_opened(acts, shared, ticket, uncounted);
-            start(rt, acts, shared, own, ticket, berth)?;
+            start(rt, acts, shared, own, ticket, berth);
             poller.end_episodes(rt);
             log_open(rt, ticket.slot, ticket.generation);
         }
     }
-    Ok(())
 }
 
 /// Discards a held slot's notes, puts its connection into place, posts the note that starts it, and releases the slot.
@@ -369,7 +362,7 @@ fn start<F: Front, A: Moves<F>, R: Wait>(
     own: &mut Own,
     ticket: Ticket,
     berth: Box<Berth<F::Client, F::Target>>,
-) -> Result<(), ServerFault>
+)
     requires same { own.old.seat.table ≡ shared.now.claims }
     requires inside { ticket.slot < shared.now.claims.words }
     requires holder { HoldsOnly ticket.slot own.old.seat }
@@ -377,20 +370,16 @@ fn start<F: Front, A: Moves<F>, R: Wait>(
     ensures made { AreMade A.made ticket.slot (drop 2 placing) acts.old acts.new }
     ensures idle { HoldsNothing own.new.seat }
     ensures only { OnlyAt ticket.slot own.old.seat own.new.seat }
-    ensures worn { IfErr result (λ fault. OnlyWorn fault own.new.seat) }
-    ensures started { OnOk result (Started ticket own.old own.new) }
+    ensures started { IsWorn own.old.seat ⊎ Started ticket own.old own.new }
+    ensures slots { own.new.hand.slots ≡ own.old.hand.slots }
     ensures queues { SameQueues own.old own.new }
 {
     acts.discard(&shared.claims, &mut own.seat, ticket.slot);
     // A place that is not empty keeps what it has, and the connection is closed. That happens in no run.
     let _ = acts.put_in(rt, &shared.places, &own.seat, ticket.slot, berth);
-    // A holder's own post never answers Wake: its release does.
-    let posted = acts.post(&shared.claims, &mut own.seat, ticket.slot);
+    // A holder's own post never answers Wake: its release does. A worn seat's changes nothing.
+    let _ = acts.post(&shared.claims, &mut own.seat, ticket.slot);
     let_go(acts, shared, own, ticket);
-    match posted {
-        Posted::Worn => Err(ServerFault::Worn),
-        Posted::Wake | Posted::Quiet => Ok(()),
-    }
 }
 
 /// Releases the held slot, and keeps the ticket in hand if notes wait.

@@ -32,7 +32,6 @@ pub struct Poller<F: Front> {
     pub heavy: HeavyMarks,
     most: u64,
     opened: u64,
-    dropped: u64,
     pub(crate) lost: u64,
     pub(crate) second: u64,
     pub(crate) swept: u64,
@@ -41,7 +40,7 @@ pub struct Poller<F: Front> {
 }
 
 /// A connection was accepted, and is counted nowhere yet. Only [`Poller::accept`] makes this value, and only
-/// `count_opened`, `count_dropped` and `count_lost` take it. It cannot be dropped, so each accepted connection is
+/// `count_opened`, `count_lost` and [`Uncounted::count_dropped`] take it. It cannot be dropped, so each accepted connection is
 /// counted once.
 pub struct Uncounted(());
 
@@ -67,7 +66,6 @@ impl<F: Front> Model for Poller<F> {
       heavy = p.heavy;
       most = p.most;
       opened = p.opened;
-      dropped = p.dropped;
       lost = p.lost;
       second = p.second;
       swept = p.swept;
@@ -111,7 +109,6 @@ impl<F: Front> Poller<F> {
           heavy = replicate table 0;
           most = most;
           opened = 0;
-          dropped = 0;
           lost = 0;
           second = 0;
           swept = 0;
@@ -132,7 +129,6 @@ impl<F: Front> Poller<F> {
             heavy: HeavyMarks::none(alloc, table)?,
             most,
             opened: 0,
-            dropped: 0,
             lost: 0,
             second: 0,
             swept: 0,
@@ -304,26 +300,6 @@ impl<F: Front> Poller<F> {
         self.episodes.starved = false;
     }
 
-    /// Counts a drop, which was logged, or is counted for a later line. Its slot is in hand. The statistics count the
-    /// drop at that slot, too.
-    pub(crate) fn count_dropped(
-        &mut self,
-        shared: &Shared<F>,
-        slot: usize,
-        dropped: Dropped,
-        uncounted: Uncounted,
-    )
-    where
-        F: Counting,
-        ensures poller { self.new ≡ record self.old { dropped = counted_up self.old.dropped 1 } }
-        ensures counted { F.counted slot Event.Dropped }
-    {
-        self.dropped = self.dropped.saturating_add(1);
-        shared.count_dropped(slot);
-        dropped.spend();
-        uncounted.spend();
-    }
-
     /// The slot for an accepted connection is no longer used, and the connection was closed.
     pub(crate) fn count_lost(&mut self, uncounted: Uncounted)
         ensures { self.new ≡ record self.old { lost = counted_up self.old.lost 1 } }
@@ -334,6 +310,20 @@ impl<F: Front> Poller<F> {
 }
 
 impl Uncounted {
+    /// Counts a drop at a slot, which is in hand again. The drop was logged, or is counted for a later line.
+    pub(crate) fn count_dropped<F: Front + Counting>(
+        self,
+        shared: &Shared<F>,
+        slot: usize,
+        dropped: Dropped,
+    )
+        ensures { F.counted slot Event.Dropped }
+    {
+        shared.count_dropped(slot);
+        dropped.spend();
+        self.spend();
+    }
+
     fn spend(self) {
         let Uncounted(()) = self;
     }

@@ -1,16 +1,15 @@
 //! A round of the poller.
-ghost use Rattle.std.specs.{Prelude.{◌≡◌, ◌≢◌, ◌⊎◌, ◌+◌, ◌-◌, ◌<◌, ◌≤◌, ◌↔◌, [], length, Ok, Err, IsOk, OnOk, OnErr, IfErr, IfOk, IsTrue, MatchResult, Contains, true, false}, IoError.error_kind, declared.io.ErrorKind.TheVariants.Interrupted};
-ghost use Rattle.claims.specs.Seats.{HoldsNothing};
+ghost use Rattle.std.specs.{Prelude.{◌≡◌, ◌⊎◌, ◌+◌, ◌-◌, ◌<◌, ◌≤◌, ◌↔◌, [], length, Err, IsNone, IsOk, IfErr, IsTrue, MatchResult, Contains, true, false}, IoError.error_kind, declared.io.ErrorKind.TheVariants.Interrupted};
 ghost use Rattle.ready.specs.Steps.{HeldOnce};
 ghost use Rattle.rounds.specs.{Acts.{Delivered, all_reported}, Episodes.{episodes_after, flag_after, starved_after}, Openings.{AreIn, Between, OnlyTook, AcceptDone, OneAccepted, OnlyAccepted}, Pollers.{HasOpenedAll, max_accepts, spare_room}, Rounds.{AcceptEnded, EndedEarly, HasLeft, IsFull, IsOver, ListensNoMore, ListensToOpen, Looked, LooksForAll, MayAccept, MayNotWait, MayWait, MayWaitBriefly, NoSlot, NoneToAccept, NotBegun, RoundDone, RoundEnded, RoundKeeps, RoundRefused, TookAll, WaitLasted, WaitedAsMay, WaitsAsMay}};
-ghost use Rattle.dispatch.specs.{Hands.ticket_room, Posts.OnlyWorn, Told.unaccepted_of};
+ghost use Rattle.dispatch.specs.{Hands.ticket_room, Posts.IsWorn, Told.unaccepted_of};
 
 use crate::delivering::deliver;
 use crate::limits::SPARE_ROOM;
 use crate::opening::open;
 use crate::poller::Poller;
 use crate::sweeping::{is_due, keep_time};
-use claims::Claims;
+use claims::{ClaimSeat, Claims};
 use dispatch::{
     Clock, Front, Hand, LISTENER, MAX_ACCEPTS, MAX_BATCH, Own, Shared, Timing, Unaccepted, Waiting,
     unaccepted_of,
@@ -41,8 +40,8 @@ use std::sync::Wait;
 /// poller to find that logs it.
 ///
 /// Refusals: `Poll` if the wait for reports failed; the round then at most took free slots in hand and stopped
-/// listening. `Worn` if the seat has posted 2^56 times; a part of the round may be done then. Even so the seat holds no
-/// slot.
+/// listening. `Worn` exactly if the seat has posted 2^56 times at the end of any other round that began: a worn seat
+/// posts no more, and opens nothing. Even so it holds no slot.
 pub fn poller_round<F: Front, C: Clock, R: Wait + Log>(
     rt: &R,
     alloc: Global,
@@ -51,28 +50,35 @@ pub fn poller_round<F: Front, C: Clock, R: Wait + Log>(
     poller: &mut Poller<F>,
     timing: &Timing<'_, C>,
 ) -> Result<(), ServerFault>
-    requires same { own.old.seat.table ≡ shared.now.claims }
-    requires idle { HoldsNothing own.old.seat }
-    requires sized { length poller.old.table ≡ shared.now.claims.words }
+    requires between { Between shared.now.claims own.old poller.old }
     ensures between { Between shared.now.claims own.new poller.new }
     ensures early { EndedEarly shared.now.claims.words own.old → IsOk result × NotBegun poller.old poller.new own.old own.new }
     ensures waits { EndedEarly shared.now.claims.words own.old ⊎ WaitedAsMay timing.now.limit poller.old poller.new own.old }
-    ensures round { result ≢ Err ServerFault.Worn → RoundDone poller.old poller.new own.old own.new }
-    ensures ended { OnOk result (EndedEarly shared.now.claims.words own.old
-        ⊎ RoundEnded (C.tells timing.now.clock.now) timing.now.limit poller.old poller.new own.new) }
+    ensures round { RoundDone poller.old poller.new own.old own.new }
+    ensures ended { EndedEarly shared.now.claims.words own.old ⊎ ((result ≡ Err ServerFault.Poll)
+        ⊎ RoundEnded result (C.tells timing.now.clock.now) timing.now.limit poller.old poller.new own.new) }
     ensures keeps { RoundKeeps timing.now.limit poller.old poller.new own.old own.new }
     ensures refused { IfErr result (λ fault. RoundRefused fault poller.old poller.new own.old own.new) }
 {
     if !begin(&shared.claims, &own.hand, poller) {
         return Ok(());
     }
-    look(rt, own, poller, timing.limit)?;
-    deliver_batch(shared, own, poller)?;
-    keep_time(shared, own, poller, timing)?;
-    accept(rt, alloc, shared, own, poller)?;
+    if !look(rt, own, poller, timing.limit) {
+        return Err(ServerFault::Poll);
+    }
+    deliver_batch(shared, own, poller);
+    keep_time(shared, own, poller, timing);
+    accept(rt, alloc, shared, own, poller);
     poller.log_counted(rt);
     take_back(rt, own, poller);
-    Ok(())
+    unworn(&own.seat).ok_or(ServerFault::Worn)
+}
+
+/// None if the seat has posted 2^56 times.
+fn unworn(seat: &ClaimSeat) -> Option<()>
+    ensures { IsNone result ↔ IsWorn seat.now }
+{
+    if seat.is_worn() { None } else { Some(()) }
 }
 
 /// Empties the batch. Returns whether the hand has room for a ticket of each slot and 512 more.
@@ -88,19 +94,15 @@ fn begin<F: Front>(claims: &Claims, hand: &Hand, poller: &mut Poller<F>) -> bool
 }
 
 /// Asks for reports, and waits for them if it may. Before, a poller that has opened all that it may stops listening.
-fn look<F: Front, R: Wait + Log>(
-    rt: &R,
-    own: &mut Own,
-    poller: &mut Poller<F>,
-    limit: u64,
-) -> Result<(), ServerFault>
+/// Returns false if the wait failed.
+fn look<F: Front, R: Wait + Log>(rt: &R, own: &mut Own, poller: &mut Poller<F>, limit: u64) -> bool
     requires room { 1 ≤ ticket_room own.old.hand }
     ensures took { OnlyTook own.old own.new }
     ensures poller { Looked poller.old poller.new }
     ensures waits { WaitedAsMay limit poller.old poller.new own.old }
     ensures listens { ListensNoMore poller.old poller.new }
     ensures batch { poller.new.batch ≡ poller.new.reported }
-    ensures failed { IfErr result (λ fault. (fault ≡ ServerFault.Poll) × (poller.new.failed ≡ true) × (poller.new.batch ≡ [])) }
+    ensures failed { result ≡ false → (poller.new.failed ≡ true) × (poller.new.batch ≡ []) }
     ensures few { length poller.new.batch ≤ MAX_BATCH }
 {
     listen_to_open(poller);
@@ -137,14 +139,14 @@ fn may_wait<F: Front, R: Wait>(rt: &R, own: &mut Own, poller: &Poller<F>, limit:
     }
 }
 
-/// Asks for reports. After a signal the batch is empty.
+/// Asks for reports. After a signal the batch is empty. Returns false if the wait failed.
 fn poll<F: Front, R: Log>(
     rt: &R,
     _own: &Own,
     poller: &mut Poller<F>,
     _limit: u64,
     wait: Waiting,
-) -> Result<(), ServerFault>
+) -> bool
     requires wait { WaitsAsMay wait _limit poller.old _own.now }
     requires closed { ListensToOpen poller.old }
     ensures same { poller.new ≡ record poller.old {
@@ -155,42 +157,36 @@ fn poll<F: Front, R: Log>(
     } }
     ensures waited { WaitLasted wait poller.new.waited }
     ensures batch { poller.new.batch ≡ poller.new.reported }
-    ensures failed { OnErr result ((poller.new.failed ≡ true) × (poller.new.batch ≡ [])) }
-    ensures fault { IfErr result (λ fault. fault ≡ ServerFault.Poll) }
+    ensures failed { result ≡ false → (poller.new.failed ≡ true) × (poller.new.batch ≡ []) }
     ensures few { length poller.new.batch ≤ MAX_BATCH }
 {
     let answer = poller.front.poll(&mut poller.batch, wait);
     polled(rt, answer)
 }
 
-/// Refuses if the wait for reports failed. A signal that ends a wait is no fault.
-fn polled<R: Log>(rt: &R, answer: io::Result<()>) -> Result<(), ServerFault>
-    ensures waited { IsOk result ↔ MatchResult answer (λ _. Unit {0}) (λ error. error_kind error ≡ Interrupted) }
-    ensures fault { IfErr result (λ fault. fault ≡ ServerFault.Poll) }
+/// Whether the wait for reports did not fail. A signal that ends a wait is no fault.
+fn polled<R: Log>(rt: &R, answer: io::Result<()>) -> bool
+    ensures { IsTrue result ↔ MatchResult answer (λ _. Unit {0}) (λ error. error_kind error ≡ Interrupted) }
 {
     match answer {
-        Ok(()) => Ok(()),
-        Err(error) if error.kind() == io::ErrorKind::Interrupted => Ok(()),
+        Ok(()) => true,
+        Err(error) if error.kind() == io::ErrorKind::Interrupted => true,
         Err(error) => {
             log_failure(rt, "poll", &error);
-            Err(ServerFault::Poll)
+            false
         }
     }
 }
 
 /// Delivers the reports of the batch. No note goes to another poller's slot: the table has no connection there.
-fn deliver_batch<F: Front>(
-    shared: &Shared<F>,
-    own: &mut Own,
-    poller: &mut Poller<F>,
-) -> Result<(), ServerFault>
+fn deliver_batch<F: Front>(shared: &Shared<F>, own: &mut Own, poller: &mut Poller<F>)
     requires between { Between shared.now.claims own.old poller.old }
     requires room { length poller.old.batch ≤ ticket_room own.old.hand }
     ensures between { Between shared.now.claims own.new poller.new }
     ensures poller { poller.new ≡ record poller.old { accepting = poller.new.accepting } }
-    ensures worn { IfErr result (λ fault. OnlyWorn fault own.new.seat) }
-    ensures delivered { OnOk result (Delivered poller.old.table poller.old.batch own.old.seat own.new.seat own.old.hand own.new.hand) }
-    ensures flag { OnOk result (IsTrue poller.new.accepting ↔ (IsTrue poller.old.accepting ⊎ Contains poller.old.batch 0)) }
+    ensures delivered { Delivered poller.old.table poller.old.batch own.old.seat own.new.seat own.old.hand own.new.hand }
+    ensures flag { IsWorn own.new.seat
+        ⊎ (IsTrue poller.new.accepting ↔ (IsTrue poller.old.accepting ⊎ Contains poller.old.batch 0)) }
     ensures own { AreIn poller.old.part (all_reported poller.old.table poller.old.batch) }
     ensures ready { own.new.ready ≡ own.old.ready }
     ensures free { own.new.free ≡ own.old.free }
@@ -201,9 +197,8 @@ fn deliver_batch<F: Front>(
         poller.table(),
         poller.batch(),
         &mut own.hand,
-    )?;
-    poller.raise_accept_flag(listener);
-    Ok(())
+    );
+    poller.raise_accept_flag(listener.unwrap_or(false));
 }
 
 /// If a client waits for a slot, the poller is full from now on, until accept(2) answers that nobody waits. If all
@@ -251,13 +246,13 @@ fn accept<F: Front, R: Wait + Log>(
     shared: &Shared<F>,
     own: &mut Own,
     poller: &mut Poller<F>,
-) -> Result<(), ServerFault>
+)
     requires between { Between shared.now.claims own.old poller.old }
     requires room { max_accepts ≤ ticket_room own.old.hand }
     ensures between { Between shared.now.claims own.new poller.new }
-    ensures worn { IfErr result (λ fault. OnlyWorn fault own.new.seat) }
-    ensures done { OnOk result (AcceptDone poller.old poller.new own.old own.new) }
-    ensures ended { OnOk result (AcceptEnded poller.new own.new) }
+    ensures done { AcceptDone poller.old poller.new own.old own.new }
+    ensures ended { AcceptEnded poller.new own.new }
+    ensures still { IsWorn own.old.seat → own.new.seat ≡ own.old.seat }
     ensures ready { own.new.ready ≡ own.old.ready }
     ensures poller { OnlyAccepted poller.old poller.new }
 {
@@ -265,13 +260,12 @@ fn accept<F: Front, R: Wait + Log>(
     poller.reset_tries();
     for _try in 0..MAX_ACCEPTS {
         if !may_accept(rt, own, poller) {
-            return Ok(());
+            return;
         }
-        if !accept_next(rt, alloc, shared, own, poller)? {
-            return Ok(());
+        if !accept_next(rt, alloc, shared, own, poller) {
+            return;
         }
     }
-    Ok(())
 }
 
 fn may_accept<F: Front, R: Wait>(rt: &R, own: &mut Own, poller: &Poller<F>) -> bool
@@ -284,35 +278,38 @@ fn may_accept<F: Front, R: Wait>(rt: &R, own: &mut Own, poller: &Poller<F>) -> b
     poller.accepting && !poller.has_opened_all() && has_slot(rt, own)
 }
 
-/// Accepts and opens one connection, unless the client is better left to another poller. Returns whether another try is
-/// worth making: not after a client was left, nor if accept(2) was starved.
+/// Accepts and opens one connection, unless the client is better left to another poller, or the seat is worn. Returns
+/// whether another try is worth making: not then, nor if accept(2) was starved.
 fn accept_next<F: Front, R: Wait + Log>(
     rt: &R,
     alloc: Global,
     shared: &Shared<F>,
     own: &mut Own,
     poller: &mut Poller<F>,
-) -> Result<bool, ServerFault>
+) -> bool
     requires between { Between shared.now.claims own.old poller.old }
     requires room { 1 ≤ ticket_room own.old.hand }
     requires may { MayAccept poller.old own.old }
     ensures between { Between shared.now.claims own.new poller.new }
-    ensures worn { IfErr result (λ fault. OnlyWorn fault own.new.seat) }
-    ensures done { OnOk result (OneAccepted poller.old poller.new own.old own.new) }
+    ensures done { OneAccepted poller.old poller.new own.old own.new }
+    ensures still { IsWorn own.old.seat → own.new.seat ≡ own.old.seat }
     ensures ready { own.new.ready ≡ own.old.ready }
-    ensures tries { IfOk result (λ more. more ≡ true → poller.new.tries ≡ poller.old.tries - 1) }
-    ensures ended { IfOk result (λ more. more ≡ false → (poller.new.starved ≡ true) ⊎ HasLeft poller.new) }
+    ensures tries { result ≡ true → poller.new.tries ≡ poller.old.tries - 1 }
+    ensures ended { result ≡ false → (poller.new.starved ≡ true) ⊎ (HasLeft poller.new ⊎ IsWorn own.new.seat) }
     ensures poller { OnlyAccepted poller.old poller.new }
 {
+    if own.seat.is_worn() {
+        return false;
+    }
     if poller.leaves() {
-        return Ok(false);
+        return false;
     }
     match poller.accept() {
         Ok((client, uncounted)) => {
-            open(rt, alloc, &mut (), shared, own, poller, client, uncounted)?;
-            Ok(true)
+            open(rt, alloc, &mut (), shared, own, poller, client, uncounted);
+            true
         }
-        Err(error) => Ok(not_accepted(rt, shared, poller, &error) != Unaccepted::Starved),
+        Err(error) => not_accepted(rt, shared, poller, &error) != Unaccepted::Starved,
     }
 }
 

@@ -1,15 +1,14 @@
 //! A round's sweep, and its second.
-ghost use Rattle.std.specs.{Prelude.{◌≡◌, ◌<◌, ◌≤◌, [], if◌then◌else◌, length, IfErr, IfSome, OnErr, OnOk}, List.cons_option};
+ghost use Rattle.std.specs.{Prelude.{◌≡◌, ◌<◌, ◌≤◌, [], if◌then◌else◌, length, IfSome}, List.cons_option};
 ghost use Rattle.claims.specs.Seats.{HoldsNothing};
 ghost use Rattle.rounds.specs.{Acts.{ArePosted, all_opened, is_due, opened_in, sweep_of}, Openings.{AreIn, Between, SameQueues}, Rounds.SweepMade};
-ghost use Rattle.dispatch.specs.{Hands.ticket_room, Posts.OnlyWorn};
+ghost use Rattle.dispatch.specs.{Hands.ticket_room, Posts.IsWorn};
 
 use crate::delivering::post_note;
 use crate::poller::Poller;
 use claims::{ClaimSeat, Claims};
 use dispatch::{Clock, Front, Hand, Own, Shared, Timing};
 use ready::Ticket;
-use relay_log::ServerFault;
 
 /// Makes a sweep if one is due, and reads the second of the round. A sweep goes by the second of the last round, and
 /// its own round has asked for reports since then: so whatever came while the relay was stopped (SIGSTOP, a paused
@@ -19,15 +18,14 @@ pub(crate) fn keep_time<F: Front, C: Clock>(
     own: &mut Own,
     poller: &mut Poller<F>,
     timing: &Timing<'_, C>,
-) -> Result<(), ServerFault>
+)
     requires between { Between shared.now.claims own.old poller.old }
     requires room { length poller.old.table ≤ ticket_room own.old.hand }
     ensures between { Between shared.now.claims own.new poller.new }
     ensures poller { poller.new ≡ record poller.old { second = poller.new.second; swept = poller.new.swept } }
-    ensures told { OnOk result (C.tells timing.now.clock.now poller.new.second) }
-    ensures worn { IfErr result (λ fault. OnlyWorn fault own.new.seat) }
-    ensures swept { OnOk result (SweepMade timing.now.limit poller.old poller.new own.old own.new) }
-    ensures unswept { OnErr result (poller.new.swept ≡ poller.old.swept) }
+    ensures told { C.tells timing.now.clock.now poller.new.second }
+    ensures swept { SweepMade timing.now.limit poller.old poller.new own.old own.new }
+    ensures still { IsWorn own.old.seat → own.new.seat ≡ own.old.seat }
     ensures own { AreIn poller.old.part (sweep_of poller.old poller.new) }
     ensures queues { SameQueues own.old own.new }
 {
@@ -38,9 +36,8 @@ pub(crate) fn keep_time<F: Front, C: Clock>(
         poller.table(),
         due,
         &mut own.hand,
-    )?;
+    );
     poller.set_second(due, timing.moment().second);
-    Ok(())
 }
 
 /// Whether a sweep is due: by the second of the last round the limit had passed since the last sweep. Never if it is 0.
@@ -52,29 +49,21 @@ pub(crate) fn is_due<F: Front>(poller: &Poller<F>, limit: u64) -> bool
 }
 
 /// Posts a note at each slot in which a connection was opened, in rising order, if a sweep is due.
-fn sweep(
-    claims: &Claims,
-    seat: &mut ClaimSeat,
-    table: &[u64],
-    due: bool,
-    hand: &mut Hand,
-) -> Result<(), ServerFault>
+fn sweep(claims: &Claims, seat: &mut ClaimSeat, table: &[u64], due: bool, hand: &mut Hand)
     requires same { seat.old.table ≡ claims.now }
     requires idle { HoldsNothing seat.old }
     requires sized { length table.now ≡ claims.now.words }
     requires room { length table.now ≤ ticket_room hand.old }
-    ensures posted { OnOk result (ArePosted (if due then all_opened table.now else []) seat.old seat.new hand.old hand.new) }
-    ensures worn { IfErr result (λ fault. OnlyWorn fault seat.new) }
+    ensures posted { ArePosted (if due then all_opened table.now else []) seat.old seat.new hand.old hand.new }
+    ensures still { IsWorn seat.old → seat.new ≡ seat.old }
     ensures idle { HoldsNothing seat.new }
-    ensures same { seat.new.table ≡ seat.old.table }
 {
     if !due {
-        return Ok(());
+        return;
     }
     for slot in 0..table.len() {
-        post_note(claims, seat, last_in(table, slot), hand)?;
+        post_note(claims, seat, last_in(table, slot), hand);
     }
-    Ok(())
 }
 
 /// The last connection that was opened in a slot, if one was.

@@ -16,7 +16,6 @@ pub record HasBegun (slots : ℕ) (opens : Opening) (p : PollerState) : Type 0 w
   pub opening : p.opening ≡ opens
   pub heavy : p.heavy ≡ replicate slots 0
   pub opened : p.opened ≡ 0
-  pub dropped : p.dropped ≡ 0
   pub lost : p.lost ≡ 0
   pub over : p.over ≡ false
   pub episodes : p.episodes ≡ no_episodes

@@ -1,11 +1,11 @@
 -- What the calls of a thread's loop do with the tickets that it is obliged to put.
-use Rattle.std.{proofs.{Common.{◌≡◌, ◌≢◌, ℕ, zero, suc, ◌+◌, ◌-◌, ◌<◌, ◌≤◌, Bool, true, false, cond, List, [], ◌∷◌, ◌++◌, length, length-append, length-set, sym, ◌∙◌, refl, ap, arith, inl, inr, append_assoc}, lemmas.{List.{get_or-set_same, map-append, append-nil, set-set, Concat.flat_map-append, Elements.{All-append, All-head, All-map, All-tail, All-weaker}, Sums.{sum_by-append, sum_by-set}}, Result.IfErr-weaker, Option.{get_or_from_slice_get, slice_get-get_or, slice_get_read, slice_get_within}, Bool.{ltb-true, ltb-false, cases_lt}}, Math.Seq.map-set_same}, specs.{List.{All, slice_set}, Prelude.{◌==◌, ◌&&◌, Option, Some, None, Result, Ok, Err, IfSome, slice_get, map, nat_lt, if◌then◌else◌, OnSome, IfErr, ◌⊎◌}}}
+use Rattle.std.{proofs.{Common.{◌≡◌, ◌≢◌, ℕ, zero, suc, ◌+◌, ◌-◌, ◌<◌, ◌≤◌, Bool, true, false, cond, List, [], ◌∷◌, ◌++◌, drop, length, length-append, length-set, sym, ◌∙◌, refl, ap, arith, inl, inr, append_assoc}, lemmas.{List.{get_or-set_same, map-append, append-nil, set-set, Concat.flat_map-append, Elements.{All-append, All-head, All-map, All-tail, All-weaker}, Sums.{sum_by-append, sum_by-set}}, Result.IfErr-weaker, Option.{none-some, same_Some, get_or_from_slice_get, slice_get-get_or, slice_get_read, slice_get_within}, Bool.{ltb-true, ltb-false, cases_lt}}, Math.Seq.map-set_same}, specs.{List.{All, slice_set}, Prelude.{◌==◌, ◌&&◌, Option, Some, None, Result, Ok, Err, OnOk, IfSome, slice_get, map, nat_lt, if◌then◌else◌, OnSome, IfErr, ◌⊎◌}}}
 use Rattle.claims.specs.{declared.view.Exchange.Exchange, Views.minted_by, Seats.SeatState}
 use Rattle.ready.specs.{declared.ticket.Ticket.Ticket, Steps.EndState}
 use Rattle.relay_log.specs.declared.faults.ServerFault.{ServerFault, TheVariants.Worn}
-use Rattle.dispatch.{proofs.Outgoing.took_both, specs.{declared.shared.Own.Own, Hands.HandState, Outgoing.{Inserted, outgoing, tickets_out, slots_out, without_first, TookNothing}, Heavy.looked_at, Limits.own_turns, Posts.OnlyWorn}}
-use Rattle.turns.specs.{declared.worker.Worked.Worked, Shares.{AreShared, OneShared, TicketsShared}, Turns.{TicketsKept, SlotsKept, TurnMade, OwnTurn, program}}
-use Rattle.threads.{proofs.Divided.End, specs.{declared.ending.{Ended.Ended, Why.{Why, TheVariants.{FaultFound, Met}}}, Loops.{faults_by, times_of, freed, Run, tickets_of, act_of, acts_of, due_from, fault_in, faults_of, IsRun, TurnsMade, takes_of, times_by, times_given, SlotsGiven, Changes, OthersKept, OneRan, tickets_in, Took, WorkerMayEnd, WorkerEnded, WorkerRan, OwnTurnsRan, SharedAndRan, TurnsCut, WornEnd, NoTicketTaken, Asked, RoundMade, RoundCut, TurnsAfter, StepCut, StepsMade, IsPollerAct, PollerRan, PollerEnded, opened_by, openings_of}}}
+use Rattle.dispatch.{proofs.Outgoing.took_both, specs.{declared.shared.Own.Own, Acts.Act, Hands.HandState, Outgoing.{Inserted, outgoing, tickets_out, slots_out, without_first, TookNothing}, Heavy.looked_at, Limits.own_turns, Posts.OnlyWorn}}
+use Rattle.turns.specs.{declared.worker.Worked.Worked, Shares.{AreShared, OneShared, TicketsShared}, Turns.{TicketsKept, SlotsKept, TurnMade, WorkerTurn, OldestRan, OwnTurn, program}}
+use Rattle.threads.{proofs.Divided.End, specs.{declared.ending.{Ended.Ended, Why.{Why, TheVariants.{FaultFound, Met}}}, Loops.{faults_by, times_of, freed, Run, tickets_of, act_of, acts_of, due_from, fault_in, faults_of, IsRun, TurnsMade, takes_of, times_by, times_given, SlotsGiven, Changes, OthersKept, OneRan, tickets_in, Took, WorkerMayEnd, WorkerEnded, WorkerRan, OwnTurnsRan, SharedAndRan, TurnsCut, WornEnd, NoTicketTaken, Asked, RoundMade, RoundCut, TurnsAfter, StepCut, StepsMade, IsPollerAct, PollerRan, opened_by, openings_of}}}
 use Rattle.rounds.{specs.{Pollers.PollerState, Rounds.{RoundDone, RoundRefused, ListenerKept}, Acts.{SeatAct, made_by, due_of, IsPost, IsTry}, Openings.{slots_in, times}}, proofs.Acts.{all_none, all_one, acts_none, acts_one, acts_both, at_slot-append, due-append}}
 use Rattle.turns.specs.declared.worker.Worked.TheVariants as worked
 
@@ -25,6 +25,10 @@ made-append u xs ys = rw (map-append, due-append) (times-append u (due_from xs) 
 
 freed-append : (s : ℕ) (xs ys : List Run) → times s (freed (xs ++ ys)) ≡ times s (freed xs) + times s (freed ys)
 freed-append s xs ys = rw flat_map-append (slots-append s (freed xs) (freed ys))
+
+times_first : (u : Ticket) (ts : List Ticket) (t : Ticket) → slice_get ts 0 ≡ Some t → times_of u ts ≡ times_of u (t ∷ []) + times_of u (drop 1 ts)
+times_first u [] t first = absurd (none-some t first)
+times_first u (t ∷ ts) v first = rw (← same_Some t v first) (times-append u (t ∷ []) ts)
 
 inserted : {T : Type 0} {t : T} {old new : List T} (count : List T → ℕ) → ((xs ys : List T) → count (xs ++ ys) ≡ count xs + count ys) → Inserted t old new
     → count new ≡ count (t ∷ []) + count old
@@ -238,18 +242,20 @@ module _ {t : Ticket} {a b : Own} (took : Took t a b) where
   }
 
 -- a worker's turn, between two exchanges of its ends
-pub one_ran : {words p : ℕ} {t : Ticket} {answer : Result Worked ServerFault} {a c : Own} {g h i : End} {hand : HandState} {xs ys zs : List End}
-    → a.seat.table.words ≡ words → Changes p a.free g xs ys → TurnMade words t answer (record a { free = g }) c → hand.tickets ≡ c.hand.tickets
+pub one_ran : {words p : ℕ} {t : Ticket} {answer : Result Worked ServerFault} {S : Type 0} {acts : Act → ℕ → S → S → Type 0} {from to : S} {a c : Own} {g h i : End}
+    {hand : HandState} {xs ys zs : List End}
+    → a.seat.table.words ≡ words → Changes p a.free g xs ys → WorkerTurn acts words t answer (record a { free = g }) c from to → hand.tickets ≡ c.hand.tickets
     → h.history.taken ≡ c.free.history.taken → outgoing h.history hand.slots ≡ slots_out c → Changes p h i ys zs
     → OneRan t answer a (record c { free = i; hand = hand }) xs zs
 one_ran {p = p} {t = t} {answer = answer} {a = a} {c = c} {g = g} {h = h} {hand = hand} same one made tickets took slots two =
-    let b = record a { free = g } in (
-      made.exchanges,
+    let turn = made.turn.0 in
+    let put = made.put in (
+      turn.exchanges,
       record {
-        turns = turns_one same made;
-        tickets = λ u. rw tickets (omega (arith, tickets_one t (minted_by made.exchanges) b c made.done.tickets u));
-        slots = gave {d = record c { free = h; hand = hand }} (exchanged p one two) (took ∙ made.done.took.slots)
-            (λ s. rw slots (slots_one t answer b c made.done.slots made.exchanges s));
+        turns = rw put.seat at (turns_one (rw put.seat same) turn);
+        tickets = λ u. rw tickets (omega (arith, tickets_one t (minted_by turn.exchanges) made.begun c turn.done.tickets u, ap (times_of u) put.tickets));
+        slots = gave {d = record c { free = h; hand = hand }} (exchanged p one two) (took ∙ (turn.done.took.slots ∙ put.took.slots))
+            (λ s. rw slots (omega (arith, slots_one t answer made.begun c turn.done.slots turn.exchanges s, ap (times s) put.slots)));
       },
     )
 
@@ -320,35 +326,37 @@ own_both one two = record {
 }
 
 -- the oldest ticket in hand was run
-own_one : {words : ℕ} {t : Ticket} {ts : List Ticket} {answer : Result Worked ServerFault} {a b : Own} → a.seat.table.words ≡ words → a.hand.tickets ≡ t ∷ ts
-    → TookNothing a b → TurnMade words t answer (without_first a) b → OwnTurnsRan 1 (fault_in answer) a b
-own_one {t = t} {ts = ts} {answer = answer} {a = a} {b = b} same is took made = record {
-  ran = run_of t answer made.exchanges ∷ [];
-  each = refl;
-  met = append-nil (fault_in answer);
-  took = took;
-  turns = turns_one same made;
-  tickets = λ u. rw is (omega (
-    arith,
-    rw is at (tickets_one t (minted_by made.exchanges) (without_first a) b made.done.tickets u),
-    times-append u (puts a.ready) (t ∷ ts),
-    times-append u (puts a.ready) ts,
-    times-append u (t ∷ []) ts,
-  ));
-  slots = slots_one t answer (without_first a) b made.done.slots made.exchanges;
-}
+own_one : {words : ℕ} {answer : Result Worked ServerFault} {S : Type 0} {acts : Act → ℕ → S → S → Type 0} {from to : S} {a b : Own} → a.seat.table.words ≡ words
+    → OldestRan acts words answer a b from to → OwnTurnsRan 1 (fault_in answer) a b
+own_one {answer = answer} {a = a} {b = b} same run =
+    let t = run.ticket in
+    let made = run.turn.0 in
+    record {
+      ran = run_of t answer made.exchanges ∷ [];
+      each = refl;
+      met = append-nil (fault_in answer);
+      took = record { tickets = made.done.took.tickets; slots = made.done.took.slots };
+      turns = turns_one same made;
+      tickets = λ u. omega (
+        arith,
+        tickets_one t (minted_by made.exchanges) (without_first a) b made.done.tickets u,
+        times-append u (puts a.ready) a.hand.tickets,
+        times-append u (puts a.ready) (drop 1 a.hand.tickets),
+        times_first u a.hand.tickets t run.oldest,
+      );
+      slots = slots_one t answer (without_first a) b made.done.slots made.exchanges;
+    }
 
 -- what an own turn did, by its answer
 abbrev pub OwnRan : Result (Option Worked) ServerFault → Own → Own → Type 0
 OwnRan (Ok worked) a b = OnSome worked (OwnTurnsRan 1 [] a b)
 OwnRan (Err fault) a b = OwnTurnsRan 1 (fault ∷ []) a b
 
-pub own_turn_ran : (words : ℕ) (ts : List Ticket) (result : Result (Option Worked) ServerFault) (a b : Own) → a.seat.table.words ≡ words → a.hand.tickets ≡ ts → TookNothing a b
-    → IfSome (slice_get ts 0) (λ t. OwnTurn words t result a b) → (a.hand.tickets ≡ [] → result ≡ Ok None) → OwnRan result a b
-own_turn_ran words [] result a b same is took turn none = rw (none is) tt
-own_turn_ran words (t ∷ ts) (Ok None) a b same is took turn none = tt
-own_turn_ran words (t ∷ ts) (Ok (Some worked)) a b same is took turn none = own_one same is took turn
-own_turn_ran words (t ∷ ts) (Err fault) a b same is took turn none = own_one same is took turn
+pub own_turn_ran : (words : ℕ) {S : Type 0} (acts : Act → ℕ → S → S → Type 0) (from to : S) (result : Result (Option Worked) ServerFault) (a b : Own)
+    → a.seat.table.words ≡ words → OwnTurn acts words result a b from to → OwnRan result a b
+own_turn_ran words acts from to (Ok None) a b same turn = tt
+own_turn_ran words acts from to (Ok (Some worked)) a b same turn = own_one same turn
+own_turn_ran words acts from to (Err fault) a b same turn = own_one same turn
 
 -- in the next turn the seat was worn
 pub cut_worn : {count : ℕ} {why : Why} {p r q : PollerState} {a b c : Own} → WornEnd why c → SharedAndRan count [] p r a b → OwnTurnsRan 1 (Worn ∷ []) b c
@@ -419,7 +427,7 @@ ran_none {a} = record {
   slots = λ s. omega arith;
 }
 
-ran_both : {a b c : Own} → PollerRan a b → PollerRan b c → PollerRan a c
+pub ran_both : {a b c : Own} → PollerRan a b → PollerRan b c → PollerRan a c
 ran_both {a} {b} {c} one two = record {
   acts = one.acts ++ two.acts;
   each = All-append (IsPollerAct a.seat.table.words) one.acts two.acts one.each (rw one.made.table at two.each);
@@ -482,24 +490,26 @@ turns_ran {a = a} {b = b} made =
 pub step_ran : {said : Bool → Type 0} {p q r : PollerState} {a b c : Own} → RoundMade said p q a b → TurnsAfter q r b c → PollerRan a c
 step_ran round turns = ran_both (round_ran round.round round.took) (turns_ran turns.made)
 
-pub cut_ran : {said : Bool → Type 0} {why : Why} {p q : PollerState} {a b : Own} → StepCut said why p q a b → PollerEnded why a b
-cut_ran (inl same) = inl (rw same.own ran_none)
-cut_ran (inr (inl (inl failed))) = inl (round_ran failed.made.round failed.made.took)
-cut_ran (inr (inl (inr worn))) = inr worn
-cut_ran (inr (inr step)) = inl (ran_both (round_ran step.round.round step.round.took) (turns_ran step.turns.made))
+-- a round, and the turns after it, whether one was cut off or not
+pub step_or_cut : {said : Bool → Type 0} {p q : PollerState} {a b c : Own} (r : PollerState) (answer : Result (Unit {0}) Ended) → RoundMade said p q a b
+    → OnOk answer (TurnsAfter q r b c) → IfErr answer (λ ended. TurnsCut ended.why q r b c) → PollerRan a c
+step_or_cut r (Ok done) round turns cut = step_ran round turns
+step_or_cut r (Err ended) round turns cut = ran_both (round_ran round.round round.took) (turns_ran cut.made)
+
+pub cut_ran : {said : Bool → Type 0} {why : Why} {p q : PollerState} {a b : Own} → StepCut said why p q a b → PollerRan a b
+cut_ran (inl same) = rw same.own ran_none
+cut_ran (inr (inl (inl failed))) = round_ran failed.made.round failed.made.took
+cut_ran (inr (inl (inr worn))) = round_ran worn.made.round worn.made.took
+cut_ran (inr (inr step)) = ran_both (round_ran step.round.round step.round.took) (turns_ran step.turns.made)
 
 pub steps_ran : (said : Bool → Type 0) (steps : ℕ) (p q : PollerState) (a b : Own) → StepsMade said steps p q a b → PollerRan a b
 steps_ran said zero p q a b same = rw same.1 ran_none
 steps_ran said (suc steps) p q a b (r, c, before, last) = ran_both (steps_ran said steps p r a c before) (step_ran last.round last.turns)
 
-pub ran_then : {why : Why} {a b c : Own} → PollerRan a b → PollerEnded why b c → PollerEnded why a c
-ran_then before (inl last) = inl (ran_both before last)
-ran_then before (inr worn) = inr (record { reason = worn.reason; took = worn.took ∙ before.took })
-
 -- the last round, by the fault that it answered
 pub round_cut : {said : Bool → Type 0} {why : Why} {answer : Result (Unit {0}) ServerFault} {p begun q : PollerState} {a b : Own}
     → (fault : ServerFault) × (answer ≡ Err fault) × (why ≡ Met fault) → IfErr answer (λ fault. RoundRefused fault begun q a b)
-    → (answer ≢ Err Worn → RoundDone begun q a b) → Asked said p begun → q.most ≡ begun.most → ListenerKept begun q → NoTicketTaken a b
+    → RoundDone begun q a b → Asked said p begun → q.most ≡ begun.most → ListenerKept begun q → NoTicketTaken a b
     → RoundCut said why p q a b
 round_cut {said} {why} {answer} {p} {begun} {q} {a} {b} (fault, is, was) refused done asked most listens took = by (rw is at refused)
   where
@@ -507,6 +517,9 @@ round_cut {said} {why} {answer} {p} {begun} {q} {a} {b} (fault, is, was) refused
     by (inl failed) = inl (record {
       reason = rw failed.0 at was;
       failed = failed.1.failed;
-      made = record { begun = begun; asked = asked; round = done (λ worn. cc (failed.0)); most = most; listens = listens; took = took };
+      made = record { begun = begun; asked = asked; round = done; most = most; listens = listens; took = took };
     })
-    by (inr worn) = inr (record { reason = (rw worn.0 at was, worn.1); took = took })
+    by (inr worn) = inr (record {
+      reason = (rw worn.0 at was, worn.1);
+      made = record { begun = begun; asked = asked; round = done; most = most; listens = listens; took = took };
+    })

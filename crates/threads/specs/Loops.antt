@@ -229,14 +229,14 @@ pub record PollFailed (said : Bool → Type 0) (why : Why) (p q : PollerState) (
   pub failed : q.failed ≡ true
   pub made : RoundMade said p q a b
 
--- in the last round the seat was worn; else it is only known that no ticket was taken
-pub record RoundWorn (why : Why) (a b : Own) : Type 0 where
+-- after the last round the seat is worn
+pub record RoundWorn (said : Bool → Type 0) (why : Why) (p q : PollerState) (a b : Own) : Type 0 where
   pub reason : WornEnd why b
-  pub took : NoTicketTaken a b
+  pub made : RoundMade said p q a b
 
 -- the last round, if its thread ended in it
 abbrev pub RoundCut : (Bool → Type 0) → Why → PollerState → PollerState → Own → Own → Type 0
-RoundCut said why p q a b = PollFailed said why p q a b ⊎ RoundWorn why a b
+RoundCut said why p q a b = PollFailed said why p q a b ⊎ RoundWorn said why p q a b
 
 -- the last step of a poller's thread, by why it ended
 abbrev pub StepCut : (Bool → Type 0) → Why → PollerState → PollerState → Own → Own → Type 0
@@ -284,10 +284,6 @@ pub record PollerRan (old new : Own) : Type 0 where
   pub took : NoTicketTaken old new
   pub slots : (slot : ℕ) → times slot (slots_in new) + (times slot (slots_out old) + times slot (freed ran))
       ≡ times slot (slots_in old) + (times slot (slots_out new) + (at_slot slot (openings_of acts) + times slot lost))
-
--- a poller's thread ran to its end, or its seat was worn in its last round
-abbrev pub PollerEnded : Why → Own → Own → Type 0
-PollerEnded why old new = PollerRan old new ⊎ RoundWorn why old new
 
 -- of a worker's ends of the pollers' queues, in order, only the end of this poller's may have changed
 abbrev pub OthersKept : ℕ → List (EndState ℕ) → List (EndState ℕ) → Type 0

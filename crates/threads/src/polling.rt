@@ -4,7 +4,7 @@ ghost use Rattle.claims.specs.Seats.{HoldsNothing};
 ghost use Rattle.rounds.specs.{Episodes.no_drops, Pollers.HasOpenedAll, Rounds.{EndedEarly, ListensToOpen}};
 ghost use Rattle.turns.specs.Turns.{NoOwnTurn};
 ghost use Rattle.relay_log.specs.declared.faults.ServerFault.TheVariants.{Worn};
-ghost use Rattle.threads.specs.{declared.ending.Why.Why, Loops.{AllWoken, Asked, LoopMade, OwnTurnsRan, PollerEnded, PollerRan, RoundCut, RoundMade, RunMade, StepCut, StepMade, TurnsAfter, TurnsCut, WornEnd}};
+ghost use Rattle.threads.specs.{declared.ending.Why.Why, Loops.{AllWoken, Asked, LoopMade, OwnTurnsRan, PollerRan, RoundCut, RoundMade, RunMade, StepCut, StepMade, TurnsAfter, TurnsCut, WornEnd}};
 
 use crate::context::{Context, StopFlag};
 use crate::ending::{Ended, NoFault, end_if_over};
@@ -38,7 +38,7 @@ where
     )
         ensures made { RunMade (S.said context.now.is_stopped.now) (C.tells context.now.timing.clock.now) self.old.poller
             self.old.own self.new.own }
-        ensures ran { (why : Why) × PollerEnded why self.old.own self.new.own }
+        ensures ran { PollerRan self.old.own self.new.own }
     {
         self.begin(context);
         let ended = self.run_rounds(context);
@@ -79,7 +79,7 @@ where
         context: &Context<'_, G, C, R, S>,
     ) -> Ended
         ensures made { LoopMade (S.said context.now.is_stopped.now) result.why self.old.poller self.new.poller self.old.own self.new.own }
-        ensures ran { PollerEnded result.why self.old.own self.new.own }
+        ensures ran { PollerRan self.old.own self.new.own }
     {
         for _round in context.rt.forever() {
             if let Err(ended) = self.step(context) {
@@ -100,8 +100,7 @@ where
             self.old.own self.new.own) }
         ensures cut { IfErr result (λ ended. StepCut (S.said context.now.is_stopped.now) ended.why self.old.poller self.new.poller
             self.old.own self.new.own) }
-        ensures ran { OnOk result (PollerRan self.old.own self.new.own) }
-        ensures ended { IfErr result (λ ended. PollerEnded ended.why self.old.own self.new.own) }
+        ensures ran { PollerRan self.old.own self.new.own }
     {
         let seen = match context.ending.look() {
             Ok(seen) => seen,
@@ -200,6 +199,7 @@ where
         let is_closing = poller.has_opened_all();
         let worked = own_turn(
             context.rt,
+            &mut (),
             &self.shared,
             &mut self.own,
             context.gate,

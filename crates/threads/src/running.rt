@@ -8,8 +8,9 @@ use crate::ending::Ending;
 use crate::faults::{Outcome, Recorded};
 use dispatch::{Clock, Front, Gate, Parts, ServerFault, Shared, Split, Timing};
 use log::Log;
+use os::set_thread_name;
 use ready::FreeQueue;
-use relay_log::log_no_thread;
+use relay_log::log_few_threads;
 use rounds::Poller;
 use std::alloc::Global;
 use std::sync::atomic::AtomicBool;
@@ -116,7 +117,8 @@ where
         for number in 0..started {
             let is_worker = number < workers;
             if scope.spawn(move || startup.run(is_worker)).is_err() {
-                not_started(&startup.context).spend();
+                not_started(&startup.context, number, started).spend();
+                break;
             }
         }
         startup.announce();
@@ -142,8 +144,15 @@ where
         }
     }
 
+    /// Runs a worker or a poller, in a thread that tools such as top(1) show by that name.
     fn run(&self, is_worker: bool) {
-        if is_worker { self.work() } else { self.poll() }
+        if is_worker {
+            set_thread_name(b"worker");
+            self.work();
+        } else {
+            set_thread_name(b"poller");
+            self.poll();
+        }
     }
 
     /// Runs the next poller that has not begun.
@@ -165,10 +174,19 @@ where
     }
 }
 
-/// A thread could not be started. Number 0 makes this fault count before those of all threads but the first poller's.
-fn not_started<G, C, R: Wait + Log>(context: &Context<G, C, R>) -> Recorded
+/// A thread could not be started, after so many of those that are wanted beside the first. Number 0 makes this fault
+/// count before those of all threads but the first poller's.
+fn not_started<G, C, R: Wait + Log>(
+    context: &Context<G, C, R>,
+    started: usize,
+    wanted: usize,
+) -> Recorded
     ensures { result ≡ (0, ServerFault.Threads) }
 {
-    let fault = log_no_thread(context.rt);
+    let fault = log_few_threads(
+        context.rt,
+        started.saturating_add(1),
+        wanted.saturating_add(1),
+    );
     context.ending.record(context.rt, 0, fault)
 }

@@ -1,11 +1,11 @@
 -- The end of a turn, after the steps that took the notes and ran the connection; and the tickets in hand of which some
 -- were looked at: each of those is put, or after the others in hand.
-use Rattle.std.proofs.{Common.{◌≡◌, ◌⊎◌, ◌+◌, ◌↔◌, ◌<◌, ◌≤◌, ℕ, List, [], ◌∷◌, length, drop, slice_get, get_or, Bool, true, false, IsTrue, Option, Some, None, Result, Ok, Err, IfOk, IfSome, IsErrAnd, inl, inr, refl, sym, ap, ◌∙◌, arith, suc, ◌++◌, append_assoc, zero, nat_lt}, lemmas.{Option.{none-some, same_Some}, Bool.{ltb-true, ltb-false, false≢true}, List.{append-nil, drop_more, drop_all}}}
-use Rattle.claims.{specs.{declared.{view.{Account.Account, Exchange.{Exchange, TheVariants.{Busy, Held, Take, Post}}}, answers.Posted.Posted}, Calls.PostChange, Views.{after_all, minted_by}, Seats.{TableId, SeatState, Holds, HoldsNothing, OnlyAt, Adds}}, proofs.Seats.{adds_none, adds_both, account_after, minted_both, holds_nothing_again}}
-use Rattle.dispatch.{proofs.{Outgoing.took_both}, specs.{declared.shared.Own.Own, Outgoing.{TookNothing, outgoing, tickets_out, slots_out}, Posts.HoldsOnly, Hands.HandState, Acts.Act, Heavy.looked_at}}
+use Rattle.std.proofs.{Common.{◌≡◌, ◌==◌, ◌^◌, ◌⊎◌, ◌+◌, ◌↔◌, ◌<◌, ◌≤◌, ℕ, List, [], ◌∷◌, length, drop, slice_get, get_or, Bool, true, false, IsTrue, Option, Some, None, Result, Ok, Err, IfNone, IfSome, inl, inr, refl, sym, ap, ◌∙◌, arith, suc, ◌++◌, append_assoc, zero, nat_lt}, lemmas.{Option.{none-some, same_Some}, Bool.{eqb-true, eqb-false, ltb-true, ltb-false, false≢true}, List.{append-nil, drop_more, drop_all}}}
+use Rattle.claims.{specs.{declared.{view.{Account.Account, Exchange.{Exchange, TheVariants.{Busy, Held, Take, Post}}}, answers.Posted.Posted}, Calls.PostChange, Views.{after_all, minted_by}, Seats.{TableId, SeatState, account_at, posts_of, Holds, HoldsNothing, OnlyAt, Adds}}, proofs.Seats.{adds_none, adds_both, account_after, minted_both, holds_nothing_again}}
+use Rattle.dispatch.{proofs.{Holding.{posts_still, woke_behind_post}, Outgoing.took_both}, specs.{declared.shared.Own.Own, Outgoing.{PutAll, TookNothing, outgoing, tickets_out, slots_out}, Posts.{AtRest, HoldsOnly, IsWorn}, Hands.HandState, Acts.Act, Heavy.looked_at}}
 use Rattle.ready.specs.{declared.ticket.Ticket.Ticket, Steps.EndState}
 use Rattle.relay_log.specs.declared.faults.ServerFault.{ServerFault}
-use Rattle.turns.specs.{declared.worker.Worked.Worked, Turns.{WasHeld, TurnInOrder, OwnTurnInOrder, program, acts_of, AtWork, TicketsKept, SlotGiven, SlotsKept, TurnDone, TurnRest, TurnMade, OwnTurn, NoOwnTurn, marks_after}, Shares.{AreShared, IsLight, OneShared, Passed, Stays}}
+use Rattle.turns.specs.{declared.worker.Worked.Worked, Turns.{answer_by, answer_of, if_posted, WasHeld, TurnInOrder, program, acts_of, AtWork, TicketsKept, SlotGiven, SlotsKept, HandPut, TurnDone, TurnRest, LeftSlot, TurnMade, NoOwnTurn, marks_after}, Shares.{AreShared, IsLight, OneShared, Passed, Stays}}
 use Rattle.claims.specs.declared.answers.Posted.TheVariants as posted
 use Rattle.turns.specs.declared.worker.Worked.TheVariants as worked
 use Rattle.dispatch.specs.Acts as act
@@ -22,15 +22,28 @@ pub record Still (a b : Own) : Type 0 where
 pub still : {a b : Own} → b.ready ≡ a.ready → b.free ≡ a.free → b.hand ≡ a.hand → Still a b
 still ready free hand = record { tickets = rw (ready, hand); slots = rw (free, hand); took = record { tickets = rw ready; slots = rw free } }
 
--- all in hand was put that the queues took
-pub hand_put : (own : Own) (ready : EndState Ticket) (free : EndState ℕ) (mid hand : HandState) → outgoing ready.history mid.tickets ≡ tickets_out own
-    → mid.slots ≡ own.hand.slots → ready.history.taken ≡ own.ready.history.taken → outgoing free.history hand.slots ≡ outgoing own.free.history mid.slots
-    → hand.tickets ≡ mid.tickets → free.history.taken ≡ own.free.history.taken → Still own (record own { ready = ready; free = free; hand = hand })
-hand_put own ready free mid hand put slots took given tickets gave = record {
+-- what was in hand was put as far as the queues had room
+pub hand_put : (own : Own) {ready : EndState Ticket} {free : EndState ℕ} (mid : HandState) {hand : HandState}
+    → outgoing ready.history mid.tickets ≡ tickets_out own → mid.slots ≡ own.hand.slots → ready.history.taken ≡ own.ready.history.taken → PutAll ready mid.tickets
+    → outgoing free.history hand.slots ≡ outgoing own.free.history mid.slots → hand.tickets ≡ mid.tickets → free.history.taken ≡ own.free.history.taken → PutAll free hand.slots
+    → HandPut own (record own { ready = ready; free = free; hand = hand })
+hand_put own mid put slots took all given tickets gave all_slots = record {
+  seat = refl;
   tickets = rw tickets put;
   slots = given ∙ rw slots;
   took = record { tickets = took; slots = gave };
+  all_tickets = rw tickets all;
+  all_slots = all_slots;
 }
+
+-- a seat after exchanges without a post has posted as often
+posts_by : {slot : ℕ} {a b : SeatState} (es : List Exchange) → Adds slot es a b → (after_all es (account_at a slot)).posted ≡ (account_at a slot).posted
+    → posts_of b ≡ posts_of a
+posts_by {slot} {a} {b} es adds same = posts_still adds.only (ap (λ (x : Account). x.posted) (account_after slot es a b adds) ∙ same)
+
+pub answer_after : {slot : ℕ} {a b : SeatState} (es : List Exchange) → Adds slot es a b → (after_all es (account_at a slot)).posted ≡ (account_at a slot).posted
+    → (w : Worked) → answer_by b w ≡ answer_by a w
+answer_after es adds same w = rw (posts_by es adds same)
 
 module _ (t : Ticket) (a b c : Own) where
   tickets_after : (minted : ℕ) → tickets_out b ≡ tickets_out a → TicketsKept t minted b c → TicketsKept t minted a c
@@ -67,12 +80,11 @@ firsts (Ok worked.Busy) held found noted notes g other woke = absurd held
 firsts _ held found noted notes g other woke = (refl, refl, refl, refl)
 
 -- of one whose connection is due again
-pub again_firsts : (r : Answer) → IfOk r (λ w. w ≡ worked.Again) → (g : ℕ) (other woke : Bool)
-    → (drop 2 (acts_of r g other woke) ≡ act.TakeNotes ∷ drop 3 (acts_of r g other woke))
+pub again_firsts : (spent : Bool) (g : ℕ) (other woke : Bool) → let r = answer_of (if_posted worked.Again spent) in
+    (drop 2 (acts_of r g other woke) ≡ act.TakeNotes ∷ drop 3 (acts_of r g other woke))
     × (drop 3 (acts_of r g other woke) ≡ act.PutIn ∷ drop 4 (acts_of r g other woke))
-again_firsts (Ok worked.Again) is g other woke = (refl, refl)
-again_firsts (Err fault) is g other woke = (refl, refl)
-again_firsts _ is g other woke = absurd (cc)
+again_firsts true g other woke = (refl, refl)
+again_firsts false g other woke = (refl, refl)
 
 module _ {S : Type 0} {made : Act → ℕ → S → S → Type 0} {t : Ticket} {a c : Own} {from mid to : S} where
   pub act_first : {r : Answer} {other : Bool} {e n : ℕ} {one : Act}
@@ -124,32 +136,40 @@ module _ {S : Type 0} (made : Act → ℕ → S → S → Type 0) {words : ℕ} 
     λ past. absurd (omega arith),
   )
 
-  -- nothing but what is in hand was put before the turn
-  pub made_after : {t : Ticket} {r : Answer} {b : Own} → b.seat ≡ a.seat → Still a b → TurnInOrder made words t r b c from to → TurnInOrder made words t r a c from to
-  made_after {t} seat same (turn, inside, outside) = (
-    record {
-      exchanges = turn.exchanges;
-      are = turn.are;
-      done = done_after [] (rw seat (adds_none t.slot a.seat)) refl same turn.done;
-      outside = λ past. turn.outside past ∙ seat;
-    },
-    inside,
-    outside,
-  )
-
--- an own turn, without the order of its acts
-pub without_order : {S : Type 0} (made : Act → ℕ → S → S → Type 0) (words : ℕ) (o : Option Ticket) (r : Result (Option Worked) ServerFault) (a c : Own) (from to : S)
-    → IfSome o (λ t. OwnTurnInOrder made words t r a c from to) → IfSome o (λ t. OwnTurn words t r a c)
-without_order made words None r a c from to whole = tt
-without_order made words (Some t) (Ok None) a c from to whole = whole.0
-without_order made words (Some t) (Ok (Some w)) a c from to whole = whole.0
-without_order made words (Some t) (Err fault) a c from to whole = whole.0
-
 -- a post by the slot's holder does not answer Wake
 pub posted_quiet : (slot : ℕ) (r : Posted) {a b : SeatState} → (r ≡ posted.Wake) ⊎ (r ≡ posted.Quiet) → Holds a slot → PostChange slot a r b → Adds slot (Post false ∷ []) a b
 posted_quiet slot posted.Wake is holds change = absurd (false≢true (sym change.1 ∙ holds))
 posted_quiet slot posted.Quiet is holds change = change
 posted_quiet slot posted.Worn is holds change = absurd (grind arith)
+
+-- whether it is worn, as its thread found
+worn_is : (spent : Bool) (s : SeatState) → (IsTrue spent ↔ IsWorn s) → (posts_of s == 2 ^ 56) ≡ spent
+worn_is spent s is = grind (arith, eqb-true, eqb-false)
+
+-- the post was refused if the seat was worn, and the slot was released
+pub due_again : {S : Type 0} {made : Act → ℕ → S → S → Type 0} {t : Ticket} {a b c : Own} {from mid to : S} (r : Posted) → (r ≡ posted.Worn ↔ IsWorn a.seat)
+    → PostChange t.slot a.seat r b.seat → Holds a.seat t.slot → Still a b → made act.Post t.slot from mid → LeftSlot made t b c mid to
+    → TurnRest made t (answer_by a.seat worked.Again) false 2 4 a c from to
+due_again {a = a} posted.Worn spent change holds same first left =
+    let done = done_after [] (rw change.0 (adds_none _ _)) refl same left.done in
+    rw (worn_is true a.seat (λ is. spent.0 refl, λ is. refl)) (record {
+      noted = 0;
+      woke = left.woke;
+      held = tt;
+      done = record { seat = done.seat; tickets = done.tickets; slots = done.slots; took = done.took };
+      acts = (_, first, left.acts);
+    })
+due_again {t = t} {a = a} {b = b} r spent change holds same first left =
+    let posted = posted_quiet t.slot r (grind arith) holds change in
+    let woke = woke_behind_post _ _ _ left.woke posted holds left.quiet in
+    let done = rw woke at (done_after {a = a} (Post false ∷ []) posted refl same left.done) in
+    rw (worn_is false a.seat (λ is. absurd (cc), λ is. absurd (cc (spent.1 is)))) (record {
+      noted = 0;
+      woke = true;
+      held = tt;
+      done = record { seat = done.seat; tickets = done.tickets; slots = done.slots; took = done.took };
+      acts = (_, first, rw woke at left.acts);
+    })
 
 program_lets_go : (r : Answer) (found noted : ℕ) (woke : Bool) (a : Account) → a.holds ≡ false → (after_all (program r found noted woke) a).holds ≡ false
 program_lets_go (Ok worked.Busy) found noted woke a none = none
@@ -165,16 +185,34 @@ made_idle {words} {t} {r} {a} {b} made nothing = by_test (nat_lt t.slot words) r
         ∙ rw (made.are.inside (ltb-true t.slot words is)) (program_lets_go r _ _ _ _ (nothing.nowhere t.slot)))
     by_test false is = rw (made.outside (ltb-false t.slot words is)) nothing
 
-pub given_if_ended : (t : Ticket) (r : Answer) (w : Worked) (a b : Own) → r ≡ Ok w → w ≡ worked.Ended → SlotsKept t r a b → SlotGiven t a b
-given_if_ended t r w a b is ended kept = rw (is, ended) at kept
+-- and posts nothing if it was refused
+pub made_worn : {words : ℕ} {t : Ticket} {fault : ServerFault} {a b : Own} → TurnMade words t (Err fault) a b → IsWorn a.seat → IsWorn b.seat
+made_worn {words} {t} {fault} {a} {b} made spent = by_test (nat_lt t.slot words) refl
+  where
+    by_test : (within : Bool) → nat_lt t.slot words ≡ within → IsWorn b.seat
+    by_test true is = posts_by _ made.done.seat (rw (made.are.inside (ltb-true t.slot words is))) ∙ spent
+    by_test false is = rw (made.outside (ltb-false t.slot words is)) spent
 
--- what the exit of a `?` returns, and answers that differ
-pub err_is : {T E : Type 0} (r : Result T E) (e : E) → IsErrAnd r (λ y. y ≡ e) → r ≡ Err e
-err_is (Ok x) e is = absurd is
-err_is (Err y) e is = rw is
+refused_worn : {words : ℕ} {t : Ticket} (spent : Bool) (w : Worked) {a b : Own} → (IsTrue spent ↔ IsWorn a.seat)
+    → TurnMade words t (answer_of (if_posted w spent)) a b → IfNone (if_posted w spent) (IsWorn b.seat)
+refused_worn true worked.Again is made = made_worn made (is.0 refl)
+refused_worn false worked.Again is made = tt
+refused_worn spent _ is made = tt
 
-pub err_not_ok : {T E X : Type 0} {r : Result T E} {e : E} {x : T} → r ≡ Err e → r ≡ Ok x → X
-err_not_ok is other = absurd (cc)
+-- what a turn was, by what its thread found before it and what it is answered
+pub turn_answered : {S : Type 0} (made : Act → ℕ → S → S → Type 0) (w : Worked) {claims : TableId} {t : Ticket} {spent : Bool} {r : Option Worked} {a b : Own} {from to : S}
+    → r ≡ if_posted w spent → (IsTrue spent ↔ IsWorn a.seat) → AtRest claims a → TurnInOrder made claims.words t (answer_by a.seat w) a b from to
+    → AtRest claims b × TurnInOrder made claims.words t (answer_of r) a b from to × IfNone r (IsWorn b.seat)
+turn_answered made w {spent = spent} {a = a} said is rest turn =
+    let here = rw (worn_is spent a.seat is) at turn in
+    rw said (
+      record { same = turn.0.done.seat.only.table ∙ rest.same; idle = made_idle turn.0 rest.idle },
+      here,
+      refused_worn spent w is here.0,
+    )
+
+pub given_if_ended : {t : Ticket} {w : Worked} {a b : Own} → SlotsKept t (Ok w) a b → w ≡ worked.Ended → SlotGiven t a b
+given_if_ended kept ended = rw ended at kept
 
 pub some_not_none : {X : Type 0} (w : Worked) → ◌≡◌ {A = Result (Option Worked) ServerFault} (Ok (Some w)) (Ok None) → X
 some_not_none w is = absurd (cc)

@@ -1,15 +1,29 @@
 -- What a turn does to what its thread owns, by its answer. Part of the promises.
-use Rattle.std.specs.Prelude.{◌≡◌, ◌⊎◌, ℕ, zero, suc, ◌<◌, ◌≤◌, Bool, true, false, nat_lt, if◌then◌else◌, Option, Some, None, Result, Ok, Err, List, [], ◌∷◌, drop, length, slice_set}
-use Rattle.claims.specs.{declared.view.Exchange.{Exchange, TheVariants.{Post, Busy, Held, Take, Release, Retire}}, Views.minted_by, Seats.{TableId, account_at, Adds}}
+use Rattle.std.specs.Prelude.{◌≡◌, ◌⊎◌, ℕ, zero, suc, ◌<◌, ◌≤◌, ◌^◌, ◌==◌, Bool, true, false, nat_lt, if◌then◌else◌, Option, Some, None, Result, Ok, Err, List, [], ◌∷◌, drop, length, slice_get, slice_set}
+use Rattle.claims.specs.{declared.view.Exchange.{Exchange, TheVariants.{Post, Busy, Held, Take, Release, Retire}}, Views.minted_by, Seats.{SeatState, TableId, account_at, posts_of, Adds}}
 use Rattle.ready.specs.declared.ticket.Ticket.{Ticket}
 use Rattle.relay_core.specs.{Pairs.{PairState, noted}, Replies.AnswerValue, declared.Side.Side}
 use Rattle.berths.specs.declared.berths.Berth.{Berth}
 use Rattle.engine.specs.Turns.{IsTurn}
 use Rattle.turns.specs.declared.{terms.Terms.Terms, worker.Worked.Worked}
-use Rattle.relay_log.specs.declared.faults.ServerFault.{ServerFault}
-use Rattle.dispatch.specs.{declared.shared.Own.Own, Acts.{Act, AreMade, busy_turn, gone_turn, quiet_turn, again_turn, ended_turn, leaving}, Hands.HasRoom, Limits.heavy_marks, Posts.HoldsOnly, Outgoing.{Inserted, KeepsTicket, KeepsSlot, TookNothing, tickets_out, slots_out, without_first}}
+use Rattle.relay_log.specs.declared.faults.ServerFault.{ServerFault, TheVariants.Worn}
+use Rattle.dispatch.specs.{declared.shared.Own.Own, Acts.{Act, AreMade, busy_turn, gone_turn, quiet_turn, again_turn, ended_turn, leaving}, Hands.HasRoom, Limits.heavy_marks, Posts.HoldsOnly, Outgoing.{Inserted, KeepsTicket, KeepsSlot, PutAll, TookNothing, tickets_out, slots_out, without_first}}
 use Rattle.token.specs.Names.{last_generation}
 use Rattle.turns.specs.declared.worker.Worked.TheVariants as worked
+
+-- after Again a note is posted, unless the seat was worn before
+abbrev pub if_posted : Worked → Bool → Option Worked
+if_posted worked.Again worn = if worn then None else Some worked.Again
+if_posted worked worn = Some worked
+
+-- what a turn answers
+abbrev pub answer_of : Option Worked → Result Worked ServerFault
+answer_of (Some worked) = Ok worked
+answer_of None = Err Worn
+
+-- by its seat, as it was before the turn
+abbrev pub answer_by : SeatState → Worked → Result Worked ServerFault
+answer_by seat worked = answer_of (if_posted worked (posts_of seat == 2 ^ 56))
 
 -- the claim got the slot: the answer is not Busy
 abbrev pub WasHeld : Result Worked ServerFault → Type 0
@@ -115,18 +129,34 @@ TurnInOrder made words ticket result old new from to =
     × (ticket.slot < words → (other : Bool) × ActsLeft made ticket result 0 other turn.are.woke from to)
     × (words ≤ ticket.slot → to ≡ from)
 
--- a poller's own turn with the oldest ticket in hand, which it takes out. After None nothing has changed
-abbrev pub OwnTurn : ℕ → Ticket → Result (Option Worked) ServerFault → Own → Own → Type 0
-OwnTurn words ticket (Ok None) old new = new ≡ old
-OwnTurn words ticket (Ok (Some worked)) old new = TurnMade words ticket (Ok worked) (without_first old) new
-OwnTurn words ticket (Err fault) old new = TurnMade words ticket (Err fault) (without_first old) new
+-- what was in hand was put, until nothing was left or the queue was full at one moment
+pub record HandPut (old new : Own) : Type 0 where
+  pub seat : new.seat ≡ old.seat
+  pub tickets : tickets_out new ≡ tickets_out old
+  pub slots : slots_out new ≡ slots_out old
+  pub took : TookNothing old new
+  pub all_tickets : PutAll new.ready new.hand.tickets
+  pub all_slots : PutAll new.free new.hand.slots
 
-abbrev pub OwnTurnInOrder : {S : Type 0} → (Act → ℕ → S → S → Type 0) → ℕ → Ticket → Result (Option Worked) ServerFault → Own → Own → S → S
-    → Type 0
-OwnTurnInOrder made words ticket (Ok None) old new from to = (new ≡ old) × (to ≡ from)
-OwnTurnInOrder made words ticket (Ok (Some worked)) old new from to =
-    TurnInOrder made words ticket (Ok worked) (without_first old) new from to
-OwnTurnInOrder made words ticket (Err fault) old new from to = TurnInOrder made words ticket (Err fault) (without_first old) new from to
+-- a worker's turn: what is in hand is put before anything else
+pub record WorkerTurn {S : Type 0} (made : Act → ℕ → S → S → Type 0) (words : ℕ) (ticket : Ticket) (result : Result Worked ServerFault)
+    (old new : Own) (from to : S) : Type 0 where
+  pub begun : Own
+  pub put : HandPut old begun
+  pub turn : TurnInOrder made words ticket result begun new from to
+
+-- the oldest ticket in hand was taken out, and had its turn
+pub record OldestRan {S : Type 0} (made : Act → ℕ → S → S → Type 0) (words : ℕ) (result : Result Worked ServerFault) (old new : Own)
+    (from to : S) : Type 0 where
+  pub ticket : Ticket
+  pub oldest : slice_get old.hand.tickets 0 ≡ Some ticket
+  pub turn : TurnInOrder made words ticket result (without_first old) new from to
+
+-- a poller's own turn. After None nothing has changed
+abbrev pub OwnTurn : {S : Type 0} → (Act → ℕ → S → S → Type 0) → ℕ → Result (Option Worked) ServerFault → Own → Own → S → S → Type 0
+OwnTurn made words (Ok None) old new from to = (new ≡ old) × (to ≡ from)
+OwnTurn made words (Ok (Some worked)) old new from to = OldestRan made words (Ok worked) old new from to
+OwnTurn made words (Err fault) old new from to = OldestRan made words (Err fault) old new from to
 
 -- the heavy marks after an own turn: a slot whose connection spent the budget has all 16
 abbrev pub marks_after : Option Ticket → Result (Option Worked) ServerFault → List ℕ → List ℕ

@@ -35,5 +35,5 @@ mod terms;
 mod visit;
 mod worker;
 
-pub use own_turns::{own_turn, own_turn_with, share_tickets};
-pub use worker::{Worked, worker_turn, worker_turn_with};
+pub use own_turns::{own_turn, share_tickets};
+pub use worker::{Worked, worker_turn};

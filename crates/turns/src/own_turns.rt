@@ -1,8 +1,8 @@
 //! The turns that a poller's thread runs by itself, so that no worker has to be woken for them.
 ghost use Rattle.std.specs.Prelude.{◌≡◌, ◌↔◌, ◌<◌, ◌≤◌, ◌∷◌, ◌++◌, [], length, slice_get, Ok, Some, None, IfErr, IfSome, IsSome, false, true};
-ghost use Rattle.claims.specs.Seats.{HoldsNothing, OnlyAt};
-ghost use Rattle.dispatch.specs.{Outgoing.TookNothing, Heavy.looked_at, Limits.first_light, Posts.{AtRest, OnlyWorn}};
-ghost use Rattle.turns.specs.{Shares.{IsLight, Stays, TicketsShared}, Turns.{marks_after, NoOwnTurn, OwnTurn, OwnTurnInOrder}};
+ghost use Rattle.claims.specs.Seats.{HoldsNothing};
+ghost use Rattle.dispatch.specs.{Heavy.looked_at, Limits.first_light, Posts.{AtRest, OnlyWorn}};
+ghost use Rattle.turns.specs.{Shares.{IsLight, Stays, TicketsShared}, Turns.{marks_after, NoOwnTurn, OwnTurn}};
 
 use crate::giving::put_ticket;
 use crate::terms::Terms;
@@ -99,32 +99,7 @@ fn keep(hand: &mut Hand, ticket: Ticket, _kept: usize, _shares_light: bool, _sta
 /// If a connection ends, nobody has to be woken: the next round looks for a free slot before it waits, if a client may
 /// be waiting. If `is_closing`, the poller may open no more connections: then that round does not wait, so that the
 /// poller's end is found at once.
-pub fn own_turn<F: Front, G: Gate, C: Clock, R: Wait + Log>(
-    rt: &R,
-    shared: &Shared<F>,
-    own: &mut Own,
-    gate: &G,
-    heavy: &mut HeavyMarks,
-    is_closing: bool,
-    timing: &Timing<'_, C>,
-) -> Result<Option<Worked>, ServerFault>
-    requires rest { AtRest shared.now.claims own.old }
-    ensures rest { AtRest shared.now.claims own.new }
-    ensures marks { heavy.new ≡ marks_after (slice_get own.old.hand.tickets 0) result heavy.old }
-    ensures only { IfSome (slice_get own.old.hand.tickets 0) (λ ticket. OnlyAt ticket.slot own.old.seat own.new.seat) }
-    ensures turn { IfSome (slice_get own.old.hand.tickets 0) (λ ticket. OwnTurn shared.now.claims.words ticket result own.old own.new) }
-    ensures none { result ≡ Ok None ↔ NoOwnTurn own.old }
-    ensures unchanged { result ≡ Ok None → own.new ≡ own.old }
-    ensures took { TookNothing own.old own.new }
-    ensures worn { IfErr result (λ fault. OnlyWorn fault own.new.seat) }
-    ensures woken { result ≡ Ok (Some Worked.Ended) → is_closing ≡ true
-        → IfSome (slice_get own.old.hand.tickets 0) (λ ticket. F.woke shared.now.waker ticket.slot) }
-{
-    own_turn_with(rt, &mut (), shared, own, gate, heavy, is_closing, timing)
-}
-
-/// [`own_turn`], over any acts. The clause `turn` also says which acts it makes, in which order.
-pub fn own_turn_with<F: Front, A: Moves<F>, G: Gate, C: Clock, R: Wait + Log>(
+pub fn own_turn<F: Front, A: Moves<F>, G: Gate, C: Clock, R: Wait + Log>(
     rt: &R,
     acts: &mut A,
     shared: &Shared<F>,
@@ -136,13 +111,9 @@ pub fn own_turn_with<F: Front, A: Moves<F>, G: Gate, C: Clock, R: Wait + Log>(
 ) -> Result<Option<Worked>, ServerFault>
     requires rest { AtRest shared.now.claims own.old }
     ensures rest { AtRest shared.now.claims own.new }
-    ensures marks { heavy.new ≡ marks_after (slice_get own.old.hand.tickets 0) result heavy.old }
-    ensures only { IfSome (slice_get own.old.hand.tickets 0) (λ ticket. OnlyAt ticket.slot own.old.seat own.new.seat) }
-    ensures turn { IfSome (slice_get own.old.hand.tickets 0)
-        (λ ticket. OwnTurnInOrder A.made shared.now.claims.words ticket result own.old own.new acts.old acts.new) }
     ensures none { result ≡ Ok None ↔ NoOwnTurn own.old }
-    ensures unchanged { result ≡ Ok None → (own.new ≡ own.old) × (acts.new ≡ acts.old) }
-    ensures took { TookNothing own.old own.new }
+    ensures turn { OwnTurn A.made shared.now.claims.words result own.old own.new acts.old acts.new }
+    ensures marks { heavy.new ≡ marks_after (slice_get own.old.hand.tickets 0) result heavy.old }
     ensures worn { IfErr result (λ fault. OnlyWorn fault own.new.seat) }
     ensures woken { result ≡ Ok (Some Worked.Ended) → is_closing ≡ true
         → IfSome (slice_get own.old.hand.tickets 0) (λ ticket. F.woke shared.now.waker ticket.slot) }
@@ -154,9 +125,13 @@ pub fn own_turn_with<F: Front, A: Moves<F>, G: Gate, C: Clock, R: Wait + Log>(
         return Ok(None);
     };
     let terms = Terms::own(shared.budget, timing.moment());
-    let worked = turn_of(rt, acts, shared, own, gate, ticket, terms)?;
-    follow_up(shared, heavy, is_closing, ticket, worked);
-    Ok(Some(worked))
+    match turn_of(rt, acts, shared, own, gate, ticket, terms) {
+        Some(worked) => {
+            follow_up(shared, heavy, is_closing, ticket, worked);
+            Ok(Some(worked))
+        }
+        None => Err(ServerFault::Worn),
+    }
 }
 
 fn follow_up<F: Front>(

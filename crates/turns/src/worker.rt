@@ -1,10 +1,10 @@
 //! One turn of a worker.
-ghost use Rattle.std.specs.Prelude.{◌≡◌, ◌⊎◌, ℕ, ◌<◌, ◌≤◌, [], ◌∷◌, Bool, false, Ok, IfOk, IfErr};
-ghost use Rattle.claims.specs.Seats.{Adds, HoldsNothing, OnlyAt};
+ghost use Rattle.std.specs.Prelude.{◌≡◌, ◌⊎◌, ℕ, ◌<◌, ◌≤◌, [], ◌∷◌, Bool, false, Ok, IfErr, IfNone};
+ghost use Rattle.claims.specs.Seats.{Adds};
 ghost use Rattle.engine.specs.Turns.{outcome_of, IsServed};
-ghost use Rattle.dispatch.specs.{Hands.HasRoom, Outgoing.{KeepsSlot, TookNothing}, Posts.{HoldsOnly, OnlyWorn}};
+ghost use Rattle.dispatch.specs.{Hands.HasRoom, Outgoing.KeepsSlot, Posts.{AtRest, HoldsOnly, IsWorn, OnlyWorn}};
 ghost use Rattle.token.specs.Names.{last_generation};
-ghost use Rattle.turns.specs.Turns.{AtWork, TurnRest, TurnInOrder, LeftSlot, TurnMade, Plays};
+ghost use Rattle.turns.specs.Turns.{answer_by, answer_of, if_posted, AtWork, TurnRest, TurnInOrder, LeftSlot, WorkerTurn, Plays};
 ghost use Rattle.claims.specs.declared.view.Exchange.TheVariants as exchange;
 ghost use Rattle.dispatch.specs.Acts as act;
 
@@ -12,7 +12,7 @@ use crate::giving::{give_back, put_ticket};
 use crate::gone::log_gone;
 use crate::terms::Terms;
 use crate::visit::{Back, Visit, put_in, take_out};
-use claims::{ClaimSeat, Claimed, Posted, Released};
+use claims::{ClaimSeat, Claimed, Released};
 use dispatch::{Acts, Clock, Front, Gate, Moves, Own, Shared, Timing, give_slots, put_tickets};
 use engine::Turn;
 use log::Log;
@@ -46,30 +46,9 @@ pub enum Worked {
 ///
 /// A connection fails if it is left without a call and, by the turn's second, has moved nothing for the idle limit.
 ///
-/// The only refusal is `Worn`: the seat has posted 2^56 times. The slot is released then, too.
-pub fn worker_turn<F: Front, G: Gate, C: Clock, R: Wait + Log>(
-    rt: &R,
-    shared: &Shared<F>,
-    own: &mut Own,
-    gate: &G,
-    ticket: Ticket,
-    timing: &Timing<'_, C>,
-) -> Result<Worked, ServerFault>
-    requires same { own.old.seat.table ≡ shared.now.claims }
-    requires idle { HoldsNothing own.old.seat }
-    requires room { HasRoom own.old.hand }
-    ensures idle { HoldsNothing own.new.seat }
-    ensures only { OnlyAt ticket.slot own.old.seat own.new.seat }
-    ensures made { TurnMade shared.now.claims.words ticket result own.old own.new }
-    ensures took { TookNothing own.old own.new }
-    ensures worn { IfErr result (λ fault. OnlyWorn fault own.new.seat) }
-    ensures woken { result ≡ Ok Worked.Ended → F.woke shared.now.waker ticket.slot }
-{
-    worker_turn_with(rt, &mut (), shared, own, gate, ticket, timing)
-}
-
-/// [`worker_turn`], over any acts. The clause `made` also says which acts it makes, in which order.
-pub fn worker_turn_with<F: Front, A: Moves<F>, G: Gate, C: Clock, R: Wait + Log>(
+/// The only refusal is `Worn`, in place of `Again`: the seat had posted 2^56 times before, so no note was posted. The
+/// slot is released then, too. The acts, but those that put what is in hand, are made by `acts`; the server's is `()`.
+pub fn worker_turn<F: Front, A: Moves<F>, G: Gate, C: Clock, R: Wait + Log>(
     rt: &R,
     acts: &mut A,
     shared: &Shared<F>,
@@ -78,13 +57,10 @@ pub fn worker_turn_with<F: Front, A: Moves<F>, G: Gate, C: Clock, R: Wait + Log>
     ticket: Ticket,
     timing: &Timing<'_, C>,
 ) -> Result<Worked, ServerFault>
-    requires same { own.old.seat.table ≡ shared.now.claims }
-    requires idle { HoldsNothing own.old.seat }
+    requires rest { AtRest shared.now.claims own.old }
     requires room { HasRoom own.old.hand }
-    ensures idle { HoldsNothing own.new.seat }
-    ensures only { OnlyAt ticket.slot own.old.seat own.new.seat }
-    ensures made { TurnInOrder A.made shared.now.claims.words ticket result own.old own.new acts.old acts.new }
-    ensures took { TookNothing own.old own.new }
+    ensures rest { AtRest shared.now.claims own.new }
+    ensures made { WorkerTurn A.made shared.now.claims.words ticket result own.old own.new acts.old acts.new }
     ensures worn { IfErr result (λ fault. OnlyWorn fault own.new.seat) }
     ensures woken { result ≡ Ok Worked.Ended → F.woke shared.now.waker ticket.slot }
 {
@@ -94,14 +70,17 @@ pub fn worker_turn_with<F: Front, A: Moves<F>, G: Gate, C: Clock, R: Wait + Log>
         budget: shared.budget,
         moment: timing.moment(),
     };
-    let worked = turn_of(rt, acts, shared, own, gate, ticket, terms);
-    if let Ok(Worked::Ended) = worked {
-        wake_poller(shared, own, ticket);
+    match turn_of(rt, acts, shared, own, gate, ticket, terms) {
+        Some(worked) => {
+            wake_if_ended(shared, own, ticket, worked);
+            Ok(worked)
+        }
+        None => Err(ServerFault::Worn),
     }
-    worked
 }
 
-/// A turn alone: nothing in hand is put before it, and nobody is woken after it.
+/// A turn alone: nothing in hand is put before it, and nobody is woken after it. None: the seat had posted 2^56 times
+/// before, so its post was refused.
 pub(crate) fn turn_of<F: Front, A: Moves<F>, G: Gate, R: Wait + Log>(
     rt: &R,
     acts: &mut A,
@@ -110,22 +89,49 @@ pub(crate) fn turn_of<F: Front, A: Moves<F>, G: Gate, R: Wait + Log>(
     gate: &G,
     ticket: Ticket,
     terms: Terms,
-) -> Result<Worked, ServerFault>
-    requires same { own.old.seat.table ≡ shared.now.claims }
-    requires idle { HoldsNothing own.old.seat }
+) -> Option<Worked>
+    requires rest { AtRest shared.now.claims own.old }
     requires room { HasRoom own.old.hand }
     requires budget { (1 ≤ terms.budget) × (terms.budget ≤ 1024) }
-    ensures idle { HoldsNothing own.new.seat }
-    ensures only { OnlyAt ticket.slot own.old.seat own.new.seat }
-    ensures made { TurnInOrder A.made shared.now.claims.words ticket result own.old own.new acts.old acts.new }
-    ensures took { TookNothing own.old own.new }
-    ensures worn { IfErr result (λ fault. OnlyWorn fault own.new.seat) }
+    ensures rest { AtRest shared.now.claims own.new }
+    ensures made { TurnInOrder A.made shared.now.claims.words ticket (answer_of result) own.old own.new acts.old acts.new }
+    ensures worn { IfNone result (IsWorn own.new.seat) }
+{
+    let worn = own.seat.is_worn();
+    let worked = claim(rt, acts, shared, own, gate, ticket, terms);
+    if_posted(worked, worn)
+}
+
+fn if_posted(worked: Worked, worn: bool) -> Option<Worked>
+    ensures { result ≡ if_posted worked worn }
+{
+    match worked {
+        Worked::Again if worn => None,
+        _ => Some(worked),
+    }
+}
+
+/// Claims the slot, and goes on if it is there and held by nobody.
+fn claim<F: Front, A: Moves<F>, G: Gate, R: Wait + Log>(
+    rt: &R,
+    acts: &mut A,
+    shared: &Shared<F>,
+    own: &mut Own,
+    gate: &G,
+    ticket: Ticket,
+    terms: Terms,
+) -> Worked
+    requires rest { AtRest shared.now.claims own.old }
+    requires room { HasRoom own.old.hand }
+    requires budget { (1 ≤ terms.budget) × (terms.budget ≤ 1024) }
+    ensures made { TurnInOrder A.made shared.now.claims.words ticket (answer_by own.old.seat result) own.old own.new
+        acts.old acts.new }
 {
     if ticket.slot >= shared.claims.slots() {
-        return Ok(Worked::Gone);
+        return Worked::Gone;
     }
     match acts.claim(&shared.claims, &mut own.seat, ticket.slot) {
-        Claimed::Busy => Ok(Worked::Busy),
+        Claimed::Busy => Worked::Busy,
         Claimed::Held => claimed(rt, acts, shared, own, gate, ticket, terms),
     }
 }
@@ -138,11 +144,11 @@ fn claimed<F: Front, A: Moves<F>, G: Gate, R: Wait + Log>(
     gate: &G,
     ticket: Ticket,
     terms: Terms,
-) -> Result<Worked, ServerFault>
+) -> Worked
     requires work { AtWork shared.now.claims ticket.slot own.old }
     requires budget { (1 ≤ terms.budget) × (terms.budget ≤ 1024) }
-    ensures done { (other : Bool) × TurnRest A.made ticket result other 1 1 own.old own.new acts.old acts.new }
-    ensures worn { IfErr result (λ fault. OnlyWorn fault own.new.seat) }
+    ensures done { (other : Bool) × TurnRest A.made ticket (answer_by own.old.seat result) other 1 1 own.old own.new
+        acts.old acts.new }
 {
     match take_out(rt, acts, shared, own, ticket) {
         Ok(visit) if visit.pair().generation() == ticket.generation => {
@@ -151,11 +157,11 @@ fn claimed<F: Front, A: Moves<F>, G: Gate, R: Wait + Log>(
         Ok(other) => {
             let back = put_in(rt, acts, shared, own, other);
             give_up(rt, acts, shared, own, ticket, back);
-            Ok(Worked::Gone)
+            Worked::Gone
         }
         Err(back) => {
             give_up(rt, acts, shared, own, ticket, back);
-            Ok(Worked::Gone)
+            Worked::Gone
         }
     }
 }
@@ -186,12 +192,11 @@ fn run<F: Front, A: Moves<F>, G: Gate, R: Wait + Log>(
     gate: &G,
     mut visit: Visit<F>,
     terms: Terms,
-) -> Result<Worked, ServerFault>
+) -> Worked
     requires work { AtWork shared.now.claims visit.ticket.slot own.old }
     requires own { visit.berth.value.pair.generation ≡ visit.ticket.generation }
     requires budget { (1 ≤ terms.budget) × (terms.budget ≤ 1024) }
-    ensures done { TurnRest A.made visit.ticket result false 1 2 own.old own.new acts.old acts.new }
-    ensures worn { IfErr result (λ fault. OnlyWorn fault own.new.seat) }
+    ensures done { TurnRest A.made visit.ticket (answer_by own.old.seat result) false 1 2 own.old own.new acts.old acts.new }
 {
     match play(
         acts,
@@ -205,12 +210,15 @@ fn run<F: Front, A: Moves<F>, G: Gate, R: Wait + Log>(
         Turn::Done | Turn::Failed => {
             log_gone(rt, shared.clients, &visit, terms.moment.second);
             end(rt, acts, shared, own, visit);
-            Ok(Worked::Ended)
+            Worked::Ended
         }
-        Turn::Again => again(rt, acts, shared, own, visit),
+        Turn::Again => {
+            again(rt, acts, shared, own, visit);
+            Worked::Again
+        }
         Turn::Quiet => {
             rest(rt, acts, shared, own, visit);
-            Ok(Worked::Quiet)
+            Worked::Quiet
         }
     }
 }
@@ -253,18 +261,18 @@ fn again<F: Front, A: Moves<F>, R: Wait>(
     shared: &Shared<F>,
     own: &mut Own,
     visit: Visit<F>,
-) -> Result<Worked, ServerFault>
+)
     requires work { AtWork shared.now.claims visit.ticket.slot own.old }
     requires due { outcome_of visit.berth.value.pair ≡ Turn.Again }
-    ensures done { TurnRest A.made visit.ticket result false 2 3 own.old own.new acts.old acts.new }
-    ensures answer { IfOk result (λ worked. worked ≡ Worked.Again) }
-    ensures worn { IfErr result (λ fault. OnlyWorn fault own.new.seat) }
+    ensures done { TurnRest A.made visit.ticket (answer_by own.old.seat Worked.Again) false 2 3 own.old own.new acts.old acts.new }
 {
     let ticket = visit.ticket;
     let back = put_in(rt, acts, shared, own, visit);
-    stay_due(rt, acts, shared, own, ticket, back)
+    stay_due(rt, acts, shared, own, ticket, back);
 }
 
+/// Posts a note, unless the seat is worn, and releases the slot. The post of a holder never answers Wake: the release
+/// does.
 fn stay_due<F: Front, A: Acts, R: Wait>(
     rt: &R,
     acts: &mut A,
@@ -272,20 +280,13 @@ fn stay_due<F: Front, A: Acts, R: Wait>(
     own: &mut Own,
     ticket: Ticket,
     back: Back,
-) -> Result<Worked, ServerFault>
+)
     requires work { AtWork shared.now.claims ticket.slot own.old }
     requires back { back ≡ ticket.slot }
-    ensures done { TurnRest A.made ticket result false 2 4 own.old own.new acts.old acts.new }
-    ensures answer { IfOk result (λ worked. worked ≡ Worked.Again) }
-    ensures worn { IfErr result (λ fault. OnlyWorn fault own.new.seat) }
+    ensures done { TurnRest A.made ticket (answer_by own.old.seat Worked.Again) false 2 4 own.old own.new acts.old acts.new }
 {
-    // A holder's own post never answers Wake: the release does.
-    let posted = acts.post(&shared.claims, &mut own.seat, ticket.slot);
+    let _ = acts.post(&shared.claims, &mut own.seat, ticket.slot);
     leave(rt, acts, shared, own, ticket, back);
-    match posted {
-        Posted::Worn => Err(ServerFault::Worn),
-        Posted::Wake | Posted::Quiet => Ok(Worked::Again),
-    }
 }
 
 /// Puts back a connection that has no call worth trying, once its sockets have sent what they held back.
@@ -359,10 +360,14 @@ fn end<F: Front, A: Moves<F>, R: Wait + Log>(
     give_back(rt, acts, own, ticket, closed);
 }
 
-/// Wakes the poller, which may wait for the slot. If it were woken before the slot is given back, it could wait on.
-fn wake_poller<F: Front>(shared: &Shared<F>, _own: &Own, ended: Ticket)
-    requires given { ended.generation < last_generation → KeepsSlot ended.slot _own.now.free.history _own.now.hand }
-    ensures woken { F.woke shared.now.waker ended.slot }
+/// If the connection has ended, wakes the poller, which may wait for the slot. If it were woken before the slot is given
+/// back, it could wait on.
+fn wake_if_ended<F: Front>(shared: &Shared<F>, _own: &Own, ticket: Ticket, worked: Worked)
+    requires given { worked ≡ Worked.Ended → ticket.generation < last_generation
+        → KeepsSlot ticket.slot _own.now.free.history _own.now.hand }
+    ensures woken { worked ≡ Worked.Ended → F.woke shared.now.waker ticket.slot }
 {
-    F::wake(&shared.waker, ended.slot);
+    if worked == Worked::Ended {
+        F::wake(&shared.waker, ticket.slot);
+    }
 }

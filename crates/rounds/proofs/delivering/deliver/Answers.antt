@@ -16,13 +16,13 @@ post_note-requires-clause-room c =
 pub loop-number-preserved : goal.loop-number-preserved
 loop-number-preserved c =
     rw (take_more c.args.batch.now c.loop-number.number-index 0 c.loop-number-test.true, filter_map-append (reported c.args.table.now))
-    (posted_both c.loop-number.invariant (rw c.connection.ensures.value at c.in_ok-post_note.ensures.posted))
+    (posted_both c.loop-number.invariant (rw c.connection.ensures.value at c.post_note.ensures.posted) c.post_note.ensures.still)
 
 pub post_note-requires-clause-idle : goal.post_note-requires-clause-idle
 post_note-requires-clause-idle c = holds_nothing_still c.loop-number.invariant c.requires.idle
 
-pub returns-in_err-post_note-clause-idle : goal.returns-in_err-post_note-clause-idle
-returns-in_err-post_note-clause-idle c = rw c.in_err-post_note.ensures.seat (holds_nothing_still c.loop-number.invariant c.requires.idle)
+pub returns-then-is_worn-clause-idle : goal.returns-then-is_worn-clause-idle
+returns-then-is_worn-clause-idle c = holds_nothing_still c.loop-number.invariant c.requires.idle
 
 pub returns-clause-idle : goal.returns-clause-idle
 returns-clause-idle c = holds_nothing_still c.loop-number.invariant c.requires.idle

@@ -1,15 +1,15 @@
-use Rattle.std.proofs.{Common.{rules, ◌≡◌, refl, inl, inr, arith, sym, ◌∙◌}, lemmas.Result.{on_err_weaker, on_ok_weaker}}
-use Rattle.rounds.{specs.Openings.{Dropped, Spent}, proofs.Rounds.{between_still, no_names, opened_never, opened_not, opened_there, placed_fate, registered_once, some_first, still}}
+use Rattle.std.proofs.Common.{rules, ◌≡◌, refl, inl, inr, arith, sym, ◌∙◌}
+use Rattle.rounds.{specs.Openings.{Dropped, Spent}, proofs.Rounds.{between_still, no_names, opened_never, opened_not, placed_fate, placed_there, registered_once, some_first, still}}
 use Rattle.rounds.proofs.opening.open.Goals as goal
 
 pub returns-in_default : goal.returns-in_default
 returns-in_default g c = absurd (some_first c.args.own.now.hand.slots c.requires.slot (sym c.take_slot.ensures.value ∙ c.in_default.is))
 
 pub returns-then-not-has-clause-done : goal.returns-then-not-has-clause-done
-returns-then-not-has-clause-done g c = record {
+returns-then-not-has-clause-done g c = inr (record {
   done = opened_never c.take_slot.ensures.left (sym c.take_slot.ensures.value ∙ c.in-Some.is) (inl (search rules)) c.count_lost-then-not-has.ensures;
   room = rw c.take_slot.ensures.left (omega arith);
-}
+})
 
 pub returns-in_default-next_names : goal.returns-in_default-next_names
 returns-in_default-next_names g c =
@@ -18,10 +18,8 @@ returns-in_default-next_names g c =
     let lost = c.count_lost-in_default-next_names.ensures in
     record {
       between = between_still c.requires.between refl (rw lost);
-      worn = tt;
-      counted = rw (first, lost) (Spent (refl, refl, refl, refl) (inr spent) refl);
-      in_order = tt;
-      done = record { done = opened_never c.take_slot.ensures.left first (inr spent) lost; room = rw c.take_slot.ensures.left (omega arith) };
+      counted = rw (first, lost) (Spent (refl, refl, refl) (inr spent) refl);
+      done = inr (record { done = opened_never c.take_slot.ensures.left first (inr spent) lost; room = rw c.take_slot.ensures.left (omega arith) });
       ready = refl;
       poller = rw lost;
     }
@@ -30,20 +28,17 @@ pub returns-in-Err : goal.returns-in-Err
 returns-in-Err g c =
     let first = sym c.take_slot.ensures.value ∙ c.in-Some.is in
     let named : c.in-Some-next_names.names.client.slot ≡ c.in-Some.slot = rw c.in-Some-next_names.ensures.client in
-    let counted = c.count_dropped.ensures.poller in
     let logged = c.in-Err.ensures.logged in
     record {
-      between = between_still c.requires.between refl (rw (counted, logged));
-      worn = tt;
-      counted = rw (first, counted, logged) (Dropped (refl, refl, refl, (c.in-Err.dropped, refl)) c.count_dropped.ensures.counted
+      between = between_still c.requires.between refl (rw logged);
+      counted = rw (first, logged) (Dropped (refl, refl, (c.in-Err.dropped, refl)) c.count_dropped.ensures
           (registered_once g.A.Acts.made c.args.acts.now c.prepare.new.acts named c.in-Err.ensures.acts));
-      in_order = tt;
-      done = record {
-        done = opened_not c.take_slot.ensures.left first (rw named at c.in-Err.ensures.failed) (rw (counted, logged) (still c.args.poller.now));
+      done = inr (record {
+        done = opened_not c.take_slot.ensures.left first (rw named at c.in-Err.ensures.failed) (rw logged (still c.args.poller.now));
         room = rw (c.in-Err.ensures.failed, c.take_slot.ensures.left) (omega arith);
-      };
+      });
       ready = refl;
-      poller = rw (counted, logged);
+      poller = rw logged;
     }
 
 pub returns-in-Ok : goal.returns-in-Ok
@@ -54,14 +49,9 @@ returns-in-Ok g c =
     let registered = rw named at c.in-Ok.ensures.acts in
     record {
       between = c.place.ensures.between;
-      worn = c.place.ensures.worn;
-      counted = rw first (on_ok_weaker c.place.result
-          (placed_fate c.in-Ok.ensures.same (rw (c.generation-generation.ensures.value, c.in-Some-next_names.ensures.client, c.table.ensures.table))
-          (λ acts made. (c.prepare.new.acts, registered, made))) c.place.ensures.placed);
-      in_order = rw first (on_err_weaker c.place.result (λ made. (c.prepare.new.acts, registered, made)) c.place.ensures.in_order);
-      done = on_ok_weaker c.place.result
-          (λ x. record { done = opened_there hand first (rw c.in-Ok.ensures.same at x.done) x.free x.slots; room = rw hand at x.room })
-          c.place.ensures.placed;
+      counted = rw first (placed_fate c.in-Ok.ensures.same (rw (c.generation-generation.ensures.value, c.in-Some-next_names.ensures.client, c.table.ensures.table))
+          (λ acts made. (c.prepare.new.acts, registered, made)) c.place.ensures.placed);
+      done = placed_there hand first c.in-Ok.ensures.same c.place.ensures.placed;
       ready = c.place.ensures.ready;
       poller = rw (c.place.ensures.poller, c.in-Ok.ensures.same);
     }

@@ -1,5 +1,5 @@
 use Rattle.std.proofs.Common.{inl, inr, refl, ◌∙◌, arith}
-use Rattle.rounds.proofs.Rounds.{accept_and_took, accept_both, accept_took, between_took, ended_by, not_ok, passed_up, room_same, still}
+use Rattle.rounds.proofs.Rounds.{accept_and_took, accept_both, accept_took, between_took, ended_by, room_same, still, worn_on}
 use Rattle.rounds.proofs.round.accept.Goals as goal
 
 pub loop-try-init : goal.loop-try-init
@@ -11,6 +11,7 @@ loop-try-init g c =
       tries = rw c.reset_tries.ensures;
       done = accept_took (rw (c.reset_tries.ensures, full.poller) (still c.args.poller.now)) full.took;
       poller = rw (c.reset_tries.ensures, full.poller);
+      still = λ worn. full.took.seat;
     }
 
 pub accept_next-requires : goal.accept_next-requires
@@ -30,41 +31,32 @@ returns-then-not-may_accept g c =
     let took = c.may_accept.ensures.took in
     record {
       between = between_took before.between took refl;
-      worn = tt;
       done = accept_and_took before.done took;
       ended = inl (inr (c.may_accept.ensures.ended c.if-not-may_accept.true));
       ready = took.ready ∙ before.done.connected.ready;
       poller = before.poller;
+      still = λ worn. took.seat ∙ before.still worn;
     }
 
-pub returns-in_err-accept_next : goal.returns-in_err-accept_next
-returns-in_err-accept_next g c = record {
+pub returns-then-not-accept_next : goal.returns-then-not-accept_next
+returns-then-not-accept_next g c = record {
   between = c.accept_next.ensures.between;
-  worn = passed_up _ _ _ c.from_residual.ensures.1 c.in_err-accept_next.ensures.worn;
-  done = not_ok _ _ c.from_residual.ensures.0;
-  ended = not_ok _ _ c.from_residual.ensures.0;
+  done = accept_both (accept_and_took c.loop-try.invariant.done c.may_accept.ensures.took) c.accept_next.ensures.done.done;
+  ended = ended_by c.accept_next.new.poller _ (c.accept_next.ensures.ended c.if-not-accept_next.true);
   ready = c.accept_next.ensures.ready ∙ c.may_accept.ensures.took.ready ∙ c.loop-try.invariant.done.connected.ready;
   poller = rw (c.accept_next.ensures.poller, c.loop-try.invariant.poller);
-}
-
-pub returns-then-not-branch : goal.returns-then-not-branch
-returns-then-not-branch g c = record {
-  between = c.accept_next.ensures.between;
-  worn = tt;
-  done = accept_both (accept_and_took c.loop-try.invariant.done c.may_accept.ensures.took) c.in_ok-accept_next.ensures.done.done;
-  ended = ended_by c.accept_next.new.poller _ (c.in_ok-accept_next.ensures.ended c.if-not-branch.true);
-  ready = c.accept_next.ensures.ready ∙ c.may_accept.ensures.took.ready ∙ c.loop-try.invariant.done.connected.ready;
-  poller = rw (c.accept_next.ensures.poller, c.loop-try.invariant.poller);
+  still = worn_on c.loop-try.invariant.still c.may_accept.ensures.took.seat c.accept_next.ensures.still;
 }
 
 pub loop-try-preserved : goal.loop-try-preserved
 loop-try-preserved g c =
     let before = c.loop-try.invariant in
-    let tried = c.in_ok-accept_next.ensures in
+    let tried = c.accept_next.ensures in
     record {
       between = tried.between;
       room = omega (arith, room_same c.may_accept.ensures.took, tried.done.room, before.room);
-      tries = omega (arith, tried.tries c.if-not-branch.false, before.tries, c.loop-try-test.true);
+      tries = omega (arith, tried.tries c.if-not-accept_next.false, before.tries, c.loop-try-test.true);
       done = accept_both (accept_and_took before.done c.may_accept.ensures.took) tried.done.done;
       poller = rw (c.accept_next.ensures.poller, before.poller);
+      still = worn_on before.still c.may_accept.ensures.took.seat tried.still;
     }

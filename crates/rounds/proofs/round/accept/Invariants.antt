@@ -1,5 +1,5 @@
 use Rattle.std.proofs.Common.{◌≡◌, ◌+◌, ◌≤◌}
-use Rattle.dispatch.specs.Hands.{ticket_room}
+use Rattle.dispatch.specs.{Hands.ticket_room, Posts.IsWorn}
 use Rattle.rounds.specs.Openings.{Between, AcceptDone, OnlyAccepted}
 use Rattle.rounds.proofs.round.accept.Given as goal
 
@@ -11,4 +11,5 @@ invariant-loop-try g l = record {
   tries : l._try + l.poller.tries ≡ 4;
   done : AcceptDone l.fn.poller l.poller l.fn.own l.own;
   poller : OnlyAccepted l.fn.poller l.poller;
+  still : IsWorn l.fn.own.seat → l.own.seat ≡ l.fn.own.seat;
 }

@@ -1,5 +1,5 @@
 use Rattle.std.proofs.Common.{refl, inl, inr, arith}
-use Rattle.rounds.proofs.{Rounds.{accept_both, accept_took, between_took, not_ok, passed_up, room_same, still, took_none, Lasting, begun_not_early, but_worn, ended_still, keeps, listens_still, looked_lasts, over_before, round_ended, round_of}, Acts.{few_tickets, capacity_kept, reported_le, few_sweep}}
+use Rattle.rounds.proofs.{Rounds.{accept_both, accept_took, between_still, between_took, room_same, still, took_none, worn_on, answered, Lasting, begun_not_early, ended_still, keeps, listens_still, looked_lasts, over_before, round_ended, round_of}, Acts.{few_tickets, capacity_kept, reported_le, few_sweep}}
 use Rattle.rounds.specs.Rounds.{Looked}
 use Rattle.rounds.proofs.round.poller_round.Goals as goal
 
@@ -8,123 +8,67 @@ returns-then-not-begin g c =
     let early = c.begin.ensures.early c.if-not-begin.true in
     let begun = c.begin.ensures.poller in
     record {
-      between = record { same = c.requires.same; idle = c.requires.idle; sized = rw begun c.requires.sized };
+      between = between_still c.requires.between refl (rw begun);
       early = λ _. (refl, record { own = refl; poller = begun });
       waits = inl early;
-      round = λ _. round_ended (rw begun) (rw begun) (took_none c.args.own.now);
+      round = round_ended (rw begun) (rw begun) (took_none c.args.own.now);
       ended = inl early;
       keeps = rw begun (record { opening = refl; most = refl; heavy = refl; swept = inl refl; listens = inl refl; over = λ over. inl over; took = refl });
       refused = tt;
     }
 
-pub returns-in_err-look : goal.returns-in_err-look
-returns-in_err-look g c =
+pub returns-then-not-look : goal.returns-then-not-look
+returns-then-not-look g c =
     let looked = c.look.ensures in
     let same = looked_lasts c.args.timing.now.limit c.args.own.now c.args.poller.now c.begin.ensures.poller looked.poller looked.listens looked.waits in
-    let failed = c.in_err-look.ensures.failed in
+    let failed = looked.failed c.if-not-look.true in
     record {
-      between = between_took {p = c.args.poller.now} (record { same = c.requires.same; idle = c.requires.idle; sized = c.requires.sized }) looked.took (rw (looked.poller, c.begin.ensures.poller));
+      between = between_took {p = c.args.poller.now} c.requires.between looked.took (rw (looked.poller, c.begin.ensures.poller));
       early = begun_not_early _ _ (c.begin.ensures.room c.if-not-begin.false);
       waits = inr same.waits;
-      round = λ _. round_ended (rw (looked.poller, c.begin.ensures.poller)) failed.2 looked.took;
-      ended = not_ok _ _ c.from_residual.ensures.0;
+      round = round_ended (rw (looked.poller, c.begin.ensures.poller)) failed.1 looked.took;
+      ended = inr (inl refl);
       keeps = keeps same (inl (rw (looked.poller, c.begin.ensures.poller))) (rw looked.took.ready);
-      refused = passed_up _ _ _ c.from_residual.ensures.1 (inl (
-        failed.0,
+      refused = inl (
+        refl,
         record {
-          failed = failed.1;
-          none = failed.2;
+          failed = failed.0;
+          none = failed.1;
           read = looked.batch;
           poller = rw c.begin.ensures.poller at looked.poller;
           took = looked.took;
         },
-      ));
-    }
-
-pub returns-in_err-deliver_batch : goal.returns-in_err-deliver_batch
-returns-in_err-deliver_batch g c =
-    let looked = c.look.ensures in
-    let delivered = c.deliver_batch.ensures in
-    let same = looked_lasts c.args.timing.now.limit c.args.own.now c.args.poller.now c.begin.ensures.poller looked.poller looked.listens looked.waits in
-    let failed = c.from_residual-in_err-deliver_batch.ensures in
-    record {
-      between = delivered.between;
-      early = begun_not_early _ _ (c.begin.ensures.room c.if-not-begin.false);
-      waits = inr (rw delivered.poller same.waits);
-      round = but_worn _ _ failed.1 c.in_err-deliver_batch.ensures.worn.0;
-      ended = not_ok _ _ failed.0;
-      keeps = keeps (rw delivered.poller same) (inl (rw (delivered.poller, looked.poller, c.begin.ensures.poller)))
-          (rw (delivered.ready, looked.took.ready));
-      refused = passed_up _ _ _ failed.1 (inr c.in_err-deliver_batch.ensures.worn);
+      );
     }
 
 pub keep_time-requires-clause-room : goal.keep_time-requires-clause-room
 keep_time-requires-clause-room g c =
     omega (
       arith,
-      few_tickets c.in_ok-deliver_batch.ensures.delivered,
-      capacity_kept c.in_ok-deliver_batch.ensures.delivered,
+      few_tickets c.deliver_batch.ensures.delivered,
+      capacity_kept c.deliver_batch.ensures.delivered,
       reported_le c.look.new.poller.table c.look.new.poller.batch,
       c.look.ensures.few,
       c.begin.ensures.room c.if-not-begin.false,
       room_same c.look.ensures.took,
       c.deliver_batch.ensures.between.sized,
     )
-
-pub returns-in_err-keep_time : goal.returns-in_err-keep_time
-returns-in_err-keep_time g c =
-    let looked = c.look.ensures in
-    let delivered = c.deliver_batch.ensures in
-    let timed = c.keep_time.ensures in
-    let same = looked_lasts c.args.timing.now.limit c.args.own.now c.args.poller.now c.begin.ensures.poller looked.poller looked.listens looked.waits in
-    let failed = c.from_residual-in_err-keep_time.ensures in
-    record {
-      between = timed.between;
-      early = begun_not_early _ _ (c.begin.ensures.room c.if-not-begin.false);
-      waits = inr (rw (timed.poller, delivered.poller) same.waits);
-      round = but_worn _ _ failed.1 c.in_err-keep_time.ensures.worn.0;
-      ended = not_ok _ _ failed.0;
-      keeps = keeps (rw (timed.poller, delivered.poller) same)
-          (inl (rw (c.in_err-keep_time.ensures.unswept, delivered.poller, looked.poller, c.begin.ensures.poller)))
-          (rw (timed.queues.ready, delivered.ready, looked.took.ready));
-      refused = passed_up _ _ _ failed.1 (inr c.in_err-keep_time.ensures.worn);
-    }
 
 pub accept-requires-clause-room : goal.accept-requires-clause-room
 accept-requires-clause-room g c =
     omega (
       arith,
-      few_tickets c.in_ok-deliver_batch.ensures.delivered,
-      capacity_kept c.in_ok-deliver_batch.ensures.delivered,
+      few_tickets c.deliver_batch.ensures.delivered,
+      capacity_kept c.deliver_batch.ensures.delivered,
       reported_le c.look.new.poller.table c.look.new.poller.batch,
       c.look.ensures.few,
       c.begin.ensures.room c.if-not-begin.false,
       room_same c.look.ensures.took,
       c.deliver_batch.ensures.between.sized,
-      few_tickets c.in_ok-keep_time.ensures.swept.posted,
-      capacity_kept c.in_ok-keep_time.ensures.swept.posted,
+      few_tickets c.keep_time.ensures.swept.posted,
+      capacity_kept c.keep_time.ensures.swept.posted,
       few_sweep c.deliver_batch.new.poller c.keep_time.new.poller,
     )
-
-pub returns-in_err-accept : goal.returns-in_err-accept
-returns-in_err-accept g c =
-    let looked = c.look.ensures in
-    let delivered = c.deliver_batch.ensures in
-    let timed = c.keep_time.ensures in
-    let accepted = c.accept.ensures in
-    let same = looked_lasts c.args.timing.now.limit c.args.own.now c.args.poller.now c.begin.ensures.poller looked.poller looked.listens looked.waits in
-    let swept = rw (delivered.poller, looked.poller, c.begin.ensures.poller) at c.in_ok-keep_time.ensures.swept.swept in
-    let failed = c.from_residual-in_err-accept.ensures in
-    record {
-      between = accepted.between;
-      early = begun_not_early _ _ (c.begin.ensures.room c.if-not-begin.false);
-      waits = inr (rw (accepted.poller, timed.poller, delivered.poller) same.waits);
-      round = but_worn _ _ failed.1 c.in_err-accept.ensures.worn.0;
-      ended = not_ok _ _ failed.0;
-      keeps = keeps (rw (accepted.poller, timed.poller, delivered.poller) same) (inr (rw accepted.poller swept))
-          (rw (accepted.ready, timed.queues.ready, delivered.ready, looked.took.ready));
-      refused = passed_up _ _ _ failed.1 (inr c.in_err-accept.ensures.worn);
-    }
 
 pub returns : goal.returns
 returns g c =
@@ -138,24 +82,28 @@ returns g c =
     let same : Lasting c.args.timing.now.limit c.args.own.now c.args.poller.now c.log_counted.new.self =
     rw (told, accepted.poller, timed.poller, delivered.poller) (looked_lasts _ _ c.args.poller.now c.begin.ensures.poller looked.poller looked.listens looked.waits) in
     let end = back.poller in
-    let swept = rw (delivered.poller, looked.poller, c.begin.ensures.poller) at c.in_ok-keep_time.ensures.swept.swept in
+    let swept = rw (delivered.poller, looked.poller, c.begin.ensures.poller) at c.keep_time.ensures.swept.swept in
+    let still_then = worn_on accepted.still back.took.seat (λ worn. refl) in
+    let still_all = worn_on timed.still refl still_then in
+    let answer = answered c.unworn.result c.args.poller.now c.take_back.new.poller c.args.own.now c.take_back.new.own c.ok_or.result c.unworn.ensures c.ok_or.ensures.value in
     record {
       between = between_took accepted.between back.took (rw (end, told));
       early = begun_not_early _ _ (c.begin.ensures.room c.if-not-begin.false);
       waits = inr (rw end same.waits);
-      round = λ _. round_of c.deliver_batch.new.own begun looked.took
-          c.in_ok-deliver_batch.ensures.delivered delivered.ready delivered.free delivered.own delivered.poller
-          c.in_ok-keep_time.ensures.swept.posted timed.queues.ready timed.queues.free timed.own timed.poller
-          (accept_both c.in_ok-accept.ensures.done (accept_took (rw (end, told) (still c.accept.new.poller)) back.took)) (rw (end, told, accepted.poller));
-      ended = inr (record {
+      round = round_of c.deliver_batch.new.own still_all still_then begun looked.took
+          c.deliver_batch.ensures.delivered delivered.ready delivered.free delivered.own delivered.poller
+          c.keep_time.ensures.swept.posted timed.queues.ready timed.queues.free timed.own timed.poller
+          (accept_both c.accept.ensures.done (accept_took (rw (end, told) (still c.accept.new.poller)) back.took)) (rw (end, told, accepted.poller));
+      ended = inr (inr (record {
+        answer = answer.0;
         read = rw (end, told, accepted.poller, timed.poller, delivered.poller) looked.batch;
-        second = rw (end, told, accepted.poller) c.in_ok-keep_time.ensures.told;
+        second = rw (end, told, accepted.poller) c.keep_time.ensures.told;
         swept = rw (end, told, accepted.poller) swept;
-        accepted = ended_still (rw told c.in_ok-accept.ensures.ended) end back.unlimited;
+        accepted = ended_still (rw told c.accept.ensures.ended) end back.unlimited;
         closed = back.closed;
         back = back.all;
         drops = rw end c.log_counted.ensures.all;
-      });
+      }));
       keeps = record {
         opening = rw end same.opening;
         most = rw end same.most;
@@ -165,7 +113,7 @@ returns g c =
         over = λ over. over_before same.over (back.over over);
         took = rw (back.took.ready, accepted.ready, timed.queues.ready, delivered.ready, looked.took.ready);
       };
-      refused = tt;
+      refused = answer.1;
     }
 
 pub deliver_batch-requires : goal.deliver_batch-requires
@@ -174,7 +122,7 @@ deliver_batch-requires g c =
     let room = c.begin.ensures.room c.if-not-begin.false in
     let same = room_same c.look.ensures.took in
     record {
-      between = between_took {p = c.args.poller.now} (record { same = c.requires.same; idle = c.requires.idle; sized = c.requires.sized }) c.look.ensures.took
+      between = between_took {p = c.args.poller.now} c.requires.between c.look.ensures.took
           (rw (c.look.ensures.poller, c.begin.ensures.poller));
       room = omega arith;
     }
