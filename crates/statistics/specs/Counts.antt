@@ -1,86 +1,98 @@
 -- What is counted at a slot. Part of the promises.
-use Rattle.std.specs.{Prelude.{ℕ, ◌+◌, ◌-◌, min, List, ◌++◌, codes, ◌≡◌, [], ◌∷◌}, Fmt.decimal}
+use Rattle.std.specs.{Prelude.{ℕ, ◌+◌, ◌-◌, min, List, map, ◌++◌, codes, ◌≡◌, [], ◌∷◌, slice_index, slice_set, flat_map}, List.zip, Fmt.decimal}
 use Rattle.token.specs.declared.{kind.Kind.{Kind, TheVariants.{Refused, Reset, TimedOut}}, side.Side.{Side, TheVariants.{Client, Target}}}
 use Rattle.relay_core.specs.declared.verdict.{Fault.TheVariants.{Broken, Idle}, Verdict.{Verdict, TheVariants.{Live, Done, Failed}}}
-use Rattle.statistics.specs.declared.{counts.Counts.Counts, event.Event.{Event, TheVariants.{Dropped, Opened, Moved, Ended}}, totals.Totals.Totals}
+use Rattle.statistics.specs.declared.{counts.{Count.Count, Counts.Counts}, event.Event.{Event, TheVariants.{Dropped, Opened, Moved, Ended}}, totals.Totals.Totals}
+use Rattle.statistics.specs.declared.counts.Count.TheVariants as is
 
 -- a count of 64 bits after this many more. It stays at its greatest value
 abbrev pub sum : ℕ → ℕ → ℕ
 sum count count_more = min (count + count_more) 18446744073709551615
 
-abbrev pub more : ℕ → ℕ
-more count = sum count 1
+-- Where a count stands among a slot's numbers, which are read in this order.
+abbrev pub place_of : Count → ℕ
+-- bytes that were written to targets, and to clients
+place_of is.Up = 0
+place_of is.Down = 1
+-- of these, bytes of connections that have ended
+place_of is.UpEnded = 2
+place_of is.DownEnded = 3
+-- connections that are done
+place_of is.Done = 4
+-- connections that failed by a call on the client's socket, on the target's, and by the idle limit
+place_of is.Client = 5
+place_of is.Target = 6
+place_of is.Idle = 7
+-- of those that failed by a call: nobody listened, the peer reset it, the peer did not answer in time
+place_of is.Refused = 8
+place_of is.Reset = 9
+place_of is.TimedOut = 10
+-- accepted connections that were closed unopened
+place_of is.Dropped = 11
+-- connections that were opened
+place_of is.Opened = 12
 
--- the numbers of a slot's counts, in the order in which they are read
-abbrev pub numbers_of : Counts → List ℕ
-numbers_of c =
-    c.up ∷ c.down ∷ c.up_ended ∷ c.down_ended ∷ c.done ∷ c.client ∷ c.target ∷ c.idle ∷ c.refused ∷ c.reset
-    ∷ c.timedout ∷ c.dropped ∷ c.opened ∷ []
+-- the number of a count
+abbrev pub at : Count → Counts → ℕ
+at count c = slice_index c.numbers (place_of count)
+
+abbrev pub set : Count → ℕ → Counts → Counts
+set count number c = record { numbers = slice_set c.numbers (place_of count) number }
+
+-- one more of a count
+abbrev pub raised : Count → Counts → Counts
+raised count c = set count (sum (at count c) 1) c
 
 -- a failed call is counted by the side of its socket
-abbrev pub blamed : Side → Counts → Counts
-blamed Client c = record c { client = more c.client }
-blamed Target c = record c { target = more c.target }
+abbrev pub blamed : Side → Count
+blamed Client = is.Client
+blamed Target = is.Target
 
 -- some of these are also counted by how the call failed
 abbrev pub by_kind : Kind → Counts → Counts
-by_kind Refused c = record c { refused = more c.refused }
-by_kind Reset c = record c { reset = more c.reset }
-by_kind TimedOut c = record c { timedout = more c.timedout }
+by_kind Refused c = raised is.Refused c
+by_kind Reset c = raised is.Reset c
+by_kind TimedOut c = raised is.TimedOut c
 by_kind _ c = c
 
 -- the bytes are those of the connections that have ended, plus these of the open connection
 abbrev pub moved : ℕ → ℕ → Counts → Counts
-moved up down c = record c { up = sum c.up_ended up; down = sum c.down_ended down }
+moved up down c = set is.Down (sum (at is.DownEnded c) down) (set is.Up (sum (at is.UpEnded c) up) c)
 
 -- the open connection has ended, with the bytes that were counted
 abbrev pub closed : Counts → Counts
-closed c = record c { up_ended = c.up; down_ended = c.down }
+closed c = set is.DownEnded (at is.Down c) (set is.UpEnded (at is.Up c) c)
 
 abbrev pub verdict_counted : Verdict → Counts → Counts
 verdict_counted Live c = c
-verdict_counted Done c = record c { done = more c.done }
-verdict_counted (Failed Idle) c = record c { idle = more c.idle }
-verdict_counted (Failed (Broken side call kind)) c = by_kind kind (blamed side c)
+verdict_counted Done c = raised is.Done c
+verdict_counted (Failed Idle) c = raised is.Idle c
+verdict_counted (Failed (Broken side call kind)) c = by_kind kind (raised (blamed side) c)
 
 -- the counts after this event
 abbrev pub after : Event → Counts → Counts
-after Dropped c = record c { dropped = more c.dropped }
-after Opened c = record c { opened = more c.opened }
+after Dropped c = raised is.Dropped c
+after Opened c = raised is.Opened c
 after (Moved up down) c = moved up down c
 after (Ended verdict up down) c = verdict_counted verdict (closed (moved up down c))
 
--- the sums of two slots' counts
+-- the sums of two slots' counts, each with its like
 abbrev pub plus : Counts → Counts → Counts
-plus c d = record {
-  opened = sum c.opened d.opened;
-  dropped = sum c.dropped d.dropped;
-  done = sum c.done d.done;
-  client = sum c.client d.client;
-  target = sum c.target d.target;
-  idle = sum c.idle d.idle;
-  refused = sum c.refused d.refused;
-  reset = sum c.reset d.reset;
-  timedout = sum c.timedout d.timedout;
-  up = sum c.up d.up;
-  down = sum c.down d.down;
-  up_ended = sum c.up_ended d.up_ended;
-  down_ended = sum c.down_ended d.down_ended;
-}
+plus c d = record { numbers = map (λ pair. sum pair.0 pair.1) (zip c.numbers d.numbers) }
 
 -- how many of one slot's connections are open: those that were opened and have not ended, one at most
 abbrev pub live_at : Counts → ℕ
-live_at c = min (c.opened - c.done - c.client - c.target - c.idle) 1
+live_at c = min (at is.Opened c - at is.Done c - at is.Client c - at is.Target c - at is.Idle c) 1
 
 -- The line of the statistics.
 
 -- connections that failed: by a call on either side, or by the idle limit
 abbrev pub failed_of : Counts → ℕ
-failed_of c = c.client + (c.target + c.idle)
+failed_of c = at is.Client c + (at is.Target c + at is.Idle c)
 
 -- connections that were opened: those that are open, are done or have failed
 abbrev pub opened_of : Totals → ℕ
-opened_of t = t.live + (t.sums.done + failed_of t.sums)
+opened_of t = t.live + (at is.Done t.sums + failed_of t.sums)
 
 -- the sums of this many slots, before any was added
 abbrev pub no_sums : ℕ → Counts → Totals
@@ -93,15 +105,25 @@ added c t = record { slots = t.slots; live = sum t.live (live_at c); sums = plus
 abbrev pub value : List ℕ → ℕ → List ℕ
 value name number = name ++ decimal number
 
-abbrev pub stats_message : Totals → List ℕ
-stats_message t =
+-- what the line begins with, of all connections
+abbrev pub head_of : Totals → List ℕ
+head_of t =
     value (codes "stats open=") t.live ++ (value (codes " slots=") t.slots
-    ++ (value (codes " opened=") (opened_of t) ++ (value (codes " done=") t.sums.done
-    ++ (value (codes " failed=") (failed_of t.sums) ++ (value (codes " dropped=") t.sums.dropped
-    ++ (value (codes " client=") t.sums.client ++ (value (codes " target=") t.sums.target
-    ++ (value (codes " refused=") t.sums.refused ++ (value (codes " reset=") t.sums.reset
-    ++ (value (codes " timedout=") t.sums.timedout ++ (value (codes " idle=") t.sums.idle
-    ++ (value (codes " up=") t.sums.up ++ value (codes " down=") t.sums.down))))))))))))
+    ++ (value (codes " opened=") (opened_of t) ++ (value (codes " done=") (at is.Done t.sums)
+    ++ value (codes " failed=") (failed_of t.sums))))
+
+-- the counts after that, in order, as they are written
+abbrev pub columns : List (List ℕ × Count)
+columns =
+    (codes "dropped", is.Dropped) ∷ (codes "client", is.Client) ∷ (codes "target", is.Target)
+    ∷ (codes "refused", is.Refused) ∷ (codes "reset", is.Reset) ∷ (codes "timedout", is.TimedOut)
+    ∷ (codes "idle", is.Idle) ∷ (codes "up", is.Up) ∷ (codes "down", is.Down) ∷ []
+
+abbrev pub column : Counts → List ℕ × Count → List ℕ
+column c (name, count) = codes " " ++ (name ++ value (codes "=") (at count c))
+
+abbrev pub stats_message : Totals → List ℕ
+stats_message t = head_of t ++ flat_map (column t.sums) columns
 
 -- What is done to the places of the slots' counts.
 

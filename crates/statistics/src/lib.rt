@@ -4,7 +4,7 @@
 //! for another. [`Statistics::totals`] sums all places. The sums ([`Totals`]) print as a line of the log:
 //!
 //! ```text
-//! stats open=12 slots=1024 opened=503 done=480 failed=11 dropped=2 client=3 target=7 refused=1 reset=2 timedout=0 idle=1 up=8192 down=65536
+//! stats open=12 slots=1024 opened=503 done=480 failed=11 dropped=2 client=3 target=7 .. up=8192 down=65536
 //! ```
 //!
 //! No clause can name what an atomic number holds. Over any memory it is proved that to count an event reads the slot's
@@ -17,7 +17,7 @@ mod place;
 mod statistics;
 mod totals;
 
-pub use counts::Counts;
+pub use counts::{Count, Counts};
 pub use event::Event;
 pub use place::Memory;
 pub use statistics::Statistics;

@@ -1,3 +1,4 @@
+//! Where a slot's counts lie, in memory that threads share.
 ghost use Rattle.statistics.specs.Counts.{IsCounted, Step, Loaded, Stored};
 
 use crate::counts::{COUNTS, Counts};
@@ -36,17 +37,16 @@ impl Memory for Atomics {
 
     /// Reads `opened` last, so that each connection that was read as ended is in it.
     fn load(&self) -> Counts {
-        let mut numbers = [0; COUNTS];
-        for (number, atomic) in numbers.iter_mut().zip(self.0.iter()) {
+        let mut counts = Counts::NONE;
+        for (number, atomic) in counts.numbers.iter_mut().zip(self.0.iter()) {
             *number = atomic.load(Ordering::SeqCst);
         }
-        Counts::of(numbers)
+        counts
     }
 
     /// Stores `opened` first, for the same reason.
     fn store(&self, counts: Counts) {
-        let numbers = counts.numbers();
-        for (number, atomic) in numbers.iter().zip(self.0.iter()).rev() {
+        for (number, atomic) in counts.numbers.iter().zip(self.0.iter()).rev() {
             put(atomic, *number);
         }
     }

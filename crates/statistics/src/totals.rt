@@ -1,8 +1,22 @@
-ghost use Rattle.std.specs.Prelude.{◌≡◌, Some};
-ghost use Rattle.statistics.specs.Counts.{added, failed_of, no_sums, opened_of, stats_message};
+//! The sums of the counts, and their line of the log.
+ghost use Rattle.std.specs.Prelude.{◌≡◌, ◌*◌, ◌<◌, ◌^◌, Some};
+ghost use Rattle.statistics.specs.Counts.{added, at, failed_of, no_sums, opened_of, stats_message};
 
-use crate::counts::Counts;
+use crate::counts::{Count, Counts};
 use std::fmt::{self, Display};
+
+/// The counts of the line after `failed`, in order, as they are written.
+const COLUMNS: [(&str, Count); 9] = [
+    ("dropped", Count::Dropped),
+    ("client", Count::Client),
+    ("target", Count::Target),
+    ("refused", Count::Refused),
+    ("reset", Count::Reset),
+    ("timedout", Count::TimedOut),
+    ("idle", Count::Idle),
+    ("up", Count::Up),
+    ("down", Count::Down),
+];
 
 /// The sums of what was counted at `slots` slots. It prints as the line of the statistics. There `opened` is how many
 /// are open, are done or have failed, and `failed` how many failed by a call or by the idle limit.
@@ -39,20 +53,24 @@ impl Totals {
 
     /// How many connections failed.
     pub fn failed(&self) -> u128
-        ensures { result ≡ failed_of self.now.sums }
+        ensures failed { result ≡ failed_of self.now.sums }
+        ensures fits { result < 3 * 2 ^ 64 }
     {
-        let (client, target, idle) = (self.sums.client, self.sums.target, self.sums.idle);
-        u128::from(client) + u128::from(target) + u128::from(idle)
+        self.sum(Count::Client) + self.sum(Count::Target) + self.sum(Count::Idle)
     }
 
     /// How many connections are open, are done or have failed.
     pub fn opened(&self) -> u128
         ensures { result ≡ opened_of self.now }
     {
-        let (live, done) = (self.live, self.sums.done);
-        let (client, target, idle) = (self.sums.client, self.sums.target, self.sums.idle);
-        let failed = u128::from(client) + u128::from(target) + u128::from(idle);
-        u128::from(live) + u128::from(done) + failed
+        u128::from(self.live) + self.sum(Count::Done) + self.failed()
+    }
+
+    fn sum(&self, count: Count) -> u128
+        ensures sum { result ≡ at count self.now.sums }
+        ensures fits { result < 2 ^ 64 }
+    {
+        u128::from(self.sums.at(count))
     }
 }
 
@@ -60,24 +78,16 @@ impl Display for Totals {
     ghost output = { λ totals. Some (stats_message totals) };
 
     fn fmt<W: fmt::Write>(&self, f: &mut fmt::Formatter<W>) -> fmt::Result {
-        let (opened, failed) = (self.opened(), self.failed());
-        let (slots, live) = (self.slots, self.live);
-        let Counts {
-            dropped,
-            done,
-            client,
-            target,
-            idle,
-            refused,
-            reset,
-            timedout,
-            up,
-            down,
-            ..
-        } = self.sums;
+        let (live, slots) = (self.live, self.slots);
+        let (opened, done, failed) = (self.opened(), self.sums.at(Count::Done), self.failed());
         write!(
             f,
-            "stats open={live} slots={slots} opened={opened} done={done} failed={failed} dropped={dropped} client={client} target={target} refused={refused} reset={reset} timedout={timedout} idle={idle} up={up} down={down}"
-        )
+            "stats open={live} slots={slots} opened={opened} done={done} failed={failed}"
+        )?;
+        for (name, count) in &COLUMNS {
+            let number = self.sums.at(*count);
+            write!(f, " {name}={number}")?;
+        }
+        Ok(())
     }
 }
