@@ -3,7 +3,7 @@ use crate::all_well;
 use kernel_model::{End, Reply};
 use readiness::{Attention, Reports, Told};
 use relay_core::Verdict;
-use statistics::{Counts, Event, Memory, Statistics};
+use statistics::{Count, Counts, Event, Memory, Statistics};
 use std::alloc::{AllocError, Global};
 use std::cell::Cell;
 use std::test::Fail;
@@ -50,8 +50,8 @@ fn are_summed(alloc: Global) -> Result<bool, AllocError> {
     }
     let sums = statistics.totals();
     Ok(
-        (sums.slots, sums.live, sums.sums.done) == (2, 2, 2)
-            && (sums.sums.up, sums.sums.down) == (8_589_934_594, 18)
+        (sums.slots, sums.live, sums.sums.at(Count::Done)) == (2, 2, 2)
+            && (sums.sums.at(Count::Up), sums.sums.at(Count::Down)) == (8_589_934_594, 18)
             && are_settled(alloc)?,
     )
 }
@@ -67,7 +67,7 @@ impl Memory for Changing {
         let times = self.0.get().saturating_add(1).min(3);
         self.0.set(times);
         let mut counts = Counts::NONE;
-        counts.done = times;
+        counts.numbers[Count::Done as usize] = times;
         counts
     }
 
@@ -78,7 +78,7 @@ impl Memory for Changing {
 fn are_settled(alloc: Global) -> Result<bool, AllocError> {
     let mut places = Vec::new(alloc);
     places.push(Changing(Cell::new(0)))?;
-    Ok(Statistics::over(places).totals().sums.done == 3)
+    Ok(Statistics::over(places).totals().sums.at(Count::Done) == 3)
 }
 
 // refuses counts_of_32_bits: a count goes round at 2^32

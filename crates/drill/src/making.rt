@@ -95,7 +95,7 @@ fn cast_of<R: Wait>(
     }
     let server = build(rt, alloc, settings, split, fronts, outside.share()?)?;
     let Server {
-        shared,
+        mut shared,
         parts,
         free,
         mut pollers,
@@ -103,6 +103,8 @@ fn cast_of<R: Wait>(
         ..
     } = server;
     start_each(&mut pollers, sizes.limits.generation);
+    // A server gives each turn a few calls at least. Here a turn has as many as the machine's.
+    shared.budget = sizes.limits.budget;
     let shared = Arc::new(alloc, shared)?;
     divide(alloc, &shared, Rest { parts, free }, pollers, workers)
 }

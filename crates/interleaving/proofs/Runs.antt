@@ -29,8 +29,9 @@ module _ (st : System) (p : SlotState) (workers : List WorkerState) (set : Settl
   finds_settled {i} {t} {k} had (Tries least is) =
       let wait = waiting (machine_of st p st.entry st.tickets workers) i k (ticket t.generation) p had (rw is refl) refl turns in
       rw (set.word, wait.holder) refl
-  finds_settled had (IsHolder c more held is (Holds at least all)) =
+  finds_settled had (IsHolder c more held is (Holds at least all some)) =
       (c, at, own_generation (facts (machine_of st p st.entry st.tickets workers) 0 p.generation) p c ((turns.each 0 p refl).connection c held.there).stands ∙ held.generation)
+  finds_settled had (IsHolder c more held is (HasOut at out least all some)) = rw set.word (some_notes p.notes ∙ some)
   finds_settled {t = t} had (IsHolder c more held is (Goes at out least)) = plan_finds st.word st.place t.generation t.left c.pair at
   finds_settled had like = tt
 
@@ -38,9 +39,9 @@ module _ (st : System) (p : SlotState) (workers : List WorkerState) (set : Settl
   follows_settled : (s : Step) → Kept (Follows [] (exchange st.word (kind_in st s)) (machine_of st p st.entry st.tickets workers) s) (step st s)
   follows_settled Deliver = reports set
   follows_settled Sweep = sweeps set
-  follows_settled Open = kept_bind _ (slice_get st.threads 0) (λ t there. kept_guard (rests t) _ (λ r.
+  follows_settled Open = kept_bind _ (slice_get st.threads 0) (λ t there. kept_guard _ _ (λ r.
       let it = set.threads 0 t there in
-      begins_opening st p workers set 0 t there it.worker it.there refl it.like r))
+      begins_opening st p workers set 0 t there it.worker it.there refl it.like (and_parts (rests t) st.accepted r).0))
   follows_settled (Begin i most) = kept_bind _ (slice_get st.threads i) (λ t there.
       let it = set.threads i t there in
       begins_turn st p workers set i t there it.worker it.there it.like most)
@@ -136,7 +137,7 @@ module _ (st : System) (t : Thread) (c : Connection) (workers : List WorkerState
   follows_half : (s : Step) → Kept (Follows (left_of t.todo st.word) (exchange st.word (kind_in st s)) half_world s) (step st s)
   follows_half Deliver = kept_when (poller_rests st) _ (λ b. poller_acts b)
   follows_half Sweep = kept_guard _ _ (λ b. poller_acts (and_parts (poller_rests st) _ b).0)
-  follows_half Open = kept_bind _ (slice_get st.threads 0) (λ u there. kept_guard (rests u) _ (λ b. poller_acts (rw there b)))
+  follows_half Open = kept_bind _ (slice_get st.threads 0) (λ u there. kept_guard _ _ (λ b. poller_acts (rw there (and_parts (rests u) st.accepted b).0)))
   follows_half (Begin i most) = kept_bind _ (slice_get st.threads i) (λ u there. kept_when (rests u && nat_le most st.limits.budget) _ (λ b. rw half.tickets kept_none))
   follows_half (Acts i) = kept_bind _ (slice_get st.threads i) (λ u there. rw there (acts_half i u there (cases_eq i 0)))
   follows_half (Calls i r) = kept_bind _ (slice_get st.threads i) (λ u there. rw (calls_half i u r there (cases_eq i 0)) kept_none)

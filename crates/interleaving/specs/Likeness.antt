@@ -5,7 +5,7 @@ use Rattle.std.specs.{Prelude.{◌≡◌, ◌≢◌, ℕ, ◌≤◌, ◌==◌, �
 use Rattle.token.specs.declared.name.Name.{Name}
 use Rattle.kernel_model.specs.{declared.{reply.Reply.Reply, both.Descriptors.Descriptors}, Ends.is_nonempty}
 use Rattle.relay_core.specs.Pairs.{verdict, is_live}
-use Rattle.claims.specs.{declared.view.Exchange.Exchange, Words.{WordState, StepKind, word_after, made as exchange_made}}
+use Rattle.claims.specs.{declared.view.Exchange.Exchange, Words.{WordState, StepKind, word_after, some_wait, made as exchange_made}}
 use Rattle.world.specs.{declared.{connection.Connection.Connection, limits.Limits.Limits, actors.{Ticket.Ticket, Holder.TheVariants.{Nobody, By}}, event.{Event.Event, Reported.Reported}}, Slots.{SlotState, WorkerState, is_by_worker}, States.State, Steps.{may_release, step as machine_step}, Words.{word_at, steps}, Acts.busy, Headline.HeadlineHolds}
 use Rattle.interleaving.specs.Threads.{Act, Claim, TakeOut, TakeNotes, PutIn, Post, Release, Retire, Adopt, Discard, turn, plan, again, ended, open_slot, System, Thread, Step, Tick, Network, Connect, Spurious, Vanish, Accept, Drop, Poll, Deliver, Sweep, Acts, Calls, start, step, run}
 use Rattle.token.specs.declared.name.Name.TheVariants as name
@@ -97,12 +97,14 @@ pub record Held (p : SlotState) (i g : ℕ) (connection : Option Connection) : T
 
 -- The thread t, which holds the slot, is as far as the machine's worker by the rest of its program. `place` is what
 -- the threads have in the slot's place, p is the machine's slot, and the worker has `more` calls left. In order, the
--- cases are: the connection c is in its place; t has c out; t has taken the notes too, and goes by its plan; c is
--- back, and t is to post; c is back, and t is to release the slot
+-- cases are: the connection c is in its place, and notes wait; t has c out, and notes wait; t has taken the notes too,
+-- and goes by its plan; c is back, and t is to post; c is back, and t is to release the slot
 pub data HolderLike (budget : ℕ) (place : Option Connection) (p : SlotState) (t : Thread) (c : Connection) (more : ℕ)
     : List Act → Type 0 where
-  Holds : place ≡ Some c → t.left ≤ budget → more ≡ budget → HolderLike budget place p t c more (drop 1 turn)
-  HasOut : place ≡ None → t.out ≡ Some c → t.left ≤ budget → more ≡ budget → HolderLike budget place p t c more (drop 2 turn)
+  Holds : place ≡ Some c → t.left ≤ budget → more ≡ budget → is_nonempty p.notes ≡ true
+      → HolderLike budget place p t c more (drop 1 turn)
+  HasOut : place ≡ None → t.out ≡ Some c → t.left ≤ budget → more ≡ budget → is_nonempty p.notes ≡ true
+      → HolderLike budget place p t c more (drop 2 turn)
   Goes : place ≡ None → t.out ≡ Some c → t.left ≤ more → HolderLike budget place p t c more (plan t.left c.pair)
   Stays : place ≡ Some c → is_live (verdict c.pair) ≡ true → HolderLike budget place p t c more (drop 1 again)
   Leaves : place ≡ Some c → may_release c (is_nonempty p.notes) ≡ true → HolderLike budget place p t c more (drop 2 again)
@@ -221,11 +223,12 @@ abbrev pub calls_in : List Event → List (ℕ × Reply)
 calls_in = flat_map call_in
 
 -- What a thread with a ticket of this generation finds at its next act. If it claims the slot, nobody holds the slot;
--- if it takes the connection out, the ticket's own is in the place; if it puts one in, the place is empty; if it
--- adopts the slot, the slot is free
+-- if it takes the connection out, the ticket's own is in the place; if it takes the notes, there are some; if it puts
+-- a connection in, the place is empty; if it adopts the slot, the slot is free
 abbrev pub Finds : WordState → Option Connection → ℕ → List Act → Type 0
 Finds word place g (Claim ∷ rest) = word.held ≡ false
 Finds word place g (TakeOut ∷ rest) = (c : Connection) × (place ≡ Some c) × (c.pair.generation ≡ g)
+Finds word place g (TakeNotes ∷ rest) = some_wait word.pending ≡ true
 Finds word place g (PutIn ∷ rest) = place ≡ None
 Finds word place g (Adopt ∷ rest) = word.free ≡ true
 Finds word place g acts = Unit {0}

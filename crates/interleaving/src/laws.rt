@@ -1,5 +1,5 @@
 //! What holds for every interleaving. The functions do nothing: the contract of each is the law that it is named after.
-ghost use Rattle.interleaving.specs.{Likeness.EveryInterleavingIsARun, Threads.ProgramsAreThese};
+ghost use Rattle.interleaving.specs.{Likeness.EveryInterleavingIsARun, Rest.{LeftAloneItEnds, LeftAloneItRests}, Threads.ProgramsAreThese};
 
 use relay_core::laws;
 
@@ -23,3 +23,24 @@ pub fn every_interleaving_is_a_run()
 pub fn programs_are_these()
     ensures { ProgramsAreThese }
 {}
+
+/// Left alone, the threads come to rest. From any state to which steps lead, each step of the relay's own makes the
+/// state's weight smaller, whoever makes it: so no more of them can follow, in any order, than the state weighs. A turn
+/// must begin with at least four calls.
+pub fn left_alone_it_ends()
+    ensures { LeftAloneItEnds }
+{
+    every_interleaving_is_a_run();
+}
+
+/// Wherever the relay has made all of its own steps, by whichever threads in whichever order, it is at rest: no program
+/// is half way, nothing is due, and nothing could move. The limits must allow a turn four calls.
+pub fn left_alone_it_rests()
+    ensures { LeftAloneItRests }
+{
+    laws::answers_keep_place();
+    laws::failures_are_told();
+    laws::live_pairs_rest();
+    laws::only_overdue_pairs_expire();
+    every_interleaving_is_a_run();
+}

@@ -3,9 +3,9 @@
 //! `specs/Threads.antt` has what a thread does at a slot, act by act, in a turn and in an opening; what the threads
 //! share; and what each act does to that. An act is atomic. Acts of different threads come in any order, with acts of
 //! the network and of the kernel between them. `specs/Likeness.antt` says when a state of the threads and a state of
-//! the machine (`world`) are alike.
+//! the machine (`world`) are alike. `specs/Rest.antt` has what a state of the threads weighs, and what rest is.
 //!
-//! [`laws`] says that each run of the threads is a run of the machine.
+//! [`laws`] says that each run of the threads is a run of the machine, and that the threads, left alone, come to rest.
 #![tactic(auto)]
 
 pub mod laws;

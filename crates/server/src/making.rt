@@ -4,13 +4,13 @@ ghost use Rattle.claims.specs.Seats.{fresh_seat};
 ghost use Rattle.ready.specs.Steps.{unused, opened as filled};
 ghost use Rattle.server.specs.{Limits.{SharesLight, share_of}, Begins.{HasBegun, PollersBegin, ThreadsBegin}};
 ghost use Rattle.dispatch.specs.Splits.{each_part, part_of, parts_of};
-ghost use Rattle.settings.specs.Pollers.{pollers_for};
+ghost use Rattle.settings.specs.{Calls.calls_for, Pollers.pollers_for};
 
 use claims::Claims;
 use dispatch::{ClientsAt, Front, Fullness, Parts, Places, ServerFault, Shared, Split};
 use ready::{FreeQueue, ReadyQueue};
 use rounds::{Opening, Poller};
-use settings::{Settings, pollers_for};
+use settings::{Settings, calls_for, pollers_for};
 use std::alloc::{AllocError, Global};
 use std::sync::Wait;
 use threads::Server;
@@ -41,7 +41,7 @@ where
     requires slots { split.slots ≡ settings.now.slots }
     requires fronts { length fronts.items ≡ parts_of split.slots split.size }
     ensures slots { IfOk result (λ made. made.shared.claims.words ≡ settings.now.slots) }
-    ensures budget { IfOk result (λ made. made.shared.budget ≡ settings.now.budget) }
+    ensures budget { IfOk result (λ made. made.shared.budget ≡ calls_for settings.now.budget) }
     ensures waker { IfOk result (λ made. made.shared.waker ≡ waker) }
     ensures threads { IfOk result (λ made. ThreadsBegin settings.now split made.shared.claims made.parts
         (map (λ ends. ends.items) made.free.items)) }
@@ -164,7 +164,7 @@ where
     F::Waker: Drop,
     requires threads { (1 ≤ threads) × (threads ≤ 32) }
     ensures slots { IfOk result (λ made. made.0.claims.words ≡ settings.now.slots) }
-    ensures budget { IfOk result (λ made. made.0.budget ≡ settings.now.budget) }
+    ensures budget { IfOk result (λ made. made.0.budget ≡ calls_for settings.now.budget) }
     ensures waker { IfOk result (λ made. made.0.waker ≡ waker) }
     ensures seats { IfOk result (λ made. made.1.seats.items ≡ replicate threads (fresh_seat made.0.claims)) }
     ensures ready { IfOk result (λ made. made.1.ready.items ≡ replicate threads (unused settings.now.slots)) }
@@ -180,7 +180,7 @@ where
         claims,
         places,
         waker,
-        budget: settings.budget as usize,
+        budget: calls_for(settings.budget),
         statistics: None,
         full: Fullness::new(pollers),
         shares_light: shares_light(pollers, settings.workers),

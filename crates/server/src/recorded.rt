@@ -6,12 +6,13 @@ use crate::making::split_of;
 use crate::serving::{Lent, run_on, serve, serve_into};
 use dispatch::{Clock, Front, Gate, ServerFault, Split};
 use log::Log;
+use os::set_thread_name;
 use recording::{
     QueueSink, RecordQueue, RecordedClock, RecordedGate, Recorder, record_all, write_records,
 };
 use records::Header;
 use relay_log::log_no_thread;
-use settings::Settings;
+use settings::{Settings, calls_for};
 use sockets::{Bound, Dial};
 use std::alloc::{AllocError, Global};
 use std::io::Write;
@@ -71,6 +72,7 @@ struct Recording<'a, W, R> {
 impl<W: Write + Drop, R: Wait + Log> Recording<'_, W, R> {
     /// Writes the file, in its own thread.
     fn write(&self) {
+        set_thread_name(b"record");
         let file = self.file.lock(self.rt).take();
         if let Some(file) = file {
             write_records(self.rt, self.alloc, &self.queue, self.header, file);
@@ -141,7 +143,7 @@ fn header_of(settings: &Settings, split: Split) -> Header {
         pollers: split.pollers(),
         workers: settings.workers,
         ring: settings.ring,
-        budget: settings.budget as usize,
+        budget: calls_for(settings.budget),
         idle: u64::from(settings.idle),
         proxy: settings.proxy,
     }

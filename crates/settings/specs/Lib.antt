@@ -4,3 +4,4 @@ pub mod Table
 pub mod Document
 pub mod Faults
 pub mod Pollers
+pub mod Calls

@@ -2,6 +2,7 @@ ghost use Rattle.std.specs.{Prelude.{◌≡◌, None}, Str.IsUtf8};
 ghost use Rattle.settings.specs.Faults.{IsOfValue};
 
 use crate::SettingsFault;
+use crate::hints::{TypedWord, key_near, option_named};
 use crate::limits::MAX_LOOKS;
 use crate::one_line::OneLine;
 use crate::table::{Key, ROWS};
@@ -53,7 +54,7 @@ fn not_toml(alloc: Global, text: &str) -> Option<String> {
         return None;
     };
     let start = error.span()?.start;
-    let slip = Slip::of(alloc, text, start).unwrap_or(Slip::Other(error.message()));
+    let slip = Slip::of(alloc, text, start).unwrap_or(Slip::told(error.message(), text, start));
     at(alloc, text.as_bytes(), start, slip)
 }
 
@@ -63,12 +64,65 @@ fn at(alloc: Global, bytes: &[u8], index: usize, slip: Slip<'_>) -> Option<Strin
     format!(in alloc; "line {line}: {slip}").ok()
 }
 
-/// An unknown key, and the keys that are known.
+/// An unknown key, and what to write instead.
 fn unknown(alloc: Global, text: &str, name: &str) -> Option<String> {
-    let place = Place(line_of(alloc, text, name).ok()?);
-    let name = OneLine(name);
-    let names = KeyNames;
-    format!(in alloc; "{place}{name}: one of {names} is wanted").ok()
+    let line = line_of(alloc, text, name).ok()?;
+    let place = Place(line);
+    let document = toml::table_from_str(alloc, text).ok()?;
+    if let Some((option, has_value)) = option_named(name) {
+        let name = OneLine(name);
+        let value = match document.get(name.0) {
+            Some(value) if has_value => typed(alloc, value).ok()?,
+            _ => String::new(alloc),
+        };
+        let value = Behind(value.as_str());
+        return format!(in alloc; "{place}{name} is an option: relayd run --{option}{value}").ok();
+    }
+    if is_heading(text, line) {
+        let name = OneLine(name);
+        return format!(in alloc; "{place}keys stand at the top: leave the line [{name}] out").ok();
+    }
+    let near = Near(key_near(alloc, name).ok()?);
+    let (name, names) = (OneLine(name), KeyNames);
+    format!(in alloc; "{place}{name}: {near}one of {names} is wanted").ok()
+}
+
+/// Whether the line with this number begins a table.
+fn is_heading(text: &str, line: Option<usize>) -> bool {
+    let Some(number) = line else {
+        return false;
+    };
+    match text.split('\n').nth(number.saturating_sub(1)) {
+        Some(line) => line.trim_start().starts_with('['),
+        None => false,
+    }
+}
+
+/// Prints the key that may be meant, if there is one.
+#[derive(Clone, Copy)]
+struct Near(Option<Key>);
+
+impl fmt::Display for Near {
+    fn fmt<W: fmt::Write>(&self, f: &mut fmt::Formatter<W>) -> fmt::Result {
+        match self.0 {
+            Some(key) => write!(f, "{key} is meant? "),
+            None => Ok(()),
+        }
+    }
+}
+
+/// Prints a value behind its option, or nothing.
+#[derive(Clone, Copy)]
+struct Behind<'a>(&'a str);
+
+impl fmt::Display for Behind<'_> {
+    fn fmt<W: fmt::Write>(&self, f: &mut fmt::Formatter<W>) -> fmt::Result {
+        if self.0.is_empty() {
+            return Ok(());
+        }
+        let word = TypedWord(self.0);
+        write!(f, " {word}")
+    }
 }
 
 /// Shows a value that a key does not take, and what the key takes.
@@ -110,7 +164,7 @@ pub fn argument_cause(alloc: Global, bytes: &[u8], fault: &SettingsFault) -> Opt
 fn refused_argument(alloc: Global, value: &Value, key: Key) -> Result<String, AllocError> {
     let typed = typed(alloc, value)?;
     let wanted = Wanted::in_place_of_word(typed.as_str(), key);
-    let typed = OneLine(typed.as_str());
+    let typed = TypedWord(typed.as_str());
     let row = &ROWS[key as usize];
     let (dashes, name) = match row.option {
         Some(option) => ("--", option),
@@ -201,6 +255,8 @@ pub(crate) enum Slip<'a> {
     Twice(&'a str, usize),
     /// What the line has for this key is no TOML value.
     NoValue(Key, &'a str, Wanted<'a>),
+    /// This stands behind a value.
+    Behind(&'a str),
     /// These words say what is wrong.
     Other(&'a str),
 }
@@ -210,12 +266,26 @@ impl<'a> Slip<'a> {
     /// or there is no memory to find out.
     pub(crate) fn of(alloc: Global, text: &'a str, index: usize) -> Option<Slip<'a>> {
         let (before, line) = line_around(text, index)?;
+        let rest = rest_of_line(text, index)?;
+        if rest.starts_with("//") {
+            return Some(Slip::Other("a comment begins with #"));
+        } else if rest.starts_with([';', ',']) {
+            return Some(Slip::Behind(rest));
+        }
         let (name, written) = line.split_once('=')?;
         let name = name.trim();
         match line_of(alloc, before, name) {
             Ok(Some(first)) => Some(Slip::Twice(name, first)),
             Ok(None) => Slip::no_value(Key::named(name)?, value_in(written)),
             Err(_) => None,
+        }
+    }
+
+    /// What the parser says of the text at this byte.
+    fn told(message: &'a str, text: &'a str, index: usize) -> Slip<'a> {
+        match rest_of_line(text, index) {
+            Some(rest) if message.starts_with(BEHIND) && !rest.is_empty() => Slip::Behind(rest),
+            _ => Slip::Other(message),
         }
     }
 
@@ -239,6 +309,18 @@ fn line_around(text: &str, index: usize) -> Option<(&str, &str)> {
     Some((before, line))
 }
 
+/// How the parser begins to say that something stands behind a value.
+const BEHIND: &str = "unexpected key or value";
+
+/// What a line has from this byte of a text on.
+fn rest_of_line(text: &str, index: usize) -> Option<&str> {
+    let rest = text.get(index..)?;
+    match rest.split_once('\n') {
+        Some((rest, _)) => Some(rest.trim()),
+        None => Some(rest.trim()),
+    }
+}
+
 /// The value after the `=` of a line. A comment is left out, unless the value begins with a quote.
 fn value_in(written: &str) -> &str {
     let written = written.trim();
@@ -260,6 +342,10 @@ impl fmt::Display for Slip<'_> {
             Slip::NoValue(key, written, wanted) => {
                 let written = OneLine(written);
                 write!(f, "{key} = {written}: {wanted}")
+            }
+            Slip::Behind(rest) => {
+                let rest = OneLine(rest);
+                write!(f, "nothing comes after the value: {rest}")
             }
             Slip::Other(message) => f.write_str(message),
         }

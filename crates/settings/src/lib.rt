@@ -3,13 +3,16 @@
 //! `parse` reads a text. `Settings` has one field for each key and prints as `KEY=VALUE` lines, and `SettingsFault`
 //! prints as the line that a person sees. The table of the keys, with kinds, ranges and defaults, is in
 //! `src/table.rt`, and for the promises in `specs/Table.antt`. `cause` and `argument_cause` help a person to find a
-//! fault in a file or in a command line. `pollers_for` says how many threads poll, which no key sets.
+//! fault in a file or in a command line. `pollers_for` says how many threads poll, which no key sets, and `calls_for` how
+//! many calls a turn makes at most.
 #![tactic(auto)]
 
 mod addresses;
+mod calls;
 mod causes;
 mod faults;
 mod fields;
+mod hints;
 mod levels;
 mod limits;
 mod one_line;
@@ -18,9 +21,11 @@ mod table;
 mod wanted;
 
 pub use addresses::Address;
+pub use calls::{LEAST_CALLS, calls_for};
 pub use causes::{argument_cause, cause};
 pub use faults::{KeyText, SettingsFault};
 pub use fields::Settings;
+pub use hints::{TypedWord, Unit};
 pub use levels::LogLevel;
 pub use one_line::{EndOfLine, OneLine, ShownCharacter};
 pub use read::parse;

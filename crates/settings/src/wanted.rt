@@ -1,6 +1,7 @@
 use crate::addresses::{address_of, decimal_number};
+use crate::hints::{Bare, Unit, curly, has_blank, level_meant};
 use crate::one_line::OneLine;
-use crate::table::{AddressRow, Key, Takes};
+use crate::table::{AddressRow, Key, NumberRow, Takes};
 use std::fmt;
 use std::net::{Ipv4Addr, Ipv6Addr};
 use toml::Value;
@@ -62,7 +63,7 @@ impl Kind {
     /// The part of a text that is wrong in this way.
     fn part_of(self, text: &str) -> Option<&str> {
         match self {
-            Kind::Blank => text.contains([' ', '\n', '\t']).then_some(""),
+            Kind::Blank => has_blank(text).then_some(""),
             Kind::Scheme => Some(text.split_once("://")?.0),
             Kind::Ipv6 => ipv6_in(text),
             Kind::Slash => text.split_once('/')?.1.split(':').next(),
@@ -139,9 +140,9 @@ fn are_digits(text: &str) -> bool {
     text.as_bytes().iter().all(|byte| byte.is_ascii_digit())
 }
 
-/// Returns true if a text is a number with a leading zero, after a minus sign or none.
+/// Returns true if a text is a number with a leading zero, after a sign or none.
 pub fn has_leading_zero(text: &str) -> bool {
-    let digits = text.strip_prefix('-').unwrap_or(text);
+    let digits = text.strip_prefix(['-', '+']).unwrap_or(text);
     matches!(digits.as_bytes(), [b'0', _, ..]) && are_digits(digits)
 }
 
@@ -160,6 +161,10 @@ pub(crate) enum Wanted<'a> {
     Port(u16),
     /// This text in quotes, for this key.
     Quotes(Key, &'a str),
+    /// This text in quotes of TOML, for this key, in place of another quote.
+    NoQuote(char, Key, &'a str),
+    /// A number, without the unit that is typed.
+    Bare(Bare),
     /// These words, with a part of a text between them, which is shown on one line.
     Words(&'static str, &'a str, &'static str),
 }
@@ -180,10 +185,11 @@ impl<'a> Wanted<'a> {
 
     /// What is wanted if a key refuses a value, which is `word` without quotes.
     pub(crate) fn in_place_of(value: &Value, word: &'a str, key: Key) -> Wanted<'a> {
-        if !is_word(value) || !matches!(key.takes(), Takes::Address(_)) {
-            return Wanted::by(key);
+        if is_word(value) {
+            Wanted::in_place_of_word(word, key)
+        } else {
+            Wanted::by(key)
         }
-        Wanted::in_place_of_word(word, key)
     }
 
     /// What is wanted if a key refuses a word, as it is typed on a command line.
@@ -194,7 +200,9 @@ impl<'a> Wanted<'a> {
             }
             Takes::Address(row) => port_alone(word, row).or(mistake_in(word)),
             Takes::Number(_) if has_leading_zero(word) => mistake_in(word),
-            _ => None,
+            Takes::Number(row) => without_unit(word, row),
+            Takes::Level => level_meant(word).map(|level| Wanted::Words("write ", level, "")),
+            Takes::Truth => None,
         };
         mistake.unwrap_or(Wanted::by(key))
     }
@@ -207,6 +215,16 @@ impl<'a> Wanted<'a> {
             _ => Some(Wanted::in_place_of_word(written, key)),
         }
     }
+}
+
+/// The number that is wanted in place of a word with a unit.
+fn without_unit(word: &str, row: NumberRow) -> Option<Wanted<'static>> {
+    let unit = match row.key {
+        Key::Ring => Unit::Bytes,
+        Key::Idle => Unit::Seconds,
+        _ => return None,
+    };
+    Some(Wanted::Bare(unit.without(word, row.low, row.high)?))
 }
 
 fn is_word(value: &Value) -> bool {
@@ -226,8 +244,14 @@ fn port_alone(word: &str, row: AddressRow) -> Option<Wanted<'_>> {
 
 /// What is wanted in place of a text that lacks its quotes, or its last one.
 fn quotes_of(written: &str, key: Key) -> Option<Wanted<'_>> {
+    if let Some((quote, text)) = curly(written) {
+        return Some(Wanted::NoQuote(quote, key, text));
+    }
     let quote = if written.starts_with('\'') { '\'' } else { '"' };
     match written.split_once(quote) {
+        None if key == Key::Log => {
+            Some(Wanted::Quotes(key, level_meant(written).unwrap_or(written)))
+        }
         None => Some(Wanted::Quotes(key, written)),
         Some(("", rest)) if !rest.contains(quote) => {
             Some(Wanted::Words("a quote is wanted at the end", "", ""))
@@ -247,6 +271,11 @@ impl fmt::Display for Wanted<'_> {
                 let text = OneLine(text);
                 write!(f, "a text stands in quotes: {key} = \"{text}\"")
             }
+            Wanted::NoQuote(quote, key, text) => {
+                let text = OneLine(text);
+                write!(f, "{quote} is no quote of TOML: {key} = \"{text}\"")
+            }
+            Wanted::Bare(bare) => bare.fmt(f),
             Wanted::Words(before, part, after) => {
                 let part = OneLine(part);
                 write!(f, "{before}{part}{after}")

@@ -141,7 +141,7 @@ module _ {st : System} {before : List Exchange} {p : SlotState} {entry : ℕ} {t
 
 -- What the word says, and what the place does
 
-some_notes : (notes : List ℕ) → some_wait (length notes) ≡ is_nonempty notes
+pub some_notes : (notes : List ℕ) → some_wait (length notes) ≡ is_nonempty notes
 some_notes [] = refl
 some_notes (n ∷ ns) = sym (lt-ltb 0 (length (n ∷ ns)) (omega arith))
 
@@ -172,7 +172,7 @@ still : {p : SlotState} {i g : ℕ} {has : Option Connection} (note : ℕ) → H
 still note held = assumption held
 
 -- what is so of each list that a plan may be, for the pair for which it is one, is so of the plan
-by_plan : (P : List Act → Type 0) (left : ℕ) (p : PairState) → (is_live (verdict p) ≡ true → is_none (next_call p) ≡ true → P quiet) → (is_live (verdict p) ≡ true → P again)
+pub by_plan : (P : List Act → Type 0) (left : ℕ) (p : PairState) → (is_live (verdict p) ≡ true → is_none (next_call p) ≡ true → P quiet) → (is_live (verdict p) ≡ true → P again)
     → ((left == 0) ≡ false → P (Call ∷ [])) → (is_live (verdict p) ≡ false → P ended) → P (plan left p)
 by_plan P left p rests spends calls ends = go (is_live (verdict p)) (is_none (next_call p)) (left == 0) refl refl refl
   where
@@ -195,8 +195,8 @@ held_free free by = cc
 -- with one note more the holder is where it was
 noted_holder : {budget : ℕ} {place : Option Connection} {p : SlotState} {t : Thread} {c : Connection} {more : ℕ} {todo : List Act} (g : ℕ)
     → HolderLike budget place p t c more todo → HolderLike budget place (with_note p g) t c more todo
-noted_holder g (Holds at least all) = Holds at least all
-noted_holder g (HasOut at out least all) = HasOut at out least all
+noted_holder {p = p} g (Holds at least all some) = Holds at least all (some_more p.notes g)
+noted_holder {p = p} g (HasOut at out least all some) = HasOut at out least all (some_more p.notes g)
 noted_holder g (Goes at out least) = Goes at out least
 noted_holder g (Stays at live) = Stays at live
 noted_holder {p = p} {c = c} g (Leaves at may) = Leaves at (rw (some_more p.notes g) (may_still c (is_nonempty p.notes) may))
@@ -488,16 +488,16 @@ module _ (st : System) (p : SlotState) (workers : List WorkerState) (set : Settl
     -- the next act
     holder_acts : {todo : List Act} → Turns w → HolderLike st.limits.budget st.place p t c more todo → Kept (Acted (exchange st.word (first_kind todo))) (acts st i t todo)
     -- it takes the connection out, which is its ticket's own
-    holder_acts turns (Holds at least all) =
+    holder_acts turns (Holds at least all some) =
         let own = own_generation (facts w 0 p.generation) p c ((turns.each 0 p refl).connection c held.there).stands ∙ held.generation in
         kept_some (rw (at, eq-eqb c.pair.generation t.generation own) (follow [] p workers (record {
           ends = set.ends;
           word = set.word;
           place = not_nobody;
-          threads = goes (others held.holder refl) (IsHolder c more held is (HasOut refl refl least all));
+          threads = goes (others held.holder refl) (IsHolder c more held is (HasOut refl refl least all some));
         }) (λ es. refl)))
     -- it takes the notes
-    holder_acts turns (HasOut at out least all) = rw out (
+    holder_acts turns (HasOut at out least all some) = rw out (
         let heard_now = heard st.word.pending c in
         let e = held_to_limit st heard_now in
         let b = is_overdue st.second st.limits.idle heard_now.pair in
@@ -607,7 +607,7 @@ module _ (st : System) (p : SlotState) (workers : List WorkerState) (set : Settl
           word = rw (set.word, wait.holder) refl;
           place = λ nobody. cc;
           threads = both_go (λ j u v other like. apart (λ by. cc wait.holder) refl like)
-              (IsHolder c.0 st.limits.budget (record { holder = refl; there = c.1; generation = sym own }) refl (Holds (set.place (rw wait.holder refl) ∙ c.1) least refl));
+              (IsHolder c.0 st.limits.budget (record { holder = refl; there = c.1; generation = sym own }) refl (Holds (set.place (rw wait.holder refl) ∙ c.1) least refl wait.some));
         }) (λ more. rw (had, is, wait.holder, set.word))))
     thread_acts (IsHolder c more held is at) = holder_acts c more held is turns at
     -- the slot is retired

@@ -1,0 +1,184 @@
+//! What is meant by what people type.
+
+use crate::levels::LogLevel;
+use crate::one_line::OneLine;
+use crate::table::{Key, ROWS};
+use std::alloc::{AllocError, Global};
+use std::fmt;
+use strsim::jaro;
+
+/// The most bytes of a name that is compared with the keys: in a long one there are letters of any key.
+const MAX_NAME: usize = 16;
+
+/// The options of `relayd run` that are no settings, and whether a value comes behind them.
+static OPTIONS: [(&str, bool); 6] = [
+    ("connect-timeout", true),
+    ("keepalive", true),
+    ("log-clients", false),
+    ("record", true),
+    ("stats", true),
+    ("until-eof", false),
+];
+
+/// The option that a name stands for, `_` for `-` or not, and whether a value comes behind it.
+pub(crate) fn option_named(name: &str) -> Option<(&'static str, bool)> {
+    for (option, has_value) in &OPTIONS {
+        if is_option(name, option) {
+            return Some((option, *has_value));
+        }
+    }
+    None
+}
+
+fn is_option(name: &str, option: &str) -> bool {
+    name.split(['_', '-']).eq(option.split('-'))
+}
+
+/// The key whose name is nearest to this one, if any is near.
+pub(crate) fn key_near(alloc: Global, name: &str) -> Result<Option<Key>, AllocError> {
+    let mut nearest = None;
+    let mut least = 0.7;
+    if name.len() > MAX_NAME {
+        return Ok(None);
+    }
+    for row in &ROWS {
+        if name.eq_ignore_ascii_case(row.name) {
+            return Ok(Some(row.key));
+        }
+        let likeness = jaro(alloc, name, row.name)?;
+        if likeness > least {
+            least = likeness;
+            nearest = Some(row.key);
+        }
+    }
+    Ok(nearest)
+}
+
+/// Words that are typed for a level.
+static LEVELS: [(&str, LogLevel); 6] = [
+    ("none", LogLevel::Off),
+    ("err", LogLevel::Error),
+    ("warning", LogLevel::Warn),
+    ("notice", LogLevel::Info),
+    ("verbose", LogLevel::Debug),
+    ("all", LogLevel::Trace),
+];
+
+/// The name of the level that is meant by a word that is none: in capitals, or another word.
+pub(crate) fn level_meant(word: &str) -> Option<&'static str> {
+    for (typed, level) in &LEVELS {
+        if word.eq_ignore_ascii_case(typed) || word.eq_ignore_ascii_case(level.name()) {
+            return Some(level.name());
+        }
+    }
+    None
+}
+
+/// What a number counts that is often typed with a unit behind it.
+#[derive(Clone, Copy)]
+pub enum Unit {
+    Seconds,
+    Bytes,
+}
+
+/// The units that are typed, and how many seconds or bytes each is.
+static SECONDS: [(&str, u32); 8] = [
+    ("s", 1),
+    ("sec", 1),
+    ("m", 60),
+    ("min", 60),
+    ("h", 3_600),
+    ("d", 86_400),
+    ("second", 1),
+    ("seconds", 1),
+];
+
+static BYTES: [(&str, u32); 5] = [
+    ("b", 1),
+    ("k", 1_024),
+    ("kb", 1_024),
+    ("kib", 1_024),
+    ("m", 1_048_576),
+];
+
+impl Unit {
+    fn table(self) -> &'static [(&'static str, u32)] {
+        match self {
+            Unit::Seconds => &SECONDS,
+            Unit::Bytes => &BYTES,
+        }
+    }
+
+    /// The number that a word with a unit stands for.
+    fn number_in(self, word: &str) -> Option<u32> {
+        let unit = word.trim_start_matches(|character: char| character.is_ascii_digit());
+        let digits = word.strip_suffix(unit)?;
+        for (name, factor) in self.table() {
+            if unit.trim_start().eq_ignore_ascii_case(name) {
+                return digits.parse::<u32>().ok()?.checked_mul(*factor);
+            }
+        }
+        None
+    }
+
+    /// What to type for a word with a unit, if that is a number in this range.
+    pub fn without(self, word: &str, low: u32, high: u32) -> Option<Bare> {
+        let number = self.number_in(word)?;
+        (low <= number && number <= high).then_some(Bare { unit: self, number })
+    }
+}
+
+/// A number as it is wanted: without its unit.
+#[derive(Clone, Copy)]
+pub struct Bare {
+    unit: Unit,
+    number: u32,
+}
+
+impl fmt::Display for Bare {
+    fn fmt<W: fmt::Write>(&self, f: &mut fmt::Formatter<W>) -> fmt::Result {
+        let (number, unit) = (self.number, self.unit);
+        let unit = match unit {
+            Unit::Seconds => "seconds",
+            Unit::Bytes => "bytes",
+        };
+        write!(f, "{unit}, without a unit: {number}")
+    }
+}
+
+/// A word of a command line on one line: in quotes if it is empty or has blanks, which would not be seen.
+#[derive(Clone, Copy)]
+pub struct TypedWord<'a>(pub &'a str);
+
+impl fmt::Display for TypedWord<'_> {
+    fn fmt<W: fmt::Write>(&self, f: &mut fmt::Formatter<W>) -> fmt::Result {
+        let word = OneLine(self.0);
+        let quote = if self.0.is_empty() || has_blank(self.0) {
+            "'"
+        } else {
+            ""
+        };
+        write!(f, "{quote}{word}{quote}")
+    }
+}
+
+/// Whether a text has a blank of any kind, as one that does not break a line.
+pub(crate) fn has_blank(text: &str) -> bool {
+    text.chars().any(|character| character.is_whitespace())
+}
+
+/// The quote with which a text begins that is none of TOML, and the text without its quotes.
+pub(crate) fn curly(written: &str) -> Option<(char, &str)> {
+    let first = written.chars().next().filter(|first| is_curly(*first))?;
+    Some((
+        first,
+        written.trim_matches(|character: char| is_curly(character)),
+    ))
+}
+
+fn is_curly(character: char) -> bool {
+    matches!(
+        character,
+        '“' | '”' | '„' | '‟' | '‘' | '’' | '‚' | '«' | '»' | '`' | '´'
+    )
+}
