@@ -29,6 +29,12 @@ Meets listen target here =
     ⊎ (((listen.0 ≡ every) × ((slice_index target.0 0 ≡ 127) ⊎ (here ≡ true)))
     ⊎ ((listen.0 ≡ loopback) × (target.0 ≡ every))))
 
+-- the address is of more than one machine, so that no TCP connection can be made to it: of every machine of a network
+-- (255.255.255.255), or of a group (224.0.0.0/4)
+abbrev pub IsOfMany : SocketAddress → Type 0
+IsOfMany a =
+    (a.0 ≡ 255 ∷ 255 ∷ 255 ∷ 255 ∷ []) ⊎ ((224 ≤ slice_index a.0 0) × (slice_index a.0 0 ≤ 239))
+
 -- The options whose values are numbers of seconds.
 
 -- the most seconds that an option may have
@@ -45,7 +51,9 @@ number Input = pos 0
 number Output = pos 1
 number Errors = pos 2
 
--- a file that is opened in this way refuses what the closed stream would: read(2) or write(2) gives EBADF
-abbrev pub Refuses : StandardStream → OpenOptions → Type 0
-Refuses Input how = asks_read how ≡ false
-Refuses _ how = (asks_write how ≡ false) × (asks_append how ≡ false)
+-- how a file is opened that stands in for a stream: as input and as errors it refuses what the closed stream would,
+-- since read(2) or write(2) gives EBADF; as output it can be written
+abbrev pub StandsIn : StandardStream → OpenOptions → Type 0
+StandsIn Input how = asks_read how ≡ false
+StandsIn Output how = asks_write how ≡ true
+StandsIn Errors how = (asks_write how ≡ false) × (asks_append how ≡ false)

@@ -1,5 +1,5 @@
 //! What the program does, from its arguments to its status.
-ghost use Rattle.std.specs.Prelude.{◌≡◌, ◌⊎◌, IfSome, IfOk, IfErr, Ok};
+ghost use Rattle.std.specs.Prelude.{◌≡◌, ◌⊎◌, IsTrue, IfSome, IfOk, IfErr, Ok};
 ghost use Rattle.program.specs.Faults.{IsCarriedOut, status_of};
 
 use crate::command_line::{Command, Relay, Source, read_command};
@@ -8,10 +8,10 @@ use crate::constants::{DONE, FAULT, USAGE};
 use crate::extras::{Extras, extras_of};
 use crate::faults::{ArgumentsFault, ProgramFault};
 use crate::logging::{direct_log, starting_filter};
-use crate::recording_file::create;
+use crate::recording_file::{create, find_place};
 use crate::replaying_file::replay;
-use crate::starting::{foresee, prepare};
-use crate::streams::{LoggedCauses, Stream};
+use crate::starting::{foresee, look_at_addresses, prepare, warn_of_short_time, warn_of_silence};
+use crate::streams::{LoggedCauses, Stream, log_error};
 use crate::usage::answer_usage;
 use input::{Outcome, Simulate};
 use log::{LevelFilter, Log};
@@ -20,24 +20,44 @@ use relay_log::ServerFault;
 use settings::Settings;
 use sockets::{Bound, bind};
 use std::alloc::{AllocError, Global};
-use std::env::Env;
+use std::env::{Env, FillError};
 use std::io::{Eprint, IsTerminal, Read, Write};
 use std::net::Net;
+use std::os::fd::AsRawFd;
 use std::rt::Files;
+
+/// How many arguments are looked at for one that is not UTF-8.
+const MOST_ARGUMENTS: usize = 1_000;
 
 /// Writes to `errors` why the arguments cannot be read, and returns the exit status: 1 if memory ran out; 2, a usage
 /// error, if an argument is not UTF-8.
-pub fn report_arguments_fault<E: Write>(errors: &mut E, fault: ArgumentsFault) -> u8
+pub fn report_arguments_fault<R: Env, E: Write>(rt: &R, errors: &mut E, fault: ArgumentsFault) -> u8
     ensures memory { fault ≡ ArgumentsFault.NoMemory → result ≡ 1 }
     ensures not_text { fault ≡ ArgumentsFault.NotText → result ≡ 2 }
 {
     match fault {
         ArgumentsFault::NoMemory => report_fault(errors, ProgramFault::from(AllocError)),
         ArgumentsFault::NotText => {
-            let _ = writeln!(errors, "error: an argument is not UTF-8");
+            let _ = match find_no_text(rt) {
+                Some(number) => writeln!(errors, "error: argument {number} is not UTF-8"),
+                None => writeln!(errors, "error: an argument is not UTF-8"),
+            };
             USAGE
         }
     }
+}
+
+/// The number, from 1, of the first argument that is not UTF-8. None if it is longer than what is looked at.
+fn find_no_text(rt: &impl Env) -> Option<usize> {
+    let mut room = [0u8; 4096];
+    for number in 1..MOST_ARGUMENTS {
+        match rt.arg(number, &mut room) {
+            Ok(length) if std::str::from_utf8(&room[..length]).is_err() => return Some(number),
+            Err(FillError::NotPresent) => return None,
+            _ => {}
+        }
+    }
+    None
 }
 
 /// Runs the program by the arguments of the command line; the first is the program's own name (`relayd(1)`). A script
@@ -47,7 +67,8 @@ pub fn report_arguments_fault<E: Write>(errors: &mut E, fault: ArgumentsFault) -
 /// Returns the exit status: 0 if the command was carried out, or help or the version printed; 1 for a fault; 2 for a
 /// usage error. A fault of the script itself, or a recording that is no run, is written to `writer`, any other fault
 /// to `errors` after `relayd: `, and a usage error to `errors`. If the command line is refused, nothing has been read
-/// from `reader` or written to `writer`.
+/// from `reader` or written to `writer`. The same holds if `is_closed`, standard output is closed: no command is
+/// carried out then, and nothing listens.
 ///
 /// `serve` serves on a bound socket, with the process's own handle: only this handle can start a thread. It is given
 /// the other options and the file to record into, if there is one, and returns true if it could print where the relay
@@ -57,6 +78,7 @@ pub fn act<R, S, P: Replay, M: Simulate, I: Read + IsTerminal, O: Write, E: Writ
     arguments: &[String],
     reader: &mut I,
     writer: &mut O,
+    is_closed: bool,
     errors: &mut E,
     serve: &S,
     player: &P,
@@ -64,14 +86,22 @@ pub fn act<R, S, P: Replay, M: Simulate, I: Read + IsTerminal, O: Write, E: Writ
 ) -> u8
 where
     R: AllocGlobal + Env + Files + Eprint + Net + Copy + Drop,
+    R::File: AsRawFd,
     S: Fn(Settings, Bound, Extras, Option<R::File>) -> Result<bool, ServerFault>,
     requires { S.IsAlwaysCallable serve.now }
     ensures status { IsCarriedOut result ⊎ (result ≡ 2) }
     ensures unread { result ≡ 2 → I.remaining reader.new ≡ I.remaining reader.old }
     ensures unwritten { result ≡ 2 → O.contents writer.new ≡ O.contents writer.old }
+    ensures closed { IsTrue is_closed
+        → (I.remaining reader.new ≡ I.remaining reader.old) × (O.contents writer.new ≡ O.contents writer.old) }
 {
     let log = direct_log(rt, LevelFilter::Warn);
     match read_command(rt.alloc(), arguments) {
+        Ok(command) if is_closed => {
+            drop(command);
+            refuse_closed(&log, errors)
+        }
+        Err(error) if is_closed && !error.use_stderr() => refuse_closed(&log, errors),
         Ok(command) => {
             if matches!(command, Command::Simulate { .. }) {
                 tell_if_typed(reader, errors);
@@ -83,6 +113,14 @@ where
         }
         Err(error) => answer_usage(rt.alloc(), &log, arguments, &error, writer, errors),
     }
+}
+
+/// Refuses to do anything, since standard output is closed.
+fn refuse_closed<E: Write>(log: &impl Log, errors: &mut E) -> u8
+    ensures { result ≡ 1 }
+{
+    log_error(log, &"output", &"is closed; give it one, as > /dev/null");
+    report_fault(errors, ProgramFault::Write)
 }
 
 fn tell_if_typed<I: IsTerminal, E: Write>(reader: &I, errors: &mut E) {
@@ -109,6 +147,7 @@ fn carry_out<R, S, P: Replay, M: Simulate, L: Log, I: Read, O: Write>(
 ) -> Result<u8, ProgramFault>
 where
     R: AllocGlobal + Env + Files + Eprint + Net + Copy + Drop,
+    R::File: AsRawFd,
     S: Fn(Settings, Bound, Extras, Option<R::File>) -> Result<bool, ServerFault>,
     requires { S.IsAlwaysCallable serve.now }
     ensures done { IfOk result (λ status. IsCarriedOut status) }
@@ -152,6 +191,7 @@ where
     ensures fault { IfErr result (λ fault. status_of fault ≡ 1) }
 {
     let settings = config::load(rt, log, path)?;
+    look_at_addresses(log, &settings)?;
     foresee(rt, log, &settings)?;
     print(rt.alloc(), &settings, &mut stream("output", writer, log))
 }
@@ -221,17 +261,23 @@ fn print(alloc: Global, settings: &Settings, writer: &mut impl Write) -> Result<
     Ok(DONE)
 }
 
-/// Listens, looks at what the settings need, makes the file to record into, and serves.
+/// Looks at what can be found before anything listens, listens, looks at what the settings need, makes the file to
+/// record into, and serves.
 fn run<R, S, L: Log>(rt: &R, log: &L, relay: &Relay<'_>, serve: &S) -> Result<u8, ProgramFault>
 where
     R: AllocGlobal + Env + Files + Eprint + Net + Copy + Drop,
+    R::File: AsRawFd,
     S: Fn(Settings, Bound, Extras, Option<R::File>) -> Result<bool, ServerFault>,
     requires { S.IsAlwaysCallable serve.now }
     ensures { IfOk result (λ status. status ≡ 0) }
 {
     let extras = extras_of(log, relay.extras)?;
     let settings = settings_of(rt, log, &relay.settings)?;
+    warn_of_silence(log, settings.log, &extras);
     let log = direct_log(rt, starting_filter(settings.log));
+    warn_of_short_time(&log, settings.idle, extras.patience);
+    look_at_addresses(&log, &settings)?;
+    let place = find_place(rt, &log, relay.record)?;
     let bound = match bind(&log, &settings) {
         Ok(bound) => bound,
         Err(fault) => return Err(ProgramFault::Server(fault)),
@@ -241,7 +287,7 @@ where
         None => 0,
     };
     let settings = prepare(rt, &log, settings, recordings)?;
-    let file = create(rt, &log, relay.record)?;
+    let file = create(rt, &log, relay.record, place)?;
     match serve(settings, bound, extras, file) {
         Ok(true) => Ok(DONE),
         Ok(false) => Err(ProgramFault::Write),

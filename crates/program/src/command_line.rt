@@ -2,7 +2,7 @@
 
 use crate::constants::VERSION;
 use crate::extras::TypedExtras;
-use crate::forwarding::{add_settings, settings_text};
+use crate::forwarding::{add_settings, all_arguments, settings_text};
 use clap::{Arg, ArgAction, ArgMatches, Error};
 use std::alloc::{AllocError, Global};
 
@@ -151,6 +151,8 @@ enum Form {
     Flag,
     /// `--NAME` and a value, with what help calls the value.
     Value(&'static [&'static str]),
+    /// The same, but not together with the argument of the second name.
+    ValueAlone(&'static [&'static str], &'static str),
     /// `--NAME` and a number of seconds.
     Seconds,
     /// `-c` or `--NAME` and a file, which is required.
@@ -170,7 +172,7 @@ impl Form {
     fn value_names(self) -> &'static [&'static str] {
         match self {
             Form::Flag => &[],
-            Form::Value(names) => names,
+            Form::Value(names) | Form::ValueAlone(names, _) => names,
             Form::Seconds => &["SECONDS"],
             Form::NeededFile | Form::File => &["FILE"],
         }
@@ -190,7 +192,7 @@ const RECORD: ArgumentRow = ArgumentRow {
 const STATS: ArgumentRow = ArgumentRow {
     name: "stats",
     form: Form::Seconds,
-    help: "Log a line of statistics every so many seconds, 1 to 86400, and one at the end",
+    help: "Log a line of statistics every so many seconds, 1 to 86400, and one at the end, unless a signal ends it",
 };
 
 const UNTIL_EOF: ArgumentRow = ArgumentRow {
@@ -238,7 +240,7 @@ const EACH: ArgumentRow = ArgumentRow {
 const RECORDING: [ArgumentRow; 4] = [
     ArgumentRow {
         name: "script",
-        form: Form::Value(&["SLOT.GEN"]),
+        form: Form::ValueAlone(&["SLOT.GEN"], "ends"),
         help: "Print the script of this connection",
     },
     ArgumentRow {
@@ -317,6 +319,21 @@ fn commands() -> &'static [CommandRow] {
     &COMMANDS
 }
 
+/// Whether `relayd forward` takes a value behind the option of this name.
+pub(crate) fn takes_value(option: &str) -> bool {
+    for row in all_arguments() {
+        if row.option == Some(option) {
+            return true;
+        }
+    }
+    for row in COMMANDS[0].arguments {
+        if row.name == option {
+            return !matches!(row.form, Form::Flag);
+        }
+    }
+    false
+}
+
 fn add_subcommand<'a>(
     alloc: Global,
     row: CommandRow,
@@ -343,20 +360,21 @@ fn add_arguments<'a>(
         add_settings(alloc, arguments)?;
     }
     for row in row.arguments {
-        arguments.push(argument_of(alloc, *row))?;
+        arguments.push(argument_of(alloc, *row)?)?;
     }
     Ok(())
 }
 
-fn argument_of<'a>(alloc: Global, row: ArgumentRow) -> Arg<'a> {
+fn argument_of<'a>(alloc: Global, row: ArgumentRow) -> Result<Arg<'a>, AllocError> {
     let argument = described(alloc, row);
-    match row.form {
+    Ok(match row.form {
         Form::File => argument,
         Form::NeededFile => argument.long(row.name).short('c'),
         // A negative number is refused as out of range, not as an unknown option.
         Form::Seconds => argument.long(row.name).allow_negative_numbers(true),
+        Form::ValueAlone(_, other) => argument.long(row.name).conflicts_with(other)?,
         _ => argument.long(row.name),
-    }
+    })
 }
 
 /// A row's argument, without its option.

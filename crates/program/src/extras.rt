@@ -1,12 +1,13 @@
 //! The options of a relay that are no settings.
-ghost use Rattle.std.specs.Prelude.{◌≡◌, ◌≤◌, IfOk, IfErr, IfSome};
+ghost use Rattle.std.specs.Prelude.{◌≡◌, ◌⊎◌, ◌≤◌, IfOk, IfErr, IfSome};
 ghost use Rattle.program.specs.{Starting.most, Faults.status_of};
 
 use crate::faults::ProgramFault;
-use crate::streams::log_text;
+use crate::forwarding::whole_number;
+use crate::streams::log_error;
 use clap::ArgMatches;
-use log::{Level, Log};
-use settings::OneLine;
+use log::Log;
+use settings::{TypedWord, Unit, has_leading_zero};
 use sockets::Patience;
 use std::fmt;
 
@@ -80,7 +81,7 @@ impl fmt::Display for SecondsOption {
     }
 }
 
-/// Refuses with `Seconds`, and logs the cause, if a value is no number of seconds in its option's range.
+/// Refuses, and logs the cause, if a value is no whole number, or one that is not in its option's range.
 pub(crate) fn extras_of(log: &impl Log, typed: TypedExtras<'_>) -> Result<Extras, ProgramFault>
     ensures stats { IfOk result (λ extras. IfSome extras.stats (λ n. (1 ≤ n) × (n ≤ 86400))) }
     ensures connect { IfOk result (λ extras. IfSome extras.patience.connect (λ n. (1 ≤ n) × (n ≤ 3600))) }
@@ -104,24 +105,34 @@ fn seconds_of(
     typed: Option<&str>,
 ) -> Result<Option<u32>, ProgramFault>
     ensures range { IfOk result (λ seconds. IfSome seconds (λ n. (1 ≤ n) × (n ≤ most option))) }
-    ensures refused { IfErr result (λ fault. fault ≡ ProgramFault.Seconds option) }
+    ensures refused { IfErr result (λ fault. (fault ≡ ProgramFault.Seconds option) ⊎ (fault ≡ ProgramFault.NoNumber option)) }
 {
     let Some(text) = typed else {
         return Ok(None);
     };
-    match text.parse::<u32>() {
-        Ok(seconds) if seconds >= 1 && seconds <= option.most() => Ok(Some(seconds)),
-        _ => {
-            log_range(log, option, text);
-            Err(ProgramFault::Seconds(option))
+    match whole_number(text) {
+        Some(seconds) if seconds >= 1 && seconds <= i64::from(option.most()) => {
+            Ok(Some(seconds as u32))
+        }
+        number => {
+            log_wrong(log, option, text);
+            Err(match number {
+                Some(_) => ProgramFault::Seconds(option),
+                None => ProgramFault::NoNumber(option),
+            })
         }
     }
 }
 
-fn log_range(log: &impl Log, option: SecondsOption, text: &str) {
-    let (text, most) = (OneLine(text), option.most());
-    let text = format_args!(
-        "options: --{option} {text}: a whole number from 1 to {most} is wanted"
-    );
-    log_text(log, Level::Error, &text);
+fn log_wrong(log: &impl Log, option: SecondsOption, text: &str) {
+    let (word, most) = (TypedWord(text), option.most());
+    let name = format_args!("options: --{option} {word}");
+    if has_leading_zero(text) {
+        log_error(log, &name, &format_args!("{text} has a leading zero"));
+    } else if let Some(bare) = Unit::Seconds.without(text, 1, most) {
+        log_error(log, &name, &bare);
+    } else {
+        let wanted = format_args!("a whole number from 1 to {most} is wanted");
+        log_error(log, &name, &wanted);
+    }
 }

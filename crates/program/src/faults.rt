@@ -27,6 +27,9 @@ pub enum ProgramFault {
     /// This option has a value that is no number of seconds in its range.
     #[error("options: {0}: out of range")]
     Seconds(SecondsOption),
+    /// This option has a value that is no whole number, or one with leading zeros.
+    #[error("options: {0}: wrong kind")]
+    NoNumber(SecondsOption),
     /// `--script` has a value that names no connection.
     #[error("options: script: wrong kind")]
     Connection,
@@ -39,6 +42,9 @@ pub enum ProgramFault {
     /// The file to replay does not begin as a recording does.
     #[error("recording: malformed")]
     NoRecording,
+    /// No connection can be made to the target's address.
+    #[error("target: cannot be reached")]
+    Target,
     /// The file to record into could not be created.
     #[error("record: cannot be created")]
     Record,
@@ -83,8 +89,10 @@ impl ProgramFault {
         ensures { result ≡ status_of self.now }
     {
         match self {
-            ProgramFault::Argument(_) | ProgramFault::Seconds(_) | ProgramFault::Connection =>
-                USAGE,
+            ProgramFault::Argument(_)
+            | ProgramFault::Seconds(_)
+            | ProgramFault::NoNumber(_)
+            | ProgramFault::Connection => USAGE,
             _ => FAULT,
         }
     }

@@ -78,14 +78,21 @@ impl Assignment<'_> {
 impl fmt::Display for Assignment<'_> {
     fn fmt<W: fmt::Write>(&self, f: &mut fmt::Formatter<W>) -> fmt::Result {
         let (key, value) = (self.key, self.value);
-        match value.parse::<i64>() {
-            Ok(number) if !has_leading_zero(value) => return write!(f, "{key} = {number}"),
-            _ => {}
+        if let Some(number) = whole_number(value) {
+            return write!(f, "{key} = {number}");
         }
         let quote = if self.is_true_or_false() { "" } else { "\"" };
         let text = Escaped(value);
         write!(f, "{key} = {quote}{text}{quote}")
     }
+}
+
+/// The whole number that an argument is, if it is one without leading zeros.
+pub(crate) fn whole_number(value: &str) -> Option<i64> {
+    if has_leading_zero(value) {
+        return None;
+    }
+    value.parse::<i64>().ok()
 }
 
 /// A text within the quotes of TOML.

@@ -10,6 +10,7 @@ use log::kv::Source;
 use log::span::Spans;
 use log::{Level, LevelFilter, Log, Logged, Metadata, Record};
 use log_queue::{Direct, Form, LogLine, LogQueue, write_lines};
+use os::set_thread_name;
 use relay_log::{ServerFault, log_no_thread};
 use settings::LogLevel;
 use std::alloc::AllocGlobal;
@@ -100,10 +101,11 @@ where
     let alloc = rt.alloc();
     let queue = Arc::new(alloc, LogQueue::new(alloc, form)?)?;
     let lines = queue.clone()?;
-    if Builder::new()
-        .spawn(&rt, move || write_lines(&rt, &lines))
-        .is_err()
-    {
+    let write = move || {
+        set_thread_name(b"log");
+        write_lines(&rt, &lines);
+    };
+    if Builder::new().spawn(&rt, write).is_err() {
         return Err(log_no_thread(&Direct { rt, form }));
     }
     Ok(queue)

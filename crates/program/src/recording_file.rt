@@ -5,25 +5,43 @@ ghost use Rattle.program.specs.Faults.{status_of};
 
 use crate::faults::ProgramFault;
 use crate::streams::{FileName, Unopened, log_error, log_text};
+use libc::net as system;
+use libc::types::pollfd;
 use log::{Level, Log};
 use settings::EndOfLine;
 use std::alloc::{AllocError, Global};
 use std::fs::{self, File, OpenOptions};
 use std::io::{self, ErrorKind, Read};
+use std::os::fd::AsRawFd;
+use std::os::unix::fs::FileTypeExt;
 use std::rt::Files;
 
 /// What every recording begins with.
-const FIRST_WORDS: [u8; 17] = *b"relayd recording ";
+pub(crate) const FIRST_WORDS: [u8; 17] = *b"relayd recording ";
 
 const MOST_KEPT: u32 = 9_999;
+
+/// The error of writing to a folder (errno(3)).
+const EISDIR: i32 = 21;
 
 /// Why a file cannot be recorded into.
 #[derive(Drop)]
 enum Unmade {
     System(io::Error),
-    /// A file is there that is neither empty nor a recording.
-    Taken,
+    /// This is there.
+    Taken(&'static str),
     NoMemory,
+}
+
+/// What is at a path to record into.
+#[derive(Drop)]
+pub(crate) enum Place<F> {
+    Nothing,
+    Recording,
+    /// A pipe that somebody reads.
+    Pipe(F),
+    /// A file without bytes, or a device.
+    Other,
 }
 
 impl From<io::Error> for Unmade {
@@ -38,19 +56,41 @@ impl From<AllocError> for Unmade {
     }
 }
 
-/// Opens the file at a path to record into, if one is given. Refuses with `Record`, and logs the cause, if it cannot
-/// be opened, or if a file is there that is neither empty nor a recording. Refuses with `NoMemory`.
+/// What is at the path to record into, if one is given. Refuses with `Record`, and logs the cause, if nothing can be
+/// recorded there: it cannot be looked at, or is a file that is neither empty nor a recording, a pipe that nobody
+/// reads, a folder, or a link to nothing. Nothing is made or moved.
+pub(crate) fn find_place<R: AllocGlobal + Files>(
+    rt: &R,
+    log: &impl Log,
+    path: Option<&str>,
+) -> Result<Place<R::File>, ProgramFault>
+where
+    R::File: AsRawFd,
+    ensures { IfErr result (λ fault. status_of fault ≡ 1) }
+{
+    let Some(path) = path else {
+        return Ok(Place::Nothing);
+    };
+    match place_at(rt, path) {
+        Ok(place) => Ok(place),
+        Err(why) => Err(refused(log, path, why)),
+    }
+}
+
+/// Opens the file at a path to record into, if one is given, where this was found. Refuses with `Record`, and logs the
+/// cause, if it cannot be opened. Refuses with `NoMemory`.
 pub(crate) fn create<R: AllocGlobal + Files>(
     rt: &R,
     log: &impl Log,
     path: Option<&str>,
+    place: Place<R::File>,
 ) -> Result<Option<R::File>, ProgramFault>
     ensures { IfErr result (λ fault. status_of fault ≡ 1) }
 {
     let Some(path) = path else {
         return Ok(None);
     };
-    match open_new(rt, log, path) {
+    match open_new(rt, log, path, place) {
         Ok(file) => Ok(Some(file)),
         Err(why) => Err(refused(log, path, why)),
     }
@@ -63,27 +103,83 @@ fn refused(log: &impl Log, path: &str, why: Unmade) -> ProgramFault
     match why {
         Unmade::NoMemory => return ProgramFault::from(AllocError),
         Unmade::System(error) => log_error(log, &"record", &Unopened { path, error }),
-        Unmade::Taken => {
-            log_error(
-                log,
-                &FileName("record", path),
-                &"is there, and is no recording",
-            );
-        }
+        Unmade::Taken(what) => log_error(log, &FileName("record", path), &what),
     }
     ProgramFault::Record
 }
 
-fn open_new<R: AllocGlobal + Files>(rt: &R, log: &impl Log, path: &str) -> Result<R::File, Unmade> {
-    let is_there = match fs::metadata(rt, path) {
-        Ok(found) if found.is_file() && found.len() > 0 => {
+fn place_at<R: Files>(rt: &R, path: &str) -> Result<Place<R::File>, Unmade>
+where
+    R::File: AsRawFd,
+{
+    let found = match fs::metadata(rt, path) {
+        Ok(found) => found,
+        Err(error) if error.kind() == ErrorKind::NotFound => return nothing_at(rt, path),
+        Err(error) => return Err(Unmade::from(error)),
+    };
+    if found.is_dir() {
+        return Err(Unmade::from(io::Error::from_raw_os_error(EISDIR)));
+    }
+    if found.file_type().is_fifo() {
+        return pipe_at(rt, path);
+    }
+    if !found.is_file() || found.len() == 0 {
+        return Ok(Place::Other);
+    }
+    if is_recording(rt, path)? {
+        Ok(Place::Recording)
+    } else {
+        Err(Unmade::Taken("is there, and is no recording"))
+    }
+}
+
+fn nothing_at<R: Files>(rt: &R, path: &str) -> Result<Place<R::File>, Unmade> {
+    match fs::symlink_metadata(rt, path) {
+        Ok(_) => Err(Unmade::Taken("is a link to a file that is not there")),
+        Err(_) => Ok(Place::Nothing),
+    }
+}
+
+/// Opens a pipe, if somebody reads it. With an end that also reads, opening waits for nobody (fifo(7)).
+fn pipe_at<R: Files>(rt: &R, path: &str) -> Result<Place<R::File>, Unmade>
+where
+    R::File: AsRawFd,
+{
+    let both = OpenOptions::new().read(true).write(true).open(rt, path)?;
+    let end = how_to_open(true).open(rt, path)?;
+    drop(both);
+    if has_reader(&end) {
+        Ok(Place::Pipe(end))
+    } else {
+        Err(Unmade::Taken("is a FIFO that nobody reads"))
+    }
+}
+
+/// Whether somebody reads a pipe (poll(2), `POLLERR`).
+fn has_reader(end: &impl AsRawFd) -> bool {
+    let mut asked = [pollfd {
+        fd: end.as_raw_fd(),
+        events: system::POLLOUT,
+        revents: 0,
+    }];
+    system::poll(&mut asked, 0);
+    asked[0].revents & system::POLLERR == 0
+}
+
+fn open_new<R: AllocGlobal + Files>(
+    rt: &R,
+    log: &impl Log,
+    path: &str,
+    place: Place<R::File>,
+) -> Result<R::File, Unmade> {
+    let is_there = match place {
+        Place::Pipe(end) => return Ok(end),
+        Place::Other => true,
+        Place::Nothing => false,
+        Place::Recording => {
             keep(rt, log, path)?;
             false
         }
-        // A file without bytes, or a pipe or a device.
-        Ok(_) => true,
-        Err(error) if error.kind() == ErrorKind::NotFound => false,
-        Err(error) => return Err(Unmade::from(error)),
     };
     Ok(how_to_open(is_there).open(rt, path)?)
 }
@@ -103,9 +199,6 @@ fn how_to_open(is_there: bool) -> OpenOptions
 
 /// Gives the recording at a path the first free name of `PATH.1`, `PATH.2` and so on.
 fn keep<R: AllocGlobal + Files>(rt: &R, log: &impl Log, path: &str) -> Result<(), Unmade> {
-    if !is_recording(rt, path)? {
-        return Err(Unmade::Taken);
-    }
     let kept = free_name(rt, rt.alloc(), path)?;
     // This replaces the empty file that `free_name` has made.
     fs::rename(rt, path, kept.as_str())?;
@@ -123,10 +216,16 @@ fn log_kept(log: &impl Log, path: &str, kept: &str) {
 }
 
 /// Whether the file at a path begins as a recording does.
-pub(crate) fn is_recording(rt: &impl Files, path: &str) -> io::Result<bool> {
+fn is_recording(rt: &impl Files, path: &str) -> io::Result<bool> {
+    let (first, length) = first_bytes(rt, path)?;
+    Ok(length == first.len() && first == FIRST_WORDS)
+}
+
+/// As many bytes of a file as every recording begins with, and how many the file has of these.
+pub(crate) fn first_bytes(rt: &impl Files, path: &str) -> io::Result<([u8; 17], usize)> {
     let mut first = [0u8; 17];
     let length = File::open(rt, path)?.read(&mut first)?;
-    Ok(length == first.len() && first == FIRST_WORDS)
+    Ok((first, length))
 }
 
 /// The first free name after a path. An empty file has this name now, so that nobody else takes the name.

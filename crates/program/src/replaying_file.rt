@@ -5,12 +5,12 @@ use crate::acting::stream;
 use crate::command_line::Replayed;
 use crate::constants::{DONE, FAULT};
 use crate::faults::ProgramFault;
-use crate::recording_file::is_recording;
-use crate::streams::{Stream, Unopened, log_error, log_text};
+use crate::recording_file::{FIRST_WORDS, first_bytes};
+use crate::streams::{FileName, Stream, Unopened, log_error, log_text};
 use input::MAX_SCRIPT;
 use log::{Level, Log};
 use records::{Outcome, Replay, ReplayFault, Wanted};
-use settings::EndOfLine;
+use settings::has_leading_zero;
 use std::fs::{self, File};
 use std::io::{self, Write};
 use std::rt::Files;
@@ -28,7 +28,7 @@ pub(crate) fn replay<R: AllocGlobal + Files, L: Log, O: Write, P: Replay>(
     ensures unwritten { IfErr result (λ fault. status_of fault ≡ 2 → O.contents writer.new ≡ O.contents writer.old) }
 {
     let wanted = find_wanted(log, replayed)?;
-    let name = EndOfLine(replayed.path);
+    let name = FileName("recording", replayed.path);
     let inner = open(rt, log, replayed.path)?;
     let mut file = Stream { name, inner, log };
     let mut writer = Counted {
@@ -55,8 +55,8 @@ fn open<R: AllocGlobal + Files>(rt: &R, log: &impl Log, path: &str) -> Result<R:
             return Err(ProgramFault::Replay(ReplayFault::Read));
         }
     };
-    if is_other_file(rt, path) {
-        log_error(log, &EndOfLine(path), &"is no recording");
+    if let Some(what) = other_file(rt, path) {
+        log_error(log, &FileName("recording", path), &what);
         return Err(ProgramFault::NoRecording);
     }
     Ok(file)
@@ -73,8 +73,8 @@ fn status_after(log: &impl Log, outcome: Outcome, wanted: Wanted, bytes: usize) 
     if has_run { DONE } else { FAULT }
 }
 
-fn log_broken(log: &impl Log, name: &EndOfLine<'_>, fault: &ReplayFault) {
-    if let ReplayFault::Broken(cause) = fault {
+fn log_broken(log: &impl Log, name: &FileName<'_>, fault: &ReplayFault) {
+    if let ReplayFault::Broken(cause) | ReplayFault::Unknown(cause) = fault {
         log_error(log, name, cause);
     }
 }
@@ -107,11 +107,46 @@ impl<W: Write> Write for Counted<W> {
     }
 }
 
-/// Whether a file does not begin as a recording does. A pipe is not read, and counts as a recording.
-fn is_other_file(rt: &impl Files, path: &str) -> bool {
-    match fs::metadata(rt, path) {
-        Ok(found) => found.is_file() && matches!(is_recording(rt, path), Ok(false)),
-        Err(_) => false,
+/// What other files begin with, and what is told of one.
+static OTHERS: [(&[u8], &str); 3] = [
+    (
+        b"\x1f\x8b",
+        "is compressed: zcat FILE | relayd replay /dev/stdin",
+    ),
+    (
+        b"\xfd7zXZ",
+        "is compressed: xzcat FILE | relayd replay /dev/stdin",
+    ),
+    (
+        b"\x28\xb5\x2f\xfd",
+        "is compressed: zstdcat FILE | relayd replay /dev/stdin",
+    ),
+];
+
+/// What each line of the log has after its level.
+const LOGGED: &str = " relayd]";
+
+/// What is told of a file that does not begin as a recording does. A pipe is not read, and counts as a recording.
+fn other_file(rt: &impl Files, path: &str) -> Option<&'static str> {
+    if !fs::metadata(rt, path).ok()?.is_file() {
+        return None;
+    }
+    let (first, length) = first_bytes(rt, path).ok()?;
+    let first = first.get(..length)?;
+    if first == FIRST_WORDS.as_slice() {
+        return None;
+    }
+    if first.is_empty() {
+        return Some("is empty");
+    }
+    for (begins, what) in &OTHERS {
+        if first.starts_with(begins) {
+            return Some(what);
+        }
+    }
+    match std::str::from_utf8(first) {
+        Ok(text) if text.contains(LOGGED) => Some("is a log, and no recording"),
+        _ => Some("is no recording"),
     }
 }
 
@@ -133,6 +168,9 @@ fn wanted_of(replayed: Replayed<'_>) -> Option<Wanted> {
     match replayed.script {
         Some(name) => {
             let (slot, generation) = name.split_once('.')?;
+            if has_leading_zero(slot) || has_leading_zero(generation) {
+                return None;
+            }
             Some(Wanted::Script(slot.parse().ok()?, generation.parse().ok()?))
         }
         None if replayed.ends => Some(Wanted::Ends),

@@ -1,7 +1,7 @@
 //! Standard streams that are closed when the program starts. A file or a socket that the program opens gets the
 //! lowest number that is not open (open(2), socket(2)), and would be used in the place of a closed stream.
 ghost use Rattle.std.specs.Prelude.{◌≡◌, IfOk, IfSome};
-ghost use Rattle.program.specs.Starting.{number, Refuses};
+ghost use Rattle.program.specs.Starting.{number, StandsIn};
 
 use crate::constants::FAULT;
 use std::fmt;
@@ -35,14 +35,15 @@ impl StandardStream {
         }
     }
 
-    /// How the file is opened that stands in for the stream: each use fails as that of a closed stream.
-    fn refusing(self) -> OpenOptions
-        ensures { Refuses self result }
+    /// How the file is opened that stands in for the stream. Each use of input and of errors fails as that of a closed
+    /// stream; output takes what is written, but no command writes to it ([`act`](crate::act)).
+    fn standing_in(self) -> OpenOptions
+        ensures { StandsIn self result }
     {
         let mut how = OpenOptions::new();
         match self {
-            StandardStream::Input => how.write(true),
-            StandardStream::Output | StandardStream::Errors => how.read(true),
+            StandardStream::Input | StandardStream::Output => how.write(true),
+            StandardStream::Errors => how.read(true),
         };
         how
     }
@@ -71,6 +72,13 @@ pub struct Held<F> {
     input: Option<F>,
     output: Option<F>,
     errors: Option<F>,
+}
+
+impl<F> Held<F> {
+    /// Whether standard output was closed.
+    pub fn has_output(&self) -> bool {
+        self.output.is_some()
+    }
 }
 
 /// Has a file stand in for each standard stream that is closed. The program must have opened nothing before. Refuses
@@ -103,7 +111,7 @@ where
     if !is_closed(open) {
         return Ok(None);
     }
-    let cause = match stream.refusing().open(rt, NOWHERE) {
+    let cause = match stream.standing_in().open(rt, NOWHERE) {
         Ok(file) if file.as_raw_fd() == stream.number() => return Ok(Some(file)),
         Ok(_) => io::Error::from(ErrorKind::AlreadyExists),
         Err(error) => error,

@@ -1,32 +1,39 @@
 //! Checks before a relay serves whether it can work as it is set, and warns if not; and says where it listens.
-ghost use Rattle.std.specs.Prelude.{◌≡◌, ◌≤◌, ◌↔◌, IsTrue, IfOk, IfErr, ◌<◌, ◌+◌};
-ghost use Rattle.program.specs.{Faults.status_of, Starting.{Meets, HasFor, needed}};
+ghost use Rattle.std.specs.Prelude.{◌≡◌, ◌≤◌, ◌↔◌, IsTrue, IsOk, IsSome, IfOk, IfErr, ◌<◌, ◌+◌};
+ghost use Rattle.program.specs.{Faults.status_of, Starting.{Meets, IsOfMany, HasFor, needed}};
 
 use crate::acting::{stream, write};
 use crate::constants::VERSION;
+use crate::extras::Extras;
 use crate::faults::ProgramFault;
 use crate::logging::direct_log;
 use crate::streams::log_text;
 use log::{Level, LevelFilter, Log};
-use settings::{Address, Settings, pollers_for};
+use relay_log::ServerFault;
+use settings::{Address, LEAST_CALLS, LogLevel, Settings, pollers_for};
+use sockets::Patience;
 use std::alloc::{AllocGlobal, Global};
 use std::env::Env;
-use std::fs;
 use std::io::{self, Eprint, Write};
 use std::net::{Net, SocketAddr, UdpSocket};
 use std::rt::Files;
+use std::{fmt, fs};
 
 /// The address that stands for every address of the machine.
 const EVERY: [u8; 4] = [0, 0, 0, 0];
 
 const LOOPBACK: [u8; 4] = [127, 0, 0, 1];
 
+/// The address of every machine of a network.
+const BROADCAST: [u8; 4] = [255, 255, 255, 255];
+
 /// How many descriptors the listening socket takes.
 const LISTENER: u64 = 1;
 
 /// The settings to serve with. `slots` is lowered if there are too few descriptors for all, and stays if the system
 /// does not say how many there are. The relay listens by now, and opens `more` other descriptors before it serves.
-/// Warns if there are too few descriptors, if the relay is its own target, and if its idle limit is too short.
+/// Warns if there are too few descriptors, if the relay is its own target, and if its idle limit is too short or its
+/// budget too small.
 ///
 /// Refuses with `Descriptors` if there are not enough for one connection.
 pub fn prepare<R: AllocGlobal + Files + Net + Copy + Drop>(
@@ -55,6 +62,66 @@ pub fn foresee<R: AllocGlobal + Files + Net + Copy + Drop>(
     Ok(())
 }
 
+/// Refuses, and logs the cause, if the relay cannot be reached where it listens, or cannot reach its target, since the
+/// address is of more than one machine: with `Listen`, or with `Target`.
+pub(crate) fn look_at_addresses(log: &impl Log, settings: &Settings) -> Result<(), ProgramFault>
+    ensures only { IsOk result ↔ (¬ (IsOfMany settings.now.listen) × ¬ (IsOfMany settings.now.target)) }
+    ensures fault { IfErr result (λ fault. status_of fault ≡ 1) }
+{
+    if let Some(kind) = kind_of_many(settings.listen) {
+        let address = SocketAddr::from(settings.listen);
+        let text = format_args!("listen: {address}: no client can connect to a {kind} address");
+        log_text(log, Level::Error, &text);
+        return Err(ProgramFault::Server(ServerFault::Listen));
+    }
+    if let Some(kind) = kind_of_many(settings.target) {
+        let address = SocketAddr::from(settings.target);
+        let text = format_args!("target: {address}: no connection can be made to a {kind} address");
+        log_text(log, Level::Error, &text);
+        return Err(ProgramFault::Target);
+    }
+    Ok(())
+}
+
+/// What kind of address it is, if it is of more than one machine.
+fn kind_of_many(address: Address) -> Option<&'static str>
+    ensures { IsSome result ↔ IsOfMany address }
+{
+    if address.0 == BROADCAST {
+        Some("broadcast")
+    } else if 224 <= address.0[0] && address.0[0] <= 239 {
+        Some("multicast")
+    } else {
+        None
+    }
+}
+
+/// Warns of options whose lines are never logged at this level. The log itself lets the warning through.
+pub(crate) fn warn_of_silence(log: &impl Log, level: LogLevel, extras: &Extras) {
+    let is_below_info = matches!(level, LogLevel::Off | LogLevel::Error | LogLevel::Warn);
+    if extras.log_clients && is_below_info {
+        let text = format_args!(
+            "log-clients: does nothing, since its lines are of level info, and log is {level}"
+        );
+        log_text(log, Level::Warn, &text);
+    }
+    if extras.stats.is_some() && level == LogLevel::Off {
+        log_text(log, Level::Warn, &"stats: does nothing, since log is off");
+    }
+}
+
+/// Warns if the idle limit ends each connect before its own limit does.
+pub(crate) fn warn_of_short_time(log: &impl Log, idle: u32, patience: Patience) {
+    if let Some(connect) = patience.connect {
+        if 0 < idle && idle < connect {
+            let text = format_args!(
+                "connect-timeout: {connect} does nothing, since idle is {idle} and ends a connect sooner"
+            );
+            log_text(log, Level::Warn, &text);
+        }
+    }
+}
+
 fn used_slots<R: AllocGlobal + Files + Net + Copy + Drop>(
     rt: &R,
     log: &impl Log,
@@ -65,8 +132,9 @@ fn used_slots<R: AllocGlobal + Files + Net + Copy + Drop>(
     ensures fault { IfErr result (λ fault. status_of fault ≡ 1) }
 {
     let (set, workers) = (settings.slots, settings.workers);
-    warn_of_itself(rt, log, settings.listen, settings.target);
+    warn_of_this_machine(rt, log, settings.listen, settings.target);
     warn_of_short_idle(log, settings.idle);
+    warn_of_small_budget(log, settings.budget);
     let Some(mut found) = read_descriptors(rt) else {
         return Ok(set);
     };
@@ -85,12 +153,19 @@ fn used_slots<R: AllocGlobal + Files + Net + Copy + Drop>(
     Ok(slots)
 }
 
-fn warn_of_itself(rt: &impl Net, log: &impl Log, listen: Address, target: Address) {
+/// Warns of a target that is the relay itself, and of one that is every address of the machine.
+fn warn_of_this_machine(rt: &impl Net, log: &impl Log, listen: Address, target: Address) {
     let is_here = listen.1 == target.1 && is_here(rt, target);
     if meets(listen, target, is_here) {
         let text =
             "target: the relay itself listens there, so a connection would go round without end";
         log_text(log, Level::Warn, &text);
+    } else if target.0 == EVERY {
+        log_text(
+            log,
+            Level::Warn,
+            &"target: 0.0.0.0 means this machine, as 127.0.0.1 does",
+        );
     }
 }
 
@@ -99,6 +174,16 @@ fn warn_of_short_idle(log: &impl Log, idle: u32) {
     if idle == 1 {
         let text =
             "idle: 1 closes connections that move bytes, since whole seconds are counted; 2 leaves each at least one";
+        log_text(log, Level::Warn, &text);
+    }
+}
+
+/// Warns of a budget below the fewest calls that each turn has.
+fn warn_of_small_budget(log: &impl Log, budget: u32) {
+    if (budget as usize) < LEAST_CALLS {
+        let text = format_args!(
+            "budget: {LEAST_CALLS} is used in place of {budget}, since with fewer calls a silent connection is tried without end"
+        );
         log_text(log, Level::Warn, &text);
     }
 }
@@ -118,10 +203,27 @@ pub fn log_start(log: &impl Log, listen: SocketAddr, settings: &Settings) {
         settings.workers,
     );
     let pollers = pollers_for(slots, workers);
+    let (slots, workers, pollers) = (
+        Counted(slots, "slot"),
+        Counted(workers, "worker"),
+        Counted(pollers, "poller"),
+    );
     let text = format_args!(
-        "relayd {VERSION}: {listen} to {target}, {slots} slots, {workers} workers, {pollers} pollers"
+        "relayd {VERSION}: {listen} to {target}, {slots}, {workers}, {pollers}"
     );
     log_text(log, Level::Info, &text);
+}
+
+/// Prints how many there are of what has this name.
+#[derive(Clone, Copy)]
+struct Counted(usize, &'static str);
+
+impl fmt::Display for Counted {
+    fn fmt<W: fmt::Write>(&self, f: &mut fmt::Formatter<W>) -> fmt::Result {
+        let (many, name) = (self.0, self.1);
+        let end = if many == 1 { "" } else { "s" };
+        write!(f, "{many} {name}{end}")
+    }
 }
 
 /// Whether connections to the target reach the relay itself. `is_here`: the target's address is of this machine.

@@ -4,7 +4,7 @@ use input::Causes;
 use log::{Level, Log, error, log};
 use settings::EndOfLine;
 use std::fmt;
-use std::io::{self, Read, Write};
+use std::io::{self, ErrorKind, Read, Write};
 
 /// A stream, such as standard input or a file. An error of the system is logged when it comes: the fault that follows
 /// does not include it.
@@ -81,6 +81,9 @@ impl fmt::Display for Unopened<'_> {
     fn fmt<W: fmt::Write>(&self, f: &mut fmt::Formatter<W>) -> fmt::Result {
         if self.path.is_empty() {
             return f.write_str("a file's name is empty");
+        }
+        if self.path == "-" && self.error.kind() == ErrorKind::NotFound {
+            return f.write_str("-: for standard input write /dev/stdin");
         }
         let (name, error) = (EndOfLine(self.path), &self.error);
         write!(f, "{name}: {error}")

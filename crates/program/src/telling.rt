@@ -5,6 +5,7 @@ use crate::extras::Extras;
 use crate::streams::log_text;
 use log::Level;
 use log_queue::{Direct, LogQueue, Queued};
+use os::set_thread_name;
 use relay_log::{ServerFault, log_no_thread};
 use settings::{LogLevel, Settings};
 use statistics::Statistics;
@@ -74,6 +75,7 @@ fn tell_every<R: Wait + Clock + Copy + Drop>(
     statistics: &Statistics,
     queue: &LogQueue,
 ) {
+    set_thread_name(b"stats");
     for _line in rt.forever() {
         thread::sleep(rt, rhythm);
         tell(*rt, statistics, queue);

@@ -7,6 +7,7 @@ use crate::logging::level_filter;
 use crate::streams::log_text;
 use log::{Level, LevelFilter, Logged};
 use log_queue::{Direct, LogQueue, Queued};
+use os::set_thread_name;
 use relay_log::{ServerFault, log_no_thread};
 use settings::LogLevel;
 use std::alloc::AllocGlobal;
@@ -38,6 +39,7 @@ where
     let sign = has_ended.clone()?;
     let level = level_filter(level);
     let read = move || {
+        set_thread_name(b"stdin");
         read_to_end(&rt, input, level, &lines);
         sign.store(true, SeqCst);
     };

@@ -4,7 +4,7 @@ ghost use Rattle.clap.specs.Values.{kind_of};
 ghost use Rattle.program.specs.Faults.{IsCarriedOut, status_of};
 
 use crate::acting::{report_fault, stream};
-use crate::command_line::read_command;
+use crate::command_line::{read_command, takes_value};
 use crate::constants::{DONE, USAGE};
 use crate::faults::ProgramFault;
 use crate::forwarding::all_arguments;
@@ -37,6 +37,8 @@ pub(crate) fn answer_usage<L: Log, O: Write, E: Write>(
         ≢ ErrorKind.DisplayVersion → result ≡ 2 }
     ensures status { IsCarriedOut result ⊎ (result ≡ 2) }
     ensures unwritten { result ≡ 2 → O.contents writer.new ≡ O.contents writer.old }
+    ensures kept { kind_of error.now ≢ ErrorKind.DisplayHelp → kind_of error.now ≢ ErrorKind.DisplayVersion
+        → O.contents writer.new ≡ O.contents writer.old }
 {
     if error.kind() == ErrorKind::OutOfMemory {
         return report_fault(errors, ProgramFault::from(AllocError));
@@ -71,12 +73,12 @@ fn print_refused(alloc: Global, arguments: &[String], error: &Error, errors: &mu
     {
         if let Ok(escaped) = escape_all(alloc, arguments) {
             if let Err(error) = read_command(alloc, escaped.as_slice()) {
-                print_error(alloc, &error, find_tip(escaped.as_slice()), errors);
+                print_error(alloc, &error, escaped.as_slice(), errors);
                 return;
             }
         }
     }
-    print_error(alloc, error, find_tip(arguments), errors);
+    print_error(alloc, error, arguments, errors);
 }
 
 fn has_control(text: &str) -> bool {
@@ -107,18 +109,24 @@ impl fmt::Display for Escaped<'_> {
 
 /// Prints why arguments are refused. What to type instead stands below the first paragraph, in place of the parser's
 /// own tip.
-fn print_error(alloc: Global, error: &Error, tip: Option<Tip<'_>>, errors: &mut impl Write) {
-    if let Some(tip) = tip {
-        if let Ok(text) = format!(in alloc; "{error}") {
-            let text = text.as_str();
+fn print_error(alloc: Global, error: &Error, arguments: &[String], errors: &mut impl Write) {
+    let Ok(text) = format!(in alloc; "{error}") else {
+        // If this cannot be written, only the status is left to report it.
+        let _ = write!(errors, "{error}");
+        return;
+    };
+    let text = text.as_str();
+    match find_tip(error.kind(), refused_in(text), arguments) {
+        Some(tip) => {
             let (why, rest) = text.split_once("\n\n").unwrap_or((text, ""));
             let rest = without_tip(rest);
             let _ = write!(errors, "{why}\n\n  tip: {tip}\n\n{rest}");
-            return;
+        }
+        None => {
+            let (before, rest) = without_value_tip(text);
+            let _ = write!(errors, "{before}{rest}");
         }
     }
-    // If this cannot be written, only the status is left to report it.
-    let _ = write!(errors, "{error}");
 }
 
 fn without_tip(rest: &str) -> &str {
@@ -128,6 +136,22 @@ fn without_tip(rest: &str) -> &str {
     match rest.split_once("\n\n") {
         Some((_, rest)) => rest,
         None => rest,
+    }
+}
+
+/// What stands before and after the parser's tip to pass an argument as a value: no value looks like an option.
+fn without_value_tip(text: &str) -> (&str, &str) {
+    let Some((before, tip)) = text.split_once("  tip: to pass '") else {
+        return (text, "");
+    };
+    let end = if before.ends_with("\n\n") {
+        "\n\n"
+    } else {
+        "\n"
+    };
+    match tip.split_once(end) {
+        Some((_, rest)) => (before, rest),
+        None => (before, ""),
     }
 }
 
@@ -198,10 +222,18 @@ pub(crate) enum Tip<'a> {
     Config(&'a str, &'a str),
     /// `relayd forward` with these two addresses.
     Forward(&'a str, &'a str),
+    /// The same, where both stand in one word, and the first may lack its host.
+    Two(&'static str, &'a str, &'a str),
+    /// An option took this as its value.
+    Took(&'a str, &'a str),
+    /// An option of this name begins with hyphens.
+    Hyphens(&'a str),
     /// `relayd sim` with this script as its standard input.
     Script(&'a str),
     /// An option of `relayd forward` that `run` and `check` take from the settings file.
     Setting(&'a str),
+    /// These words.
+    Words(&'static str),
 }
 
 impl fmt::Display for Tip<'_> {
@@ -209,6 +241,15 @@ impl fmt::Display for Tip<'_> {
         match *self {
             Tip::Config(command, file) => write!(f, "relayd {command} --config {file}"),
             Tip::Forward(listen, target) => write!(f, "relayd forward {listen} {target}"),
+            Tip::Two(host, listen, target) => {
+                write!(
+                    f,
+                    "two arguments are wanted: relayd forward {host}{listen} {target}"
+                )
+            }
+            Tip::Took(option, value) => write!(f, "{option} took {value} as its value"),
+            Tip::Hyphens(name) if name.len() == 1 => write!(f, "a hyphen is wanted: -{name}"),
+            Tip::Hyphens(name) => write!(f, "two hyphens are wanted: --{name}"),
             Tip::Script(file) => write!(f, "relayd sim < {file}"),
             Tip::Setting(option) => {
                 write!(
@@ -216,13 +257,62 @@ impl fmt::Display for Tip<'_> {
                     "'{option}' is a setting: it stands in the file, or is an option of 'relayd forward'"
                 )
             }
+            Tip::Words(words) => f.write_str(words),
         }
     }
 }
 
+/// What the parser refuses, as it shows that in quotes, and what to type or do instead.
+static TIPS: [(&str, &str); 11] = [
+    ("version", VERSION),
+    ("--version", VERSION),
+    ("-V", VERSION),
+    ("-v", DEBUG),
+    ("--verbose", DEBUG),
+    ("--debug", DEBUG),
+    (
+        "status",
+        "a running relay takes no commands; it logs counts with --stats (OPERATIONS.md)",
+    ),
+    (
+        "stop",
+        "a running relay takes no commands; a signal ends it (relayd(1), SIGNALS)",
+    ),
+    ("reload", REPLACE),
+    ("restart", REPLACE),
+    ("--proxy <BOOL>", "--proxy true, or --proxy false"),
+];
+
+const VERSION: &str = "relayd --version";
+
+const DEBUG: &str = "--log debug";
+
+const REPLACE: &str =
+    "a running relay takes no commands; a new one can take its place (OPERATIONS.md)";
+
+/// The first text in quotes of what the parser says.
+fn refused_in(text: &str) -> &str {
+    text.split('\'').nth(1).unwrap_or("")
+}
+
 /// What to type in place of refused arguments, if that is likely enough. The first is the program's own name.
-fn find_tip(arguments: &[String]) -> Option<Tip<'_>> {
+fn find_tip<'a>(kind: ErrorKind, refused: &str, arguments: &'a [String]) -> Option<Tip<'a>> {
     let first = arguments.get(1)?.as_str();
+    if kind == ErrorKind::MissingRequiredArgument && first == "forward" {
+        return missing_in(arguments);
+    }
+    for (typed, tip) in &TIPS {
+        if refused == *typed {
+            return Some(Tip::Words(tip));
+        }
+    }
+    match dash_in(arguments) {
+        Some(name) => Some(Tip::Hyphens(name)),
+        None => tip_of_command(first, arguments),
+    }
+}
+
+fn tip_of_command<'a>(first: &'a str, arguments: &'a [String]) -> Option<Tip<'a>> {
     let second = match arguments.get(2) {
         Some(second) => Some(second.as_str()),
         None => None,
@@ -234,6 +324,7 @@ fn find_tip(arguments: &[String]) -> Option<Tip<'_>> {
         },
         "sim" => Some(Tip::Script(no_option(second)?)),
         "-c" | "--config" => Some(Tip::Config("run", no_option(second)?)),
+        "forward" => Some(Tip::Config("run", config_in(arguments)?)),
         _ => tip_without_command(first, second),
     }
 }
@@ -245,6 +336,64 @@ fn tip_without_command<'a>(first: &'a str, second: Option<&'a str>) -> Option<Ti
     let target = second?;
     if first.contains(':') && target.contains(':') {
         return Some(Tip::Forward(first, target));
+    }
+    None
+}
+
+/// The name in the first word that begins with a dash in place of hyphens, as web pages show them.
+fn dash_in(arguments: &[String]) -> Option<&str> {
+    for argument in arguments {
+        let word = argument.as_str();
+        let name = word.trim_start_matches(['–', '—', '―', '−', '‐', '‑']);
+        if name.len() < word.len() && !name.is_empty() {
+            return Some(name);
+        }
+    }
+    None
+}
+
+/// What to type where `forward` lacks an address: both stand in one word, or an option has taken one.
+fn missing_in(arguments: &[String]) -> Option<Tip<'_>> {
+    for number in 2..arguments.len() {
+        let (before, word) = (arguments[number - 1].as_str(), arguments[number].as_str());
+        if takes_value(before.strip_prefix("--").unwrap_or("")) {
+            if word.contains(':') {
+                return Some(Tip::Took(before, word));
+            }
+        } else if let Some(tip) = two_in(word) {
+            return Some(tip);
+        }
+    }
+    None
+}
+
+/// The two addresses in a word, as `A B`, `A,B`, or with a `:` between them, where the first may be a port alone.
+fn two_in(word: &str) -> Option<Tip<'_>> {
+    if let Some((listen, target)) = word.split_once([' ', ',']) {
+        return Some(Tip::Two("", listen, target));
+    }
+    let (first, rest) = word.split_once(':')?;
+    let (second, last) = rest.split_once(':')?;
+    match last.split_once(':') {
+        None if first.parse::<u16>().is_ok() => Some(Tip::Two("0.0.0.0:", first, rest)),
+        Some((_, port)) if port.parse::<u16>().is_ok() && second.parse::<u16>().is_ok() => {
+            let listen = word.strip_suffix(last)?.strip_suffix(':')?;
+            Some(Tip::Two("", listen, last))
+        }
+        _ => None,
+    }
+}
+
+/// The file that `forward` is given with `--config`.
+fn config_in(arguments: &[String]) -> Option<&str> {
+    for number in 2..arguments.len() {
+        let (before, word) = (arguments[number - 1].as_str(), arguments[number].as_str());
+        if matches!(before, "-c" | "--config") {
+            return Some(word);
+        }
+        if let Some(file) = word.strip_prefix("--config=") {
+            return Some(file);
+        }
     }
     None
 }

@@ -17,6 +17,7 @@ pub struct RecordedClock<'r, C, S: Sink> {
 }
 
 impl<'r, C, S: Sink> RecordedClock<'r, C, S> {
+    /// Records what `inner` tells, if there is an idle limit.
     pub fn new(inner: &'r C, recorder: Recorder<S>, has_limit: bool) -> RecordedClock<'r, C, S> {
         RecordedClock {
             inner: Inner::new(inner),
@@ -63,6 +64,7 @@ pub struct RecordedGate<'r, G, S> {
 }
 
 impl<'r, G, S> RecordedGate<'r, G, S> {
+    /// Records when `inner` is called.
     pub fn new(inner: &'r G, recorder: Recorder<S>) -> RecordedGate<'r, G, S> {
         RecordedGate { inner, recorder }
     }

@@ -4,7 +4,7 @@ ghost use Rattle.records.specs.Texts.{header_text};
 
 use crate::act::yes_or_no;
 use crate::reading::{Wrong, end, number_after, one_of, said, word};
-use input::Pieces;
+use input::{Pieces, number};
 use std::fmt::{self, Display};
 
 /// The sizes of the relay that was recorded.
@@ -76,14 +76,19 @@ pub fn read_header(line: &[u8]) -> Result<Header, Wrong<'_>> {
 
 /// The words with which every recording begins.
 fn begin<'a>(words: &mut Pieces<'a>) -> Result<(), Wrong<'a>> {
-    for text in &["relayd", "recording", "1"] {
-        one_of(
-            words,
-            &[(*text, ())],
-            "a recording begins with relayd recording 1",
-        )?;
+    let wanted = "a recording begins with relayd recording 1";
+    one_of(words, &[("relayd", ())], wanted)?;
+    one_of(words, &[("recording", ())], wanted)?;
+    let version = word(words, wanted)?;
+    match number(version) {
+        Some(1) => Ok(()),
+        Some(later) if later > 1 => said(
+            None,
+            version,
+            "a newer relayd made it, and this one knows 1 alone",
+        ),
+        _ => said(None, version, wanted),
     }
-    Ok(())
 }
 
 fn sizes<'a>(words: &mut Pieces<'a>) -> Result<[usize; 6], Wrong<'a>> {

@@ -49,9 +49,9 @@ pub enum ReplayFault {
     /// A line is malformed, or no relay acts in that order; with the cause.
     #[error("recording: malformed")]
     Broken(String),
-    /// The recording has no such connection.
+    /// The recording has no such connection; with what it has.
     #[error("recording: no such connection")]
-    Unknown,
+    Unknown(String),
     /// The outcome could not be written.
     #[error("output: cannot be written")]
     Write,

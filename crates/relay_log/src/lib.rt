@@ -14,6 +14,6 @@ pub use cause::Cause;
 pub use faults::ServerFault;
 pub use gone::{ClientsAt, Gone, Known, Why};
 pub use messages::{
-    Done, Failed, Logs, log_all_taken, log_drop, log_drops, log_end, log_gone, log_no_thread,
-    log_open, log_peer, logs_gone,
+    Done, Failed, Logs, log_all_taken, log_drop, log_drops, log_end, log_few_threads, log_gone,
+    log_no_thread, log_open, log_peer, logs_gone,
 };

@@ -14,6 +14,9 @@ use std::io;
 /// errors are of attributes that no thread here has, and the number is not handed on.
 const NO_THREAD: i32 = 11;
 
+/// What to do about it.
+const RAISE: &str = "raise ulimit -u, TasksMax= or ulimit -v";
+
 /// A log that the relay's messages are passed to.
 ///
 /// No clause can name what a log has, so the trait leaves open what it was passed. Over any such log a proof has a
@@ -173,6 +176,15 @@ pub fn log_no_thread(rt: &impl Log) -> ServerFault
     ensures { result ≡ ServerFault.Threads }
 {
     let error = io::Error::from_raw_os_error(NO_THREAD);
-    error!(rt; target: "relayd", "threads: {error}");
+    error!(rt; target: "relayd", "threads: {error}; {RAISE}");
+    ServerFault::Threads
+}
+
+/// As [`log_no_thread`], of a server that has started so many of its threads.
+pub fn log_few_threads(rt: &impl Log, started: usize, wanted: usize) -> ServerFault
+    ensures { result ≡ ServerFault.Threads }
+{
+    let error = io::Error::from_raw_os_error(NO_THREAD);
+    error!(rt; target: "relayd", "threads: {started} of {wanted} started: {error}; {RAISE}");
     ServerFault::Threads
 }

@@ -24,7 +24,7 @@ fn main(rt: HostRuntime) -> ExitCode {
     let mut input = rt.stdin();
     let mut output = rt.stdout();
     // First: a file opened before would get the number of a closed stream.
-    let _held = match program::hold_closed(&rt, &input, &output, &rt.stderr()) {
+    let held = match program::hold_closed(&rt, &input, &output, &rt.stderr()) {
         Ok(held) => held,
         Err(fault) => return ExitCode::from(report_unheld(&mut output, &mut rt.stderr(), &fault)),
     };
@@ -77,12 +77,13 @@ fn main(rt: HostRuntime) -> ExitCode {
             arguments.as_slice(),
             &mut input,
             &mut output,
+            held.has_output(),
             &mut errors,
             &serve,
             &OnMachine,
             &Simulator,
         ),
-        Err(fault) => program::report_arguments_fault(&mut errors, fault),
+        Err(fault) => program::report_arguments_fault(&rt, &mut errors, fault),
     };
     ExitCode::from(status)
 }

@@ -1,8 +1,8 @@
 //! What is written of a recording.
 use crate::machine::{Flaw, Machine};
 use crate::results::{Flawed, Results, Whose};
-use recorded::Recording;
-use records::{ReplayFault, Wanted};
+use recorded::{Numbered, Recording};
+use records::{Act, Opening, Polling, ReplayFault, Wanted};
 use std::alloc::{AllocError, Global};
 use std::io::Write;
 use world::Event;
@@ -20,7 +20,43 @@ pub(crate) fn write_results<W: Write>(
         (Wanted::Totals, _) => write(output, totals(results, recording)),
         (Wanted::Ends, _) => write_text(output, results.ends.as_str()),
         (_, Some(machine)) => write_script(output, machine),
-        (_, None) => Err(ReplayFault::Unknown),
+        (Wanted::Script(slot, generation), None) => {
+            let there = opened_in(recording, slot).finish()?;
+            let there = there.as_str();
+            let cause = format!(in recording.alloc; "{slot}.{generation} is not there: {there}")?;
+            Err(ReplayFault::Unknown(cause))
+        }
+    }
+}
+
+/// Which connections were opened in a slot.
+fn opened_in(recording: &Recording, slot: usize) -> Page {
+    let mut page = Page::new(recording.alloc);
+    let slots = recording.header.slots;
+    let last = match recording.slot(slot).iter().rev().find_map(opened) {
+        Some(last) => last,
+        None if slot < slots => {
+            page.put(&[Piece::Text("nothing was opened in that slot (--ends lists all)")]);
+            return page;
+        }
+        None => {
+            page.put(&[Piece::Named("the relay has slots 0 to ", slots.saturating_sub(1) as u64)]);
+            return page;
+        }
+    };
+    page.put(&[
+        Piece::Named("slot ", slot as u64),
+        Piece::Named(" has generations 1 to ", last),
+        Piece::Text(" (--ends lists all)"),
+    ]);
+    page
+}
+
+/// The generation of the connection that a record opened.
+fn opened(numbered: &Numbered) -> Option<u64> {
+    match numbered.record.act {
+        Act::Poller(_, Polling::Open(_, generation, Opening::Opened)) => Some(generation),
+        _ => None,
     }
 }
 

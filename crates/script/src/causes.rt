@@ -33,6 +33,10 @@ fn malformed(alloc: Global, text: &[u8], number: u64) -> Option<String> {
     let (line, wrong) = wrong_line(alloc, text, number)?;
     let mut cause = Page::new(alloc);
     cause.put(&[Piece::Named("line ", number), Piece::Text(": ")]);
+    if let Some(end) = wrong_end(line, &wrong) {
+        cause.put(&[Piece::Text(end)]);
+        return cause.finish().ok();
+    }
     if !wrong.is_first {
         show(&mut cause, Pieces::new(line, b' ').next().unwrap_or(b""));
         cause.put(&[Piece::Text(": ")]);
@@ -43,6 +47,21 @@ fn malformed(alloc: Global, text: &[u8], number: u64) -> Option<String> {
     }
     cause.put(&[Piece::Text(wrong.wanted)]);
     cause.finish().ok()
+}
+
+/// What is wrong with the end of a line, if that makes its last word wrong: it would not be seen.
+fn wrong_end(line: &[u8], wrong: &Wrong<'_>) -> Option<&'static str> {
+    let word = wrong.word?;
+    if !line.ends_with(word) {
+        return None;
+    }
+    if word.ends_with(b"\r") {
+        Some("the line ends in CR LF")
+    } else if word.is_empty() && wrong.wanted.contains("the line") {
+        Some("the line ends in a blank")
+    } else {
+        None
+    }
 }
 
 /// Adds a word of a script in quotes, without what follows the 64th byte.

@@ -1,14 +1,18 @@
+//! The listening socket.
 ghost use Rattle.std.specs.Prelude.{◌≡◌, IfOk, IfErr};
 ghost use Rattle.sockets.specs.Fronts.{IsAt};
 
 use crate::failure::log_failure_at;
 use dispatch::ServerFault;
-use log::{Level, Log};
+use log::{Level, Log, error};
 use mio::net::TcpListener;
 use settings::Settings;
 use std::io;
 use std::marker::Model;
 use std::net::{Net, SocketAddr};
+
+/// The first port that needs no privilege, if the machine has it as usual.
+const FIRST_FREE: u16 = 1_024;
 
 /// A listening socket (listen(2)), and its address.
 #[derive(Drop)]
@@ -47,10 +51,20 @@ pub fn bind<R: Net + Log>(rt: &R, settings: &Settings) -> Result<Bound, ServerFa
     match listen(rt, address) {
         Ok(bound) => Ok(bound),
         Err(error) => {
-            log_failure_at(rt, Level::Error, "listen", address, &error);
+            log_unbound(rt, address, &error);
             Err(ServerFault::Listen)
         }
     }
+}
+
+/// Logs why the relay cannot listen: with the privilege that is missing (ip(7), capabilities(7)).
+fn log_unbound<N: Log>(rt: &N, address: SocketAddr, error: &io::Error) {
+    if error.kind() == io::ErrorKind::PermissionDenied && address.port() < FIRST_FREE {
+        let why = format_args!("{error}: a port below 1024 needs CAP_NET_BIND_SERVICE");
+        error!(rt; target: "relayd", "listen: {address}: {why}");
+        return;
+    }
+    log_failure_at(rt, Level::Error, "listen", address, error);
 }
 
 fn listen<R: Net, L: Listening + Drop>(rt: &R, asked: SocketAddr) -> io::Result<Bound<L>>

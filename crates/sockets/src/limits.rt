@@ -25,3 +25,6 @@ pub(crate) const MOST_BUSY: u8 = 14;
 
 /// This many reports are several: a few connections with much to move give fewer.
 pub(crate) const SEVERAL: usize = 4;
+
+/// The error of a system that has no descriptor left (errno(3)).
+pub(crate) const ENFILE: i32 = 23;

@@ -20,6 +20,8 @@ pub(crate) struct Load {
 #[derive(Drop)]
 pub(crate) struct Loads {
     each: Vec<Arc<Load>>,
+    /// Whether the last opening that failed found no descriptor for its target, and no client was accepted since.
+    short: AtomicBool,
 }
 
 impl Loads {
@@ -33,7 +35,16 @@ impl Loads {
             };
             each.push(Arc::new(alloc, load)?)?;
         }
-        Ok(Loads { each })
+        let short = AtomicBool::new(false);
+        Ok(Loads { each, short })
+    }
+
+    pub(crate) fn set_short(&self, short: bool) {
+        self.short.store(short, SeqCst);
+    }
+
+    pub(crate) fn is_short(&self) -> bool {
+        self.short.load(SeqCst)
     }
 
     /// Counts one client more of this poller, until the share is dropped. None if it cannot be counted.

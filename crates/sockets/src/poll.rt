@@ -1,3 +1,4 @@
+//! A poller's front over epoll(7): it waits, accepts, connects and registers.
 ghost use Rattle.std.specs.{Prelude.{◌≡◌, ◌≢◌, ◌↔◌, ◌⊎◌, IsTrue, if◌then◌else◌, ◌+◌, ◌<◌, ◌≤◌, ◌++◌, [], length, replicate, true, false, Some, None, IfOk, OnOk, IfErr, OnErr, vec_len, vec_capacity}, IoError.error_kind, declared.io.ErrorKind.TheVariants.Interrupted};
 ghost use Rattle.mio.specs.{Event.event_token, Events.items};
 ghost use Rattle.token.specs.Numbers.{name_of};
@@ -7,7 +8,7 @@ ghost use Rattle.dispatch.specs.{Splits.parts_of, declared.front.Unopened.TheVar
 use crate::bound::Bound;
 use crate::failure::{log_failure, log_failure_at};
 use crate::forwarding::{Dial, Forwarding};
-use crate::limits::{MAX_POLLERS, MOST_BUSY, MOST_LEFT, SEVERAL, WAIT_MILLIS};
+use crate::limits::{ENFILE, MAX_POLLERS, MOST_BUSY, MOST_LEFT, SEVERAL, WAIT_MILLIS};
 use crate::loads::Loads;
 use crate::socket::Socket;
 use crate::stream::Stream;
@@ -15,11 +16,12 @@ use crate::wire::SocketWire;
 use dispatch::{
     Front, LISTENER, MAX_BATCH, Opened, Route, ServerFault, Settle, Split, Unopened, WAKER, Waiting,
 };
+use libc::EMFILE;
 use log::{Level, Log};
 use mio::event::Event;
 use mio::net::TcpListener;
 use mio::unix::SourceFd;
-use mio::{Events, Interest, Poll, Waker};
+use mio::{Events, Interest, Poll, Registry, Waker};
 use readiness::{Heard, Reports, Told};
 use std::alloc::{AllocError, Global};
 use std::io;
@@ -236,6 +238,9 @@ impl<R: Dial> Sockets<'_, R> {
             Err(error) => {
                 log_failure_at(rt, Level::Debug, "connect", self.forwarding.target, &error);
                 client.keep(&error);
+                if lacks_descriptors(&error) {
+                    self.loads.set_short(true);
+                }
                 Err(Unopened::Connect)
             }
         }
@@ -257,6 +262,18 @@ impl<R: Dial> Sockets<'_, R> {
             }
         }
     }
+}
+
+/// Whether a call failed since the process or the system has no descriptor left (socket(2)).
+fn lacks_descriptors(error: &io::Error) -> bool {
+    matches!(error.raw_os_error(), Some(EMFILE | ENFILE))
+}
+
+/// Fails if the process cannot have two descriptors more: those of a client and its target.
+fn look_for_two(registry: &Registry) -> io::Result<()> {
+    let _client = registry.try_clone()?;
+    let _target = registry.try_clone()?;
+    Ok(())
 }
 
 /// The addresses of a client's connection, if targets are sent them. The system is asked for the one at this end.
@@ -412,6 +429,8 @@ impl<R: Dial> Front for Sockets<'_, R> {
         true
     }
 
+    /// After an opening that found no descriptor for its target, it first looks for two: a client is not accepted only
+    /// to be closed.
     fn accept(&mut self) -> io::Result<SocketWire>
         ensures accepted { IfOk result (λ client. (peer : SocketAddr) × (client.socket ≡ fresh_wire true (Some peer))) }
         ensures same { self.new ≡ self.old }
@@ -419,6 +438,10 @@ impl<R: Dial> Front for Sockets<'_, R> {
         let Some(listener) = &self.listener else {
             return Err(io::Error::from(io::ErrorKind::WouldBlock));
         };
+        if self.loads.is_short() {
+            look_for_two(self.poll.registry())?;
+            self.loads.set_short(false);
+        }
         let (stream, peer) = listener.accept()?;
         let share = self.loads.share(self.poller);
         Ok(SocketWire::accepted(Socket::of(stream, share), peer))
