@@ -1,6 +1,6 @@
 # Thin targets over the toolchain's command `rt`. See README.md.
 
-.PHONY: help build run try sim test test-program test-drill soak growths bench install uninstall dist deb
+.PHONY: help build run sim pages test test-program test-drill soak growths bench install uninstall dist deb checksum
 
 # The settings file of `make run`.
 CONFIG ?= examples/relayd.toml
@@ -15,6 +15,9 @@ PROGRAM = crates/relayd/out/relayd
 VERSION = $(shell sed -n 's/^pub const VERSION: &str = "\(.*\)";$$/\1/p' crates/program/src/constants.rt)
 ARCHIVE = $(OUT)/relayd-$(VERSION)-linux-x86_64.tar.gz
 PACKAGE = $(OUT)/relayd_$(VERSION)_amd64.deb
+# The date of what is in these: that of the commit, or without git(1) that of the file that names each version.
+DATE = $${SOURCE_DATE_EPOCH:-$$(git -C $(CURDIR) log -1 --format=%ct 2>/dev/null || stat -c %Y $(CURDIR)/CHANGELOG.md)}
+PAGES = out/pages/index.html
 
 # A line that begins with two of these signs is printed by `make` on its own.
 help:
@@ -29,13 +32,16 @@ build:
 run: build
 	@$(PROGRAM) run --config $(CONFIG)
 
-## make try           runs the program unproved, for a first look: CONFIG=FILE, or a script on standard input
-try:
-	@.ci/try $(if $(filter file,$(origin CONFIG)),,$(CONFIG))
-
 ## make sim           runs the script on standard input
 sim: build
 	@$(PROGRAM)
+
+## make pages         writes out/pages/index.html: every contract, with links to all that it cites
+pages: $(PAGES)
+	@echo $(PAGES)
+
+$(PAGES): README.md crates.txt $(wildcard docs/* tests/* tests/*/* packaging/pages/* $(addprefix crates/*/,src/* specs/* edits/*))
+	@packaging/pages/write $(@D)
 
 ## make test          the gate: every proof and test from scratch, and the built program
 test:
@@ -71,26 +77,42 @@ $(PROGRAM):
 
 # What is installed: the folder below PREFIX, and the file here.
 DOCUMENTS = share/doc/relayd
-INSTALLED = bin:$(PROGRAM) share/man/man1:man/relayd.1 share/man/man5:man/relayd.toml.5 \
-  lib/systemd/system:packaging/relayd.service \
-  $(patsubst %,$(DOCUMENTS):docs/%.md,FORMATS GLOSSARY MODEL OPERATIONS) \
-  $(addprefix $(DOCUMENTS):,LICENSE-APACHE LICENSE-MIT packaging/copyright) \
-  $(addprefix $(DOCUMENTS)/examples:,$(wildcard examples/*) $(addprefix packaging/,deployment.yaml replace.conf sidecar.yaml))
+MANUALS = FORMATS GLOSSARY MODEL OPERATIONS PROMISES
+space = $(subst ,, )
+INSTALLED = bin:$(PROGRAM) bin:packaging/relayd-drain lib/systemd/system:packaging/relayd.service \
+  share/man/man1:man/relayd.1 share/man/man1:man/relayd-drain.1 share/man/man5:man/relayd.toml.5 \
+  $(patsubst %,$(DOCUMENTS):docs/%.md,$(MANUALS)) \
+  $(addprefix $(DOCUMENTS):,README.md CHANGELOG.md SECURITY.md LICENSE-APACHE LICENSE-MIT packaging/copyright) \
+  $(addprefix $(DOCUMENTS)/examples:,$(wildcard examples/*) \
+    $(addprefix packaging/,deployment.yaml drain.conf sidecar.yaml))
+# What shells complete, which is made of the program's help: below PREFIX/share.
+COMPLETIONS = bash-completion/completions/relayd zsh/site-functions/_relayd fish/vendor_completions.d/relayd.fish
+
+# What is installed names files by their full paths.
+ifneq ($(filter install uninstall dist,$(MAKECMDGOALS)),)
+ifneq ($(filter-out /%,$(firstword $(PREFIX))),)
+$(error PREFIX=$(PREFIX) does not begin with a slash. Type: make $(MAKECMDGOALS) PREFIX=$(abspath $(PREFIX:~%=$(HOME)%)))
+endif
+endif
 
 ## make install       installs what make build has built under PREFIX=/usr/local, with DESTDIR in front
 # What is installed names other files by where they are then.
-install: $(PROGRAM)
+install: $(PROGRAM) $(PAGES)
 	@for it in $(INSTALLED); do \
 	  test -x "$${it#*:}" && mode=755 || mode=644; \
 	  install -v -D -m $$mode -t "$(DESTDIR)$(PREFIX)/$${it%%:*}" "$${it#*:}" || exit 1; \
 	done
+	@packaging/completions $(PROGRAM) "$(DESTDIR)$(PREFIX)/share" $(COMPLETIONS)
+	@install -D -m 644 -t "$(DESTDIR)$(PREFIX)/$(DOCUMENTS)/pages" $(dir $(PAGES))*
 	@cd "$(DESTDIR)$(PREFIX)" && sed -i -e 's|/usr/local/|$(PREFIX)/|g' \
-	  -e 's|`docs/\([FGMO]\)|`\1|g' -e 's|`packaging/\([drs]\)|`examples/\1|g' \
-	  lib/systemd/system/relayd.service $(DOCUMENTS)/examples/replace.conf $(DOCUMENTS)/*.md
+	  -e 's;`docs/\($(subst $(space),\|,$(MANUALS))\)\.md;`\1.md;g' -e 's;`packaging/\([a-z]*\.\(conf\|yaml\)\);`examples/\1;g' \
+	  lib/systemd/system/relayd.service $(DOCUMENTS)/examples/*.conf $(DOCUMENTS)/*.md
 
 ## make uninstall     removes what make install has put there, with the same PREFIX and DESTDIR
 uninstall:
 	@cd "$(DESTDIR)$(PREFIX)" && for it in $(INSTALLED); do file=$${it#*:}; rm -vf "$${it%%:*}/$${file##*/}"; done
+	@cd "$(DESTDIR)$(PREFIX)" && rm -vf $(addprefix share/,$(COMPLETIONS))
+	@rm -rf "$(DESTDIR)$(PREFIX)/$(DOCUMENTS)/pages"
 	@cd "$(DESTDIR)$(PREFIX)/share/doc" && rmdir --ignore-fail-on-non-empty relayd/examples relayd 2>/dev/null || true
 
 # The file BUILD below a prefix: of which commit and with which toolchain the program is, and its checksum. A program older than
@@ -99,6 +121,11 @@ write_build = umask 022; cd $(1)/bin && { echo "relayd $(VERSION)"; \
   git -C $(CURDIR) describe --always --abbrev=40 --dirty --exclude '*'; rt version 2>/dev/null || echo 'no toolchain here'; \
   sha256sum relayd; } > ../$(DOCUMENTS)/BUILD
 
+## make checksum      prints the checksum of the program, and whether CHANGELOG.md names it
+checksum: build
+	@sha256sum $(PROGRAM)
+	@grep -q "$$(sha256sum < $(PROGRAM) | cut -c -64)" CHANGELOG.md || echo 'CHANGELOG.md does not name it.'
+
 ## make dist          makes an archive of what make install installs, build/relayd-VERSION-linux-x86_64.tar.gz
 # It is for machines without the toolchain. The same commit gives the same archive, whatever the umask and the locale are.
 dist: build
@@ -106,7 +133,7 @@ dist: build
 	@$(MAKE) --no-print-directory install DESTDIR=$(OUT)/dist >/dev/null
 	@$(call write_build,$(OUT)/dist$(PREFIX))
 	cd $(OUT)/dist && find . -mindepth 1 -print0 | LC_ALL=C sort -z \
-	  | tar --null --no-recursion -T - --owner=0 --group=0 --numeric-owner --mtime=@0 -cf - | gzip -n9 > $(abspath $(ARCHIVE))
+	  | tar --null --no-recursion -T - --owner=0 --group=0 --numeric-owner --mtime=@$(DATE) -cf - | gzip -n9 > $(abspath $(ARCHIVE))
 	@echo $(ARCHIVE)
 
 ## make deb           makes a Debian package, build/relayd_VERSION_amd64.deb
@@ -114,5 +141,5 @@ deb: build
 	rm -rf $(OUT)/deb $(OUT)/relayd_*.deb
 	@$(MAKE) --no-print-directory install PREFIX=/usr DESTDIR=$(OUT)/deb >/dev/null
 	@$(call write_build,$(OUT)/deb/usr)
-	packaging/deb $(OUT)/deb $(VERSION) $(PACKAGE)
+	SOURCE_DATE_EPOCH=$(DATE) packaging/deb $(OUT)/deb $(VERSION) $(PACKAGE)
 	@echo $(PACKAGE)

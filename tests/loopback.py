@@ -4,6 +4,7 @@ prints of a recording. `Relay.program` has to be set first."""
 import collections
 import concurrent.futures
 import contextlib
+import itertools
 import json
 import os
 import pathlib
@@ -22,8 +23,8 @@ WAIT = 40  # the longest that anything here is waited for, in seconds
 STARTED = []  # the processes of the check in progress
 # The first line of a relay's log.
 STARTED_LINE = re.compile(r"\[INFO  relayd\] relayd \d")
-# What a relay at rest records: waits for reports that gave none.
-AT_REST = re.compile(r"(\d+ \d+ (p\d+ poll 0|second \d+)\n)+")
+# What a relay at rest records: waits for reports that gave none, and where descriptors are short the tries that follow them.
+AT_REST = re.compile(r"(\d+ \d+ (p\d+ poll 0|p\d+ accept starved|second \d+)\n)+")
 
 
 def in_thread(work, *args):
@@ -92,6 +93,7 @@ class Relay:
     program = None
     library = None
     records = None  # the folder in which relays record, if they are to
+    numbers = itertools.count()  # of their recordings, also of relays that begin at the same time
     begun = []  # by the check in progress
 
     def __init__(
@@ -104,7 +106,7 @@ class Relay:
             port = port_of(self.listener)
         settings = {"listen": "127.0.0.1:0", "target": f"127.0.0.1:{port}", **settings}
         is_recorded = recorded and Relay.records and "--record" not in options
-        self.record = f"{Relay.records}/{len(Relay.begun)}" if is_recorded else None
+        self.record = f"{Relay.records}/{next(Relay.numbers)}" if is_recorded else None
         self.rests = False  # whether it was ended when nothing was left to do
         self.is_over = False  # whether it has ended by itself
         self.told = []  # its log, where that is known to be whole
@@ -153,22 +155,43 @@ class Relay:
         return self.told
 
     def come_to_rest(self):
-        """Waits until a relay has done nothing for a while but wait for reports, as far as its recording is written."""
-        for _ in range(30):
-            size = os.path.getsize(self.record) if self.record else 0
-            time.sleep(0.3)
-            if not self.record or self.process.poll() is not None:
+        """Leaves a relay alone until it has done nothing for a while but wait for reports, by how long its threads have run, and
+        by its recording, as far as that is written. It has to come to that."""
+        for _ in range(100):
+            if self.process.poll() is not None:
                 return
-            with open(self.record) as file:
-                file.seek(size)
-                if AT_REST.fullmatch(file.read()):
-                    return
+            size = os.path.getsize(self.record) if self.record else 0
+            begun, ran = time.monotonic(), self.run_time()
+            time.sleep(0.3)
+            seconds = time.monotonic() - begun
+            # A tenth of a processor is a hundred times what polls take that time out.
+            if self.run_time() - ran < 0.1 * seconds and self.recorded_rest(size, seconds):
+                return
+        raise AssertionError("the relay does not come to rest")
+
+    def recorded_rest(self, size, seconds):
+        """Whether what it recorded behind so many bytes, in so many seconds, are polls that timed out, of each poller five a
+        second at most; or its recording is over."""
+        if not self.record:
+            return True
+        with open(self.record) as file:
+            file.seek(size)
+            text = file.read()
+        if not text:
+            return collections.deque(open(self.record), 1)[0].endswith(" full\n")
+        polls = collections.Counter(re.findall(r" (p\d+) poll 0$", text, re.M))
+        return AT_REST.fullmatch(text) and max(polls.values(), default=0) <= 5 * seconds + 2
 
     def descriptors(self):
         return [int(name) for name in os.listdir(f"/proc/{self.process.pid}/fd")]
 
     def tasks(self):
         return os.listdir(f"/proc/{self.process.pid}/task")
+
+    def names_of_threads(self):
+        """The names of its threads but the first, in alphabetical order (proc(5))."""
+        task = pathlib.Path(f"/proc/{self.process.pid}/task")
+        return sorted((task / it / "comm").read_text().strip() for it in self.tasks() if it != str(self.process.pid))
 
     def status(self, name, task=None):
         """The number of this name in the status of one of its threads, or the first (proc(5))."""
@@ -179,9 +202,9 @@ class Relay:
         """The number of the system call in which one of its threads is, as a word (proc(5))."""
         return pathlib.Path(f"/proc/{self.process.pid}/task/{task}/syscall").read_text().split()[0]
 
-    def run_time(self, tasks):
-        """How many seconds these threads have run."""
-        texts = [pathlib.Path(f"/proc/{self.process.pid}/task/{task}/schedstat").read_text() for task in tasks]
+    def run_time(self, tasks=None):
+        """How many seconds these threads have run, or all."""
+        texts = [pathlib.Path(f"/proc/{self.process.pid}/task/{task}/schedstat").read_text() for task in tasks or self.tasks()]
         return sum(int(text.split()[0]) for text in texts) / 1e9
 
     @contextlib.contextmanager
@@ -196,6 +219,28 @@ class Relay:
         """Sets a limit of the running process; without a number it has no limit beyond that of this one."""
         hard = resource.getrlimit(which)[1]
         resource.prlimit(self.process.pid, which, (hard if most is None else most, hard))
+
+
+def made(relays, seconds):
+    """For each of these relays the system calls that end meanwhile, as strace(1) writes them."""
+    relay_of = {task: relay for relay in relays for task in relay.tasks()}
+    with tempfile.NamedTemporaryFile("r") as file:
+        words = [word for relay in relays for word in ("-p", str(relay.process.pid))]
+        tracer = start(["strace", "-f", "-qq", "-o", file.name, *words], stderr=subprocess.DEVNULL)
+        assert until(lambda: all(relay.status("TracerPid", task) for task, relay in relay_of.items()))
+        time.sleep(seconds)
+        tracer.send_signal(signal.SIGINT)
+        tracer.wait(WAIT)
+        calls = {relay: [] for relay in relays}
+        for line in file:
+            if " = " in line:
+                calls[relay_of[line.split()[0]]].append(line)
+    return calls
+
+
+def beside_polls(calls):
+    """Those of such calls that are no polls that time out."""
+    return [line for line in calls if not re.search(r"epoll_wait.*, [1-9]\d*\) += 0$", line)]
 
 
 def replay(path, *options):
@@ -236,15 +281,21 @@ def unheard():
     return found
 
 
+def fill_backlog(listener):
+    """Connects to a server with a backlog of 0 until it answers no more; answers the connections, which keep it so."""
+    fillers = []
+    with contextlib.suppress(socket.timeout):
+        for _ in range(8):
+            fillers.append(socket.create_connection(listener.getsockname(), timeout=0.3))
+    return fillers
+
+
 @contextlib.contextmanager
 def unanswered():
     """The port of a server that answers no connect, for a while: its backlog is full."""
     with unheard() as full:
         full.listen(0)
-        fillers = []
-        with contextlib.suppress(TimeoutError):
-            for _ in range(8):
-                fillers.append(socket.create_connection(full.getsockname(), timeout=0.3))
+        _fillers = fill_backlog(full)
         yield port_of(full)
 
 

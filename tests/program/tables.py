@@ -273,7 +273,7 @@ def is_malformed(wanted, text, status, output, errors):
     def act(line):
         return re.sub(r"^\d+ \d+ ", "", text.split("\n")[int(line[1]) - 1]) + ": "
 
-    found = re.fullmatch(r"\[ERROR relayd\] t\.record: (.*)\nrelayd: recording: malformed\n", errors.decode())
+    found = re.fullmatch(r"\[ERROR relayd\] recording: t\.record: (.*)\nrelayd: recording: malformed\n", errors.decode())
     return (status, output) == (1, b"") and bool(found) and re.sub(r"^line (\d+): ", act, found[1]) == wanted
 
 
@@ -327,7 +327,7 @@ def words(lines):
         row = Row(name, [bytes_of(word) for word in shlex.split(text)], status=2)
         told, _, cause = wanted.partition(" | ")
         topic = told.split(":")[0]
-        if topic in ("config", "listen", "options", "record", "recording", "settings"):
+        if topic in ("config", "listen", "options", "record", "recording", "settings", "target"):
             row.status, row.errors = 2 if topic in ("options", "settings") else 1, fault(told, cause)
         else:
             row.errors = lines_as_bytes(f"error: {wanted} |  | For more information, try '--help'.")

@@ -12,8 +12,8 @@ import time
 
 from loopback import Relay, echo, port_of, target, unheard, until
 from shared import (
-    answers_soon, ask_once, asked, asking, at_once, drops_in, few, having, is_closed_soon, leave_one_descriptor, left_out, reset,
-    served,
+    answers_soon, ask_once, asked, asking, at_once, drops_in, few, having, is_closed_soon, is_silent, leave_one_descriptor,
+    left_out, reset, served,
 )
 
 
@@ -63,6 +63,12 @@ def logs_nothing_at_level_off_while_it_serves():
     assert not answers_soon(waiting) and relay.end() == []
 
 
+def unstarted(started):
+    """What is logged of a thread that cannot be started, once so many are."""
+    cause = f"{started}Resource temporarily unavailable (os error 11); raise ulimit -u, TasksMax= or ulimit -v"
+    return [f"[ERROR relayd] threads: {cause}", "relayd: threads: failed"]
+
+
 # refuses unstarted_thread_is_no_fault: a thread that cannot be started is logged, and the others go on
 # refuses leave_ignores_a_fault: a poller that ends for a fault does not end the workers while another was to poll
 # refuses serves_without_its_recorder: a relay whose recording cannot be written for want of a thread serves on without it
@@ -73,13 +79,11 @@ def no_thread_for_some():
     # One thread writes the log, without which no other is started, two are workers, and one more polls.
     for most, level in itertools.product(range(4), ["info", "off"]):
         relay = Relay(preload={"MOST_THREADS": str(most)}, slots=128, workers=2, recorded=False, log=level)
-        cause = "[ERROR relayd] threads: Resource temporarily unavailable (os error 11)"
-        logged = [cause] * (4 - most if most > 0 else 1) + ["relayd: threads: failed"]
-        assert relay.ended(1, within=10) == logged and relay.port is None
+        assert relay.ended(1, within=10) == unstarted(f"{most} of 4 started: " if most > 0 else "") and relay.port is None
     # One that records, too: it has all but the last, or the log's alone.
-    for most in "4", "1":
+    for most, started in ("4", "3 of 4 started: "), ("1", ""):
         relay = Relay(preload={"MOST_THREADS": most}, slots=128, workers=2)
-        assert not relay.record or relay.ended(1, within=10) == logged[-2:]
+        assert not relay.record or relay.ended(1, within=10) == unstarted(started)
 
 
 # refuses failed_poll_is_swallowed: a relay whose poller cannot poll goes on, or ends well
@@ -117,6 +121,22 @@ def out_of_descriptors():
     assert len(having(lines, "] open s=")) == 5 and len(having(lines, "accept: ")) == 3 and not having(lines, "] drop ")
 
 
+# refuses accepts_only_to_close: without a descriptor for a target, one client after the other is accepted, and closed
+def one_descriptor_left():
+    # With four pollers, which tell each other that descriptors are short.
+    relay = Relay(target(echo), log="debug")
+    leave_one_descriptor(relay)
+    waiting = asking(relay, 30)
+    time.sleep(1)
+    closed = [client for client in waiting if not is_silent(client, 0)]
+    assert len(closed) == 1 and is_closed_soon(closed[0])
+    # The others are served as soon as there are descriptors, within a wait of the pollers.
+    relay.limit(resource.RLIMIT_NOFILE, None)
+    assert all([answers_soon(client) for client in waiting if client not in closed])
+    lines = relay.end()
+    assert drops_in(lines) == 1 and len(having(lines, "] open s=")) == 29 and 1 <= len(having(lines, "] accept: ")) <= 4
+
+
 # refuses target_is_never_closed: the socket to the target is forgotten, and not closed
 def closes_what_it_has_opened():
     def ask_and_reset(client):
@@ -136,10 +156,9 @@ def closes_what_it_has_opened():
         assert until(lambda: len(relay.descriptors()) <= before)
 
 
-def floods_nothing_without_descriptors():
-    # Each of four pollers logs the first of each kind, and a count once a second.
-    relay = Relay(target(echo), log="warn")
-    leave_one_descriptor(relay)
+def floods_nothing_with_drops():
+    # No connection to the broadcast address of a network can begin. Each of four pollers logs the first drop, and a count a second.
+    relay = Relay(target="127.255.255.255:1", log="warn")
     ended = time.monotonic() + 3
 
     def connect_again_and_again():
@@ -149,7 +168,7 @@ def floods_nothing_without_descriptors():
 
     at_once(*[connect_again_and_again] * 8)
     lines = relay.end()
-    assert len(having(lines, "] accept: ")) <= 4 and len(lines) <= 32 and drops_in(lines) > 100
+    assert len(lines) <= 32 and drops_in(lines) > 100
 
 
 def out_of_memory():

@@ -20,7 +20,8 @@ def logs_as_is_set():
     served = ["[INFO  relayd] open s=0 g=1", "[INFO  relayd] done s=0 g=1 up=3 down=3"]
     counted = "opened=1 done=1 failed=0 dropped=0 client=0 target=0 refused=0 reset=0 timedout=0 idle=0 up=3 down=3"
     assert told("--log", "debug", log="off")[1:] == told("--log", "info", log="debug") == served
-    assert told("--log", "off", log="debug") == told("--stats", "1", log="off") == told(log="warn") == []
+    assert told("--log", "off", log="debug") == told(log="warn") == []
+    assert told("--stats", "1", log="off") == ["[WARN  relayd] stats: does nothing, since log is off"]
     assert told("--stats", "86400", log="error") == [f"[INFO  relayd] stats open=0 slots=1024 {counted}"]
 
 
@@ -43,11 +44,11 @@ def marks_its_lines_for_the_journal():
 
 
 def target_out_of_reach():
-    # A connection to everybody is refused at once.
+    # No connection to the broadcast address of a network can begin.
     cause = "Network is unreachable (os error 101)"
     gone = "[DEBUG relayd] gone from={0} connected=no up=0 down=0 seconds=0 cause={1}"
-    for level, causes in ("debug", ["[DEBUG relayd] connect: 255.255.255.255:1: {1}", gone]), ("info", []):
-        relay = Relay(target="255.255.255.255:1", slots=1, log=level)
+    for level, causes in ("debug", ["[DEBUG relayd] connect: 127.255.255.255:1: {1}", gone]), ("info", []):
+        relay = Relay(target="127.255.255.255:1", slots=1, log=level)
         clients = [relay.connect() for _ in range(3)]
         assert [client.recv(1) for client in clients] == [b""] * 3
         time.sleep(1.3)
@@ -127,7 +128,7 @@ def end_as_asked(connection):
 # refuses ended_bytes_are_forgotten: the bytes of a slot's earlier connections are not in the statistics
 # refuses idle_ones_have_not_failed: those that the idle limit ended are not counted as failed
 def statistics_add_up():
-    # Of 1,000 connections that end in every way, after 20 clients that are dropped.
+    # Of 1,000 connections that end in every way, after a client that is dropped.
     def sends(word, last=read_all, times=1):
         def work():
             for number in range(times):
@@ -145,7 +146,7 @@ def statistics_add_up():
     with tempfile.TemporaryFile("w+") as errors:
         relay = Relay(port_of(listener), errors=errors, slots=256, idle=1, stop_after=1000, options=("--stats", "1"), log="debug")
         leave_one_descriptor(relay)
-        assert all([relay.connect().recv(1) == b"" for _ in range(20)])
+        assert relay.connect().recv(1) == b""
         relay.limit(resource.RLIMIT_NOFILE, None)
         at_once(*[sends(b"?", times=50)] * 4)
         # So that there is a line before the last one.
@@ -165,7 +166,7 @@ def statistics_add_up():
     over = [numbers_in(line) for line in having(lines, "] done s=") + having(lines, "] gone s=")]
     wanted |= {way: sum(line[way] for line in over) for way in ("up", "down")}
     last = numbers_in(lines[-1])
-    assert each[-1] == last == wanted and len(having(lines, "] gone ")) == last["failed"] + 20 and last["opened"] == 1000
+    assert each[-1] == last == wanted and len(having(lines, "] gone ")) == last["failed"] + 1 and last["opened"] == 1000
     assert all(last[name] for name in last if name not in ("open", "timedout"))
     assert all(one["opened"] == one["open"] + one["done"] + one["failed"] for one in each)
     assert 2 <= len(each) <= time.monotonic() - begun + 1
@@ -196,6 +197,20 @@ def writes_each_log_line_at_once_and_goes_on_without_its_log():
     first.close()
     time.sleep(0.3)
     assert asked(second) and relay.process.poll() is None
+
+
+# refuses log_rests_for_100_ms: the log's thread rests for 100 ms after it wrote lines
+def writes_each_log_line_within_5_ms():
+    # The line `open` is written at once, and `done` after a rest. Now and then a machine under load takes longer.
+    relay, times = Relay(target(echo)), []
+    assert "slots" in relay.process.stderr.readline()
+    for _ in range(15):
+        time.sleep(0.02)
+        ask_once(relay)
+        before = time.monotonic()
+        assert "] open " in relay.process.stderr.readline() and "] done " in relay.process.stderr.readline()
+        times.append(time.monotonic() - before)
+    assert sorted(times)[7] < 0.02, times
 
 
 def serves_on_when_nobody_reads_its_log():

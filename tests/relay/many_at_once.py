@@ -11,7 +11,7 @@ import threading
 import time
 
 from loopback import WAIT, Relay, echo, in_thread, port_of, target, unheard, until
-from shared import MUCH, answer_and_read, asked, asking, having, is_silent, left_out, move_much, numbers_in, served
+from shared import MUCH, answer_and_read, ask_once, asked, asking, having, is_silent, left_out, move_much, numbers_in, served
 
 FUTEX = "202"  # the number of the system call in which a worker sleeps
 PTRACE_SEIZE, PTRACE_INTERRUPT, PTRACE_DETACH, WALL = 0x4206, 0x4207, 17, 0x40000000  # ptrace(2), waitpid(2)
@@ -141,6 +141,45 @@ def deals_clients_to_pollers_with_fewer():
             last = pollers(many)
     # It takes one where others wake after more than a millisecond, and about 60 if it leaves none.
     assert others.count(first) > 6 and last[64:].count(first) < 30
+
+
+def taken_by_the_fuller(fewer, more):
+    """Of 32 clients that come one after the other, how many a poller with more clients takes, beside one with fewer."""
+    taken = 0
+    for fuller in 0, 1:
+        with tempfile.NamedTemporaryFile("w") as errors:
+            relay, left = Relay(target(echo), errors=errors, slots=128, workers=2), {fuller: more, 1 - fuller: fewer}
+
+            def told(word, many):
+                """The slots of these lines, once there are this many."""
+                while len(lines := having(pathlib.Path(errors.name).read_text().splitlines(), word)) < many:
+                    time.sleep(0.002)
+                return [numbers_in(line)["s"] for line in lines]
+
+            clients, kept = served(relay, 104), []
+            for client, slot in zip(clients, told("] open ", len(clients))):
+                left[slot // 64] -= 1
+                if left[slot // 64] >= 0:
+                    kept.append(client)
+                else:
+                    client.close()
+            assert len(kept) == fewer + more
+            for number in range(len(clients) - len(kept), len(clients) - len(kept) + 16):
+                told("] done ", number)
+                time.sleep(0.003)
+                ask_once(relay)
+            taken += [slot // 64 for slot in told("] open ", len(clients) + 16)[len(clients):]].count(fuller)
+    return taken
+
+
+# refuses margin_of_three: a poller takes a client though another has three fewer
+# refuses margin_of_a_quarter: a poller takes a client though it has more by a quarter than another
+def leaves_clients_by_two_and_by_an_eighth():
+    # By the margin a poller takes about half of them. With one more it takes those for which the other does not wake within a
+    # millisecond, as under load.
+    for fewer, margin in (0, 2), (32, 4):
+        assert taken_by_the_fuller(fewer, fewer + margin) >= 8
+        assert any(taken_by_the_fuller(fewer, fewer + margin + 1) <= 8 for _ in range(5))
 
 
 @contextlib.contextmanager
@@ -282,7 +321,7 @@ def rings_are_as_large_as_is_set():
 # refuses waits_with_work_in_hand: a poller that may accept more clients waits 200 ms for a report
 def accepts_without_waiting():
     # Nothing is reported of clients who are closed at once, and four are accepted in a round.
-    relay = Relay(target="255.255.255.255:1", workers=1, log="off")
+    relay = Relay(target="127.255.255.255:1", workers=1, log="off")
     with relay.stopped():
         clients = [relay.connect() for _ in range(80)]
     before = time.monotonic()

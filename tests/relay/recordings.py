@@ -2,10 +2,12 @@
 
 import os
 import pathlib
+import subprocess
 import tempfile
 import threading
+import time
 
-from loopback import Relay, echo, in_thread, read_all, replay, send_and_shut, target, until
+from loopback import WAIT, Relay, echo, in_thread, read_all, replay, send_and_shut, target, until
 from shared import LONGEST, asked, having, left_out, line_of, reset, told
 
 
@@ -70,6 +72,40 @@ def keeps_what_was_there():
             fault = [f"[ERROR relayd] record: {path}: is there, and is no recording", "relayd: record: cannot be created"]
             assert Relay(1, options=("--record", str(path)), log="off").ended(1) == fault and path.read_text() == text
         assert len(os.listdir(folder)) == 3
+
+
+# refuses ten_recordings_are_kept: no recording is kept under a number over 10
+def keeps_9999_recordings():
+    # The last name is free, and then none.
+    with tempfile.TemporaryDirectory() as folder:
+        path = pathlib.Path(folder, "relay.record")
+        path.write_text("relayd recording 1\n")
+        for number in range(1, 9999):
+            pathlib.Path(f"{path}.{number}").touch()
+        how = {"options": ["--record", str(path), "--until-eof"], "stdin": subprocess.DEVNULL}
+        kept = f"[INFO  relayd] record: {path}: was there, and is {path}.9999 now"
+        assert having(Relay(1, **how).ended(), "record: ") == [kept]
+        fault = [f"[ERROR relayd] record: {path}: entity already exists", "relayd: record: cannot be created"]
+        assert Relay(1, **how).ended(1) == fault
+
+
+# refuses records_wait_half_a_second: records are written once in half a second
+def has_recorded_what_it_did_when_it_is_killed():
+    # But for the last five milliseconds. Now and then a machine under load takes longer.
+    if not Relay.records:
+        return left_out("recording")
+    whole = 0
+    for _ in range(5):
+        relay = Relay(target(echo))
+        assert until(lambda: os.path.getsize(relay.record) > 100)
+        with relay.connect() as client:
+            for _ in range(100):
+                assert asked(client)
+            time.sleep(0.05)
+            relay.process.kill()
+        relay.process.wait(WAIT)
+        whole += pathlib.Path(relay.record).read_text().count("client write 1 1\n") == 100
+    assert whole >= 3
 
 
 # refuses full_is_not_told: a recording that lacks records ends as a whole one

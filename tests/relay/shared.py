@@ -1,5 +1,7 @@
 """What the checks of several topics use."""
 
+import ctypes
+import os
 import re
 import resource
 import select
@@ -12,6 +14,8 @@ from loopback import WAIT, Relay, echo, in_thread, port_of, read_all, target, un
 LONGEST = 100  # the longest that a check may take, in seconds
 MUCH = 200_000  # bytes that take more calls than a poller's own turn has
 OWN = "[WARN  relayd] target: the relay itself listens there, so a connection would go round without end"
+PIDFD_GETFD = 438  # pidfd_getfd(2)
+TCP_WAITS = [socket.TCP_USER_TIMEOUT, socket.TCP_KEEPIDLE, socket.TCP_KEEPINTVL, socket.TCP_KEEPCNT]
 IDLE = "[WARN  relayd] fail s=0 g=1 idle"
 
 
@@ -152,3 +156,21 @@ def line_of(client):
     """The line that a target is sent first for a client that is connected."""
     (source, source_port), (dest, dest_port) = client.getsockname(), client.getpeername()
     return f"PROXY TCP4 {source} {dest} {source_port} {dest_port}\r\n".encode()
+
+
+def waits_of(relay):
+    """For how long the client's socket and the target's wait for their peers: SO_KEEPALIVE, and TCP_WAITS. Nothing if the
+    sockets of another process can't be had."""
+    process, found = os.pidfd_open(relay.process.pid), {}
+    options = [(socket.SOL_SOCKET, socket.SO_KEEPALIVE), *((socket.IPPROTO_TCP, option) for option in TCP_WAITS)]
+    for number in relay.descriptors():
+        if os.readlink(f"/proc/{relay.process.pid}/fd/{number}").startswith("socket:"):
+            copied = ctypes.CDLL(None).syscall(PIDFD_GETFD, process, number, 0)
+            if copied < 0:
+                break
+            with socket.socket(fileno=copied) as copy:
+                if not copy.getsockopt(socket.SOL_SOCKET, socket.SO_ACCEPTCONN):
+                    side = "client" if copy.getsockname()[1] == relay.port else "target"
+                    found[side] = [copy.getsockopt(*option) for option in options]
+    os.close(process)
+    return found

@@ -1,7 +1,6 @@
 """Peers that are silent, and peers that are gone."""
 
 import contextlib
-import ctypes
 import os
 import shutil
 import socket
@@ -10,10 +9,7 @@ import sys
 import time
 
 from loopback import TESTS, WAIT, Relay, echo, in_thread, port_of, read_all, send_and_shut, target, unanswered, until
-from shared import IDLE, answers_soon, asked, asking, having, is_closed_soon, is_silent, left_out, numbers_in, served
-
-PIDFD_GETFD = 438  # pidfd_getfd(2)
-TCP_WAITS = [socket.TCP_USER_TIMEOUT, socket.TCP_KEEPIDLE, socket.TCP_KEEPINTVL, socket.TCP_KEEPCNT]
+from shared import IDLE, answers_soon, asked, asking, having, is_closed_soon, is_silent, left_out, numbers_in, served, waits_of
 
 
 def ends_connections_once_they_are_silent():
@@ -93,24 +89,6 @@ def keeps_a_target_that_takes_nothing():
     assert relay.end()[-1].endswith("up=12000000 down=0")
 
 
-def waits_of(relay):
-    """For how long the client's socket and the target's wait for their peers: SO_KEEPALIVE, and TCP_WAITS. Nothing if the
-    sockets of another process can't be had."""
-    process, found = os.pidfd_open(relay.process.pid), {}
-    options = [(socket.SOL_SOCKET, socket.SO_KEEPALIVE), *((socket.IPPROTO_TCP, option) for option in TCP_WAITS)]
-    for number in relay.descriptors():
-        if os.readlink(f"/proc/{relay.process.pid}/fd/{number}").startswith("socket:"):
-            copied = ctypes.CDLL(None).syscall(PIDFD_GETFD, process, number, 0)
-            if copied < 0:
-                break
-            with socket.socket(fileno=copied) as copy:
-                if not copy.getsockopt(socket.SOL_SOCKET, socket.SO_ACCEPTCONN):
-                    side = "client" if copy.getsockname()[1] == relay.port else "target"
-                    found[side] = [copy.getsockopt(*option) for option in options]
-    os.close(process)
-    return found
-
-
 # refuses client_with_a_limit: a client's socket has the limit for connecting
 # refuses probes_by_the_systems_numbers: the system's own numbers say when a socket probes its peer
 def has_its_sockets_wait_as_is_asked():
@@ -167,7 +145,7 @@ def ends_a_receiver_that_stalls():
     client, _end = relay.pair()
     client.settimeout(0.5)
     with contextlib.suppress(ConnectionError):
-        with contextlib.suppress(TimeoutError):
+        with contextlib.suppress(socket.timeout):
             while client.send(bytes(65536)):
                 pass
         assert is_closed_soon(client)
