@@ -188,10 +188,21 @@ class Relay:
     def tasks(self):
         return os.listdir(f"/proc/{self.process.pid}/task")
 
+    def name_of(self, task):
+        return pathlib.Path(f"/proc/{self.process.pid}/task/{task}/comm").read_text().strip()
+
+    def named(self, name, many=1):
+        """The threads of this name, once there are so many (proc(5))."""
+
+        def found():
+            return sorted(int(task) for task in self.tasks() if self.name_of(task) == name)
+
+        assert until(lambda: len(found()) == many), f"not {many} threads are named {name}"
+        return found()
+
     def names_of_threads(self):
-        """The names of its threads but the first, in alphabetical order (proc(5))."""
-        task = pathlib.Path(f"/proc/{self.process.pid}/task")
-        return sorted((task / it / "comm").read_text().strip() for it in self.tasks() if it != str(self.process.pid))
+        """The names of its threads but the first, in alphabetical order."""
+        return sorted(self.name_of(task) for task in self.tasks() if task != str(self.process.pid))
 
     def status(self, name, task=None):
         """The number of this name in the status of one of its threads, or the first (proc(5))."""

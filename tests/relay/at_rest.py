@@ -8,7 +8,7 @@ import socket
 import time
 
 from loopback import WAIT, Relay, beside_polls, echo, in_thread, made, target, unanswered, until
-from shared import at_once, having, left_out, served
+from shared import at_once, by_time, having, left_out, served
 
 
 def warned(budget):
@@ -27,6 +27,7 @@ def fill(connection):
 
 
 # refuses turns_of_fewer_calls: a turn makes no more calls than `budget` says, also if that is below four
+@by_time
 def makes_no_call_while_all_connections_wait():
     # For each budget two relays without a limit and two with one. The target of the first is silent, or nobody reads what is
     # sent one way, the other or both; the other's answers no connect, and has a byte to get or none.

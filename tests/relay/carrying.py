@@ -11,7 +11,7 @@ import tempfile
 import time
 
 from loopback import WAIT, Relay, echo, in_thread, read_all, send_and_shut, start, target, until
-from shared import asked, connected, is_open, left_out, line_of, name_of, reset, served, unused_port
+from shared import asked, by_time, connected, is_open, left_out, line_of, name_of, reset, served, unused_port
 
 
 # refuses bit_down_after_a_short_read: a wire stops reading after a short read
@@ -96,6 +96,7 @@ def traced(calls, times, many=1):
 
 # refuses busy_poller_keeps_on: a poller that finds several reports each time lets no other thread run
 # refuses few_reports_are_forgotten: polls of few reports do not count against those of several
+@by_time
 def lets_others_run_under_load():
     if not shutil.which("strace"):
         return left_out("strace")
@@ -120,6 +121,7 @@ def makes_no_call_that_nobody_asked_for():
 
 
 # refuses client_never_sends_at_once: a client's socket is never told to send at once
+@by_time
 def sends_small_parts_at_once():
     # A socket that waits for more would hold the second byte back until the first is acknowledged, which takes its peer 40 ms
     # here. Now and then a machine under load takes as long.

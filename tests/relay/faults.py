@@ -12,8 +12,8 @@ import time
 
 from loopback import Relay, echo, port_of, target, unheard, until
 from shared import (
-    answers_soon, ask_once, asked, asking, at_once, drops_in, few, having, is_closed_soon, is_silent, leave_one_descriptor,
-    left_out, reset, served,
+    answers_soon, ask_once, asked, asking, at_once, by_time, drops_in, few, having, is_closed_soon, is_silent,
+    leave_one_descriptor, left_out, reset, served,
 )
 
 
@@ -101,6 +101,7 @@ def a_poll_that_fails():
         assert all([is_closed_soon(client) for client in clients])
 
 
+@by_time
 def out_of_descriptors():
     # With one poller, since each logs that it lacks descriptors.
     relay = Relay(target(echo), slots=100)
@@ -122,6 +123,7 @@ def out_of_descriptors():
 
 
 # refuses accepts_only_to_close: without a descriptor for a target, one client after the other is accepted, and closed
+@by_time
 def one_descriptor_left():
     # With four pollers, which tell each other that descriptors are short.
     relay = Relay(target(echo), log="debug")
@@ -156,6 +158,7 @@ def closes_what_it_has_opened():
         assert until(lambda: len(relay.descriptors()) <= before)
 
 
+@by_time
 def floods_nothing_with_drops():
     # No connection to the broadcast address of a network can begin. Each of four pollers logs the first drop, and a count a second.
     relay = Relay(target="127.255.255.255:1", log="warn")

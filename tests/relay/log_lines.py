@@ -10,8 +10,8 @@ import time
 
 from loopback import WAIT, Relay, echo, in_thread, port_of, read_all, send_and_shut, target, unanswered, unheard
 from shared import (
-    answer_and_read, ask_once, asked, at_once, drops_in, having, is_closed_soon, leave_one_descriptor, name_of, numbers_in, reset,
-    served, told,
+    answer_and_read, ask_once, asked, at_once, by_time, drops_in, having, is_closed_soon, leave_one_descriptor, name_of,
+    numbers_in, reset, served, told,
 )
 
 
@@ -62,6 +62,7 @@ def target_out_of_reach():
 
 # refuses clients_always_at_debug: the level of what is logged of clients is debug, though it is to be info
 # refuses done_without_its_client: with --log-clients a connection that is done has no line with its client's address
+@by_time
 def logs_each_client_as_it_comes_and_goes():
     server = target(echo)
     for end, cause, last in (
@@ -97,6 +98,7 @@ def shows_whose_it_was(port, sent, end, idle, failed):
 
 # refuses silent_target_told_as_absent: a target that has accepted, and says nothing, is logged as not connected
 # refuses peer_names_slot_0: the line with the client's address names slot 0, whichever it is
+@by_time
 def says_whose_a_connection_was_and_how_it_ended():
     refused = "connected=no up=0 down=0 seconds=0 cause=Connection refused (os error 111)", "side=target call=read kind=refused"
     cause = "cause=Connection reset by peer (os error 104)"
@@ -127,6 +129,7 @@ def end_as_asked(connection):
 # refuses event_is_not_kept: an event is not kept in the statistics
 # refuses ended_bytes_are_forgotten: the bytes of a slot's earlier connections are not in the statistics
 # refuses idle_ones_have_not_failed: those that the idle limit ended are not counted as failed
+@by_time
 def statistics_add_up():
     # Of 1,000 connections that end in every way, after a client that is dropped.
     def sends(word, last=read_all, times=1):
@@ -200,6 +203,7 @@ def writes_each_log_line_at_once_and_goes_on_without_its_log():
 
 
 # refuses log_rests_for_100_ms: the log's thread rests for 100 ms after it wrote lines
+@by_time
 def writes_each_log_line_within_5_ms():
     # The line `open` is written at once, and `done` after a rest. Now and then a machine under load takes longer.
     relay, times = Relay(target(echo)), []
@@ -255,6 +259,7 @@ def ends_by_a_fault_that_nobody_reads():
 
 
 # refuses last_wait_of_ten_milliseconds: a relay that ends waits for its log's reader for 10 ms, and not for a second
+@by_time
 def tells_its_last_lines_to_a_late_reader():
     # It ends soon after its last connection, and then waits, but not for a reader that never comes.
     for is_late in True, False:

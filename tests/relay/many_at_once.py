@@ -11,17 +11,12 @@ import threading
 import time
 
 from loopback import WAIT, Relay, echo, in_thread, port_of, target, unheard, until
-from shared import MUCH, answer_and_read, ask_once, asked, asking, having, is_silent, left_out, move_much, numbers_in, served
+from shared import (
+    answer_and_read, ask_once, asked, asking, by_time, having, is_silent, left_out, move_much, numbers_in, served,
+)
 
 FUTEX = "202"  # the number of the system call in which a worker sleeps
 PTRACE_SEIZE, PTRACE_INTERRUPT, PTRACE_DETACH, WALL = 0x4206, 0x4207, 17, 0x40000000  # ptrace(2), waitpid(2)
-
-
-def has_back(client, size):
-    """Whether a client gets this many bytes."""
-    while size > 0 and (piece := client.recv(size)):
-        size -= len(piece)
-    return size == 0
 
 
 def send_both(pairs):
@@ -81,7 +76,7 @@ def serves_all_slots_of_several_pollers():
 def serves_65539_in_one_slot():
     # Numbers have over 32 bits from generation 65,536 on. All but the last four find their target out of reach.
     listener = unheard()
-    with tempfile.TemporaryFile("w+") as errors:
+    with tempfile.NamedTemporaryFile("w") as errors:
         relay = Relay(port_of(listener), errors=errors, slots=1)
         for _ in range(302):
             for client in [relay.connect() for _ in range(217)]:
@@ -92,13 +87,12 @@ def serves_65539_in_one_slot():
         for _ in range(4):
             with relay.connect() as client:
                 assert asked(client) and asked(client)
-        time.sleep(0.3)
-        errors.seek(0)
-        opened = [line for line in errors if "] open s=" in line]
-    assert opened[-5:] == [f"[INFO  relayd] open s=0 g={g}\n" for g in range(65535, 65540)]
+        wanted = [f"[INFO  relayd] open s=0 g={g}" for g in range(65535, 65540)]
+        assert until(lambda: having(pathlib.Path(errors.name).read_text().splitlines(), "] open s=")[-5:] == wanted)
 
 
 # refuses fronts_in_reverse: the pollers have their fronts in reverse, so a worker wakes another poller than the slot's
+@by_time
 def wakes_the_poller_of_a_freed_slot():
     relay = Relay(target(answer_and_read), slots=128, workers=2)
     clients, slow = served(relay, 128), 0
@@ -116,6 +110,7 @@ def wakes_the_poller_of_a_freed_slot():
 
 
 # refuses clients_are_not_dealt: a poller takes each client that it can, however many more than others it has
+@by_time
 def deals_clients_to_pollers_with_fewer():
     # Of four pollers one keeps its clients and the others lose theirs, before 24 come at once, ten times.
     with tempfile.NamedTemporaryFile("w") as errors:
@@ -174,6 +169,7 @@ def taken_by_the_fuller(fewer, more):
 
 # refuses margin_of_three: a poller takes a client though another has three fewer
 # refuses margin_of_a_quarter: a poller takes a client though it has more by a quarter than another
+@by_time
 def leaves_clients_by_two_and_by_an_eighth():
     # By the margin a poller takes about half of them. With one more it takes those for which the other does not wake within a
     # millisecond, as under load.
@@ -199,6 +195,7 @@ def halted(task):
 
 
 # refuses left_client_waits_long: a poller that leaves a client to others waits for reports as long as without one
+@by_time
 def serves_clients_that_another_poller_leaves():
     # The first thread polls for one of four pollers. While it stands still it has the fewest clients, and takes none.
     relay, clients, times = Relay(target(echo), slots=256), [], []
@@ -232,6 +229,7 @@ def echo_or_read(connection):
 
 
 # refuses light_tickets_put_while_all_work: light tickets after the first 16 of a round are put while all workers work on bulk
+@by_time
 def small_messages_wait_for_no_bulk():
     relay = Relay(target(echo_or_read), recorded=False, slots=64, workers=1, budget=1024, ring=65536, log="off")
     bulk = [relay.connect() for _ in range(4)]
@@ -261,37 +259,45 @@ def small_messages_wait_for_no_bulk():
 def wakes_workers_for_what_is_over_16():
     for workers, is_shared in (1, True), (2, False):
         relay = Relay(target(echo), recorded=False, slots=64 * workers, workers=workers, log="off")
-        clients = served(relay, 48 * workers)
-        time.sleep(0.1)
-        others = [task for task in relay.tasks() if relay.system_call(task) == FUTEX]
+        clients, others = served(relay, 48 * workers), relay.named("worker", workers)
 
-        def worked(many):
-            """How long the others run by a burst of this many."""
-            time.sleep(0.1)
-            before = relay.run_time(others)
-            burst(relay, clients[:many])
-            time.sleep(0.1)
-            return relay.run_time(others) - before
+        def slept():
+            """How often the workers have gone to sleep, once they sleep."""
+            assert until(lambda: all(relay.system_call(task) == FUTEX for task in others))
+            return sum(relay.status("voluntary_ctxt_switches", task) for task in others)
 
-        # That the relay is stopped wakes each thread as often by either.
-        few, many = [worked(16) for _ in range(5)], [worked(len(clients)) for _ in range(5)]
-        assert len(others) >= workers and (sum(many) > 2 * sum(few)) == is_shared
+        def woken(many):
+            """How often workers wake by a burst of so many bytes, all of which the pollers find at once."""
+            before = slept()
+            with contextlib.ExitStack() as pollers:
+                for task in [relay.process.pid, *relay.named("poller", workers - 1)]:
+                    if not pollers.enter_context(halted(task)):
+                        return None
+                for client in clients[:many]:
+                    client.sendall(b"!")
+            assert all([client.recv(1) == b"!" for client in clients[:many]])
+            return slept() - before
+
+        few, many = [woken(16) for _ in range(5)], [woken(len(clients)) for _ in range(5)]
+        if None in few:
+            return left_out("ptrace")
+        assert not any(few) and any(many) == all(many) == is_shared, (few, many)
 
 
 # refuses one_worker_runs_all: all tickets are run by one worker
 def goes_on_while_one_worker_stands_still():
-    # One thread polls, and two workers have what moves much. If a put wakes the one that stands still, the next wakes the other.
+    # One thread polls. Of 48 bytes that it finds at once it puts 32: if one put wakes the worker that stands still, the next
+    # wakes the other, which has them all.
     relay = Relay(target(echo), recorded=False, slots=64, workers=2, log="off")
-    clients = served(relay, 4)
-    time.sleep(0.1)
-    sleepers = [int(task) for task in relay.tasks() if relay.system_call(task) == FUTEX]
-    assert len(sleepers) > 1
-    for task in sleepers:
-        with halted(task) as is_halted:
+    clients = served(relay, 48)
+    for worker in relay.named("worker", 2):
+        with halted(worker) as is_halted:
             if not is_halted:
                 return left_out("ptrace")
-            move_much(relay, *clients)
-            assert all([has_back(client, MUCH) for client in clients])
+            with halted(relay.process.pid):
+                for client in clients:
+                    client.sendall(b"!")
+            assert all([client.recv(1) == b"!" for client in clients])
 
 
 def runs_as_many_threads_as_are_set():
@@ -319,6 +325,7 @@ def rings_are_as_large_as_is_set():
 
 
 # refuses waits_with_work_in_hand: a poller that may accept more clients waits 200 ms for a report
+@by_time
 def accepts_without_waiting():
     # Nothing is reported of clients who are closed at once, and four are accepted in a round.
     relay = Relay(target="127.255.255.255:1", workers=1, log="off")
@@ -329,6 +336,7 @@ def accepts_without_waiting():
 
 
 # refuses waits_two_seconds: a poller waits two seconds for a report
+@by_time
 def sleeps_while_idle():
     # One thread that polls wakes five times a second, and several together ten times. The log's writer does not.
     def sleeps():

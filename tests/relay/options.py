@@ -7,7 +7,7 @@ import subprocess
 import time
 
 from loopback import WAIT, Relay, fill_backlog, port_of, read_all, send_and_shut, unheard, until
-from shared import at_once, having, is_closed_soon, is_open, line_of, name_of, numbers_in, reset, waits_of
+from shared import at_once, by_time, having, is_closed_soon, is_open, line_of, name_of, numbers_in, reset, waits_of
 
 
 def has_all_options(is_typed):
@@ -59,5 +59,6 @@ def has_all_options(is_typed):
 
 # refuses statistics_without_logged_clients: with --log-clients nothing is counted
 # refuses logged_clients_without_statistics: with --stats clients are not logged at level info
+@by_time
 def does_all_that_its_options_say_at_once():
     at_once(*[functools.partial(has_all_options, is_typed) for is_typed in (True, False)])

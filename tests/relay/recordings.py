@@ -8,7 +8,7 @@ import threading
 import time
 
 from loopback import WAIT, Relay, echo, in_thread, read_all, replay, send_and_shut, target, until
-from shared import LONGEST, asked, having, left_out, line_of, reset, told
+from shared import LONGEST, asked, by_time, having, left_out, line_of, reset, told
 
 
 # refuses forward_overlooks_record: `forward` takes the option for a recording, and records nothing
@@ -90,6 +90,7 @@ def keeps_9999_recordings():
 
 
 # refuses records_wait_half_a_second: records are written once in half a second
+@by_time
 def has_recorded_what_it_did_when_it_is_killed():
     # But for the last five milliseconds. Now and then a machine under load takes longer.
     if not Relay.records:

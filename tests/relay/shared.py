@@ -19,6 +19,12 @@ TCP_WAITS = [socket.TCP_USER_TIMEOUT, socket.TCP_KEEPIDLE, socket.TCP_KEEPINTVL,
 IDLE = "[WARN  relayd] fail s=0 g=1 idle"
 
 
+def by_time(check):
+    """Marks a check whose assertions are about time, which `run` may try again."""
+    check.tries = 3
+    return check
+
+
 def few(served, limit, needed=2060):
     """The warning of too few descriptors."""
     most = f"at most {served} of 1024 connections are served at a time"

@@ -9,9 +9,12 @@ import sys
 import time
 
 from loopback import TESTS, WAIT, Relay, echo, in_thread, port_of, read_all, send_and_shut, target, unanswered, until
-from shared import IDLE, answers_soon, asked, asking, having, is_closed_soon, is_silent, left_out, numbers_in, served, waits_of
+from shared import (
+    IDLE, answers_soon, asked, asking, by_time, having, is_closed_soon, is_silent, left_out, numbers_in, served, waits_of,
+)
 
 
+@by_time
 def ends_connections_once_they_are_silent():
     # Seconds are counted whole, so a limit of 2 leaves a client at least one. A sweep finds it within another limit.
     relay = Relay(target(echo), slots=1, idle=2)
@@ -41,6 +44,7 @@ def answers_after_a_stop(seconds):
 
 
 # refuses sweeps_before_it_polls: a sweep goes by a second that was read after the reports of its round
+@by_time
 def answers_what_came_while_it_was_stopped():
     # For longer than the idle limit, as a container or a machine may be. Of three relays one at most is stopped between the
     # poll of a sweep and the turns for it, by which connections are cut.
@@ -48,6 +52,7 @@ def answers_what_came_while_it_was_stopped():
 
 
 # refuses idle_limit_of_a_byte: an idle limit over 255 seconds is cut
+@by_time
 def keeps_to_the_longest_idle_limit():
     if not Relay.library:
         return left_out("cc")
@@ -58,6 +63,7 @@ def keeps_to_the_longest_idle_limit():
 
 
 # refuses joined_without_a_peer: a socket that is still connecting is logged as connected
+@by_time
 def ends_a_connect_that_nobody_answers():
     with unanswered() as port:
         for act in (lambda client: client.sendall(b"is anybody there?")), (lambda client: client.shutdown(socket.SHUT_WR)):
@@ -68,6 +74,7 @@ def ends_a_connect_that_nobody_answers():
 
 
 # refuses timed_out_ones_are_not_kept: a connection that failed since a peer did not answer is not in the statistics as such
+@by_time
 def gives_up_a_target_that_does_not_answer():
     with unanswered() as port:
         relay = Relay(port, slots=1, options=["--connect-timeout", "1", "--stats", "9"], typed=True, stop_after=1)
@@ -112,6 +119,7 @@ def has_its_sockets_wait_as_is_asked():
 
 
 # refuses peers_are_never_probed: nobody probes a peer that is silent
+@by_time
 def gives_up_peers_that_are_gone():
     # In a network of its own, if the system allows one: an address there can be cut off.
     if "CUT_OFF" not in os.environ:
@@ -140,6 +148,7 @@ def gives_up_peers_that_are_gone():
         assert having(each.end(), f"side={side} call=read kind=timedout")
 
 
+@by_time
 def ends_a_receiver_that_stalls():
     relay = Relay(slots=1, ring=4096, idle=1)
     client, _end = relay.pair()

@@ -17,8 +17,8 @@ from loopback import (
     TESTS, WAIT, Relay, allowed, echo, in_thread, port_of, read_all, send_and_shut, settings_file, start, target, until,
 )
 from shared import (
-    OWN, answer_and_read, ask_once, asked, at_once, connected, few, having, is_open, is_silent, left_out, line_of, move_much,
-    served, unused_port,
+    OWN, answer_and_read, ask_once, asked, at_once, by_time, connected, few, having, is_open, is_silent, left_out, line_of,
+    move_much, served, unused_port,
 )
 
 
@@ -39,6 +39,7 @@ def goes_on_behind_its_first_poller():
 
 # refuses no_wake_behind_the_last: nobody wakes a poller whose last connection a worker has ended
 # refuses pollers_behind_the_eighth_are_not_woken: of 16 pollers, those after the eighth have the eighth's waker
+@by_time
 def ends_soon_behind_its_last():
     # Each poller has one connection. One that nobody wakes waits for 200 ms, and for 1.6 s if it is one of 16.
     def taken(pollers):
@@ -73,6 +74,7 @@ def closes_its_socket_behind_its_last():
 
 
 # refuses waits_while_it_listens: a poller that may open nothing waits for reports with the listening socket open
+@by_time
 def refuses_who_comes_behind_its_last():
     # Of sixteen pollers fifteen may open none, and wait for 1.6 seconds. A client would wake them.
     relay = Relay(target(echo), slots=1024, workers=16, stop_after=1)
@@ -195,6 +197,7 @@ def is_replaced_at_another_address():
         assert until(lambda: not is_open(other))
 
 
+@by_time
 def is_replaced_under_load():
     # Twice, beside clients that ask one after the other, each time on a connection of its own, and clients that keep theirs. No
     # client that was accepted is cut: each has its line `done`.
