@@ -326,16 +326,19 @@ def says_which_right_a_port_needs():
 
 
 # refuses record_is_opened_blindly: a relay waits for a reader of the pipe into which it is to record
+# refuses record_link_is_not_followed: a relay records behind what is in the file that a link leads to
 def looks_where_it_is_to_record():
     # What is wrong is told before it listens: at that address it cannot.
     with tempfile.TemporaryDirectory() as folder:
-        pipe, link, file = f"{folder}/pipe", f"{folder}/link", f"{folder}/file"
+        pipe, link, other, file = f"{folder}/pipe", f"{folder}/link", f"{folder}/other", f"{folder}/file"
         os.mkfifo(pipe)
         os.symlink(f"{folder}/nothing", link)
+        os.symlink(file, other)
         pathlib.Path(file).write_text("?")
         for path, why in (
             (pipe, "is a FIFO that nobody reads"), (link, "is a link to a file that is not there"),
-            (file, "is there, and is no recording"), (folder, "Is a directory (os error 21)"),
+            (file, "is there, and is no recording"), (other, "is there, and is no recording"),
+            (folder, "Is a directory (os error 21)"), (f"{file}/record", "Not a directory (os error 20)"),
         ):
             words = [Relay.program, "forward", "192.0.2.1:0", "127.0.0.1:1", "--record", path]
             done = subprocess.run(words, capture_output=True, text=True, timeout=WAIT)
