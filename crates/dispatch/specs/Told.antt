@@ -1,11 +1,22 @@
--- What the statistics count of a connection, what is logged of one that could not be opened, and what the errors of
--- accept(2) mean to the relay. Part of the promises.
+-- What a front shows, what the statistics count of a connection, what is logged of one that could not be opened, and
+-- what the errors of accept(2) mean to the relay. Part of the promises.
+use Rattle.std.specs.Prelude.{ℕ, Bool, List}
 use Rattle.std.specs.declared.io.ErrorKind.{ErrorKind, TheVariants.{Interrupted, ConnectionAborted, NetworkDown, NetworkUnreachable, HostUnreachable, WouldBlock}}
 use Rattle.relay_core.specs.Pairs.{PairState, verdict}
 use Rattle.statistics.specs.declared.event.Event.{Event, TheVariants.{Moved, Ended}}
 use Rattle.relay_log.specs.declared.cause.Cause.{Cause}
 use Rattle.dispatch.specs.declared.front.{Unaccepted.{Unaccepted, TheVariants.{Again, Blocked, Starved}}, Unopened.{Unopened, TheVariants.{Connect, Register}}}
 use Rattle.relay_log.specs.declared.cause.Cause.TheVariants as cause
+
+pub record Seen : Type 0 where
+  -- what the last wait for reports gave
+  pub reported : List ℕ
+  -- whether that wait failed, and not by a signal
+  pub failed : Bool
+  -- how many milliseconds it could take at most: 0 if it had to return at once, or if the front does not say so
+  pub waited : ℕ
+  -- whether the front still has a share of the listening socket
+  pub listens : Bool
 
 -- a turn has left a connection open: the bytes that writes took, each way
 abbrev pub moved_by : PairState → Event

@@ -171,10 +171,7 @@ pub trait Moves<F: Front>: Acts {
         ensures none { OnErr result (self.new ≡ self.old) }
         ensures told { IfOk result (λ opened. F.may_tell client.old opened.route) }
         ensures refused { IfErr result (λ why. F.may_refuse client.old why) }
-        ensures reported { F.reported front.new ≡ F.reported front.old }
-        ensures failed { F.failed front.new ≡ F.failed front.old }
-        ensures waited { F.waited front.new ≡ F.waited front.old }
-        ensures listens { F.listens front.new ≡ F.listens front.old };
+        ensures seen { F.seen front.new ≡ F.seen front.old };
 
     /// [`Berths::take_out`].
     fn take_out<R: Wait>(

@@ -1,4 +1,4 @@
-ghost use Rattle.std.specs.{Prelude.{◌≡◌, ◌≢◌, ◌≤◌, ℕ, Bool, true, false, List, [], IfOk, IfErr, OnErr, vec_len, vec_capacity}, IoError.error_kind, declared.io.ErrorKind.TheVariants.Interrupted};
+ghost use Rattle.std.specs.{Prelude.{◌≡◌, ◌≢◌, ◌≤◌, ℕ, true, false, [], IfOk, IfErr, OnErr, vec_len, vec_capacity}, IoError.error_kind, declared.io.ErrorKind.TheVariants.Interrupted};
 ghost use Rattle.dispatch.specs.Told.{unaccepted_of};
 
 use crate::limits::MAX_BATCH;
@@ -122,21 +122,12 @@ pub enum Waiting {
 
 /// Where connections and reports come from: the system's sockets, or an in-memory fake.
 pub trait Front {
-    ghost use Rattle.dispatch.specs.declared.front.{Unopened.Unopened, Route.Route};
+    ghost use Rattle.dispatch.specs.{Told.Seen, declared.front.{Unopened.Unopened, Route.Route}};
 
-    // What the last wait for reports gave.
-    ghost reported: { Self → List ℕ };
+    // What it shows of its last wait for reports, and whether it listens.
+    ghost seen: { Self → Seen };
 
-    // Whether that wait failed, and not by a signal. This and the defaults below promise nothing.
-    ghost failed: { Self → Bool } = { λ _. true };
-
-    // How many milliseconds the last wait could take at most: 0 if it had to return at once.
-    ghost waited: { Self → ℕ } = { λ _. 0 };
-
-    // Whether it still has a share of the listening socket.
-    ghost listens: { Self → Bool };
-
-    // Which addresses it may give for a client's connection.
+    // Which addresses it may give for a client's connection. This and the defaults below promise nothing.
     ghost may_tell: { Self.Client → Route → Type 0 } = { λ _ _. Unit {0} };
 
     // For which reasons it may refuse to open a client's connection.
@@ -160,36 +151,27 @@ pub trait Front {
         requires room { MAX_BATCH ≤ vec_capacity batch.old }
         ensures most { vec_len batch.new ≤ MAX_BATCH }
         ensures capacity { vec_capacity batch.new ≡ vec_capacity batch.old }
-        ensures reported { batch.new.items ≡ reported self.new }
-        ensures listens { listens self.new ≡ listens self.old }
-        ensures waited { wait ≡ Waiting.No → waited self.new ≡ 0 }
-        ensures brief { wait ≡ Waiting.Brief → waited self.new ≤ 1 }
+        ensures reported { batch.new.items ≡ (seen self.new).reported }
+        ensures listens { (seen self.new).listens ≡ (seen self.old).listens }
+        ensures waited { wait ≡ Waiting.No → (seen self.new).waited ≡ 0 }
+        ensures brief { wait ≡ Waiting.Brief → (seen self.new).waited ≤ 1 }
         ensures failed { OnErr result (batch.new.items ≡ []) }
-        ensures fault { IfErr result (λ error. error_kind error ≢ Interrupted → failed self.new ≡ true) };
+        ensures fault { IfErr result (λ error. error_kind error ≢ Interrupted → (seen self.new).failed ≡ true) };
 
     /// Whether the next client is better left to another poller for now. The default is false.
     fn leaves(&mut self) -> bool
-        ensures reported { reported self.new ≡ reported self.old }
-        ensures failed { failed self.new ≡ failed self.old }
-        ensures waited { waited self.new ≡ waited self.old }
-        ensures listens { listens self.new ≡ listens self.old }
+        ensures seen { seen self.new ≡ seen self.old }
     {
         false
     }
 
     /// Accepts the next connection that waits (accept(2)).
     fn accept(&mut self) -> io::Result<Self::Client>
-        ensures reported { reported self.new ≡ reported self.old }
-        ensures failed { failed self.new ≡ failed self.old }
-        ensures waited { waited self.new ≡ waited self.old }
-        ensures listens { listens self.new ≡ listens self.old };
+        ensures seen { seen self.new ≡ seen self.old };
 
     /// Gives up its share of the listening socket, which is closed with the last share. A second call changes nothing.
     fn stop_listening(&mut self)
-        ensures listens { listens self.new ≡ false }
-        ensures reported { reported self.new ≡ reported self.old }
-        ensures failed { failed self.new ≡ failed self.old }
-        ensures waited { waited self.new ≡ waited self.old };
+        ensures { seen self.new ≡ record (seen self.old) { listens = false } };
 
     /// Starts the connection to the target (connect(2)), and has both sockets reported for reading and writing, each
     /// under its token. It gives the addresses of the client's connection, if targets are sent them. After an error no
@@ -205,10 +187,7 @@ pub trait Front {
         ensures told { IfOk result (λ opened. may_tell client.old opened.route) }
         ensures refused { IfErr result (λ why. may_refuse client.old why) }
         ensures same { Self.Client.told client.new ≡ Self.Client.told client.old }
-        ensures reported { reported self.new ≡ reported self.old }
-        ensures failed { failed self.new ≡ failed self.old }
-        ensures waited { waited self.new ≡ waited self.old }
-        ensures listens { listens self.new ≡ listens self.old };
+        ensures seen { seen self.new ≡ seen self.old };
 
     /// Ends the wait of the thread that opens this slot, or its next wait if it does not wait now. That wait reports
     /// the waker's number, 1.

@@ -1,4 +1,4 @@
-ghost use Rattle.std.specs.Prelude.{◌≡◌, ◌≤◌, vec_len, vec_capacity};
+ghost use Rattle.std.specs.Prelude.{◌≡◌, ◌≤◌, true, vec_len, vec_capacity};
 
 use crate::outside::OutsideCell;
 use crate::wire::EndWire;
@@ -56,9 +56,7 @@ fn fill(batch: &mut Vec<u64>, reported: &mut Vec<u64>, names: &[Name])
 }
 
 impl Front for KernelFront {
-    ghost reported = { λ f. f.reported.items };
-
-    ghost listens = { λ f. f.listening };
+    ghost seen = { λ f. record { reported = f.reported.items; failed = true; waited = 0; listens = f.listening } };
 
     type Client = EndWire;
 

@@ -99,13 +99,7 @@ fn not_waited(kind: ErrorKind) -> Polling
 }
 
 impl<F: Front + Drop, S: Sink> Front for RecordedFront<F, S> {
-    ghost reported = { λ f. F.reported f.inner };
-
-    ghost failed = { λ f. F.failed f.inner };
-
-    ghost waited = { λ f. F.waited f.inner };
-
-    ghost listens = { λ f. F.listens f.inner };
+    ghost seen = { λ f. F.seen f.inner };
 
     ghost may_tell = { λ client route. F.may_tell client.inner route };
 
@@ -123,12 +117,12 @@ impl<F: Front + Drop, S: Sink> Front for RecordedFront<F, S> {
         requires room { MAX_BATCH ≤ vec_capacity batch.old }
         ensures most { vec_len batch.new ≤ MAX_BATCH }
         ensures capacity { vec_capacity batch.new ≡ vec_capacity batch.old }
-        ensures reported { batch.new.items ≡ F.reported self.new.inner }
-        ensures listens { F.listens self.new.inner ≡ F.listens self.old.inner }
-        ensures waited { wait ≡ Waiting.No → F.waited self.new.inner ≡ 0 }
-        ensures brief { wait ≡ Waiting.Brief → F.waited self.new.inner ≤ 1 }
+        ensures reported { batch.new.items ≡ (F.seen self.new.inner).reported }
+        ensures listens { (F.seen self.new.inner).listens ≡ (F.seen self.old.inner).listens }
+        ensures waited { wait ≡ Waiting.No → (F.seen self.new.inner).waited ≡ 0 }
+        ensures brief { wait ≡ Waiting.Brief → (F.seen self.new.inner).waited ≤ 1 }
         ensures failed { OnErr result (batch.new.items ≡ []) }
-        ensures fault { IfErr result (λ error. error_kind error ≢ Interrupted → F.failed self.new.inner ≡ true) }
+        ensures fault { IfErr result (λ error. error_kind error ≢ Interrupted → (F.seen self.new.inner).failed ≡ true) }
         ensures recorded { Records S.did (polled self.old.poller result batch.new.items) self.old.recorder.sink self.new.recorder.sink }
     {
         let poller = self.poller;
@@ -154,10 +148,7 @@ impl<F: Front + Drop, S: Sink> Front for RecordedFront<F, S> {
     }
 
     fn accept(&mut self) -> io::Result<RecordedWire<F::Client, S>>
-        ensures reported { F.reported self.new.inner ≡ F.reported self.old.inner }
-        ensures failed { F.failed self.new.inner ≡ F.failed self.old.inner }
-        ensures waited { F.waited self.new.inner ≡ F.waited self.old.inner }
-        ensures listens { F.listens self.new.inner ≡ F.listens self.old.inner }
+        ensures seen { F.seen self.new.inner ≡ F.seen self.old.inner }
         ensures unnamed { IfOk result (λ client. client.name ≡ None) }
         ensures recorded { Records S.did (act.Poller self.old.poller (polling.Accept (accepted result)) ∷ [])
             self.old.recorder.sink self.new.recorder.sink }
@@ -192,10 +183,7 @@ impl<F: Front + Drop, S: Sink> Front for RecordedFront<F, S> {
         ensures told { IfOk result (λ opened. F.may_tell client.old.inner opened.route) }
         ensures refused { IfErr result (λ why. F.may_refuse client.old.inner why) }
         ensures same { F.Client.told client.new.inner ≡ F.Client.told client.old.inner }
-        ensures reported { F.reported self.new.inner ≡ F.reported self.old.inner }
-        ensures failed { F.failed self.new.inner ≡ F.failed self.old.inner }
-        ensures waited { F.waited self.new.inner ≡ F.waited self.old.inner }
-        ensures listens { F.listens self.new.inner ≡ F.listens self.old.inner }
+        ensures seen { F.seen self.new.inner ≡ F.seen self.old.inner }
         ensures named { IfOk result (λ opened. (client.new.name ≡ Some client_token) × (opened.target.name ≡ Some target_token)) }
         ensures recorded { Records S.did
             (act.Poller self.old.poller (polling.Open client_token.slot client_token.generation (opened_of result)) ∷ [])

@@ -5,7 +5,7 @@ use Rattle.claims.{specs.{declared.answers.Posted.Posted, Calls.PostChange, Seat
 use Rattle.dispatch.{specs.{Posts.{HoldsOnly, IsWorn}, declared.{shared.Own.Own, front.{Unopened.Unopened, Route.Route, Waiting.{Waiting, TheVariants.{No, Brief, Long}}}}, Hands.{HandState, ticket_room}, Acts.{Act, AreMade, Register, Adopt, placing}, Told.cause_of}, proofs.Holding.{holds_still, released_all, woke_behind_post, worn_still}}
 use Rattle.ready.specs.declared.ticket.Ticket.{Ticket}
 use Rattle.token.specs.Names.{last_generation}
-use Rattle.rounds.{specs.{Acts.{SeatAct, opening, ActsMade, AreTries, all_reported, ArePosted, Delivered, swept_after, sweep_of}, Openings.{times, slots_in, AreIn, AreOpened, OnlyTook, Between, LetGo, Started, Connected, AcceptDone, OneAccepted, IsOpened, IsLost, IsSpent, AreLost, IsNext, SameQueues, Fate, next_in, Opened, NotFree, DropsFor, Placed, lacks, lead_of}, Pollers.{PollerState, Counted, counted_up, HasOpenedAll}, Rounds.{AcceptEnded, HasLeft, IsOver, RoundDone, RoundKeeps, ListenerKept, ListensNoMore, ListensToOpen, Looked, RoundRefused, MayWait, MayWaitBriefly, WaitLasted, WaitedAsMay}}, proofs.Acts.{at_slot-append, acts_none, acts_one, acts_both, none_at, try_opened, tries_none, tries_both, posted_none, posts_still, no_sweep}}
+use Rattle.rounds.{specs.{Acts.{SeatAct, opening, ActsMade, AreTries, all_reported, ArePosted, Delivered, swept_after, sweep_of}, Openings.{times, slots_in, AreIn, AreOpened, OnlyTook, Between, LetGo, Started, Connected, AcceptDone, OneAccepted, IsOpened, IsLost, IsSpent, AreLost, IsNext, SameQueues, Fate, next_in, Opened, NotFree, DropsFor, Placed, lacks, lead_of}, Pollers.{PollerState, Counted, counted_up, HasOpenedAll}, Rounds.{AcceptEnded, HasLeft, IsOver, RoundDone, RoundKeeps, ListenerKept, ListensNoMore, ListensToOpen, Looked, OnlyListens, RoundRefused, MayWait, MayWaitBriefly, WaitLasted, WaitedAsMay}}, proofs.Acts.{at_slot-append, acts_none, acts_one, acts_both, none_at, try_opened, tries_none, tries_both, posted_none, posts_still, no_sweep}}
 use Rattle.relay_log.specs.declared.{cause.Cause.{Cause}, faults.ServerFault.{ServerFault, TheVariants.Worn}}
 use Rattle.claims.specs.declared.view.Exchange.TheVariants as exchange
 use Rattle.claims.specs.declared.answers.Posted.TheVariants as posted
@@ -407,7 +407,7 @@ round_ended {p} {q} {a} {b} looked none took =
     (rw unswept (posted_none b.seat b.hand)) refl refl (λ slot out. rw unswept) refl (accept_none (still q)) refl
 
 -- why accepting ended stays the reason, since the slots are taken back only once all connections were opened
-pub ended_still : {p q : PollerState} {a b : Own} → AcceptEnded p a → q ≡ record p { listening = q.listening; over = q.over }
+pub ended_still : {p q : PollerState} {a b : Own} → AcceptEnded p a → OnlyListens (record p { over = q.over }) q
     → ((HasOpenedAll p → ⊥) → (b ≡ a) × (q ≡ p)) → AcceptEnded q b
 ended_still {p} {q} {a} {b} ended is left = by_count (cases_lt p.opened p.most) where
   by_count : (p.opened < p.most) ⊎ (p.most ≤ p.opened) → AcceptEnded q b
@@ -418,9 +418,9 @@ kept : (p q : PollerState) → ListensNoMore p q → ListenerKept p q
 kept p q listens = grind arith
 
 -- the poller waits only where it may, and for as long
-pub waits_if : (waiting : Waiting) (limit : ℕ) (p q r : PollerState) (a b : Own) → q ≡ record p { listening = q.listening }
+pub waits_if : (waiting : Waiting) (limit : ℕ) (p q r : PollerState) (a b : Own) → OnlyListens p q
     → (waiting ≡ Long → MayWait limit q b × (b ≡ a)) → (waiting ≡ Brief → MayWaitBriefly limit q b) → OnlyTook a b
-    → WaitLasted waiting r.waited → WaitedAsMay limit p r a
+    → WaitLasted waiting r.seen.waited → WaitedAsMay limit p r a
 waits_if Long limit p q r a b same may brief took lasted some = inl (rw (same, (may refl).1) at (may refl).0)
 waits_if Brief limit p q r a b same may brief took lasted some =
     let left = rw same at (brief refl) in
@@ -458,7 +458,7 @@ pub over_before : {a b : Bool} {X : Type 0} → b ≡ a → (b ≡ true) ⊎ X �
 over_before same over = rw same at over
 
 -- the front listens as before, since it ends only once all connections were opened
-pub listens_still : (p : PollerState) {q r : PollerState} {a b : Own} → ListensNoMore p q → r ≡ record q { listening = r.listening; over = r.over }
+pub listens_still : (p : PollerState) {q r : PollerState} {a b : Own} → ListensNoMore p q → OnlyListens (record q { over = r.over }) r
     → ((HasOpenedAll q → ⊥) → (b ≡ a) × (r ≡ q)) → ListensToOpen r → ListenerKept p r
 listens_still p {q} {r} same is left closed = by_count (cases_lt q.opened q.most) where
   by_count : (q.opened < q.most) ⊎ (q.most ≤ q.opened) → ListenerKept p r

@@ -101,6 +101,11 @@ abbrev pub IsOpened : PollerState → PollerState → Type 0
 IsOpened old new =
     (new.opened ≡ counted_up old.opened 1) × (new.lost ≡ old.lost) × (new.episodes ≡ opened_after old.episodes)
 
+-- a drop was logged, or counted for a later line
+abbrev pub DropLogged : Cause → PollerState → PollerState → Type 0
+DropLogged cause old new =
+    new ≡ record old { episodes = record old.episodes { drops = dropped_for cause old.second old.episodes.drops } }
+
 abbrev pub IsDropped : PollerState → PollerState → Type 0
 IsDropped old new =
     (new.opened ≡ old.opened) × (new.lost ≡ old.lost)

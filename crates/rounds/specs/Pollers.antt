@@ -1,18 +1,12 @@
 -- What the poller keeps between its rounds, and the numbers of a round that clauses name. Part of the promises.
 use Rattle.std.specs.Prelude.{◌≡◌, ◌⊎◌, ℕ, ◌+◌, ◌≤◌, min, Bool, List, All, slice_index}
 use Rattle.rounds.specs.declared.{episodes.Episodes.Episodes, opening.Opening.Opening}
-use Rattle.dispatch.specs.{declared.split.Part.Part, Splits.IsIn}
+use Rattle.dispatch.specs.{declared.split.Part.Part, Splits.IsIn, Told.Seen}
 use Rattle.token.specs.Names.{last_generation}
 
 pub record PollerState : Type 0 where
-  -- what the front reported at the last wait
-  pub reported : List ℕ
-  -- whether that wait failed
-  pub failed : Bool
-  -- how many milliseconds that wait could take, 0 if the front does not say so
-  pub waited : ℕ
-  -- whether the front listens
-  pub listening : Bool
+  -- what the front shows
+  pub seen : Seen
   -- each slot's generation
   pub table : List ℕ
   -- the reports that this round delivers

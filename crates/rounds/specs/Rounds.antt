@@ -43,24 +43,23 @@ pub record NoSlot (own : Own) : Type 0 where
 
 -- a look for reports changes at most this of what the poller keeps
 abbrev pub Looked : PollerState → PollerState → Type 0
-Looked old new = new ≡ record old {
-  listening = new.listening;
-  reported = new.reported;
-  failed = new.failed;
-  waited = new.waited;
-  batch = new.batch;
-}
+Looked old new = new ≡ record old { seen = new.seen; batch = new.batch }
+
+-- of what the poller keeps it may have changed whether the front listens, and no more
+abbrev pub OnlyListens : PollerState → PollerState → Type 0
+OnlyListens old new = new ≡ record old { seen = record old.seen { listens = new.seen.listens } }
 
 -- the front listens as before, or no longer if the poller had opened all that it may
 abbrev pub ListensNoMore : PollerState → PollerState → Type 0
-ListensNoMore old new = (new.listening ≡ old.listening) ⊎ (HasOpenedAll old × (new.listening ≡ false))
+ListensNoMore old new = (new.seen.listens ≡ old.seen.listens) ⊎ (HasOpenedAll old × (new.seen.listens ≡ false))
 
 -- the front listens as before, or no longer if the poller has opened all that it may, before or now
 abbrev pub ListenerKept : PollerState → PollerState → Type 0
-ListenerKept old new = (new.listening ≡ old.listening) ⊎ ((HasOpenedAll old ⊎ HasOpenedAll new) × (new.listening ≡ false))
+ListenerKept old new =
+    (new.seen.listens ≡ old.seen.listens) ⊎ ((HasOpenedAll old ⊎ HasOpenedAll new) × (new.seen.listens ≡ false))
 
 abbrev pub ListensToOpen : PollerState → Type 0
-ListensToOpen p = HasOpenedAll p → p.listening ≡ false
+ListensToOpen p = HasOpenedAll p → p.seen.listens ≡ false
 
 -- why no connection can be accepted now: the flag is down, or no slot is free, or the poller has opened all that it may
 abbrev pub NoneToAccept : PollerState → Own → Type 0
@@ -84,7 +83,8 @@ MayWaitBriefly limit p own = (is_due limit p ≡ false) × (own.hand.tickets ≡
 
 -- a round waited for reports only if it might, and no longer than it might
 abbrev pub WaitedAsMay : ℕ → PollerState → PollerState → Own → Type 0
-WaitedAsMay limit old new had = new.waited ≢ 0 → MayWait limit old had ⊎ ((new.waited ≤ 1) × MayWaitBriefly limit old had)
+WaitedAsMay limit old new had =
+    new.seen.waited ≢ 0 → MayWait limit old had ⊎ ((new.seen.waited ≤ 1) × MayWaitBriefly limit old had)
 
 -- why accepting ends: it may, or a client was left to other pollers, or accept(2) was tried 4 times, or the seat is worn
 abbrev pub AcceptEnded : PollerState → Own → Type 0
@@ -155,7 +155,7 @@ pub record SweepMade (limit : ℕ) (old new : PollerState) (had has : Own) : Typ
 pub record RoundEnded (result : Result (Unit {0}) ServerFault) (tells : ℕ → Type 0) (limit : ℕ) (old new : PollerState)
     (has : Own) : Type 0 where
   pub answer : (result ≡ Err server_fault.Worn) ↔ IsWorn has.seat
-  pub read : new.batch ≡ new.reported
+  pub read : new.batch ≡ new.seen.reported
   pub second : tells new.second
   pub swept : new.swept ≡ swept_after limit old.second old.swept
   pub accepted : AcceptEnded new has
@@ -177,9 +177,9 @@ pub record RoundKeeps (limit : ℕ) (old new : PollerState) (had has : Own) : Ty
 -- A wait for reports failed, and not by a signal: nothing was reported. The round did nothing more than to take free
 -- slots in hand, and to listen no longer
 pub record PollFailed (old new : PollerState) (had has : Own) : Type 0 where
-  pub failed : new.failed ≡ true
+  pub failed : new.seen.failed ≡ true
   pub none : new.batch ≡ []
-  pub read : new.batch ≡ new.reported
+  pub read : new.batch ≡ new.seen.reported
   pub poller : Looked old new
   pub took : OnlyTook had has
 

@@ -2,7 +2,7 @@
 ghost use Rattle.std.specs.{Prelude.{◌≡◌, ◌+◌, ◌<◌, ◌≤◌, [], ◌∷◌, ◌++◌, drop, length, Err, Some, None, ◌⊎◌, IfOk, IfErr, OnOk, OnErr, OnSome, IfSome, IsNone, slice_get, slice_index}, Net.{Addr.ipv4_octets, Socket.{v4_ip, v4_port}}};
 ghost use Rattle.claims.specs.Seats.{HoldsNothing, OnlyAt};
 ghost use Rattle.relay_core.specs.{Pairs.fresh, Proxy.proxy_line};
-ghost use Rattle.rounds.specs.{Episodes.dropped_for, Openings.{lacks, lead_of, next_in, Between, DropCounted, DropsFor, Fate, IsNext, LeadGiven, LetGo, OneAccepted, OnlyOpened, OpeningLogged, Placed, Registered, SameQueues, Started}, Pollers.AreGenerations};
+ghost use Rattle.rounds.specs.{Openings.{lacks, lead_of, next_in, Between, DropCounted, DropLogged, DropsFor, Fate, IsNext, LeadGiven, LetGo, OneAccepted, OnlyOpened, OpeningLogged, Placed, Registered, SameQueues, Started}, Pollers.AreGenerations};
 ghost use Rattle.dispatch.specs.{Acts.{AreMade, placing}, Posts.{HoldsOnly, IsWorn}, Hands.ticket_room};
 ghost use Rattle.token.specs.Names.{last_generation};
 ghost use Rattle.dispatch.specs.Acts as act;
@@ -121,11 +121,7 @@ fn prepare<F: Front, A: Moves<F>, N: Log>(
     ensures cause { IfErr result (λ dropped. DropsFor (F.may_refuse client) (F.may_tell client) poller.old.opening.proxy dropped) }
     ensures failed { OnErr result (hand.new ≡ record hand.old { slots = hand.old.slots ++ names.client.slot ∷ [] }) }
     ensures same { OnOk result (poller.new ≡ poller.old) }
-    ensures logged { IfErr result (λ dropped. poller.new
-        ≡ record poller.old {
-          episodes =
-              record poller.old.episodes { drops = dropped_for dropped poller.old.second poller.old.episodes.drops };
-        }) }
+    ensures logged { IfErr result (λ dropped. DropLogged dropped poller.old poller.new) }
 {
     let slot = names.client.slot();
     match connect(rt, alloc, acts, clients, poller, client, names) {
@@ -332,12 +328,7 @@ fn place<F: Front + Counting, A: Moves<F>, R: Wait + Logs>(
     ensures between { Between shared.now.claims own.new poller.new }
     ensures placed { Placed (OpeningLogged (R.logged rt.now) F.counted)
         (λ made. AreMade A.made ticket.slot made acts.old acts.new) ticket poller.old poller.new own.old own.new }
-    ensures poller { poller.new ≡ record poller.old {
-      table = poller.new.table;
-      opened = poller.new.opened;
-      lost = poller.new.lost;
-      episodes = poller.new.episodes;
-    } }
+    ensures poller { OnlyOpened poller.old poller.new }
     ensures ready { own.new.ready ≡ own.old.ready }
 {
     if let Some(from) = F::peer(&berth.client) {

@@ -2,7 +2,7 @@
 ghost use Rattle.std.specs.Prelude.{◌≡◌, ◌||◌, if◌then◌else◌, ◌-◌, ◌<◌, ◌≤◌, ◌↔◌, [], length, IfOk, OnOk, OnErr, IsTrue, replicate, slice_set, true, false};
 ghost use Rattle.token.specs.Names.{last_generation};
 ghost use Rattle.dispatch.specs.Splits.{IsIn};
-ghost use Rattle.rounds.specs.{Episodes.{all_logged_at, dropped_for, no_episodes, opened_after, AreLogged}, Pollers.{AreGenerations, IsOwnTable, HasOpenedAll, counted_up, max_accepts}};
+ghost use Rattle.rounds.specs.{Episodes.{all_logged_at, no_episodes, opened_after, AreLogged}, Openings.DropLogged, Pollers.{AreGenerations, IsOwnTable, HasOpenedAll, counted_up, max_accepts}};
 ghost use Rattle.dispatch.specs.Acts as act;
 
 use crate::dropping::Dropped;
@@ -51,10 +51,7 @@ impl<F: Front> Model for Poller<F> {
     ghost Value = { PollerState };
 
     ghost view = { λ p. record {
-      reported = F.reported p.front;
-      failed = F.failed p.front;
-      waited = F.waited p.front;
-      listening = F.listens p.front;
+      seen = F.seen p.front;
       table = p.table.items;
       batch = p.batch.items;
       accepting = p.accepting;
@@ -94,10 +91,7 @@ impl<F: Front> Poller<F> {
         F: Drop,
         requires ring { (1 ≤ opening.ring) × (opening.ring ≤ 65536) }
         ensures { IfOk result (λ poller. poller ≡ record {
-          reported = F.reported front;
-          failed = F.failed front;
-          waited = F.waited front;
-          listening = F.listens front;
+          seen = F.seen front;
           table = replicate table 0;
           batch = [];
           accepting = true;
@@ -274,10 +268,7 @@ impl<F: Front> Poller<F> {
     /// Makes a drop at the round's second ([`Dropped::log`]).
     pub(crate) fn log_dropped<N: Logs>(&mut self, rt: &N, cause: Cause) -> Dropped
         ensures cause { result ≡ cause }
-        ensures drops { self.new ≡ record self.old {
-          episodes = record self.old.episodes
-              { drops = dropped_for cause self.old.second self.old.episodes.drops };
-        } }
+        ensures drops { DropLogged cause self.old self.new }
     {
         Dropped::log(rt, &mut self.episodes.drops, cause, self.second)
     }

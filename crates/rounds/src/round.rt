@@ -1,7 +1,7 @@
 //! A round of the poller.
 ghost use Rattle.std.specs.{Prelude.{◌≡◌, ◌⊎◌, ◌+◌, ◌-◌, ◌<◌, ◌≤◌, ◌↔◌, [], length, Err, IsNone, IsOk, IfErr, IsTrue, MatchResult, Contains, true, false}, IoError.error_kind, declared.io.ErrorKind.TheVariants.Interrupted};
 ghost use Rattle.ready.specs.Steps.{HeldOnce};
-ghost use Rattle.rounds.specs.{Acts.{Delivered, all_reported}, Episodes.{episodes_after, flag_after, starved_after}, Openings.{AreIn, Between, OnlyTook, AcceptDone, OneAccepted, OnlyAccepted}, Pollers.{HasOpenedAll, max_accepts, spare_room}, Rounds.{AcceptEnded, EndedEarly, HasLeft, IsFull, IsOver, ListensNoMore, ListensToOpen, Looked, LooksForAll, MayAccept, MayNotWait, MayWait, MayWaitBriefly, NoSlot, NoneToAccept, NotBegun, RoundDone, RoundEnded, RoundKeeps, RoundRefused, TookAll, WaitLasted, WaitedAsMay, WaitsAsMay}};
+ghost use Rattle.rounds.specs.{Acts.{Delivered, all_reported}, Episodes.{episodes_after, flag_after, starved_after}, Openings.{AreIn, Between, OnlyTook, AcceptDone, OneAccepted, OnlyAccepted}, Pollers.{HasOpenedAll, max_accepts, spare_room}, Rounds.{AcceptEnded, EndedEarly, HasLeft, IsFull, IsOver, ListensNoMore, ListensToOpen, Looked, LooksForAll, MayAccept, MayNotWait, MayWait, MayWaitBriefly, NoSlot, NoneToAccept, NotBegun, OnlyListens, RoundDone, RoundEnded, RoundKeeps, RoundRefused, TookAll, WaitLasted, WaitedAsMay, WaitsAsMay}};
 ghost use Rattle.dispatch.specs.{Hands.ticket_room, Posts.IsWorn, Told.unaccepted_of};
 
 use crate::delivering::deliver;
@@ -101,8 +101,8 @@ fn look<F: Front, R: Wait + Log>(rt: &R, own: &mut Own, poller: &mut Poller<F>, 
     ensures poller { Looked poller.old poller.new }
     ensures waits { WaitedAsMay limit poller.old poller.new own.old }
     ensures listens { ListensNoMore poller.old poller.new }
-    ensures batch { poller.new.batch ≡ poller.new.reported }
-    ensures failed { result ≡ false → (poller.new.failed ≡ true) × (poller.new.batch ≡ []) }
+    ensures batch { poller.new.batch ≡ poller.new.seen.reported }
+    ensures failed { result ≡ false → (poller.new.seen.failed ≡ true) × (poller.new.batch ≡ []) }
     ensures few { length poller.new.batch ≤ MAX_BATCH }
 {
     listen_to_open(poller);
@@ -112,7 +112,7 @@ fn look<F: Front, R: Wait + Log>(rt: &R, own: &mut Own, poller: &mut Poller<F>, 
 
 /// Has the front stop listening if the poller has opened all that it may.
 fn listen_to_open<F: Front>(poller: &mut Poller<F>)
-    ensures poller { poller.new ≡ record poller.old { listening = poller.new.listening } }
+    ensures poller { OnlyListens poller.old poller.new }
     ensures listens { ListensNoMore poller.old poller.new }
     ensures closed { ListensToOpen poller.new }
 {
@@ -149,15 +149,11 @@ fn poll<F: Front, R: Log>(
 ) -> bool
     requires wait { WaitsAsMay wait _limit poller.old _own.now }
     requires closed { ListensToOpen poller.old }
-    ensures same { poller.new ≡ record poller.old {
-      reported = poller.new.reported;
-      failed = poller.new.failed;
-      waited = poller.new.waited;
-      batch = poller.new.batch;
-    } }
-    ensures waited { WaitLasted wait poller.new.waited }
-    ensures batch { poller.new.batch ≡ poller.new.reported }
-    ensures failed { result ≡ false → (poller.new.failed ≡ true) × (poller.new.batch ≡ []) }
+    ensures same { Looked poller.old poller.new }
+    ensures listens { poller.new.seen.listens ≡ poller.old.seen.listens }
+    ensures waited { WaitLasted wait poller.new.seen.waited }
+    ensures batch { poller.new.batch ≡ poller.new.seen.reported }
+    ensures failed { result ≡ false → (poller.new.seen.failed ≡ true) × (poller.new.batch ≡ []) }
     ensures few { length poller.new.batch ≤ MAX_BATCH }
 {
     let answer = poller.front.poll(&mut poller.batch, wait);
@@ -392,7 +388,7 @@ fn log_failure<R: Log>(rt: &R, call: &str, error: &io::Error) {
 /// is over. A slot that is no longer used counts as free.
 fn take_back<F: Front, R: Wait>(rt: &R, own: &mut Own, poller: &mut Poller<F>)
     ensures took { OnlyTook own.old own.new }
-    ensures poller { poller.new ≡ record poller.old { listening = poller.new.listening; over = poller.new.over } }
+    ensures poller { OnlyListens (record poller.old { over = poller.new.over }) poller.new }
     ensures closed { ListensToOpen poller.new }
     ensures unlimited { (HasOpenedAll poller.old → ⊥) → (own.new ≡ own.old) × (poller.new ≡ poller.old) }
     ensures over { poller.new.over ≡ true → (poller.old.over ≡ true) ⊎ IsOver poller.new own.new }

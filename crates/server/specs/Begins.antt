@@ -2,7 +2,7 @@
 use Rattle.std.specs.Prelude.{◌≡◌, ℕ, ◌+◌, Bool, true, false, List, [], ◌∷◌, All, map, replicate}
 use Rattle.claims.specs.Seats.{TableId, fresh_seat}
 use Rattle.ready.specs.Steps.{EndState, opened, unused}
-use Rattle.dispatch.specs.{declared.{shared.Parts.Parts, split.Split.Split}, Splits.{each_part, parts_of}}
+use Rattle.dispatch.specs.{declared.{shared.Parts.Parts, split.Split.Split}, Splits.{each_part, parts_of}, Told.Seen}
 use Rattle.rounds.specs.{declared.opening.Opening.Opening, Episodes.no_episodes, Pollers.PollerState}
 use Rattle.server.specs.Limits.{shares_of}
 use Rattle.settings.specs.declared.fields.Settings.{Settings}
@@ -21,14 +21,12 @@ pub record HasBegun (slots : ℕ) (opens : Opening) (p : PollerState) : Type 0 w
   pub episodes : p.episodes ≡ no_episodes
 
 -- The pollers, as the settings say: one for each part of the slots, in order, which has opened nothing yet and has its
--- share of what may be opened; and in this order what each front reported and whether it failed
-pub record PollersBegin (settings : Settings) (split : Split) (reports : List (List ℕ)) (failures : List Bool)
-    (pollers : List PollerState) : Type 0 where
+-- share of what may be opened; and in this order what each front shows
+pub record PollersBegin (settings : Settings) (split : Split) (shown : List Seen) (pollers : List PollerState) : Type 0 where
   pub parts : map (λ poller. poller.part) pollers ≡ each_part split.slots split.size (λ part. part)
   pub begun : All (λ poller. HasBegun settings.slots (record { ring = settings.ring; proxy = settings.proxy }) poller) pollers
   pub shares : map (λ poller. poller.most) pollers ≡ shares_of settings.stop_after (parts_of split.slots split.size)
-  pub reported : map (λ poller. poller.reported) pollers ≡ reports
-  pub failed : map (λ poller. poller.failed) pollers ≡ failures
+  pub seen : map (λ poller. poller.seen) pollers ≡ shown
 
 -- What threads are made from: for each poller and each worker a seat and an end of the queue of tickets, and for each
 -- part a queue that holds its slots in order, with an end for its poller and one for each worker. All are as new

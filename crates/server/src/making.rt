@@ -45,8 +45,7 @@ where
     ensures waker { IfOk result (λ made. made.shared.waker ≡ waker) }
     ensures threads { IfOk result (λ made. ThreadsBegin settings.now split made.shared.claims made.parts
         (map (λ ends. ends.items) made.free.items)) }
-    ensures pollers { IfOk result (λ made. PollersBegin settings.now split (map F.reported fronts.items)
-        (map F.failed fronts.items) made.pollers.items) }
+    ensures pollers { IfOk result (λ made. PollersBegin settings.now split (map F.seen fronts.items) made.pollers.items) }
     ensures workers { IfOk result (λ made. made.workers ≡ settings.now.workers) }
     ensures split { IfOk result (λ made. made.split ≡ split) }
     ensures refused { IfErr result (λ fault. fault ≡ ServerFault.NoMemory) }
@@ -97,8 +96,7 @@ fn pollers_of<F: Front + Drop>(
     mut fronts: Vec<F>,
 ) -> Result<Vec<Poller<F>>, AllocError>
     requires { length fronts.items ≡ parts_of split.slots split.size }
-    ensures { IfOk result (λ all. PollersBegin settings.now split (map F.reported fronts.items)
-        (map F.failed fronts.items) all.items) }
+    ensures { IfOk result (λ all. PollersBegin settings.now split (map F.seen fronts.items) all.items) }
 {
     let count = split.pollers();
     let mut pollers = Vec::with_capacity(alloc, count)?;
@@ -125,7 +123,7 @@ fn poller_of<F: Front + Drop>(
         (record { ring = settings.now.ring; proxy = settings.now.proxy }) poller) }
     ensures part { IfOk result (λ poller. poller.part ≡ part_of split.slots split.size number) }
     ensures most { IfOk result (λ poller. poller.most ≡ share_of settings.now.stop_after (parts_of split.slots split.size) number) }
-    ensures front { IfOk result (λ poller. (poller.reported ≡ F.reported front) × (poller.failed ≡ F.failed front)) }
+    ensures front { IfOk result (λ poller. poller.seen ≡ F.seen front) }
 {
     let most = share_of(settings.stop_after, split.pollers(), number);
     let part = split.part(number);

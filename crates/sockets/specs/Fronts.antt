@@ -3,7 +3,7 @@ use Rattle.std.specs.{Prelude.{◌≡◌, ◌≢◌, ℕ, ◌*◌, max, min, Boo
 use Rattle.token.specs.{Names.EndName, Numbers.name_of, declared.name.Name.{Name, TheVariants.{Listener, Waker, End}}}
 use Rattle.readiness.specs.Words.{WordName, word_of}
 use Rattle.settings.specs.Addresses.{SocketAddress}
-use Rattle.dispatch.specs.declared.front.{Waiting.Waiting, Route.Route}
+use Rattle.dispatch.specs.{Told.Seen, declared.front.{Waiting.Waiting, Route.Route}}
 use Rattle.sockets.specs.{declared.forwarding.Forwarding.Forwarding, Wires.{Made, NamedHere}}
 use Rattle.mio.specs.{declared.event.event.Event.Event, Event.{event_token, is_readable, is_error, is_read_closed, is_write_closed}}
 use Rattle.dispatch.specs.declared.front.Waiting.TheVariants as waiting
@@ -38,16 +38,12 @@ abbrev pub Fails : Result (Unit {0}) Error → Type 0
 Fails (Ok done) = ⊥
 Fails (Err error) = error_kind error ≢ Interrupted
 
--- A front: how its connections are forwarded, the most milliseconds that it waits for reports, the numbers that its
--- last poll gave, whether that failed, how many milliseconds it could take, whether the front has a share of the
--- listening socket, and how many times in a row it has left a client to other pollers
+-- A front: how its connections are forwarded, the most milliseconds that it waits for reports, what it shows, and how
+-- many times in a row it has left a client to other pollers
 pub record Watched : Type 0 where
   pub forwarding : Forwarding
   pub wait : ℕ
-  pub reported : List ℕ
-  pub failed : Bool
-  pub waited : ℕ
-  pub listening : Bool
+  pub seen : Seen
   pub left : ℕ
 
 -- the longest wait for reports of each of this many pollers, in milliseconds: together they wake at most 10 times a
@@ -60,10 +56,7 @@ abbrev pub fresh_front : Forwarding → ℕ → Watched
 fresh_front forwarding pollers = record {
   forwarding = forwarding;
   wait = wait_of pollers;
-  reported = [];
-  failed = false;
-  waited = 0;
-  listening = true;
+  seen = record { reported = []; failed = false; waited = 0; listens = true };
   left = 0;
 }
 
@@ -74,9 +67,9 @@ most_left = 16
 -- What a wait for reports says of this front, beside what it says of any. After a brief wait without a report the front
 -- leaves no client
 pub record WaitEnded (wait : Waiting) (answer : Result (Unit {0}) Error) (old new : Watched) : Type 0 where
-  pub fails : IsTrue new.failed ↔ Fails answer
-  pub asked : wait ≡ waiting.Long → new.waited ≡ old.wait
-  pub quiet : OnOk answer (wait ≡ waiting.Brief → new.reported ≡ [] → new.left ≡ most_left)
+  pub fails : IsTrue new.seen.failed ↔ Fails answer
+  pub asked : wait ≡ waiting.Long → new.seen.waited ≡ old.wait
+  pub quiet : OnOk answer (wait ≡ waiting.Brief → new.seen.reported ≡ [] → new.left ≡ most_left)
   pub kept : wait ≢ waiting.Brief → new.left ≡ old.left
 
 -- a socket that listens: the address that the system was asked for, and the one that it gave

@@ -69,10 +69,7 @@ impl<'r, R> Model for Sockets<'r, R> {
     ghost view = { λ s. record {
       forwarding = s.forwarding;
       wait = s.wait;
-      reported = numbers (items s.events);
-      failed = s.failed;
-      waited = s.waited;
-      listening = is_some s.listener;
+      seen = record { reported = numbers (items s.events); failed = s.failed; waited = s.waited; listens = is_some s.listener };
       left = s.left;
     } };
 
@@ -365,13 +362,7 @@ fn names_reading(event: &Event) -> bool
 }
 
 impl<R: Dial> Front for Sockets<'_, R> {
-    ghost reported = { λ s. s.reported };
-
-    ghost failed = { λ s. s.failed };
-
-    ghost waited = { λ s. s.waited };
-
-    ghost listens = { λ s. s.listening };
+    ghost seen = { λ s. s.seen };
 
     ghost may_tell = { λ client route. MayTell client.socket.peer route };
 
@@ -388,17 +379,13 @@ impl<R: Dial> Front for Sockets<'_, R> {
         ensures most { vec_len batch.new ≤ MAX_BATCH }
         ensures capacity { vec_capacity batch.new ≡ vec_capacity batch.old }
         ensures failed { OnErr result (batch.new.items ≡ []) }
-        ensures reported { batch.new.items ≡ self.new.reported }
-        ensures fault { IfErr result (λ error. error_kind error ≢ Interrupted → self.new.failed ≡ true) }
-        ensures waited { wait ≡ Waiting.No → self.new.waited ≡ 0 }
-        ensures brief { wait ≡ Waiting.Brief → self.new.waited ≤ 1 }
+        ensures reported { batch.new.items ≡ self.new.seen.reported }
+        ensures listens { self.new.seen.listens ≡ self.old.seen.listens }
+        ensures fault { IfErr result (λ error. error_kind error ≢ Interrupted → self.new.seen.failed ≡ true) }
+        ensures waited { wait ≡ Waiting.No → self.new.seen.waited ≡ 0 }
+        ensures brief { wait ≡ Waiting.Brief → self.new.seen.waited ≤ 1 }
         ensures here { WaitEnded wait result self.old self.new }
-        ensures same { self.new ≡ record self.old {
-          reported = self.new.reported;
-          failed = self.new.failed;
-          waited = self.new.waited;
-          left = self.new.left;
-        } }
+        ensures same { self.new ≡ record self.old { seen = self.new.seen; left = self.new.left } }
     {
         batch.clear();
         self.busy = let_others_run(self.busy);
@@ -448,7 +435,7 @@ impl<R: Dial> Front for Sockets<'_, R> {
     }
 
     fn stop_listening(&mut self)
-        ensures { self.new ≡ record self.old { listening = false } }
+        ensures { self.new ≡ record self.old { seen = record self.old.seen { listens = false } } }
     {
         if let Some(listener) = self.listener.take() {
             // The socket stays open if other fronts listen.

@@ -226,7 +226,7 @@ pub record NotBegun (why : Why) (p q : PollerState) (a b : Own) : Type 0 where
 -- in the last round the wait for reports failed
 pub record PollFailed (said : Bool → Type 0) (why : Why) (p q : PollerState) (a b : Own) : Type 0 where
   pub reason : why ≡ Met Poll
-  pub failed : q.failed ≡ true
+  pub failed : q.seen.failed ≡ true
   pub made : RoundMade said p q a b
 
 -- after the last round the seat is worn

@@ -14,8 +14,7 @@ loop-number-preserved g c =
       parts = mapped_more _ _ _ _ c.loop-number.number pushed.items next.part was.parts;
       begun = begun_one _ _ _ _ pushed.items next.begun was.begun;
       shares = mapped_more _ _ _ _ c.loop-number.number pushed.items next.most was.shares;
-      reported = one_taken _ _ _ _ _ _ _ pushed.items popped.items next.front.0 was.reported;
-      failed = one_taken _ _ _ _ _ _ _ pushed.items popped.items next.front.1 was.failed;
+      seen = one_taken _ _ _ _ _ _ _ pushed.items popped.items next.front was.reported;
       len = pushed.len ∙ ap (λ (n : ℕ). n + 1) was.len;
       room = omega (arith, pushed.capacity, was.room);
     }
@@ -29,8 +28,7 @@ returns g c =
       parts = rw (all, c.pollers-count.ensures.parts) at was.parts;
       begun = was.begun;
       shares = rw (all, c.pollers-count.ensures.parts) at was.shares;
-      reported = all_taken _ _ _ c.loop-number.fronts.items _ none was.reported;
-      failed = all_taken _ _ _ c.loop-number.fronts.items _ none was.failed;
+      seen = all_taken _ _ _ c.loop-number.fronts.items _ none was.reported;
     }
 
 pub loop-number-init : goal.loop-number-init
@@ -43,8 +41,7 @@ loop-number-init g c =
       begun = rw made.items (All-nil (λ poller. HasBegun c.args.settings.now.slots
           (record { ring = c.args.settings.now.ring; proxy = c.args.settings.now.proxy }) poller));
       shares = rw made.items;
-      reported = rw (made.items, turned, reverse-reverse);
-      failed = rw (made.items, turned, reverse-reverse);
+      seen = rw (made.items, turned, reverse-reverse);
       len = made.len;
       room = made.capacity;
     }

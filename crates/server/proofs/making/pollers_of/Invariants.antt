@@ -10,8 +10,7 @@ invariant-loop-number g l = record {
   begun : All (λ poller. HasBegun l.settings.slots (record { ring = l.settings.ring; proxy = l.settings.proxy }) poller) l.pollers.items;
   shares : map (λ poller. poller.most) l.pollers.items ≡ map (λ (number : ℕ). share_of l.settings.stop_after (parts_of l.split.slots l.split.size) number)
       (range_with_len 0 l.number);
-  reported : map (λ poller. poller.reported) l.pollers.items ++ map g.F.Front.reported (reverse l.fronts.items) ≡ map g.F.Front.reported l.fn.fronts.items;
-  failed : map (λ poller. poller.failed) l.pollers.items ++ map g.F.Front.failed (reverse l.fronts.items) ≡ map g.F.Front.failed l.fn.fronts.items;
+  seen : map (λ poller. poller.seen) l.pollers.items ++ map g.F.Front.seen (reverse l.fronts.items) ≡ map g.F.Front.seen l.fn.fronts.items;
   len : vec_len l.pollers ≡ l.number;
   room : l.count ≤ vec_capacity l.pollers;
 }
