@@ -1,14 +1,10 @@
-ghost use Rattle.std.specs.Prelude.{◌≡◌, IfOk};
-
 use crate::front::{Front, Opened, Settle, Unopened};
+use crate::places::{Berth, Occupied, Places};
 use crate::shared::Shared;
-use berths::{Berth, Berths, Occupied};
 use claims::{Adopted, ClaimSeat, Claimed, Claims, Posted, Released};
 use log::Log;
 use ready::{FreeQueue, Full, ReadyQueue, Ticket};
 use relay_core::Pair;
-use std::alloc::{AllocError, Global};
-use std::marker::Model;
 use std::sync::Wait;
 use token::Token;
 
@@ -116,40 +112,12 @@ pub trait Acts {
         ensures capacity { free.new.capacity ≡ free.old.capacity };
 }
 
-/// The place of each slot's connection, which only [`Moves`] reaches. In a clause it is the number of slots.
-#[derive(Drop)]
-pub struct Places<C, T> {
-    berths: Berths<C, T>,
-}
-
-impl<C, T> Model for Places<C, T> {
-    ghost use Rattle.std.specs.Prelude.{ℕ};
-
-    ghost Value = { ℕ };
-
-    ghost view = { λ p. p.berths };
-}
-
-impl<C, T> Places<C, T> {
-    /// [`Berths::new`].
-    pub fn new(alloc: Global, slots: usize) -> Result<Places<C, T>, AllocError>
-    where
-        C: Drop,
-        T: Drop,
-        ensures { IfOk result (λ places. places ≡ slots) }
-    {
-        Ok(Places {
-            berths: Berths::new(alloc, slots)?,
-        })
-    }
-}
-
 /// The acts of a thread with a slot's connection.
 pub trait Moves<F: Front>: Acts {
     ghost use Rattle.std.specs.Prelude.{◌≡◌, ◌<◌, ℕ, IfSome, IfOk, IfErr, OnOk, OnErr};
     ghost use Rattle.claims.specs.Seats.{Holds};
     ghost use Rattle.relay_core.specs.Pairs.{PairState};
-    ghost use Rattle.berths.specs.declared.berths.Berth.{Berth};
+    ghost use Rattle.dispatch.specs.declared.places.Berth.{Berth};
     ghost use Rattle.dispatch.specs.Acts as act;
 
     // The last act took this connection out of its place, put it in, or closed it.
@@ -173,7 +141,7 @@ pub trait Moves<F: Front>: Acts {
         ensures refused { IfErr result (λ why. F.may_refuse client.old why) }
         ensures seen { F.seen front.new ≡ F.seen front.old };
 
-    /// [`Berths::take_out`].
+    /// [`Places::take_out`].
     fn take_out<R: Wait>(
         &mut self,
         rt: &R,
@@ -186,7 +154,7 @@ pub trait Moves<F: Front>: Acts {
         ensures made { Self.made act.TakeOut slot self.old self.new }
         ensures moved { IfSome result (λ berth. moved berth.value self.new) };
 
-    /// [`Berths::put_in`].
+    /// [`Places::put_in`].
     fn put_in<R: Wait>(
         &mut self,
         rt: &R,
@@ -301,7 +269,7 @@ impl<F: Front> Moves<F> for () {
         seat: &ClaimSeat,
         slot: usize,
     ) -> Option<Box<Berth<F::Client, F::Target>>> {
-        places.berths.take_out(rt, seat, slot)
+        places.take_out(rt, seat, slot)
     }
 
     fn put_in<R: Wait>(
@@ -316,7 +284,7 @@ impl<F: Front> Moves<F> for () {
         requires holder { Holds seat.now slot }
         ensures { Unit {0} }
     {
-        places.berths.put_in(rt, seat, slot, berth)
+        places.put_in(rt, seat, slot, berth)
     }
 
     fn settle(&mut self, _slot: usize, berth: &mut Berth<F::Client, F::Target>) {

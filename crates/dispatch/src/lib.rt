@@ -10,10 +10,13 @@
 //! - Each poller has a [`Part`] of the slots, which [`Split`] deals out, and [`HeavyMarks`], which say what tickets its
 //!   thread leaves to the workers.
 //! - [`Acts`] and [`Moves`] are the acts of a thread at a slot. The clauses of a turn and of an opening name the acts
-//!   that they make, in order. Only [`Moves`] reaches the [`Places`] of the connections.
+//!   that they make, in order. Only [`Moves`] reaches the [`Places`], where connections ([`Berth`]) wait between turns.
 //! - [`Gate`] is called around each turn, and [`Clock`] shows the second, for the idle limit ([`Timing`]).
 //!
 //! # Inside
+//!
+//! A berth goes only into an empty place. It is given back only if another berth is there, which stays (`fill`: `put`,
+//! `occupied`, `unchanged`).
 //!
 //! The statistics count a turn and an end by the pair's own counts and verdict (`moved_by`, `ended_by`). Each call that
 //! counts says in its clause what it counts, and at which slot, over any [`Counting`].
@@ -25,15 +28,17 @@ mod hand;
 mod heavy;
 mod lent;
 mod limits;
+mod places;
 mod shared;
 mod split;
 
-pub use acts::{Acts, Moves, Places};
+pub use acts::{Acts, Moves};
 pub use front::{Front, Opened, Route, Settle, Unaccepted, Unopened, Waiting, unaccepted_of};
 pub use hand::{Hand, give_slots, put_tickets};
 pub use heavy::HeavyMarks;
 pub use lent::{Clock, Gate, Timing};
 pub use limits::{FIRST_LIGHT, LISTENER, MAX_ACCEPTS, MAX_BATCH, MAX_OWN_TURNS, OWN_BUDGET, WAKER};
+pub use places::{Berth, Occupied, Places};
 pub use relay_log::{ClientsAt, ServerFault};
 pub use shared::{Counting, Fullness, Own, Parts, Shared};
 pub use split::{Part, Split};

@@ -9,9 +9,8 @@ ghost use Rattle.dispatch.specs.Acts as act;
 
 use crate::dropping::Dropped;
 use crate::poller::{Poller, Uncounted};
-use berths::Berth;
 use claims::{Adopted, Released};
-use dispatch::{Acts, Counting, Front, Hand, Moves, Opened, Own, Route, Settle, Shared};
+use dispatch::{Acts, Berth, Counting, Front, Hand, Moves, Opened, Own, Route, Settle, Shared};
 use log::Log;
 use ready::Ticket;
 use relay_core::{Pair, proxy_line};

@@ -3,11 +3,10 @@ use Rattle.std.specs.Prelude.{◌≡◌, ◌⊎◌, ℕ, zero, suc, ◌<◌, ◌
 use Rattle.claims.specs.{declared.view.Exchange.{Exchange, TheVariants.{Post, Busy, Held, Take, Release, Retire}}, Views.minted_by, Seats.{SeatState, TableId, account_at, posts_of, Adds}}
 use Rattle.ready.specs.declared.ticket.Ticket.{Ticket}
 use Rattle.relay_core.specs.{Pairs.{PairState, noted}, Replies.AnswerValue, declared.Side.Side}
-use Rattle.berths.specs.declared.berths.Berth.{Berth}
 use Rattle.engine.specs.Turns.{IsTurn}
 use Rattle.turns.specs.declared.{terms.Terms.Terms, worker.Worked.Worked}
 use Rattle.relay_log.specs.declared.faults.ServerFault.{ServerFault, TheVariants.Worn}
-use Rattle.dispatch.specs.{declared.shared.Own.Own, Acts.{Act, AreMade, busy_turn, gone_turn, quiet_turn, again_turn, ended_turn, leaving}, Hands.HasRoom, Limits.heavy_marks, Posts.HoldsOnly, Outgoing.{Inserted, KeepsTicket, KeepsSlot, PutAll, TookNothing, tickets_out, slots_out, without_first}}
+use Rattle.dispatch.specs.{declared.{places.Berth.Berth, shared.Own.Own}, Acts.{Act, AreMade, busy_turn, gone_turn, quiet_turn, again_turn, ended_turn, leaving}, Hands.HasRoom, Limits.heavy_marks, Posts.HoldsOnly, Outgoing.{Inserted, KeepsTicket, KeepsSlot, PutAll, TookNothing, tickets_out, slots_out, without_first}}
 use Rattle.token.specs.Names.{last_generation}
 use Rattle.turns.specs.declared.worker.Worked.TheVariants as worked
 

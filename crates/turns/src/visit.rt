@@ -6,8 +6,7 @@ ghost use Rattle.turns.specs.Turns.{noted_by, Plays};
 ghost use Rattle.dispatch.specs.Acts as act;
 
 use crate::terms::Terms;
-use berths::Berth;
-use dispatch::{Front, Moves, Own, Settle, Shared};
+use dispatch::{Berth, Front, Moves, Own, Settle, Shared};
 use engine::{Turn, turn_with};
 use ready::Ticket;
 use relay_core::{MAX_READ, Pair};

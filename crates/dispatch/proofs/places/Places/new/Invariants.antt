@@ -1,5 +1,5 @@
 use Rattle.std.proofs.Common.{◌≡◌, vec_len}
-use Rattle.berths.proofs.berths.Berths.new.Given as goal
+use Rattle.dispatch.proofs.places.Places.new.Given as goal
 
 -- one place for each slot so far
 abbrev pub invariant-loop-slot : goal.invariant-loop-slot

@@ -1,4 +1,12 @@
-// A place for each slot, and what waits in it.
+//! For each slot, a place where its connection waits between two turns. The thread whose seat holds a slot takes the
+//! [`Berth`] out, works on it, and puts it back before it releases the slot.
+//!
+//! Each place has a lock, since a value that threads share by `&` can be moved in and out only under a lock. The lock
+//! is never contended: only a slot's holder may touch its place. So locking it is one atomic exchange, and unlocking it
+//! another.
+//!
+//! No clause can name what a place holds, since another seat may have held the slot meanwhile. So only tests show that
+//! the next holder takes out the berth that was put in.
 ghost use Rattle.std.specs.Prelude.{◌≡◌, ◌<◌, IfOk, OnOk, IfErr, OnErr, IsSome, IsNone, Some};
 ghost use Rattle.claims.specs.Seats.{Holds};
 
@@ -22,49 +30,42 @@ pub struct Berth<C, T> {
 #[derive(Drop)]
 pub struct Occupied<B>(pub B);
 
-/// A place for each slot, empty or with one berth. The threads share the places by `&`. A berth is boxed, since it has
-/// some 460 bytes, and a turn hands it on several times.
+/// A place for each slot, empty or with one berth, which only [`Moves`](crate::Moves) reaches. The threads share the
+/// places by `&`. A berth is boxed, since it has some 460 bytes, and a turn hands it on several times.
 ///
 /// In a clause it is the number of slots.
 #[derive(Drop)]
-pub struct Berths<C, T> {
+pub struct Places<C, T> {
     places: Vec<Mutex<Option<Box<Berth<C, T>>>>>,
 }
 
-impl<C, T> Model for Berths<C, T> {
+impl<C, T> Model for Places<C, T> {
     ghost use Rattle.std.specs.Prelude.{ℕ, vec_len};
 
     ghost Value = { ℕ };
 
-    ghost view = { λ b. vec_len b.places };
+    ghost view = { λ p. vec_len p.places };
 }
 
-impl<C, T> Berths<C, T> {
+impl<C, T> Places<C, T> {
     /// An empty place for each of `slots` slots. This allocates all the memory that the places ever use, and fails only
     /// if there is not enough.
-    pub fn new(alloc: Global, slots: usize) -> Result<Berths<C, T>, AllocError>
+    pub fn new(alloc: Global, slots: usize) -> Result<Places<C, T>, AllocError>
     where
         C: Drop,
         T: Drop,
-        ensures { IfOk result (λ berths. berths ≡ slots) }
+        ensures { IfOk result (λ places. places ≡ slots) }
     {
         let mut places = Vec::with_capacity(alloc, slots)?;
         for _slot in 0..slots {
             places.push(Mutex::new(None))?;
         }
-        Ok(Berths { places })
-    }
-
-    /// The number of slots.
-    pub fn slots(&self) -> usize
-        ensures { result ≡ self.now }
-    {
-        self.places.len()
+        Ok(Places { places })
     }
 
     /// Puts a berth into the place of a slot that the caller's seat holds. If another is there, Occupied gives this one
     /// back, and the place is as it was.
-    pub fn put_in(
+    pub(crate) fn put_in(
         &self,
         rt: &impl Wait,
         seat: &ClaimSeat,
@@ -80,7 +81,7 @@ impl<C, T> Berths<C, T> {
     }
 
     /// Takes the berth out of the place of a slot that the caller's seat holds. None: the place was empty.
-    pub fn take_out(
+    pub(crate) fn take_out(
         &self,
         rt: &impl Wait,
         seat: &ClaimSeat,
