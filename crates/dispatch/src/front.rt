@@ -143,7 +143,7 @@ pub trait Front {
     type Target: Settle + Drop;
 
     /// What another thread uses to end a wait for reports.
-    type Waker;
+    type Waker: Drop;
 
     /// Waits for reports, and replaces the contents of the batch by the numbers of their tokens (epoll_wait(2)). It
     /// allocates no memory.

@@ -36,8 +36,6 @@ pub fn build<F: Front + Drop, R: Wait>(
     fronts: Vec<F>,
     waker: F::Waker,
 ) -> Result<Server<F>, ServerFault>
-where
-    F::Waker: Drop,
     requires slots { split.slots ≡ settings.now.slots }
     requires fronts { length fronts.items ≡ parts_of split.slots split.size }
     ensures slots { IfOk result (λ made. made.shared.claims.words ≡ settings.now.slots) }
@@ -158,8 +156,6 @@ fn shared_of<F: Front>(
     waker: F::Waker,
     pollers: usize,
 ) -> Result<(Shared<F>, Parts), ServerFault>
-where
-    F::Waker: Drop,
     requires threads { (1 ≤ threads) × (threads ≤ 32) }
     ensures slots { IfOk result (λ made. made.0.claims.words ≡ settings.now.slots) }
     ensures budget { IfOk result (λ made. made.0.budget ≡ calls_for settings.now.budget) }

@@ -117,7 +117,7 @@ where
     F: Front + Drop + Send,
     F::Client: Send,
     F::Target: Send,
-    F::Waker: Send + Sync + Drop,
+    F::Waker: Send + Sync,
     requires { length fronts.items ≡ pollers_for settings.now.slots settings.now.workers }
 {
     let recorder = Recorder::new(QueueSink { rt, queue });

@@ -98,7 +98,7 @@ where
     F: Front + Drop + Send,
     F::Client: Send,
     F::Target: Send,
-    F::Waker: Send + Sync + Drop,
+    F::Waker: Send + Sync,
     requires { length fronts.items ≡ pollers_for settings.now.slots settings.now.workers }
 {
     let (statistics, log_clients) = (lent.statistics, lent.log_clients);
@@ -131,8 +131,6 @@ fn server_of<F: Front + Drop, R: Wait>(
     statistics: Option<&Arc<Statistics>>,
     log_clients: bool,
 ) -> Result<Server<F>, ServerFault>
-where
-    F::Waker: Drop,
     requires { length fronts.items ≡ pollers_for settings.now.slots settings.now.workers }
 {
     let statistics = another(statistics)?;

@@ -53,8 +53,6 @@ pub fn divide<F: Front + Drop>(
     pollers: Vec<Poller<F>>,
     workers: usize,
 ) -> Result<ServerThreads<F>, ServerFault>
-where
-    F::Waker: Drop,
     requires { AreFresh (arc_value shared.now).claims rest.parts.seats.items }
     ensures pollers { IfOk result (λ made. map (λ thread. (thread.number, thread.poller)) made.pollers.items ≡ numbered pollers.items) }
     ensures own_slots { IfOk result (λ made. All (λ thread. IsEndOf rest.free thread.number thread.own.free) made.pollers.items) }
@@ -76,8 +74,6 @@ fn pollers_of<F: Front + Drop>(
     rest: &mut Rest,
     mut pollers: Vec<Poller<F>>,
 ) -> Result<Vec<PollerThread<F>>, ServerFault>
-where
-    F::Waker: Drop,
     requires { AreFresh (arc_value shared.now).claims rest.old.parts.seats.items }
     ensures fresh { OnOk result (AreFresh (arc_value shared.now).claims rest.new.parts.seats.items) }
     ensures pollers { IfOk result (λ threads. map (λ thread. (thread.number, thread.poller)) threads.items ≡ numbered pollers.items) }
@@ -106,8 +102,6 @@ fn thread_of<F: Front + Drop>(
     number: usize,
     poller: Poller<F>,
 ) -> Result<PollerThread<F>, ServerFault>
-where
-    F::Waker: Drop,
     requires { AreFresh (arc_value shared.now).claims rest.old.parts.seats.items }
     ensures fresh { OnOk result (AreFresh (arc_value shared.now).claims rest.new.parts.seats.items) }
     ensures made { IfOk result (λ thread. (thread.number ≡ number) × (thread.poller ≡ poller)) }
@@ -140,8 +134,6 @@ fn workers_of<F: Front + Drop>(
     first: usize,
     workers: usize,
 ) -> Result<Vec<Worker<F>>, ServerFault>
-where
-    F::Waker: Drop,
     requires { AreFresh (arc_value shared.now).claims rest.old.parts.seats.items }
     ensures numbers { IfOk result (λ made. map (λ worker. worker.number) made.items ≡ range_with_len first workers) }
     ensures slots { IfOk result (λ made. All (λ worker. HasOneOfEach rest.old.free (worker.own.free ∷ worker.others.items))
@@ -175,8 +167,6 @@ impl Rest {
         poller: usize,
         capacity: usize,
     ) -> Result<(Arc<Shared<F>>, Own), ServerFault>
-    where
-        F::Waker: Drop,
         requires { AreFresh (arc_value shared.now).claims self.old.parts.seats.items }
         ensures fresh { OnOk result (AreFresh (arc_value shared.now).claims self.new.parts.seats.items) }
         ensures shared { IfOk result (λ made. arc_value made.0 ≡ arc_value shared.now) }

@@ -27,10 +27,7 @@ pub struct PollerThread<F: Front> {
     pub ghost sized: { length poller.table ≡ (arc_value shared).claims.words },
 }
 
-impl<F: Front + Drop> PollerThread<F>
-where
-    F::Waker: Drop,
-{
+impl<F: Front + Drop> PollerThread<F> {
     /// Makes its steps until one ends the thread.
     pub fn run<G: Gate, C: Clock, R: Wait + Log, S: StopFlag>(
         &mut self,

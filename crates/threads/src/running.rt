@@ -50,7 +50,7 @@ where
     F: Front + Drop + Send,
     F::Client: Send,
     F::Target: Send,
-    F::Waker: Send + Sync + Drop,
+    F::Waker: Send + Sync,
 {
     let pollers = server.pollers.len();
     let (split, workers) = (server.split, server.workers);
@@ -79,10 +79,7 @@ where
 fn threads_of<F: Front + Drop>(
     alloc: Global,
     server: Server<F>,
-) -> Result<ServerThreads<F>, ServerFault>
-where
-    F::Waker: Drop,
-{
+) -> Result<ServerThreads<F>, ServerFault> {
     let Server {
         shared,
         parts,
@@ -109,7 +106,7 @@ where
     F: Front + Drop + Send,
     F::Client: Send,
     F::Target: Send,
-    F::Waker: Send + Sync + Drop,
+    F::Waker: Send + Sync,
 {
     let pollers = startup.context.split.pollers();
     let started = workers.saturating_add(pollers.saturating_sub(1));
@@ -134,10 +131,7 @@ struct Startup<'a, F: Front, G, C, R> {
     threads: Mutex<ServerThreads<F>>,
 }
 
-impl<F: Front + Drop, G: Gate, C: Clock, R: Wait + Log> Startup<'_, F, G, C, R>
-where
-    F::Waker: Drop,
-{
+impl<F: Front + Drop, G: Gate, C: Clock, R: Wait + Log> Startup<'_, F, G, C, R> {
     fn announce(&self) {
         if !self.context.ending.is_recorded() {
             self.context.gate.all_started();

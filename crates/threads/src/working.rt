@@ -28,10 +28,7 @@ pub struct Worker<F: Front> {
     pub ghost idle: { HoldsNothing own.seat },
 }
 
-impl<F: Front + Drop> Worker<F>
-where
-    F::Waker: Drop,
-{
+impl<F: Front + Drop> Worker<F> {
     /// Makes its steps until one ends the thread.
     pub fn run<G: Gate, C: Clock, R: Wait + Log, S>(&mut self, context: &Context<'_, G, C, R, S>)
         ensures ran { (why : Why) × WorkerEnded why self.old.own self.new.own self.old.others.items self.new.others.items }
