@@ -7,12 +7,10 @@
 #![tactic(auto)]
 
 mod making;
-mod recorded;
 mod serving;
 
 pub use dispatch::{Clock, Gate, ServerFault};
 pub use making::{build, split_of};
-pub use recorded::serve_recorded;
-pub use serving::{Lent, serve};
+pub use serving::{Lent, serve, serve_recorded};
 pub use sockets::Bound;
 pub use threads::Outcome;

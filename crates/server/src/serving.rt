@@ -1,20 +1,25 @@
-//! A server over the system's sockets, from its settings to its end.
-ghost use Rattle.settings.specs.Pollers.{pollers_for};
+//! A server over the system's sockets, from its settings to its end, which may record what its threads do.
 ghost use Rattle.std.specs.Prelude.{◌≡◌, length};
+ghost use Rattle.dispatch.specs.Splits.{parts_of};
 
 use crate::making::{build, split_of};
-use crate::recorded::run_recorded;
-use dispatch::{ClientsAt, Clock, Front, Gate, ServerFault, Shared, Timing};
+use dispatch::{ClientsAt, Clock, Front, Gate, ServerFault, Shared, Split, Timing};
 use log::Log;
-use recording::RecordQueue;
-use settings::Settings;
+use os::set_thread_name;
+use recording::{
+    QueueSink, RecordQueue, RecordedClock, RecordedGate, Recorder, record_all, write_records,
+};
+use records::Header;
+use relay_log::log_no_thread;
+use settings::{Settings, calls_for};
 use sockets::{Bound, Dial, Forwarding, Patience, open_all};
 use statistics::Statistics;
 use std::alloc::{AllocError, Global};
+use std::io::Write;
 use std::net::Net;
 use std::sync::atomic::AtomicBool;
-use std::sync::{Arc, Wait};
-use std::thread::Threads;
+use std::sync::{Arc, Mutex, Wait};
+use std::thread::{self, Threads};
 use threads::{Outcome, Server, run_threads};
 
 /// What a server is lent while it serves.
@@ -60,12 +65,17 @@ pub fn serve<G: Gate + Sync, C: Clock + Sync, R: Net + Dial + Wait + Threads + L
     bound: Bound,
     lent: Lent<'_, G, C>,
 ) -> Outcome {
-    serve_into(rt, alloc, settings, bound, lent, None)
+    serve_into(rt, alloc, settings, split_of(settings), bound, lent, None)
 }
 
-pub(crate) fn serve_into<
+/// Serves as [`serve`] does. If there is a file, what each thread does is recorded into it until the server ends; the
+/// last line then says that all is recorded. A thread of its own writes the file, and the call returns once all is
+/// written. If records come faster than that thread writes, or the file cannot be written, the recording ends, a
+/// warning is logged, and the server serves on. The recording may also refuse to begin, with `NoMemory` or `Threads`.
+pub fn serve_recorded<
     G: Gate + Sync,
     C: Clock + Sync,
+    W: Write + Send + Drop,
     R: Net + Dial + Wait + Threads + Log + Sync,
 >(
     rt: &R,
@@ -73,23 +83,101 @@ pub(crate) fn serve_into<
     settings: &Settings,
     bound: Bound,
     lent: Lent<'_, G, C>,
-    queue: Option<&RecordQueue>,
+    file: Option<W>,
 ) -> Outcome {
+    let Some(file) = file else {
+        return serve(rt, alloc, settings, bound, lent);
+    };
+    let split = split_of(settings);
+    let queue = match RecordQueue::new(alloc, split) {
+        Ok(queue) => queue,
+        Err(AllocError) => return Outcome::refused(ServerFault::NoMemory),
+    };
+    let recording = Recording {
+        rt,
+        alloc,
+        queue,
+        header: header_of(settings, split),
+        file: Mutex::new(Some(file)),
+    };
+    let queue = &recording.queue;
+    serve_beside(
+        &recording,
+        move || serve_into(rt, alloc, settings, split, bound, lent, Some(queue)),
+    )
+}
+
+#[derive(Drop)]
+struct Recording<'a, W, R> {
+    rt: &'a R,
+    alloc: Global,
+    queue: RecordQueue,
+    header: Header,
+    /// The file, until the thread that writes it has begun.
+    file: Mutex<Option<W>>,
+}
+
+impl<W: Write + Drop, R: Wait + Log> Recording<'_, W, R> {
+    /// Writes the file, in its own thread.
+    fn write(&self) {
+        set_thread_name(b"record");
+        let file = self.file.lock(self.rt).take();
+        if let Some(file) = file {
+            write_records(self.rt, self.alloc, &self.queue, self.header, file);
+        }
+    }
+}
+
+fn serve_beside<W, R, S>(recording: &Recording<'_, W, R>, serve: S) -> Outcome
+where
+    W: Write + Send + Drop,
+    R: Wait + Threads + Log + Sync,
+    S: FnOnce() -> Outcome + Drop,
+    requires { S.IsAlwaysCallable serve }
+{
+    thread::scope(
+        thread::scope_env(),
+        recording.rt,
+        move |scope|
+            requires { S.IsAlwaysCallable serve }
+        {
+            if scope.spawn(move || recording.write()).is_err() {
+                return Outcome::refused(log_no_thread(recording.rt));
+            }
+            let served = serve();
+            recording.queue.close();
+            served
+        },
+    )
+}
+
+fn serve_into<G: Gate + Sync, C: Clock + Sync, R: Net + Dial + Wait + Threads + Log + Sync>(
+    rt: &R,
+    alloc: Global,
+    settings: &Settings,
+    split: Split,
+    bound: Bound,
+    lent: Lent<'_, G, C>,
+    queue: Option<&RecordQueue>,
+) -> Outcome
+    requires { split.slots ≡ settings.now.slots }
+{
     let forwarding = Forwarding::of(settings, lent.patience);
-    match open_all(rt, alloc, bound, forwarding, split_of(settings)) {
+    match open_all(rt, alloc, bound, forwarding, split) {
         Ok((fronts, wakers)) => match queue {
-            None => run_on(rt, alloc, settings, fronts, wakers, lent),
-            Some(queue) => run_recorded(rt, alloc, settings, fronts, wakers, lent, queue),
+            None => run_on(rt, alloc, settings, split, fronts, wakers, lent),
+            Some(queue) => run_recorded(rt, alloc, settings, split, fronts, wakers, lent, queue),
         },
         Err(fault) => Outcome::refused(fault),
     }
 }
 
 /// Makes a server with these fronts, one for each poller, and runs it.
-pub(crate) fn run_on<F, G: Gate + Sync, C: Clock + Sync, R: Wait + Threads + Log + Sync>(
+fn run_on<F, G: Gate + Sync, C: Clock + Sync, R: Wait + Threads + Log + Sync>(
     rt: &R,
     alloc: Global,
     settings: &Settings,
+    split: Split,
     fronts: Vec<F>,
     waker: F::Waker,
     lent: Lent<'_, G, C>,
@@ -99,15 +187,63 @@ where
     F::Client: Send,
     F::Target: Send,
     F::Waker: Send + Sync,
-    requires { length fronts.items ≡ pollers_for settings.now.slots settings.now.workers }
+    requires slots { split.slots ≡ settings.now.slots }
+    requires fronts { length fronts.items ≡ parts_of split.slots split.size }
 {
-    let (statistics, log_clients) = (lent.statistics, lent.log_clients);
-    match server_of(rt, alloc, settings, fronts, waker, statistics, log_clients) {
+    match server_of(rt, alloc, settings, split, fronts, waker, &lent) {
         Ok(server) => {
             let timing = timing_of(settings, lent.clock);
             run_threads(rt, alloc, lent.gate, timing, lent.is_stopped, server)
         }
         Err(fault) => Outcome::refused(fault),
+    }
+}
+
+/// Runs a server with these fronts, one for each poller, and records what they, the gate and the clock do.
+fn run_recorded<F, G: Gate + Sync, C: Clock + Sync, R: Wait + Threads + Log + Sync>(
+    rt: &R,
+    alloc: Global,
+    settings: &Settings,
+    split: Split,
+    fronts: Vec<F>,
+    waker: F::Waker,
+    lent: Lent<'_, G, C>,
+    queue: &RecordQueue,
+) -> Outcome
+where
+    F: Front + Drop + Send,
+    F::Client: Send,
+    F::Target: Send,
+    F::Waker: Send + Sync,
+    requires slots { split.slots ≡ settings.now.slots }
+    requires fronts { length fronts.items ≡ parts_of split.slots split.size }
+{
+    let recorder = Recorder::new(QueueSink { rt, queue });
+    let fronts = match record_all(alloc, fronts, &recorder) {
+        Ok(fronts) => fronts,
+        Err(AllocError) => return Outcome::refused(ServerFault::NoMemory),
+    };
+    let lent = Lent {
+        gate: &RecordedGate::new(lent.gate, recorder.another()),
+        clock: &RecordedClock::new(lent.clock, recorder.another(), settings.idle > 0),
+        is_stopped: lent.is_stopped,
+        statistics: lent.statistics,
+        patience: lent.patience,
+        log_clients: lent.log_clients,
+    };
+    run_on(rt, alloc, settings, split, fronts, waker, lent)
+}
+
+/// The header of a recording: the server's sizes.
+fn header_of(settings: &Settings, split: Split) -> Header {
+    Header {
+        slots: settings.slots,
+        pollers: split.pollers(),
+        workers: settings.workers,
+        ring: settings.ring,
+        budget: calls_for(settings.budget),
+        idle: u64::from(settings.idle),
+        proxy: settings.proxy,
     }
 }
 
@@ -120,22 +256,23 @@ fn timing_of<'a, C>(settings: &Settings, clock: &'a C) -> Timing<'a, C>
     }
 }
 
-/// A server as the settings say, with these statistics, which logs clients at level info if asked. It takes its share
-/// of the statistics first, so no server has to be dropped if there is no memory for the share.
-fn server_of<F: Front + Drop, R: Wait>(
+/// A server as the settings say, with the statistics that are lent, which logs clients at level info if asked. It takes
+/// its share of the statistics first, so no server has to be dropped if there is no memory for the share.
+fn server_of<F: Front + Drop, G, C, R: Wait>(
     rt: &R,
     alloc: Global,
     settings: &Settings,
+    split: Split,
     fronts: Vec<F>,
     waker: F::Waker,
-    statistics: Option<&Arc<Statistics>>,
-    log_clients: bool,
+    lent: &Lent<'_, G, C>,
 ) -> Result<Server<F>, ServerFault>
-    requires { length fronts.items ≡ pollers_for settings.now.slots settings.now.workers }
+    requires slots { split.slots ≡ settings.now.slots }
+    requires fronts { length fronts.items ≡ parts_of split.slots split.size }
 {
-    let statistics = another(statistics)?;
-    let mut server = build(rt, alloc, settings, split_of(settings), fronts, waker)?;
-    count_and_log(&mut server.shared, statistics, log_clients);
+    let statistics = another(lent.statistics)?;
+    let mut server = build(rt, alloc, settings, split, fronts, waker)?;
+    count_and_log(&mut server.shared, statistics, lent.log_clients);
     Ok(server)
 }
 
