@@ -4,7 +4,7 @@ use crate::shared::Shared;
 use claims::{Adopted, ClaimSeat, Claimed, Claims, Posted, Released};
 use log::Log;
 use ready::{FreeQueue, Full, ReadyQueue, Ticket};
-use relay_core::Pair;
+use statistics::Event;
 use std::sync::Wait;
 use token::Token;
 
@@ -116,15 +116,15 @@ pub trait Acts {
 pub trait Moves<F: Front>: Acts {
     ghost use Rattle.std.specs.Prelude.{◌≡◌, ◌<◌, ℕ, IfSome, IfOk, IfErr, OnOk, OnErr};
     ghost use Rattle.claims.specs.Seats.{Holds};
-    ghost use Rattle.relay_core.specs.Pairs.{PairState};
+    ghost use Rattle.statistics.specs.declared.event.Event.{Event};
     ghost use Rattle.dispatch.specs.declared.places.Berth.{Berth};
     ghost use Rattle.dispatch.specs.Acts as act;
 
     // The last act took this connection out of its place, put it in, or closed it.
     ghost moved: { Berth F.Client F.Target → Self → Type 0 };
 
-    // The bytes of this pair were counted at a slot.
-    ghost counted: { ℕ → PairState → Self → Type 0 };
+    // This event was counted at a slot.
+    ghost counted: { ℕ → Event → Self → Type 0 };
 
     /// [`Front::open`]. If the front refuses, no act is made.
     fn register<N: Log>(
@@ -180,13 +180,9 @@ pub trait Moves<F: Front>: Acts {
         ensures made { Self.made act.Close slot self.old self.new }
         ensures moved { moved berth.value self.new };
 
-    /// [`Shared::count_moved`].
-    fn count_moved(&self, shared: &Shared<F>, slot: usize, pair: &Pair)
-        ensures { counted slot pair.now self.now };
-
-    /// [`Shared::count_ended`].
-    fn count_ended(&self, shared: &Shared<F>, slot: usize, pair: &Pair)
-        ensures { counted slot pair.now self.now };
+    /// [`Shared::count`].
+    fn count(&self, shared: &Shared<F>, slot: usize, event: Event)
+        ensures { counted slot event self.now };
 }
 
 impl Acts for () {
@@ -298,11 +294,7 @@ impl<F: Front> Moves<F> for () {
         drop(berth);
     }
 
-    fn count_moved(&self, shared: &Shared<F>, slot: usize, pair: &Pair) {
-        shared.count_moved(slot, pair);
-    }
-
-    fn count_ended(&self, shared: &Shared<F>, slot: usize, pair: &Pair) {
-        shared.count_ended(slot, pair);
+    fn count(&self, shared: &Shared<F>, slot: usize, event: Event) {
+        shared.count(slot, event);
     }
 }

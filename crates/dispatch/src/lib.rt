@@ -18,8 +18,8 @@
 //! A berth goes only into an empty place. It is given back only if another berth is there, which stays (`fill`: `put`,
 //! `occupied`, `unchanged`).
 //!
-//! The statistics count a turn and an end by the pair's own counts and verdict (`moved_by`, `ended_by`). Each call that
-//! counts says in its clause what it counts, and at which slot, over any [`Counting`].
+//! The statistics count a turn and an end by the pair's own counts and verdict ([`moved_by`], [`ended_by`]).
+//! [`Shared::count`] says in its clause what it counts, and at which slot, over any [`Counting`].
 #![tactic(auto)]
 
 mod acts;
@@ -40,5 +40,5 @@ pub use lent::{Clock, Gate, Timing};
 pub use limits::{FIRST_LIGHT, LISTENER, MAX_ACCEPTS, MAX_BATCH, MAX_OWN_TURNS, OWN_BUDGET, WAKER};
 pub use places::{Berth, Occupied, Places};
 pub use relay_log::{ClientsAt, ServerFault};
-pub use shared::{Counting, Fullness, Own, Parts, Shared};
+pub use shared::{Counting, Fullness, Own, Parts, Shared, ended_by, moved_by};
 pub use split::{Part, Split};

@@ -89,49 +89,24 @@ impl<F: Front> Counting for F {
 }
 
 impl<F: Front + Counting> Shared<F> {
-    /// Counts a connection that is opened. The poller's thread holds the slot.
-    pub fn count_opened(&self, slot: usize)
-        ensures { F.counted slot Event.Opened }
-    {
-        self.count(slot, Event::Opened);
-    }
-
-    /// Counts a drop, at a free slot that the poller has in hand.
-    pub fn count_dropped(&self, slot: usize)
-        ensures { F.counted slot Event.Dropped }
-    {
-        self.count(slot, Event::Dropped);
-    }
-
-    /// Counts the bytes of a connection that a turn left open. The thread holds the slot.
-    pub fn count_moved(&self, slot: usize, pair: &Pair)
-        ensures { F.counted slot (moved_by pair.now) }
-    {
-        self.count(slot, moved_by(pair));
-    }
-
-    /// Counts a connection that has ended. The thread holds the slot.
-    pub fn count_ended(&self, slot: usize, pair: &Pair)
-        ensures { F.counted slot (ended_by pair.now) }
-    {
-        self.count(slot, ended_by(pair));
-    }
-
-    fn count(&self, slot: usize, event: Event)
+    /// Counts an event at a slot that the thread holds, or for a drop, that the poller has in hand.
+    pub fn count(&self, slot: usize, event: Event)
         ensures { F.counted slot event }
     {
         F::count(self.statistics.as_deref(), slot, event);
     }
 }
 
-fn moved_by(pair: &Pair) -> Event
+/// A turn has left a connection open, with this pair.
+pub fn moved_by(pair: &Pair) -> Event
     ensures { result ≡ moved_by pair.now }
 {
     let (up, down) = pair.counts();
     Event::Moved { up, down }
 }
 
-fn ended_by(pair: &Pair) -> Event
+/// A connection has ended, with this pair.
+pub fn ended_by(pair: &Pair) -> Event
     ensures { result ≡ ended_by pair.now }
 {
     let (up, down) = pair.counts();

@@ -261,7 +261,7 @@ impl<F: Front> Poller<F> {
     {
         acts.enter(&mut self.table, ticket);
         self.opened = self.opened.saturating_add(1);
-        shared.count_opened(ticket.slot);
+        shared.count(ticket.slot, Event::Opened);
         uncounted.spend();
     }
 
@@ -310,7 +310,7 @@ impl Uncounted {
     )
         ensures { F.counted slot Event.Dropped }
     {
-        shared.count_dropped(slot);
+        shared.count(slot, Event::Dropped);
         dropped.spend();
         self.spend();
     }

@@ -11,9 +11,9 @@
 //! - A turn touches words, places, queues and what sockets hold back only by its acts ([`Acts`](dispatch::Acts),
 //!   [`Moves`](dispatch::Moves)), and makes these in the order of its program (`acts_of` of `specs/Turns.antt`).
 //! - The connection that is put back or closed is the one that was taken out (`Visit`, which cannot be dropped; `moved`
-//!   of `take_out`, `put_in` and `close`), and its bytes are counted at its slot (`counted`). It has a turn of `engine`
-//!   only if its generation is the ticket's (`run`: `own`): at its terms' moment, with at most its terms' calls, and
-//!   with its flags raised if notes were taken (`play`: `run`). After that it is put back for Again and Quiet alone,
+//!   of `take_out`, `put_in` and `close`). Its bytes, or its end, are counted at its slot (`counted`). It has a turn of
+//!   `engine` only if its generation is the ticket's (`run`: `own`): at its terms' moment, with at most its terms' calls,
+//!   and with its flags raised if notes were taken (`play`: `run`). After that it is put back for Again and Quiet alone,
 //!   for Quiet once both wires hold nothing back (`leave_settled`: `client`, `target`), and closed for Done and Failed
 //!   alone (`due`, `quiet`, `over`).
 //! - A slot is released once for each `Back`, which says that no connection of it is out of its place (`leave`:

@@ -1,12 +1,12 @@
 //! The connection of a held slot, out of its place.
 ghost use Rattle.std.specs.Prelude.{◌≡◌, ◌<◌, ◌≤◌, IfOk, IfErr};
 ghost use Rattle.engine.specs.Turns.{outcome_of, IsServed};
-ghost use Rattle.dispatch.specs.Posts.{HoldsOnly};
+ghost use Rattle.dispatch.specs.{Posts.HoldsOnly, Told.{ended_by, moved_by}};
 ghost use Rattle.turns.specs.Turns.{noted_by, Plays};
 ghost use Rattle.dispatch.specs.Acts as act;
 
 use crate::terms::Terms;
-use dispatch::{Berth, Front, Moves, Own, Settle, Shared};
+use dispatch::{Berth, Front, Moves, Own, Settle, Shared, ended_by, moved_by};
 use engine::{Turn, turn_with};
 use ready::Ticket;
 use relay_core::{MAX_READ, Pair};
@@ -94,13 +94,13 @@ pub(crate) fn put_in<F: Front, A: Moves<F>, R: Wait>(
     requires inside { visit.ticket.slot < shared.now.claims.words }
     requires holder { HoldsOnly visit.ticket.slot own.now.seat }
     ensures back { result ≡ visit.ticket.slot }
-    ensures counted { A.counted visit.ticket.slot visit.berth.value.pair acts.old }
+    ensures counted { A.counted visit.ticket.slot (moved_by visit.berth.value.pair) acts.old }
     ensures made { A.made act.PutIn visit.ticket.slot acts.old acts.new }
     ensures moved { A.moved visit.berth.value acts.new }
 {
     let Visit { ticket, berth } = visit;
     let slot = ticket.slot;
-    acts.count_moved(shared, slot, &berth.pair);
+    acts.count(shared, slot, moved_by(&berth.pair));
     let _ = acts.put_in(rt, &shared.places, &own.seat, slot, berth);
     Back { slot }
 }
@@ -171,12 +171,12 @@ impl<F: Front> Visit<F> {
     /// Counts the connection as ended, and closes both sockets.
     pub(crate) fn close<A: Moves<F>>(self, acts: &mut A, shared: &Shared<F>) -> Closed
         ensures closed { result ≡ self.ticket.slot }
-        ensures counted { A.counted self.ticket.slot self.berth.value.pair acts.old }
+        ensures counted { A.counted self.ticket.slot (ended_by self.berth.value.pair) acts.old }
         ensures made { A.made act.Close self.ticket.slot acts.old acts.new }
         ensures moved { A.moved self.berth.value acts.new }
     {
         let Visit { ticket, berth } = self;
-        acts.count_ended(shared, ticket.slot, &berth.pair);
+        acts.count(shared, ticket.slot, ended_by(&berth.pair));
         acts.close(ticket.slot, berth);
         Closed { slot: ticket.slot }
     }
