@@ -1,10 +1,10 @@
 -- What accepting and opening connections does to what the poller's thread owns. Part of the promises.
-use Rattle.std.specs.{Prelude.{◌≡◌, ◌⊎◌, ℕ, ◌+◌, ◌<◌, ◌≤◌, ◌==◌, Bool, true, false, List, [], ◌∷◌, ◌++◌, length, drop, map, Option, Some, None, Result, Ok, Err, slice_index, slice_set}, List.count_by, declared.net.socket_addr.SocketAddrV4.SocketAddrV4, Net.{Addr.ipv4_octets, Socket.{v4_ip, v4_port}}}
+use Rattle.std.specs.{Prelude.{◌≡◌, ◌⊎◌, ℕ, ◌+◌, ◌<◌, ◌≤◌, ◌==◌, Bool, true, false, List, [], ◌∷◌, ◌++◌, length, drop, map, Option, Some, None, Result, Ok, Err, replicate, slice_index, slice_set}, List.count_by, declared.net.socket_addr.SocketAddrV4.SocketAddrV4, Net.{Addr.ipv4_octets, Socket.{v4_ip, v4_port}}}
 use Rattle.claims.specs.{Seats.{SeatState, TableId, Adds, HoldsNothing, account_at}, Views.minted_by}
 use Rattle.ready.specs.declared.ticket.Ticket.{Ticket}
-use Rattle.dispatch.specs.{declared.{shared.Own.Own, front.{Unopened.Unopened, Route.Route}, split.Part.Part}, Splits.IsIn, Hands.ticket_room, Posts.IsWorn}
+use Rattle.dispatch.specs.{declared.{shared.Own.Own, front.{Unopened.Unopened, Route.Route}, split.Part.Part}, Splits.IsIn, Hands.ticket_room, Posts.IsWorn, Told.Seen}
 use Rattle.token.specs.Names.{last_generation}
-use Rattle.rounds.specs.{Pollers.{PollerState, Counted, counted_up}, Acts.{SeatAct, made_by, opening, ActsMade, AreTries, at_slot}, Episodes.{dropped_for, opened_after}}
+use Rattle.rounds.specs.{Pollers.{PollerState, Counted, counted_up}, Acts.{SeatAct, made_by, opening, ActsMade, AreTries, at_slot}, Episodes.{dropped_for, no_episodes, opened_after}, declared.opening.Opening.Opening}
 use Rattle.log.specs.declared.level.Level.{Level}
 use Rattle.statistics.specs.declared.event.Event.{Event}
 use Rattle.relay_log.specs.{Messages.open_message, declared.cause.Cause.Cause}
@@ -22,6 +22,29 @@ pub record Between (claims : TableId) (own : Own) (poller : PollerState) : Type 
   pub same : own.seat.table ≡ claims
   pub idle : HoldsNothing own.seat
   pub sized : length poller.table ≡ claims.words
+
+-- A poller that has opened nothing yet. Its front shows this, there are this many slots, these are its own, its
+-- connections are opened with this, and it may open `most` in all
+abbrev pub fresh_poller : Seen → ℕ → Part → Opening → ℕ → PollerState
+fresh_poller seen slots part opening most = record {
+  seen = seen;
+  table = replicate slots 0;
+  batch = [];
+  accepting = true;
+  starved = false;
+  left = false;
+  tries = 0;
+  opening = opening;
+  part = part;
+  heavy = replicate slots 0;
+  most = most;
+  opened = 0;
+  lost = 0;
+  second = 0;
+  swept = 0;
+  over = false;
+  episodes = no_episodes;
+}
 
 -- how often a slot stands in a list
 abbrev pub times : ℕ → List ℕ → ℕ

@@ -1,8 +1,8 @@
 //! What a poller keeps between its rounds.
-ghost use Rattle.std.specs.Prelude.{◌≡◌, ◌||◌, if◌then◌else◌, ◌-◌, ◌<◌, ◌≤◌, ◌↔◌, [], length, IfOk, OnOk, OnErr, IsTrue, replicate, slice_set, true, false};
+ghost use Rattle.std.specs.Prelude.{◌≡◌, ◌||◌, if◌then◌else◌, ◌-◌, ◌<◌, ◌≤◌, ◌↔◌, length, IfOk, OnOk, OnErr, IsTrue, slice_set, true, false};
 ghost use Rattle.token.specs.Names.{last_generation};
 ghost use Rattle.dispatch.specs.Splits.{IsIn};
-ghost use Rattle.rounds.specs.{Episodes.{all_logged_at, no_episodes, opened_after, AreLogged}, Openings.DropLogged, Pollers.{AreGenerations, IsOwnTable, HasOpenedAll, counted_up, max_accepts}};
+ghost use Rattle.rounds.specs.{Episodes.{all_logged_at, opened_after, AreLogged}, Openings.{fresh_poller, DropLogged}, Pollers.{AreGenerations, IsOwnTable, HasOpenedAll, counted_up, max_accepts}};
 ghost use Rattle.dispatch.specs.Acts as act;
 
 use crate::dropping::Dropped;
@@ -90,25 +90,7 @@ impl<F: Front> Poller<F> {
     where
         F: Drop,
         requires ring { (1 ≤ opening.ring) × (opening.ring ≤ 65536) }
-        ensures { IfOk result (λ poller. poller ≡ record {
-          seen = F.seen front;
-          table = replicate table 0;
-          batch = [];
-          accepting = true;
-          starved = false;
-          left = false;
-          tries = 0;
-          opening = opening;
-          part = part;
-          heavy = replicate table 0;
-          most = most;
-          opened = 0;
-          lost = 0;
-          second = 0;
-          swept = 0;
-          over = false;
-          episodes = no_episodes;
-        }) }
+        ensures { IfOk result (λ poller. poller ≡ fresh_poller (F.seen front) table part opening most) }
     {
         Ok(Poller {
             front,

@@ -2,8 +2,8 @@
 ghost use Rattle.std.specs.Prelude.{◌≡◌, ◌↔◌, ◌+◌, ◌-◌, ◌<◌, ◌≤◌, ◌∷◌, length, replicate, map, IfOk, IfErr, IsTrue};
 ghost use Rattle.claims.specs.Seats.{fresh_seat};
 ghost use Rattle.ready.specs.Steps.{unused, opened as filled};
-ghost use Rattle.server.specs.{Limits.{SharesLight, share_of}, Begins.{HasBegun, PollersBegin, ThreadsBegin}};
-ghost use Rattle.dispatch.specs.Splits.{each_part, part_of, parts_of};
+ghost use Rattle.server.specs.{Limits.{SharesLight, share_of}, Begins.{all_begun, begun, ThreadsBegin}};
+ghost use Rattle.dispatch.specs.Splits.{each_part, parts_of};
 ghost use Rattle.settings.specs.{Calls.calls_for, Pollers.pollers_for};
 
 use claims::Claims;
@@ -43,7 +43,7 @@ pub fn build<F: Front + Drop, R: Wait>(
     ensures waker { IfOk result (λ made. made.shared.waker ≡ waker) }
     ensures threads { IfOk result (λ made. ThreadsBegin settings.now split made.shared.claims made.parts
         (map (λ ends. ends.items) made.free.items)) }
-    ensures pollers { IfOk result (λ made. PollersBegin settings.now split (map F.seen fronts.items) made.pollers.items) }
+    ensures pollers { IfOk result (λ made. made.pollers.items ≡ all_begun settings.now split 0 (map F.seen fronts.items)) }
     ensures workers { IfOk result (λ made. made.workers ≡ settings.now.workers) }
     ensures split { IfOk result (λ made. made.split ≡ split) }
     ensures refused { IfErr result (λ fault. fault ≡ ServerFault.NoMemory) }
@@ -86,7 +86,6 @@ fn frees_of(
 }
 
 /// A poller for each part of the slots, in order.
-#[tactic(auto, using(crate::proofs::Parts::one_more))]
 fn pollers_of<F: Front + Drop>(
     alloc: Global,
     settings: &Settings,
@@ -94,7 +93,7 @@ fn pollers_of<F: Front + Drop>(
     mut fronts: Vec<F>,
 ) -> Result<Vec<Poller<F>>, AllocError>
     requires { length fronts.items ≡ parts_of split.slots split.size }
-    ensures { IfOk result (λ all. PollersBegin settings.now split (map F.seen fronts.items) all.items) }
+    ensures { IfOk result (λ all. all.items ≡ all_begun settings.now split 0 (map F.seen fronts.items)) }
 {
     let count = split.pollers();
     let mut pollers = Vec::with_capacity(alloc, count)?;
@@ -117,11 +116,7 @@ fn poller_of<F: Front + Drop>(
     front: F,
 ) -> Result<Poller<F>, AllocError>
     requires number { number < parts_of split.slots split.size }
-    ensures begun { IfOk result (λ poller. HasBegun settings.now.slots
-        (record { ring = settings.now.ring; proxy = settings.now.proxy }) poller) }
-    ensures part { IfOk result (λ poller. poller.part ≡ part_of split.slots split.size number) }
-    ensures most { IfOk result (λ poller. poller.most ≡ share_of settings.now.stop_after (parts_of split.slots split.size) number) }
-    ensures front { IfOk result (λ poller. poller.seen ≡ F.seen front) }
+    ensures { IfOk result (λ poller. poller ≡ begun settings.now split number (F.seen front)) }
 {
     let most = share_of(settings.stop_after, split.pollers(), number);
     let part = split.part(number);
