@@ -1,4 +1,4 @@
-use Rattle.std.proofs.{Common.{◌≡◌, inl, ap, refl, rules}, lemmas.Result.{IfErr-weaker, IfOk-weaker}}
+use Rattle.std.proofs.{Common.{◌≡◌, ap, rules}, lemmas.Result.{IfErr-weaker, IfOk-weaker}}
 use Rattle.claims.specs.Seats.{TableId}
 use Rattle.threads.proofs.Loops.{OwnRan, ended_worn, own_turn_ran}
 use Rattle.threads.proofs.polling.PollerThread.turn.Goals as goal
