@@ -5,7 +5,8 @@
  * of the file GROWTHS_COUNT, also where the program ends by a signal.
  *
  * With MOST_THREADS so many threads can be started, and no more. With TIMES_FASTER clocks go so many times as fast. With
- * POLL_FAILS the call of epoll_wait(2) with this number fails, counted from 1 over all threads. */
+ * POLL_FAILS the call of epoll_wait(2) with this number fails, counted from 1 over all threads. With CONNECTS_LACK so many
+ * calls of connect(2) fail for want of the system's memory, and then none. */
 #define _GNU_SOURCE
 #include <dlfcn.h>
 #include <errno.h>
@@ -17,6 +18,7 @@
 #include <stdlib.h>
 #include <sys/epoll.h>
 #include <sys/mman.h>
+#include <sys/socket.h>
 #include <sys/syscall.h>
 #include <time.h>
 #include <unistd.h>
@@ -88,6 +90,14 @@ int epoll_wait(int poll, struct epoll_event *events, int most, int timeout) {
   const char *fails = getenv("POLL_FAILS");
   if (!fails || ++made != atoi(fails)) return syscall(SYS_epoll_pwait, poll, events, most, timeout, NULL, 0);
   errno = EIO;
+  return -1;
+}
+
+int connect(int made, const struct sockaddr *to, socklen_t length) {
+  static atomic_int made_before;
+  const char *lack = getenv("CONNECTS_LACK");
+  if (!lack || made_before++ >= atoi(lack)) return syscall(SYS_connect, made, to, length);
+  errno = ENOBUFS;
   return -1;
 }
 

@@ -174,29 +174,52 @@ def floods_nothing_with_drops():
     assert len(lines) <= 32 and drops_in(lines) > 100
 
 
-def out_of_memory():
-    def is_served(client):
-        with contextlib.suppress(ConnectionError):
-            return asked(client)
+def is_answered(client):
+    """Whether a client that sent a byte reads it, and is not closed."""
+    with contextlib.suppress(ConnectionError):
+        return client.recv(1) == b"?"
 
+
+# refuses memory_makes_none_wait: without memory for a connection, one client after the other is accepted, and closed
+# refuses each_that_comes_costs_one: each client that comes while memory is short has the relay close another
+def out_of_memory():
     # The queues of a recording leave holes in the heap.
-    relay = Relay(target(echo), recorded=False, ring=65536, slots=8)
+    relay = Relay(target(echo), recorded=False, ring=65536, slots=64)
     clients = served(relay, 1)
     relay.limit(resource.RLIMIT_AS, 1024 * relay.status("VmSize") + 500_000)
-    tries = [relay.connect() for _ in range(8)]
-    clients += [client for client in tries if is_served(client)]
-    without = 1 + len(tries) - len(clients)
-    assert len(clients) < 8 and all([asked(client) for client in clients])
-    # With memory again each slot is used, those of the refused too.
-    relay.limit(resource.RLIMIT_AS, None)
-    clients += served(relay, 8 - len(clients))
+    tries = asking(relay, 60)
+    time.sleep(1)
+    assert asked(clients[0])
+    with relay.stopped():
+        waiting = [client for client in tries if is_silent(client, 0)]
+        relay.limit(resource.RLIMIT_AS, None)
+    # With memory again they are served, and each slot is used, those of the refused too.
+    assert len(waiting) > 30 and all([answers_soon(client) for client in waiting])
+    clients += [client for client in tries if client in waiting or is_answered(client)]
+    refused = 1 + len(tries) - len(clients)
+    clients += served(relay, 64 - len(clients))
     assert all([asked(client) for client in clients])
     lines = relay.end()
-    opened, refused = having(lines, "] open s="), having(lines, "] drop")
+    opened, drops = having(lines, "] open s="), having(lines, "] drop")
+    assert sorted(line.split("] open ")[1] for line in opened) == sorted(f"s={slot} g=1" for slot in range(64))
     # A refused connection is logged, unless there is no memory for that either.
-    assert sorted(line.split("] open ")[1] for line in opened) == [f"s={slot} g=1" for slot in range(8)]
-    assert refused[0] == "[WARN  relayd] drop kind=memory"
-    assert 0 < drops_in(refused) <= without and len(opened) + len(refused) == len(lines)
+    assert drops[0] == "[WARN  relayd] drop kind=memory" and 0 < drops_in(drops) <= refused
+    assert having(lines, "] accept: ")[0] == "[ERROR relayd] accept: out of memory"
+
+
+# refuses system_memory_makes_none_wait: without the system's memory for a target, one client after the other is closed
+def the_system_lacks_memory():
+    if not Relay.library:
+        return left_out("cc")
+    # The first twenty connections to the target find none.
+    relay = Relay(target(echo), preload={"CONNECTS_LACK": "20"}, slots=64)
+    tries = asking(relay, 60)
+    time.sleep(1)
+    assert sum(is_silent(client, 0) for client in tries) > 40
+    assert sum(bool(is_answered(client)) for client in tries) == 40
+    lines = relay.end()
+    assert having(lines, "] drop")[0] == "[WARN  relayd] drop kind=connect" and drops_in(lines) == 20
+    assert having(lines, "] accept: ") == ["[ERROR relayd] accept: out of memory"]
 
 
 def requests_take_no_memory():

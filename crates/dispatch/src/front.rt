@@ -133,6 +133,9 @@ pub trait Front {
     // For which reasons it may refuse to open a client's connection.
     ghost may_refuse: { Self.Client → Unopened → Type 0 } = { λ _ _. Unit {0} };
 
+    // Whether it was told of a lack of memory.
+    ghost lacked: { Type 0 } = { Unit {0} };
+
     // Whether the wait of the thread that opens this slot was ended.
     ghost woke: { Self.Waker → ℕ → Type 0 } = { λ _ _. Unit {0} };
 
@@ -167,6 +170,12 @@ pub trait Front {
 
     /// Accepts the next connection that waits (accept(2)).
     fn accept(&mut self) -> io::Result<Self::Client>
+        ensures seen { seen self.new ≡ seen self.old };
+
+    /// Memory ran out for a client that it gave, which is closed unopened. So the front may answer for a while as if
+    /// accept(2) lacked memory.
+    fn lacked_memory(&mut self)
+        ensures told { lacked }
         ensures seen { seen self.new ≡ seen self.old };
 
     /// Gives up its share of the listening socket, which is closed with the last share. A second call changes nothing.

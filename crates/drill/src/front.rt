@@ -85,6 +85,8 @@ impl Front for KernelFront {
         Err(io::Error::from(kind))
     }
 
+    fn lacked_memory(&mut self) {}
+
     fn stop_listening(&mut self) {
         self.listening = false;
         let poller = self.poller;

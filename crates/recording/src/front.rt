@@ -105,6 +105,8 @@ impl<F: Front + Drop, S: Sink> Front for RecordedFront<F, S> {
 
     ghost may_refuse = { λ client why. F.may_refuse client.inner why };
 
+    ghost lacked = { F.lacked };
+
     ghost woke = { λ waker slot. F.woke waker slot };
 
     type Client = RecordedWire<F::Client, S>;
@@ -165,6 +167,12 @@ impl<F: Front + Drop, S: Sink> Front for RecordedFront<F, S> {
             Ok(client) => Ok(RecordedWire::new(client, None, self.recorder.another())),
             Err(error) => Err(error),
         }
+    }
+
+    fn lacked_memory(&mut self) {
+        let begun = Begun::unrecorded();
+        self.inner.during(&begun).lacked_memory();
+        begun.skip();
     }
 
     fn stop_listening(&mut self) {

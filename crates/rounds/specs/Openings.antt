@@ -129,10 +129,10 @@ abbrev pub DropLogged : Cause → PollerState → PollerState → Type 0
 DropLogged cause old new =
     new ≡ record old { episodes = record old.episodes { drops = dropped_for cause old.second old.episodes.drops } }
 
-abbrev pub IsDropped : PollerState → PollerState → Type 0
-IsDropped old new =
+abbrev pub IsDropped : Cause → PollerState → PollerState → Type 0
+IsDropped why old new =
     (new.opened ≡ old.opened) × (new.lost ≡ old.lost)
-    × ((cause : Cause) × (new.episodes ≡ record old.episodes { drops = dropped_for cause old.second old.episodes.drops }))
+    × (new.episodes ≡ record old.episodes { drops = dropped_for why old.second old.episodes.drops })
 
 abbrev pub IsLost : PollerState → PollerState → Type 0
 IsLost old new =
@@ -174,11 +174,12 @@ Registered made slot (Ok opened) from to = made act.Register slot from to
 Registered made slot (Err cause) from to = (to ≡ from) ⊎ made act.Register slot from to
 
 -- What became of an accepted connection for this slot, what is logged and counted of it, and which acts were made: it
--- was opened; it was dropped; the slot can have no connection; or one exchange found the slot not free
-pub data Fate (slot : ℕ) (opened dropped : Type 0) (made : List act.Act → Type 0)
+-- was opened; it was dropped, for this cause; the slot can have no connection; or one exchange found the slot not free
+pub data Fate (slot : ℕ) (opened : Type 0) (dropped : Cause → Type 0) (made : List act.Act → Type 0)
     (old new : PollerState) (had has : SeatState) : Type 0 where
   Opened : IsOpened old new → opened → made act.open_slot → Fate slot opened dropped made old new had has
-  Dropped : IsDropped old new → dropped → made [] ⊎ made (act.Register ∷ []) → Fate slot opened dropped made old new had has
+  Dropped : (why : Cause) → IsDropped why old new → dropped why → made [] ⊎ made (act.Register ∷ [])
+      → Fate slot opened dropped made old new had has
   Spent : IsLost old new → IsSpent old slot → made [] → Fate slot opened dropped made old new had has
   NotFree : IsLost old new → Adds slot (exchange.NotFree ∷ []) had has → made (act.Register ∷ act.Adopt ∷ [])
       → Fate slot opened dropped made old new had has
@@ -187,9 +188,9 @@ pub data Fate (slot : ℕ) (opened dropped : Type 0) (made : List act.Act → Ty
 abbrev pub OpeningLogged : (Level → Option (List ℕ) → Type 0) → (ℕ → Event → Type 0) → Ticket → Type 0
 OpeningLogged logged counted t = logged level.Info (Some (open_message t.slot t.generation)) × counted t.slot event.Opened
 
--- a drop was counted at this slot
-abbrev pub DropCounted : (ℕ → Event → Type 0) → ℕ → Type 0
-DropCounted counted slot = counted slot event.Dropped
+-- a drop was counted at this slot, and the front was told if memory was lacking
+abbrev pub DropCounted : (ℕ → Event → Type 0) → Type 0 → ℕ → Cause → Type 0
+DropCounted counted lacked slot why = counted slot event.Dropped × (why ≡ cause.Memory → lacked)
 
 -- the next connection of a slot
 abbrev pub next_in : PollerState → ℕ → Ticket

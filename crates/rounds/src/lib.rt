@@ -24,10 +24,11 @@
 //!   is no pair (`cause`).
 //! - An accepted connection counts once (`Uncounted`): as opened, as dropped, or its slot as lost (`open`: `counted`,
 //!   by `Fate`). An opening passes its line to the log. Openings and drops are counted at their slots (`OpeningLogged`,
-//!   `DropCounted`). A drop counts only if the log gets a line or a count of it (`Dropped`). A slot is lost only if one
-//!   exchange found it not free (`NotFree`), or no connection can be opened there (`Spent`). After a failed opening the
-//!   slot is in hand, and nowhere else (`prepare`: `failed`; `round`: `slots`). Slots start at generation 0
-//!   (`Poller::new`); in a poller's table the slots of others stay at 0 (`IsOwnTable`).
+//!   `DropCounted`, by which the front is told of a lack of memory). A drop counts only if the log gets a line or a
+//!   count of it (`Dropped`). A slot is lost only if one exchange found it not free (`NotFree`), or no connection can be
+//!   opened there (`Spent`). After a failed opening the slot is in hand, and nowhere else (`prepare`: `failed`; `round`:
+//!   `slots`). Slots start at generation 0 (`Poller::new`); in a poller's table the slots of others stay at 0
+//!   (`IsOwnTable`).
 #![tactic(auto)]
 
 mod delivering;

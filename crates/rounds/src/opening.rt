@@ -64,7 +64,7 @@ pub fn open<F: Front + Counting, A: Moves<F>, R: Wait + Logs>(
     requires slot { 1 ≤ length own.old.hand.slots }
     ensures between { Between shared.now.claims own.new poller.new }
     ensures counted { IfSome (slice_get own.old.hand.slots 0) (λ slot. Fate slot
-        (OpeningLogged (R.logged rt.now) F.counted (next_in poller.old slot)) (DropCounted F.counted slot)
+        (OpeningLogged (R.logged rt.now) F.counted (next_in poller.old slot)) (DropCounted F.counted F.lacked slot)
         (λ made. AreMade A.made slot made acts.old acts.new) poller.old poller.new own.old.seat own.new.seat) }
     ensures done { IsWorn own.old.seat ⊎ OneAccepted poller.old poller.new own.old own.new }
     ensures ready { own.new.ready ≡ own.old.ready }
@@ -101,7 +101,8 @@ pub fn open<F: Front + Counting, A: Moves<F>, R: Wait + Logs>(
     }
 }
 
-/// Connects to the target. If that fails, the drop is logged or counted, and the slot is in hand again.
+/// Connects to the target. If that fails, the drop is logged or counted, the front is told if memory was lacking, and
+/// the slot is in hand again.
 fn prepare<F: Front, A: Moves<F>, N: Log>(
     rt: &N,
     alloc: Global,
@@ -118,6 +119,7 @@ fn prepare<F: Front, A: Moves<F>, N: Log>(
     ensures generation { IfOk result (λ berth. berth.value.pair.generation ≡ names.client.generation) }
     ensures prepared { OnOk result (hand.new ≡ hand.old) }
     ensures cause { IfErr result (λ dropped. DropsFor (F.may_refuse client) (F.may_tell client) poller.old.opening.proxy dropped) }
+    ensures lacked { IfErr result (λ dropped. dropped ≡ Cause.Memory → F.lacked) }
     ensures failed { OnErr result (hand.new ≡ record hand.old { slots = hand.old.slots ++ names.client.slot ∷ [] }) }
     ensures same { OnOk result (poller.new ≡ poller.old) }
     ensures logged { IfErr result (λ dropped. DropLogged dropped poller.old poller.new) }

@@ -247,12 +247,24 @@ impl<F: Front> Poller<F> {
         uncounted.spend();
     }
 
-    /// Makes a drop at the round's second ([`Dropped::log`]).
+    /// Makes a drop at the round's second ([`Dropped::log`]), and tells the front if memory was lacking.
     pub(crate) fn log_dropped<N: Logs>(&mut self, rt: &N, cause: Cause) -> Dropped
         ensures cause { result ≡ cause }
+        ensures lacked { cause ≡ Cause.Memory → F.lacked }
         ensures drops { DropLogged cause self.old self.new }
     {
+        self.tell_lack(cause);
         Dropped::log(rt, &mut self.episodes.drops, cause, self.second)
+    }
+
+    /// Tells the front of a drop for want of memory.
+    fn tell_lack(&mut self, cause: Cause)
+        ensures lacked { cause ≡ Cause.Memory → F.lacked }
+        ensures same { self.new ≡ self.old }
+    {
+        if cause == Cause::Memory {
+            self.front.lacked_memory();
+        }
     }
 
     /// Logs the counted drops of each cause that has had no line at the round's second.

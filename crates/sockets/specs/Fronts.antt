@@ -1,5 +1,5 @@
 -- Where a server listens, and what is reported. Part of the promises.
-use Rattle.std.specs.{Prelude.{◌≡◌, ◌≢◌, ℕ, ◌*◌, max, min, Bool, true, false, ◌||◌, if◌then◌else◌, List, [], map, OnOk, IsTrue, ◌↔◌, Option, Some, None, Result, Ok, Err}, IoError.error_kind, declared.{io.{Error.Error, ErrorKind.TheVariants.Interrupted}, net.{SocketAddr.{SocketAddr, TheVariants.{V4, V6}}, SocketAddrV4.SocketAddrV4}}, Result.result_ok, Net.{Addr.{IsV4And, ipv4_octets}, Socket.{socket_ip, IsPlainSocket}}}
+use Rattle.std.specs.{Prelude.{◌≡◌, ◌≢◌, ◌⊎◌, ℕ, ◌*◌, max, min, Bool, true, false, ◌||◌, if◌then◌else◌, List, [], map, OnOk, IsTrue, ◌↔◌, Option, Some, None, Result, Ok, Err}, IoError.error_kind, declared.{io.{Error.Error, ErrorKind.TheVariants.Interrupted}, net.{SocketAddr.{SocketAddr, TheVariants.{V4, V6}}, SocketAddrV4.SocketAddrV4}}, Result.result_ok, Net.{Addr.{IsV4And, ipv4_octets}, Socket.{socket_ip, IsPlainSocket}}}
 use Rattle.token.specs.{Names.EndName, Numbers.name_of, declared.name.Name.{Name, TheVariants.{Listener, Waker, End}}}
 use Rattle.readiness.specs.Words.{WordName, word_of}
 use Rattle.settings.specs.Addresses.{SocketAddress}
@@ -38,13 +38,14 @@ abbrev pub Fails : Result (Unit {0}) Error → Type 0
 Fails (Ok done) = ⊥
 Fails (Err error) = error_kind error ≢ Interrupted
 
--- A front: how its connections are forwarded, the most milliseconds that it waits for reports, what it shows, and how
--- many times in a row it has left a client to other pollers
+-- A front: how its connections are forwarded, the most milliseconds that it waits for reports, what it shows, how many times
+-- in a row it has left a client to other pollers, and how many more times it answers as if accept(2) lacked memory
 pub record Watched : Type 0 where
   pub forwarding : Forwarding
   pub wait : ℕ
   pub seen : Seen
   pub left : ℕ
+  pub lacking : ℕ
 
 -- the longest wait for reports of each of this many pollers, in milliseconds: together they wake at most 10 times a
 -- second by themselves
@@ -58,19 +59,31 @@ fresh_front forwarding pollers = record {
   wait = wait_of pollers;
   seen = record { reported = []; failed = false; waited = 0; listens = true };
   left = 0;
+  lacking = 0;
 }
 
 -- how many times in a row a front leaves a client at most
 abbrev pub most_left : ℕ
 most_left = 16
 
+-- how many times a front answers as if accept(2) lacked memory at most, after an opening that lacked some
+abbrev pub most_lacking : ℕ
+most_lacking = 16
+
+-- an opening changes at most this of a front: it may have lacked memory
+abbrev pub OnlyLacked : Watched → Watched → Type 0
+OnlyLacked old new =
+    (new ≡ record old { lacking = new.lacking }) × ((new.lacking ≡ old.lacking) ⊎ (new.lacking ≡ most_lacking))
+
 -- What a wait for reports says of this front, beside what it says of any. After a brief wait without a report the front
--- leaves no client
+-- leaves no client, and after a long one it no longer lacks memory
 pub record WaitEnded (wait : Waiting) (answer : Result (Unit {0}) Error) (old new : Watched) : Type 0 where
   pub fails : IsTrue new.seen.failed ↔ Fails answer
   pub asked : wait ≡ waiting.Long → new.seen.waited ≡ old.wait
   pub quiet : OnOk answer (wait ≡ waiting.Brief → new.seen.reported ≡ [] → new.left ≡ most_left)
   pub kept : wait ≢ waiting.Brief → new.left ≡ old.left
+  pub eased : OnOk answer (wait ≡ waiting.Long → new.seen.reported ≡ [] → new.lacking ≡ 0)
+  pub lacks : (new.lacking ≡ old.lacking) ⊎ ((wait ≡ waiting.Long) × (new.seen.reported ≡ []))
 
 -- a socket that listens: the address that the system was asked for, and the one that it gave
 pub record Listens (L : Type 0) : Type 0 where

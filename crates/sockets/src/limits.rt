@@ -20,6 +20,9 @@ pub(crate) const MARGIN_PART: usize = 8;
 /// A poller that has left a client this many times in a row takes the next one.
 pub(crate) const MOST_LEFT: u8 = 16;
 
+/// After an opening that lacked memory a poller answers this many times at most as if accept(2) lacked it.
+pub(crate) const MOST_LACKING: u8 = 16;
+
 /// A poller lets other threads run after this many more polls with several reports than polls with few.
 pub(crate) const MOST_BUSY: u8 = 14;
 
@@ -28,3 +31,6 @@ pub(crate) const SEVERAL: usize = 4;
 
 /// The error of a system that has no descriptor left (errno(3)).
 pub(crate) const ENFILE: i32 = 23;
+
+/// The error of a system that has no memory left for a socket (errno(3)).
+pub(crate) const ENOBUFS: i32 = 105;

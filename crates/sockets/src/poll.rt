@@ -1,14 +1,16 @@
 //! A poller's front over epoll(7): it waits, accepts, connects and registers.
-ghost use Rattle.std.specs.{Prelude.{◌≡◌, ◌≢◌, ◌↔◌, ◌⊎◌, IsTrue, if◌then◌else◌, ◌+◌, ◌<◌, ◌≤◌, ◌++◌, [], length, replicate, true, false, Some, None, IfOk, OnOk, IfErr, OnErr, vec_len, vec_capacity}, IoError.error_kind, declared.io.ErrorKind.TheVariants.Interrupted};
+ghost use Rattle.std.specs.{Prelude.{◌≡◌, ◌≢◌, ◌↔◌, ◌⊎◌, IsTrue, if◌then◌else◌, ◌+◌, ◌-◌, ◌<◌, ◌≤◌, ◌++◌, [], length, replicate, true, false, Some, None, IfOk, OnOk, IfErr, OnErr, IsErrAnd, vec_len, vec_capacity}, IoError.error_kind, declared.io.ErrorKind.TheVariants.Interrupted};
 ghost use Rattle.mio.specs.{Event.event_token, Events.items};
 ghost use Rattle.token.specs.Numbers.{name_of};
-ghost use Rattle.sockets.specs.{Fronts.{Fails, end_in, fresh_front, heard_of, most_left, names_reading, numbers, v4_of, wait_of, IsLocal, IsRoute, MayTell, WaitEnded}, Wires.{SameButWatched, fresh_wire, patient, under, unlimited}};
-ghost use Rattle.dispatch.specs.{Splits.parts_of, declared.front.Unopened.TheVariants.{Connect, Register}};
+ghost use Rattle.sockets.specs.{Fronts.{Fails, end_in, fresh_front, heard_of, most_lacking, most_left, names_reading, numbers, v4_of, wait_of, IsLocal, IsRoute, MayTell, OnlyLacked, WaitEnded}, Wires.{SameButWatched, fresh_wire, patient, under, unlimited}};
+ghost use Rattle.dispatch.specs.{Splits.parts_of, Told.unaccepted_of, declared.front.{Unaccepted.TheVariants.Starved, Unopened.TheVariants.{Connect, Register}}};
 
 use crate::bound::Bound;
 use crate::failure::{log_failure, log_failure_at};
 use crate::forwarding::{Dial, Forwarding};
-use crate::limits::{ENFILE, MAX_POLLERS, MOST_BUSY, MOST_LEFT, SEVERAL, WAIT_MILLIS};
+use crate::limits::{
+    ENFILE, ENOBUFS, MAX_POLLERS, MOST_BUSY, MOST_LACKING, MOST_LEFT, SEVERAL, WAIT_MILLIS,
+};
 use crate::loads::Loads;
 use crate::socket::Socket;
 use crate::stream::Stream;
@@ -16,7 +18,7 @@ use crate::wire::SocketWire;
 use dispatch::{
     Front, LISTENER, MAX_BATCH, Opened, Route, ServerFault, Settle, Split, Unopened, WAKER, Waiting,
 };
-use libc::EMFILE;
+use libc::{EMFILE, ENOMEM, ENOSPC};
 use log::{Level, Log};
 use mio::event::Event;
 use mio::net::TcpListener;
@@ -55,6 +57,8 @@ pub struct Sockets<'r, R> {
     poller: usize,
     // How many times in a row this poller has left a client.
     left: u8,
+    // How many more times it answers as if accept(2) lacked memory, if no wait passes before.
+    lacking: u8,
     // How many more polls gave several reports than few since it let other threads run, 0 at least.
     busy: u8,
 }
@@ -71,6 +75,7 @@ impl<'r, R> Model for Sockets<'r, R> {
       wait = s.wait;
       seen = record { reported = numbers (items s.events); failed = s.failed; waited = s.waited; listens = is_some s.listener };
       left = s.left;
+      lacking = s.lacking;
     } };
 
     // The most reports that one wait gives, MAX_BATCH.
@@ -160,6 +165,7 @@ fn fronts_of<'r, R>(
                 loads: Arc::try_clone(loads)?,
                 poller,
                 left: 0,
+                lacking: 0,
                 busy: 0,
             }),
             None => unreachable!(),
@@ -221,9 +227,11 @@ fn watched<R: Net + Log>(rt: &R, listener: &mut TcpListener) -> Result<(Poll, Wa
 impl<R: Dial> Sockets<'_, R> {
     /// Starts the connection to the target, and sets its limit, which the system checks only when it sends again. If
     /// the start fails, the client's wire keeps the cause.
-    fn begin<N: Log>(&self, rt: &N, client: &mut SocketWire) -> Result<SocketWire, Unopened>
+    fn begin<N: Log>(&mut self, rt: &N, client: &mut SocketWire) -> Result<SocketWire, Unopened>
         ensures client { client.new ≡ client.old }
-        ensures begun { IfOk result (λ target. target.socket ≡ patient self.now.forwarding.patience (fresh_wire false None)) }
+        ensures same { OnOk result (self.new ≡ self.old) }
+        ensures lacking { OnlyLacked self.old self.new }
+        ensures begun { IfOk result (λ target. target.socket ≡ patient self.old.forwarding.patience (fresh_wire false None)) }
         ensures refused { IfErr result (λ why. why ≡ Unopened.Connect) }
     {
         match self.rt.dial(self.forwarding.target) {
@@ -235,15 +243,15 @@ impl<R: Dial> Sockets<'_, R> {
             Err(error) => {
                 log_failure_at(rt, Level::Debug, "connect", self.forwarding.target, &error);
                 client.keep(&error);
-                if lacks_descriptors(&error) {
-                    self.loads.set_short(true);
-                }
+                self.find_short(&error);
                 Err(Unopened::Connect)
             }
         }
     }
 
-    fn watch<N: Log>(&self, rt: &N, wire: &mut SocketWire, token: Token) -> Result<(), Unopened>
+    fn watch<N: Log>(&mut self, rt: &N, wire: &mut SocketWire, token: Token) -> Result<(), Unopened>
+        ensures same { OnOk result (self.new ≡ self.old) }
+        ensures lacking { OnlyLacked self.old self.new }
         ensures watched { OnOk result (wire.new.socket ≡ under token wire.old.socket) }
         ensures unwatched { OnErr result (wire.new.socket ≡ wire.old.socket) }
         ensures refused { IfErr result (λ why. why ≡ Unopened.Register) }
@@ -255,15 +263,33 @@ impl<R: Dial> Sockets<'_, R> {
             Err(error) => {
                 log_failure(rt, Level::Debug, "register", &error);
                 wire.keep(&error);
+                self.find_short(&error);
                 Err(Unopened::Register)
             }
         }
     }
-}
 
-/// Whether a call failed since the process or the system has no descriptor left (socket(2)).
-fn lacks_descriptors(error: &io::Error) -> bool {
-    matches!(error.raw_os_error(), Some(EMFILE | ENFILE))
+    /// Keeps what was short if an opening failed for that: a descriptor, or the system's memory (socket(2), connect(2)).
+    /// For epoll_ctl(2) a user's sockets may take only a part of it, and ENOSPC says that they have that.
+    fn find_short(&mut self, error: &io::Error)
+        ensures lacking { OnlyLacked self.old self.new }
+    {
+        match error.raw_os_error() {
+            Some(EMFILE | ENFILE) => self.loads.set_short(true),
+            Some(ENOMEM | ENOBUFS | ENOSPC) => self.lacking = MOST_LACKING,
+            Some(_) | None => {}
+        }
+    }
+
+    /// Whether it answers as if accept(2) lacked memory. This takes one such answer away.
+    fn lacks_memory(&mut self) -> bool
+        ensures lacks { IsTrue result ↔ (1 ≤ self.old.lacking) }
+        ensures fewer { self.new ≡ record self.old { lacking = self.old.lacking - 1 } }
+    {
+        let lacks = self.lacking > 0;
+        self.lacking = self.lacking.saturating_sub(1);
+        lacks
+    }
 }
 
 /// Fails if the process cannot have two descriptors more: those of a client and its target.
@@ -385,7 +411,7 @@ impl<R: Dial> Front for Sockets<'_, R> {
         ensures waited { wait ≡ Waiting.No → self.new.seen.waited ≡ 0 }
         ensures brief { wait ≡ Waiting.Brief → self.new.seen.waited ≤ 1 }
         ensures here { WaitEnded wait result self.old self.new }
-        ensures same { self.new ≡ record self.old { seen = self.new.seen; left = self.new.left } }
+        ensures same { self.new ≡ record self.old { seen = self.new.seen; left = self.new.left; lacking = self.new.lacking } }
     {
         batch.clear();
         self.busy = let_others_run(self.busy);
@@ -396,8 +422,12 @@ impl<R: Dial> Front for Sockets<'_, R> {
         answer?;
         put_numbers(batch, &self.events, &self.told);
         self.busy = busy_after(self.busy, batch.len());
-        if wait == Waiting::Brief && batch.is_empty() {
-            self.left = MOST_LEFT;
+        if batch.is_empty() {
+            match wait {
+                Waiting::No => {}
+                Waiting::Brief => self.left = MOST_LEFT,
+                Waiting::Long => self.lacking = 0,
+            }
         }
         Ok(())
     }
@@ -416,12 +446,18 @@ impl<R: Dial> Front for Sockets<'_, R> {
         true
     }
 
-    /// After an opening that found no descriptor for its target, it first looks for two: a client is not accepted only
-    /// to be closed.
+    /// A client is not accepted only to be closed. After an opening that found no descriptor for its target, it first
+    /// looks for two. After one that lacked memory, it answers as if accept(2) did, until a long wait has passed
+    /// without a report, and 16 times at most.
     fn accept(&mut self) -> io::Result<SocketWire>
         ensures accepted { IfOk result (λ client. (peer : SocketAddr) × (client.socket ≡ fresh_wire true (Some peer))) }
-        ensures same { self.new ≡ self.old }
+        ensures lacking { 1 ≤ self.old.lacking
+            → IsErrAnd result (λ error. unaccepted_of (error_kind error) ≡ Starved) }
+        ensures fewer { self.new ≡ record self.old { lacking = self.old.lacking - 1 } }
     {
+        if self.lacks_memory() {
+            return Err(io::Error::from(io::ErrorKind::OutOfMemory));
+        }
         let Some(listener) = &self.listener else {
             return Err(io::Error::from(io::ErrorKind::WouldBlock));
         };
@@ -432,6 +468,12 @@ impl<R: Dial> Front for Sockets<'_, R> {
         let (stream, peer) = listener.accept()?;
         let share = self.loads.share(self.poller);
         Ok(SocketWire::accepted(Socket::of(stream, share), peer))
+    }
+
+    fn lacked_memory(&mut self)
+        ensures { self.new ≡ record self.old { lacking = most_lacking } }
+    {
+        self.lacking = MOST_LACKING;
     }
 
     fn stop_listening(&mut self)
@@ -462,7 +504,8 @@ impl<R: Dial> Front for Sockets<'_, R> {
             (under client_token client.old.socket)) }
         ensures unopened { OnErr result (SameButWatched client.old.socket client.new.socket) }
         ensures same { client.new.socket.tally ≡ client.old.socket.tally }
-        ensures kept { self.new ≡ self.old }
+        ensures kept { OnOk result (self.new ≡ self.old) }
+        ensures lacking { OnlyLacked self.old self.new }
     {
         let mut target = self.begin(rt, client)?;
         self.watch(rt, client, client_token)?;

@@ -31,7 +31,7 @@ returns-in-Err g c =
     let logged = c.in-Err.ensures.logged in
     record {
       between = between_still c.requires.between refl (rw logged);
-      counted = rw (first, logged) (Dropped (refl, refl, (c.in-Err.dropped, refl)) c.count_dropped.ensures
+      counted = rw (first, logged) (Dropped c.in-Err.dropped (refl, refl, refl) (c.count_dropped.ensures, c.in-Err.ensures.lacked)
           (registered_once g.A.Acts.made c.args.acts.now c.prepare.new.acts named c.in-Err.ensures.acts));
       done = inr (record {
         done = opened_not c.take_slot.ensures.left first (rw named at c.in-Err.ensures.failed) (rw logged (still c.args.poller.now));
