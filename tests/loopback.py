@@ -232,13 +232,14 @@ class Relay:
         resource.prlimit(self.process.pid, which, (hard if most is None else most, hard))
 
 
-def made(relays, seconds):
-    """For each of these relays the system calls that end meanwhile, as strace(1) writes them."""
+def made(relays, seconds=0, work=lambda: None):
+    """For each of these relays the system calls that end while this is done and so long, as strace(1) writes them."""
     relay_of = {task: relay for relay in relays for task in relay.tasks()}
     with tempfile.NamedTemporaryFile("r") as file:
         words = [word for relay in relays for word in ("-p", str(relay.process.pid))]
         tracer = start(["strace", "-f", "-qq", "-o", file.name, *words], stderr=subprocess.DEVNULL)
         assert until(lambda: all(relay.status("TracerPid", task) for task, relay in relay_of.items()))
+        work()
         time.sleep(seconds)
         tracer.send_signal(signal.SIGINT)
         tracer.wait(WAIT)

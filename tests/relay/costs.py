@@ -1,0 +1,30 @@
+"""What a request costs a relay: counts, which do not depend on how busy the machine is."""
+
+import collections
+import functools
+import re
+import shutil
+
+from loopback import Relay, beside_polls, echo, made, target
+from shared import asked, left_out, served
+
+# The system calls of a request and its answer over a connection that is alone. A message is reported, read and written, and
+# its side is read once more, which would block; the wire of the other side knows that a read there would.
+CALLS = {"epoll_wait": 2, "recvfrom": 4, "sendto": 2}
+
+
+def ask(client, many):
+    assert all([asked(client) for _ in range(many)])
+
+
+def a_request_makes_no_more_calls_than_is_documented():
+    if not shutil.which("strace"):
+        return left_out("strace")
+    many = 200
+    relay = Relay(target(echo), slots=8, workers=1, recorded=False)
+    (client,) = served(relay, 1)
+    ask(client, 20)
+    lines = beside_polls(made([relay], work=functools.partial(ask, client, many))[relay])
+    found = collections.Counter(re.search(r"(\w+)(?:\(| resumed>)", line)[1] for line in lines)
+    # The tracer itself ends a few calls.
+    assert all(found[name] <= CALLS.get(name, 0) * many + 20 for name in found), found
