@@ -190,21 +190,20 @@ impl<S: Stream> SocketWire<S> {
         told
     }
 
-    /// Counts an error of a call by its class, and returns the error.
-    fn refuse(&mut self, call: CallKind, error: io::Error) -> io::Error
-        ensures same { result ≡ error }
-        ensures counted { self.new.socket.tally ≡ counted (class_by call self.old.socket.tally.joined (error_kind error))
+    /// Counts an error of a call by its class.
+    fn refuse(&mut self, call: CallKind, error: &io::Error)
+        ensures counted { self.new.socket.tally ≡ counted (class_by call self.old.socket.tally.joined (error_kind error.now))
             self.old.socket.tally }
-        ensures reads { self.new.socket.reads ≡ goes_on call (class_by call self.old.socket.tally.joined (error_kind error))
+        ensures reads { self.new.socket.reads ≡ goes_on call (class_by call self.old.socket.tally.joined (error_kind error.now))
             self.old.socket.reads }
         ensures joined { self.new.socket.tally.joined ≡ self.old.socket.tally.joined }
         ensures rest { self.new.socket ≡ record self.old.socket { tally = self.new.socket.tally; reads = self.new.socket.reads } }
         ensures stream { self.new.stream ≡ self.old.stream }
     {
-        let class = class_by(call, error.kind(), self.tally.joined());
-        self.heed(call, class, &error);
-        self.tally.refuse(call, error.kind());
-        error
+        let kind = error.kind();
+        let class = class_by(call, kind, self.tally.joined());
+        self.heed(call, class, error);
+        self.tally.refuse(call, kind);
     }
 
     /// After a read that would block, the wire stops reading. After a failure, which is kept for the log, it reads
@@ -285,45 +284,43 @@ impl<S: Stream> Wire for SocketWire<S> {
 
     fn read(&mut self, buffer: &mut [u8]) -> io::Result<usize> {
         if !self.looks() {
-            let blocked = io::Error::from(io::ErrorKind::WouldBlock);
-            return Err(self.refuse(CallKind::Read, blocked));
+            let blocked = io::ErrorKind::WouldBlock;
+            self.tally.refuse(CallKind::Read, blocked);
+            return Err(io::Error::from(blocked));
         }
-        match self.stream.read(buffer) {
-            Ok(count) => {
-                self.connect();
-                Ok(count)
-            }
-            Err(error) => Err(self.refuse(CallKind::Read, error)),
+        let answer = self.stream.read(buffer);
+        match &answer {
+            Ok(_) => self.connect(),
+            Err(error) => self.refuse(CallKind::Read, error),
         }
+        answer
     }
 
     fn write(&mut self, offer: &[u8]) -> io::Result<usize> {
         let answer = self.stream.write(offer);
         self.offered(offer.len());
-        match answer {
-            Ok(count) => {
-                self.took(count, offer.len());
-                Ok(count)
-            }
-            Err(error) => Err(self.refuse(CallKind::Write, error)),
+        match &answer {
+            Ok(count) => self.took(*count, offer.len()),
+            Err(error) => self.refuse(CallKind::Write, error),
         }
+        answer
     }
 
     fn shut_write(&mut self) -> io::Result<()> {
-        match self.stream.shut_write() {
-            Ok(()) => Ok(()),
-            Err(error) => Err(self.refuse(CallKind::Shut, error)),
+        let answer = self.stream.shut_write();
+        if let Err(error) = &answer {
+            self.refuse(CallKind::Shut, error);
         }
+        answer
     }
 
     fn joined(&mut self) -> io::Result<()> {
-        match stand(&mut self.stream) {
-            Ok(()) => {
-                self.connect();
-                Ok(())
-            }
-            Err(error) => Err(self.refuse(CallKind::Join, error)),
+        let answer = stand(&mut self.stream);
+        match &answer {
+            Ok(()) => self.connect(),
+            Err(error) => self.refuse(CallKind::Join, error),
         }
+        answer
     }
 
     fn faults(&self) -> u64 {
