@@ -2,7 +2,7 @@
 pub mod Programs
 use Rattle.world.{specs.{declared.limits.Limits.Limits, Headline.EveryRunHolds, CoreLaws.CoreLaws, States.{opening, unused as unused_place}}, proofs.Headline.Ends.Pairs.Holders.{Events.{holds_after, Lists.{get-replicate, get_beside}}, turns_after, turns_on}}
 use Rattle.dispatch.specs.Acts.{gone_turn, quiet_turn, again_turn}
-use Rattle.interleaving.specs.{Threads.{Claim, ProgramsAreThese, gone, resting, run, seen, start}, Likeness.{all_outside, calls_of, exchanges, taken_word, EveryInterleavingIsARun, NoActInVain}}
+use Rattle.interleaving.specs.{Threads.{Claim, ProgramsAreThese, gone, resting, run, seen, start}, Likeness.{all_outside, calls_of, exchanges, taken_word, EveryInterleavingIsARun, EveryStepIsFollowed, NoActInVain}}
 use Rattle.std.proofs.lemmas.Option.{option_and_then_some}
 use Programs.*
 
@@ -245,3 +245,23 @@ every_interleaving laws holds l steps st one ran =
       holds = holds l r.events r.world led;
       nothing = no_act_in_vain st r.world r.like (turns_after laws l r.events r.world led);
     }
+
+-- one step
+
+pub every_step : CoreLaws → EveryStepIsFollowed
+every_step laws = record {
+  begins = at_first;
+  follows = λ l before w st q was s led is.
+      let f : Follows (ahead st w was) (exchange st.word (kind_in st s)) w s q =
+      kept_at {P = Follows (ahead st w was) (exchange st.word (kind_in st s)) w s} (step st s) q is (follows st w was (turns_after laws l before w led) s) in
+      let shows = rw (append-nil f.events, append-nil (call_of s), append-nil (outside_of s), append-nil (ahead q f.world f.like)) at (f.shows []) in
+      record {
+        made = f.events;
+        world = f.world;
+        allowed = ap (λ (x : Shown). x.0) shows;
+        like = f.like;
+        calls = ap (λ (x : Shown). x.1) shows;
+        outside = ap (λ (x : Shown). x.2) shows;
+        words = ap (λ (x : Shown). x.3) shows;
+      };
+}

@@ -290,3 +290,23 @@ pub record IsARun (l : Limits) (steps : List Step) (st : System) : Type 0 where
 
 abbrev pub EveryInterleavingIsARun : Type 0
 EveryInterleavingIsARun = (l : Limits) (steps : List Step) (st : System) → l.slots ≡ 1 → run (start l) steps ≡ Some st → IsARun l steps st
+
+-- From like states w and st, of which `was` says how, the step s of the threads led to q. It is followed by these events
+-- of the machine, none or more, which lead to a state like q. By them the machine makes the step's call, if it makes
+-- one, and what clock, network, kernel, listener and polls did; and its exchanges, but for those that it is ahead by
+pub record IsFollowed (w : State) (st q : System) (was : Like st w) (s : Step) : Type 0 where
+  pub made : List Event
+  pub world : State
+  pub allowed : events.run w made ≡ Some world
+  pub like : Like q world
+  pub calls : calls_in made ≡ call_of s
+  pub outside : outside_among made ≡ outside_of s
+  pub words : ahead st w was ++ exchanges_in w made ≡ exchange st.word (kind_in st s) ++ ahead q world like
+
+-- Both begin alike, and from any state of the machine that events lead to, each step is followed. So the events of a
+-- longer list of steps continue those of a shorter one, and calls and all that is outside keep their order among each
+-- other. So do exchanges, but for those of an opening, all of which the machine makes as it begins
+pub record EveryStepIsFollowed : Type 0 where
+  pub begins : (l : Limits) → l.slots ≡ 1 → Like (start l) (machine.opening l)
+  pub follows : (l : Limits) (before : List Event) (w : State) (st q : System) (was : Like st w) (s : Step)
+      → events.run (machine.opening l) before ≡ Some w → step st s ≡ Some q → IsFollowed w st q was s

@@ -1,5 +1,5 @@
 //! What holds for every interleaving. The functions do nothing: the contract of each is the law that it is named after.
-ghost use Rattle.interleaving.specs.{Likeness.EveryInterleavingIsARun, Rest.{LeftAloneItEnds, LeftAloneItRests}, Threads.ProgramsAreThese};
+ghost use Rattle.interleaving.specs.{Likeness.{EveryInterleavingIsARun, EveryStepIsFollowed}, Rest.{LeftAloneItEnds, LeftAloneItRests}, Threads.ProgramsAreThese};
 
 use relay_core::laws;
 
@@ -15,6 +15,18 @@ pub fn every_interleaving_is_a_run()
     laws::live_pairs_rest();
     laws::only_overdue_pairs_expire();
     world::laws::every_run_holds();
+}
+
+/// Step by step: threads and machine begin alike, and from like states each step of the threads is followed by events of
+/// the machine that lead to like states. So the events for a longer list of steps continue those for a shorter one, and
+/// calls, outside events and, but within an opening, exchanges keep their order among each other.
+pub fn every_step_is_followed()
+    ensures { EveryStepIsFollowed }
+{
+    laws::answers_keep_place();
+    laws::failures_are_told();
+    laws::live_pairs_rest();
+    laws::only_overdue_pairs_expire();
 }
 
 /// The acts of a turn of the server, by the contract of `turns`, are the program of that turn here, but for its calls
