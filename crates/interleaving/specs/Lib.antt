@@ -2,3 +2,4 @@
 pub mod Threads
 pub mod Likeness
 pub mod Rest
+pub mod Slots

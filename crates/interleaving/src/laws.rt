@@ -1,5 +1,5 @@
 //! What holds for every interleaving. The functions do nothing: the contract of each is the law that it is named after.
-ghost use Rattle.interleaving.specs.{Likeness.{EveryInterleavingIsARun, EveryStepIsFollowed}, Rest.{LeftAloneItEnds, LeftAloneItRests}, Threads.ProgramsAreThese};
+ghost use Rattle.interleaving.specs.{Likeness.{EveryInterleavingIsARun, EveryStepIsFollowed}, Rest.{LeftAloneItEnds, LeftAloneItRests}, Slots.SlotsStandApart, Threads.ProgramsAreThese};
 
 use relay_core::laws;
 
@@ -54,5 +54,15 @@ pub fn left_alone_it_rests()
     laws::failures_are_told();
     laws::live_pairs_rest();
     laws::only_overdue_pairs_expire();
+    every_interleaving_is_a_run();
+}
+
+/// Each slot of a server can be looked at alone. For each list of steps of a server, of any number of slots and with any
+/// split of them among its pollers, and for each slot: what it has seen of these steps is a run of the threads at one
+/// slot, which leads to that slot as it is. So it is a run of the machine. And while a client waits, each poller's
+/// accept flag is up, or a report of the listener is on its way to it.
+pub fn slots_stand_apart()
+    ensures { SlotsStandApart }
+{
     every_interleaving_is_a_run();
 }

@@ -1,0 +1,256 @@
+-- The steps of a server that are at no slot alone, and then any step.
+use Rattle.std.{proofs.{Common.{Bool, List, None, Some, Vec, [], ap, append-nil, arith, false, if◌then◌else◌, inl, inr, length, not, refl, slice_get, sym, true, ℕ, nat_le, nat_lt, ◌&&◌, ◌||◌, ◌++◌, ◌+◌, ◌-◌, ◌==◌, ◌∙◌, ◌∷◌, ◌≡◌, ◌≢◌, ◌≤◌, ◌<◌, ◌⊎◌, eq-eqb, eqb-true, ne_eqb, le-leb, leb-true}, lemmas.{Bool.{and_parts, cases_eq, ltb-true, or_right}, List.nil_from_length}}, specs.{Cmp.second_so, Global.Global, List.list_any}}
+use denote.RawPtr.{null_ptr}
+use Rattle.interleaving.specs.{Threads.{System, rests_at}, Slots.{Front, Many, Report, Of, Listener, Waker, Taken, Step, Tick, Network, Spurious, Vanish, Connect, Rumour, Retract, Poll, Deliver, Sweep, Accept, Drop, Open, Begin, Put, Acts, Calls, Sees, Server, may_accept, are_queued, answered, delivering, first_of, is_listener, makes, may, names_at, polled, rank, rank_at, rests, shared, slot_of, step, suits, tickets_at, unqueued, with_front}}
+use Rattle.world.proofs.Headline.Ends.Pairs.Holders.Events.Lists.{Kept, kept_guard, kept_map, kept_none, kept_some, kept_when}
+use Rattle.kernel_model.specs.{declared.accepting.Accepting.{Accepting, TheVariants.{Accepted, Blocked, Again, Starved}}}
+use Rattle.token.specs.declared.name.Name.{Name}
+use Rattle.world.specs.declared.event.Reported.TheVariants as reported
+use Rattle.interleaving.proofs.Slots.{Leaves.{leaves_acting, leaves_calling, leaves_network, leaves_spurious, leaves_sweep, leaves_tick, leaves_vanish}, Views.{Alone, AreOwn, fewer_names, framed, own_reports, queued, rank_first, taken_here, taken_there, tickets_append}, Steps.{AtSlot, Between, FrontHolds, Next, at_each, begins, by_still, by_thread, count, delivers_end, opens, same_names}}
+use Rattle.interleaving.specs.Threads as alone
+
+-- Flags
+
+-- whatever the flag is
+or_flag : (flag x y : Bool) → (x ≡ true → y ≡ true) → (flag || x) ≡ true → (flag || y) ≡ true
+or_flag true x y next h = refl
+or_flag false x y next h = next h
+
+up : (flag : Bool) → (flag || true) ≡ true
+up true = refl
+up false = refl
+
+some_wait : (armed now rest : Bool) → ((armed && false) || rest) ≡ true → ((armed && now) || rest) ≡ true
+some_wait false now rest h = h
+some_wait true true rest h = refl
+some_wait true false rest h = h
+
+told_holds : (armed none reported batch : Bool) → ((armed && none) || (reported || batch)) ≡ true → ((reported || armed) || batch) ≡ true
+told_holds armed none true batch h = refl
+told_holds true none false batch h = refl
+told_holds false none false batch h = h
+
+polled_holds : (x reported batch : Bool) → (x || (reported || false)) ≡ true → (x || ((reported && not batch) || batch)) ≡ true
+polled_holds true reported batch h = refl
+polled_holds false true true h = refl
+polled_holds false true false h = refl
+polled_holds false false true h = refl
+polled_holds false false false h = h
+
+-- once a client waits, a front holds by what is on its way; the backlog may have any size then
+with_backlog : (server : Server) (b c p : ℕ) (f : Front) → nat_lt 0 b ≡ true → FrontHolds server b p f → FrontHolds server c p f
+with_backlog server b c p f some h =
+    let more : 0 < b = ltb-true 0 b some in
+    let none : (b == 0) ≡ false = ne_eqb b 0 (λ e. absurd (omega arith)) in
+    let was : (f.flag || ((f.armed && false) || (f.reported || list_any is_listener f.batch))) ≡ true = rw none at h.listener in
+    record { listener = or_flag f.flag _ _ (some_wait f.armed (c == 0) (f.reported || list_any is_listener f.batch)) was; share = h.share; own = h.own }
+
+-- names as a poll gives them
+vec_of : (names : List Name) → length names ≤ 256 → (v : Vec Name Global) × (v.items ≡ names)
+vec_of names few = (
+  record {
+    ptr = null_ptr;
+    len = length names;
+    cap = length names;
+    alloc = record { memory = record { seal = tt } };
+    items = names;
+    ok = (refl, omega arith);
+    small = omega arith;
+  },
+  refl,
+)
+
+module _ (m : Many) (between : Between m) where
+  -- a step that is at no slot, and changes one front and the backlog
+  front_next : (x : Step) (p : ℕ) (new : Front) (b : ℕ) → ((s : ℕ) → Sees m s x []) → ((s : ℕ) → names_at s new.batch ≡ names_at s (m.fronts p).batch)
+      → ((i : ℕ) → FrontHolds m.server b i (m.fronts i)) → FrontHolds m.server b p new
+      → Next m x (record (with_front m p new) { backlog = b })
+  front_next x p new b is names others front =
+      let n : Many = record (with_front m p new) { backlog = b } in
+      record {
+        server = refl;
+        each = λ s. record {
+          own = [];
+          sees = is s;
+          leads = ap Some (sym (framed m n s refl refl (same_names m.fronts p new s (m.server.owner s) (λ e. names s)) refl));
+        };
+        apart = between.apart;
+        fronts = at_each (λ i f. FrontHolds m.server b i f) m.fronts p new others front;
+      }
+
+  nothing_next : (x : Step) → ((s : ℕ) → Sees m s x []) → Next m x m
+  nothing_next x is = record {
+    server = refl;
+    each = λ s. record { own = []; sees = is s; leads = refl };
+    apart = between.apart;
+    fronts = between.fronts;
+  }
+
+  connects : Kept (Next m Connect) (shared m Connect)
+  connects = kept_guard _ _ (λ few. record {
+    server = refl;
+    each = λ s. record { own = []; sees = refl; leads = refl };
+    apart = between.apart;
+    fronts = λ p. let f = m.fronts p in
+        record { listener = or_flag f.flag _ _ (told_holds f.armed (m.backlog == 0) f.reported (list_any is_listener f.batch)) (between.fronts p).listener; share = (between.fronts p).share; own = (between.fronts p).own };
+  })
+
+  rumours : (p : ℕ) → Kept (Next m (Rumour p)) (shared m (Rumour p))
+  rumours p = let f = m.fronts p in
+      kept_some (front_next (Rumour p) p (record f { reported = true }) m.backlog (λ s. refl) (λ s. refl) between.fronts
+      (record { listener = or_flag f.flag true _ (λ h. or_right (f.armed && m.backlog == 0) true refl) (up f.flag); share = (between.fronts p).share; own = (between.fronts p).own }))
+
+  retracts : (p : ℕ) → Kept (Next m (Retract p)) (shared m (Retract p))
+  retracts p = let f = m.fronts p in
+      kept_guard _ _ (λ h.
+      let none : (m.backlog == 0) ≡ true = second_so f.reported _ h in
+      front_next (Retract p) p (record f { reported = false; armed = true }) m.backlog (λ s. refl) (λ s. refl) between.fronts
+      (record { listener = rw none (up f.flag); share = (between.fronts p).share; own = (between.fronts p).own }))
+
+  drops : (p : ℕ) → Kept (Next m (Drop p)) (shared m (Drop p))
+  drops p = let f = m.fronts p in
+      kept_guard _ _ (λ h.
+      let least : f.opened + count f.accepted ≤ m.server.share p = (between.fronts p).share in
+      front_next (Drop p) p (record f { accepted = false }) m.backlog (λ s. refl) (λ s. refl) between.fronts
+      (record { listener = (between.fronts p).listener; share = omega arith; own = (between.fronts p).own }))
+
+  -- a report of the listener or of the waker
+  hears : (p : ℕ) (r : Report) (rest : List Report) (flag : Bool) → (m.fronts p).batch ≡ r ∷ rest → ((s : ℕ) → names_at s (r ∷ rest) ≡ names_at s rest)
+      → AreOwn m.server.owner p rest → ((s : ℕ) → Sees m s (Deliver p) [])
+      → (flag || (((m.fronts p).armed && m.backlog == 0) || ((m.fronts p).reported || list_any is_listener rest))) ≡ true
+      → Next m (Deliver p) (with_front m p (record (m.fronts p) { flag = flag; batch = rest }))
+  hears p r rest flag is names own at_none holds =
+      front_next (Deliver p) p (record (m.fronts p) { flag = flag; batch = rest }) m.backlog at_none (λ s. rw is (sym (names s))) between.fronts
+      (record { listener = holds; share = (between.fronts p).share; own = own })
+
+  delivers : (p : ℕ) (batch : List Report) → (m.fronts p).batch ≡ batch → Kept (Next m (Deliver p)) (makes m (Deliver p) (delivering p batch))
+  delivers p [] is = rw is kept_none
+  delivers p (Listener ∷ rest) is = let own : AreOwn m.server.owner p rest = rw is at (between.fronts p).own in
+      rw is (kept_some (hears p Listener rest true is (λ s. refl) own (λ s. rw is refl) refl))
+  delivers p (Waker ∷ rest) is = let own : AreOwn m.server.owner p rest = rw is at (between.fronts p).own in
+      let was = rw is at (between.fronts p).listener in
+      rw is (kept_some (hears p Waker rest (m.fronts p).flag is (λ s. refl) own (λ s. rw is refl) was))
+  delivers p (Of s name ∷ rest) is = delivers_end m between p s name rest is
+
+  answers : (p : ℕ) (reply : Accepting) → may_accept m.server p (m.fronts p) ≡ true
+      → Kept (Next m (Accept p reply)) (answered m p reply)
+  answers p Accepted may =
+      let f = m.fronts p in
+      let less : f.opened < m.server.share p = ltb-true f.opened (m.server.share p) (second_so (not f.accepted) _ (second_so f.flag _ may)) in
+      let flag_up : f.flag ≡ true = (and_parts f.flag _ may).0 in
+      kept_guard _ _ (λ some. front_next (Accept p Accepted) p (record f { accepted = true }) (m.backlog - 1) (λ s. refl) (λ s. refl)
+      (λ i. with_backlog m.server m.backlog (m.backlog - 1) i (m.fronts i) some (between.fronts i))
+      (record { listener = rw flag_up refl; share = omega arith; own = (between.fronts p).own }))
+  answers p Blocked may = let f = m.fronts p in
+      kept_guard _ _ (λ none. front_next (Accept p Blocked) p (record f { flag = false; armed = true }) m.backlog (λ s. refl) (λ s. refl) between.fronts
+      (record { listener = rw none refl; share = (between.fronts p).share; own = (between.fronts p).own }))
+  answers p Again may = kept_some (nothing_next (Accept p Again) (λ s. refl))
+  answers p Starved may = kept_some (nothing_next (Accept p Starved) (λ s. refl))
+
+  puts : (i s : ℕ) → Kept (Next m (Put i s)) (shared m (Put i s))
+  puts i s = kept_map _ (first_of (suits i (Some s)) m.tickets) (λ c is. record {
+    server = refl;
+    each = λ t. record { own = []; sees = refl; leads = ap Some (sym (framed m (record m { tickets = c.rest ++ record c.ticket { hand = None } ∷ [] }) t refl refl refl (same c is t (cases_eq t c.ticket.slot)))) };
+    apart = between.apart;
+    fronts = between.fronts;
+  })
+    where
+      same : (c : Taken) → first_of (suits i (Some s)) m.tickets ≡ Some c → (t : ℕ) → (t ≡ c.ticket.slot) ⊎ (t ≢ c.ticket.slot)
+          → tickets_at t (c.rest ++ record c.ticket { hand = None } ∷ []) ≡ tickets_at t m.tickets
+      same c is t (inl here) =
+          let it : Alone t m.tickets c = taken_here (suits i (Some s)) m.tickets c is t (sym here) (between.one_ticket t) in
+          tickets_append t c.rest _ ∙ rw (it.rest, eq-eqb c.ticket.slot t (sym here)) (sym it.whole)
+      same c is t (inr other) = tickets_append t c.rest _ ∙ rw (ne_eqb c.ticket.slot t (λ e. other (sym e))) (append-nil (tickets_at t c.rest))
+          ∙ taken_there (suits i (Some s)) m.tickets c is t other
+
+  -- a poll
+
+  same_threads : (b : Bool) (place : System) (names : List Name) → (if b then unqueued place names else place).threads ≡ place.threads
+  same_threads true place names = refl
+  same_threads false place names = refl
+
+  polls : (p : ℕ) (reports : List Report) → rests m p ≡ true → Kept (Next m (Poll p reports)) (shared m (Poll p reports))
+  polls p reports rested = kept_guard _ _ (λ h.
+      let few : length reports ≤ 256 = leb-true (length reports) 256 (and_parts (nat_le (length reports) 256) _ h).0 in
+      let more = second_so (nat_le (length reports) 256) _ h in
+      let empty : (m.fronts p).batch ≡ [] = nil_from_length (m.fronts p).batch (eqb-true (length (m.fronts p).batch) 0 (and_parts (length (m.fronts p).batch == 0) _ more).0) in
+      let given : are_queued m p reports ≡ true = second_so (length (m.fronts p).batch == 0) _ more in
+      polled_next few empty given)
+    where
+      new : Front
+      new = record (m.fronts p) { batch = reports; reported = (m.fronts p).reported && not (list_any is_listener reports) }
+
+      n : Many
+      n = polled m p reports
+
+      polls_at : (s : ℕ) → length reports ≤ 256 → (m.fronts p).batch ≡ [] → are_queued m p reports ≡ true → m.server.owner s ≡ p → AtSlot m (Poll p reports) n s
+      polls_at s few empty asked own =
+          let least = fewer_names s reports in
+          let fewer : length (names_at s reports) ≤ 256 = omega arith in
+          let short : nat_le (length (names_at s reports)) 256 ≡ true = le-leb (length (names_at s reports)) 256 fewer in
+          let q = queued m p s reports asked in
+          let idle : rests_at (slice_get (m.places s).threads 0) ≡ true = idle_at s own (cases_eq s (m.busy_at p)) in
+          let given = vec_of (names_at s reports) fewer in
+          record {
+            own = alone.Poll given.0 ∷ [];
+            sees = rw (eq-eqb (m.server.owner s) p own) (given.0, given.1, refl);
+            leads = rw (own, empty, idle, given.1, short, q.among, q.once, eq-eqb p p refl) refl;
+          }
+        where
+          idle_at : (s : ℕ) → m.server.owner s ≡ p → (s ≡ m.busy_at p) ⊎ (s ≢ m.busy_at p) → rests_at (slice_get (m.places s).threads 0) ≡ true
+          idle_at s own (inl here) =
+              let first : rank (m.server.owner (m.busy_at p)) p ≡ 0 = rw (← here, own) (rank_first p) in
+              let now = rw first at rested in
+              rw here now
+          idle_at s own (inr other) =
+              let first : rank (m.server.owner s) p ≡ 0 = rw own (rank_first p) in
+              let some : p < m.server.limits.workers = rw own at (between.inside s) in
+              let now = rw first at (between.apart p s some other) in
+              now
+
+      elsewhere : (s : ℕ) → m.server.owner s ≢ p → AtSlot m (Poll p reports) n s
+      elsewhere s other = record {
+        own = [];
+        sees = rw (ne_eqb (m.server.owner s) p other) refl;
+        leads = ap Some (sym (framed m n s refl (rw (ne_eqb (m.server.owner s) p other) refl) (same_names m.fronts p new s (m.server.owner s) (λ e. absurd (other e))) refl));
+      }
+
+      polled_next : length reports ≤ 256 → (m.fronts p).batch ≡ [] → are_queued m p reports ≡ true → Next m (Poll p reports) n
+      polled_next few empty given =
+          let f = m.fronts p in
+          let was = rw empty at (between.fronts p).listener in
+          record {
+            server = refl;
+            each = λ s. by s few empty given (cases_eq (m.server.owner s) p);
+            apart = λ i s some other. rw (same_threads (m.server.owner s == p) (m.places s) (names_at s reports)) (between.apart i s some other);
+            fronts = at_each (λ i f. FrontHolds m.server m.backlog i f) m.fronts p new between.fronts (record {
+              listener = or_flag f.flag _ _ (polled_holds (f.armed && m.backlog == 0) f.reported (list_any is_listener reports)) was;
+              share = (between.fronts p).share;
+              own = own_reports m p reports given;
+            });
+          }
+        where
+          by : (s : ℕ) → length reports ≤ 256 → (m.fronts p).batch ≡ [] → are_queued m p reports ≡ true → (m.server.owner s ≡ p) ⊎ (m.server.owner s ≢ p) → AtSlot m (Poll p reports) n s
+          by s few empty given (inl own) = polls_at s few empty given own
+          by s few empty given (inr other) = elsewhere s other
+
+  -- any step
+
+  pub next : (x : Step) → Kept (Next m x) (step m x)
+  next (Tick s n) = by_still m between (Tick s n) _ (λ t own e. e) (leaves_tick (slot_of m s) n)
+  next (Network s side change) = by_still m between (Network s side change) _ (λ t own e. e) (leaves_network (slot_of m s) side change)
+  next (Spurious s side) = by_still m between (Spurious s side) _ (λ t own e. e) (leaves_spurious (slot_of m s) (reported.End 0 side))
+  next (Vanish s side) = by_still m between (Vanish s side) _ (λ t own e. e) (leaves_vanish (slot_of m s) (reported.End 0 side))
+  next Connect = connects
+  next (Rumour p) = rumours p
+  next (Retract p) = retracts p
+  next (Poll p reports) = kept_when (rests m p) _ (λ rested. polls p reports rested)
+  next (Deliver p) = kept_when (rests m p) _ (λ rested. delivers p (m.fronts p).batch refl)
+  next (Sweep p s) = kept_when _ _ (λ h. by_still m between (Sweep p s) _ (λ t own e. e) (leaves_sweep (slot_of m s)))
+  next (Accept p reply) = kept_when (rests m p) _ (λ rested. kept_when _ _ (λ h. answers p reply h))
+  next (Drop p) = kept_when (rests m p) _ (λ rested. drops p)
+  next (Open p s) = kept_when _ _ (λ h. opens m between p s h)
+  next (Begin i from most) = kept_when (rests m i) _ (λ rested. begins m between i from most rested (first_of (suits i from) m.tickets) refl)
+  next (Put i s) = puts i s
+  next (Acts i) = by_thread m between (Acts i) i _ (λ t own e. e) (leaves_acting (slot_of m (m.busy_at i)) (rank_at m (m.busy_at i) i) refl)
+  next (Calls i r) = by_thread m between (Calls i r) i _ (λ t own e. e) (leaves_calling (slot_of m (m.busy_at i)) (rank_at m (m.busy_at i) i) r)

@@ -1,0 +1,219 @@
+-- What a slot of a server shows: its view before and after a step of the server, its tickets and its names.
+use Rattle.std.{proofs.{Common.{Bool, List, None, Option, Some, [], ap, append-nil, arith, drop, false, if◌then◌else◌, inl, inr, length, map, not, option_map, refl, sym, true, suc, ℕ, ◌&&◌, ◌++◌, ◌==◌, ◌∙◌, ◌∷◌, ◌≡◌, ◌≢◌, ◌≤◌, ◌⊎◌, eq-eqb, eqb-true, ne_eqb}, lemmas.{Bool.{and_parts, cases_eq}, List.nil_from_length, Option.same_Some}, Math.Seq.drop-append_seam}, specs.Cmp.second_so}
+use Rattle.interleaving.specs.{Threads.{System}, Slots.{Many, Report, Of, Listener, Waker, Taken, Ticket, are_queued, first_of, in_hand, names_at, one_slot, rank, set, slot_of, tickets_at}}
+use Rattle.kernel_model.specs.Names.{are_among, are_distinct, has}
+use Rattle.token.specs.declared.name.Name.{Name}
+
+-- Functions with one value set
+
+pub set_here : {X : Type 0} (f : ℕ → X) (i : ℕ) (x : X) → set f i x i ≡ x
+set_here f i x = rw (eq-eqb i i refl) refl
+
+pub set_there : {X : Type 0} (f : ℕ → X) (i j : ℕ) (x : X) → j ≢ i → set f i x j ≡ f j
+set_there f i j x other = rw (ne_eqb j i other) refl
+
+-- Views
+
+-- the view of a slot, by its place and what it shares
+pub viewed : (m : Many) (s : ℕ) (q : System) → m.places s ≡ q → one_slot m.server.limits ≡ q.limits → true ≡ q.flag → false ≡ q.accepted
+    → names_at s (m.fronts (m.server.owner s)).batch ≡ q.batch → tickets_at s m.tickets ≡ q.tickets → slot_of m s ≡ q
+viewed m s q p l f a b t = rw (p, l, b, t) (by q.flag q.accepted f a)
+  where
+    by : (flag accepted : Bool) → true ≡ flag → false ≡ accepted
+        → record (record q { flag = true }) { accepted = false } ≡ record (record q { flag = flag }) { accepted = accepted }
+    by flag accepted f a = rw (sym f, sym a) refl
+
+-- what a step that is elsewhere does not change
+pub framed : (m n : Many) (s : ℕ) → n.server ≡ m.server → n.places s ≡ m.places s
+    → names_at s (n.fronts (m.server.owner s)).batch ≡ names_at s (m.fronts (m.server.owner s)).batch → tickets_at s n.tickets ≡ tickets_at s m.tickets → slot_of n s ≡ slot_of m s
+framed m n s server places names tickets = rw (server, places, names, tickets) refl
+
+-- Tickets
+
+pub tickets_append : (s : ℕ) (xs ys : List Ticket) → tickets_at s (xs ++ ys) ≡ tickets_at s xs ++ tickets_at s ys
+tickets_append s [] ys = refl
+tickets_append s (t ∷ ts) ys = by (t.slot == s) (tickets_append s ts ys)
+  where
+    by : (b : Bool) → tickets_at s (ts ++ ys) ≡ tickets_at s ts ++ tickets_at s ys
+        → (if b then t.generation ∷ tickets_at s (ts ++ ys) else tickets_at s (ts ++ ys)) ≡ (if b then t.generation ∷ tickets_at s ts else tickets_at s ts) ++ tickets_at s ys
+    by true rest = ap (λ (gs : List ℕ). t.generation ∷ gs) rest
+    by false rest = rest
+
+made_here : (s i : ℕ) (gs : List ℕ) → tickets_at s (map (in_hand s i) gs) ≡ gs
+made_here s i [] = refl
+made_here s i (g ∷ gs) = rw (eq-eqb s s refl) (ap (λ (hs : List ℕ). g ∷ hs) (made_here s i gs))
+
+made_there : (s t i : ℕ) (gs : List ℕ) → t ≢ s → tickets_at t (map (in_hand s i) gs) ≡ []
+made_there s t i [] other = refl
+made_there s t i (g ∷ gs) other = rw (ne_eqb s t (λ e. other (sym e))) (made_there s t i gs other)
+
+-- the tickets that a deed makes are its slot's
+pub brought_here : (s i : ℕ) (ts : List Ticket) (gs made : List ℕ) → gs ≡ tickets_at s ts ++ made
+    → tickets_at s (ts ++ map (in_hand s i) (drop (length (tickets_at s ts)) gs)) ≡ gs
+brought_here s i ts gs made is = rw (is, drop-append_seam (tickets_at s ts) made) (tickets_append s ts _ ∙ ap (λ (hs : List ℕ). tickets_at s ts ++ hs) (made_here s i made))
+
+pub brought_there : (s t i : ℕ) (ts : List Ticket) (gs : List ℕ) → t ≢ s → tickets_at t (ts ++ map (in_hand s i) gs) ≡ tickets_at t ts
+brought_there s t i ts gs other = tickets_append t ts _ ∙ ap (λ (hs : List ℕ). tickets_at t ts ++ hs) (made_there s t i gs other) ∙ append-nil (tickets_at t ts)
+
+-- The ticket that is taken
+
+-- it is the first ticket, or behind it
+abbrev Found : (Ticket → Bool) → Ticket → List Ticket → Taken → Type 0
+Found test t ts c = (c ≡ record { ticket = t; rest = ts })
+    ⊎ ((d : Taken) × (first_of test ts ≡ Some d) × (c ≡ record { ticket = d.ticket; rest = t ∷ d.rest }))
+
+found : (test : Ticket → Bool) (t : Ticket) (ts : List Ticket) (c : Taken) → first_of test (t ∷ ts) ≡ Some c → Found test t ts c
+found test t ts c is = by (test t) is
+  where
+    behind : (o : Option Taken) → first_of test ts ≡ o → option_map (λ (d : Taken). record { ticket = d.ticket; rest = t ∷ d.rest }) o ≡ Some c
+        → Found test t ts c
+    behind None there is = cc
+    behind (Some d) there is = inr (d, there, sym (same_Some _ _ is))
+
+    by : (b : Bool) → (if b then Some (record { ticket = t; rest = ts }) else option_map (λ (d : Taken). record { ticket = d.ticket; rest = t ∷ d.rest }) (first_of test ts)) ≡ Some c
+        → Found test t ts c
+    by true is = inl (sym (same_Some _ _ is))
+    by false is = behind (first_of test ts) refl is
+
+-- of another slot
+pub taken_there : (test : Ticket → Bool) (ts : List Ticket) (c : Taken) → first_of test ts ≡ Some c → (s : ℕ) → s ≢ c.ticket.slot → tickets_at s c.rest ≡ tickets_at s ts
+taken_there test [] c is s other = cc
+taken_there test (t ∷ ts) c is s other = by (found test t ts c is) (λ d there apart. taken_there test ts d there s apart)
+  where
+    by : Found test t ts c
+        → ((d : Taken) → first_of test ts ≡ Some d → s ≢ d.ticket.slot → tickets_at s d.rest ≡ tickets_at s ts)
+        → tickets_at s c.rest ≡ tickets_at s (t ∷ ts)
+    by (inl same) rest =
+        let apart : t.slot ≢ s = λ e. other (sym e ∙ sym (ap (λ (c : Taken). c.ticket.slot) same)) in
+        rw (same, ne_eqb t.slot s apart) refl
+    by (inr it) rest =
+        let apart : s ≢ it.0.ticket.slot = λ e. other (e ∙ sym (ap (λ (c : Taken). c.ticket.slot) it.2)) in
+        let tail = rest it.0 it.1 apart in
+        rw (it.2, tail) refl
+
+-- of this slot, which has no other
+pub record Alone (s : ℕ) (ts : List Ticket) (c : Taken) : Type 0 where
+  pub whole : tickets_at s ts ≡ c.ticket.generation ∷ []
+  pub rest : tickets_at s c.rest ≡ []
+
+more : (s : ℕ) (t : Ticket) (ts : List Ticket) → length (tickets_at s ts) ≤ length (tickets_at s (t ∷ ts))
+more s t ts = by (t.slot == s)
+  where
+    by : (b : Bool) → length (tickets_at s ts) ≤ length (if b then t.generation ∷ tickets_at s ts else tickets_at s ts)
+    by true = omega arith
+    by false = omega arith
+
+taken_some : (test : Ticket → Bool) (ts : List Ticket) (c : Taken) → first_of test ts ≡ Some c → (s : ℕ) → c.ticket.slot ≡ s → 1 ≤ length (tickets_at s ts)
+taken_some test [] c is s own = cc
+taken_some test (t ∷ ts) c is s own = by (found test t ts c is) (λ d there own. taken_some test ts d there s own)
+  where
+    by : Found test t ts c
+        → ((d : Taken) → first_of test ts ≡ Some d → d.ticket.slot ≡ s → 1 ≤ length (tickets_at s ts)) → 1 ≤ length (tickets_at s (t ∷ ts))
+    by (inl same) rest =
+        let own : t.slot ≡ s = sym (ap (λ (c : Taken). c.ticket.slot) same) ∙ own in
+        rw (eq-eqb t.slot s own) (omega arith)
+    by (inr it) rest =
+        let some = rest it.0 it.1 (sym (ap (λ (c : Taken). c.ticket.slot) it.2) ∙ own) in
+        let least = more s t ts in
+        omega arith
+
+pub taken_here : (test : Ticket → Bool) (ts : List Ticket) (c : Taken) → first_of test ts ≡ Some c → (s : ℕ) → c.ticket.slot ≡ s → length (tickets_at s ts) ≤ 1 → Alone s ts c
+taken_here test [] c is s own most = cc
+taken_here test (t ∷ ts) c is s own most = by (found test t ts c is) (λ d there own most. taken_here test ts d there s own most)
+  where
+    -- t is passed over, so it is of another slot
+    over : (d : Taken) → 1 ≤ length (tickets_at s ts) → (length (tickets_at s ts) ≤ 1 → Alone s ts d) → (b : Bool)
+        → length (if b then t.generation ∷ tickets_at s ts else tickets_at s ts) ≤ 1
+        → ((if b then t.generation ∷ tickets_at s ts else tickets_at s ts) ≡ d.ticket.generation ∷ []) × ((if b then t.generation ∷ tickets_at s d.rest else tickets_at s d.rest) ≡ [])
+    over d some rest true least = absurd (omega arith)
+    over d some rest false least = let r = rest least in (r.whole, r.rest)
+
+    by : Found test t ts c
+        → ((d : Taken) → first_of test ts ≡ Some d → d.ticket.slot ≡ s → length (tickets_at s ts) ≤ 1 → Alone s ts d) → Alone s (t ∷ ts) c
+    by (inl same) rest =
+        let here : t.slot ≡ s = sym (ap (λ (c : Taken). c.ticket.slot) same) ∙ own in
+        let fewer : length (t.generation ∷ tickets_at s ts) ≤ 1 = rw (eq-eqb t.slot s here) at most in
+        let none : tickets_at s ts ≡ [] = nil_from_length (tickets_at s ts) (omega arith) in
+        record { whole = rw (same, eq-eqb t.slot s here, none) refl; rest = rw (same, none) refl }
+    by (inr it) rest =
+        let here : it.0.ticket.slot ≡ s = sym (ap (λ (c : Taken). c.ticket.slot) it.2) ∙ own in
+        let r = over it.0 (taken_some test ts it.0 it.1 s here) (rest it.0 it.1 here) (t.slot == s) most in
+        record { whole = rw it.2 r.0; rest = rw it.2 r.1 }
+
+-- The names of a poll
+
+pub fewer_names : (s : ℕ) (rs : List Report) → length (names_at s rs) ≤ length rs
+fewer_names s [] = omega arith
+fewer_names s (Listener ∷ rs) = let h = fewer_names s rs in omega arith
+fewer_names s (Waker ∷ rs) = let h = fewer_names s rs in omega arith
+fewer_names s (Of t n ∷ rs) = by (t == s) (fewer_names s rs)
+  where
+    by : (b : Bool) → length (names_at s rs) ≤ length rs → length (if b then n ∷ names_at s rs else names_at s rs) ≤ suc (length rs)
+    by true least = omega arith
+    by false least = omega arith
+
+-- what a poll may give is queued at each slot, once
+pub record Queued (s : ℕ) (queue : List Name) (rs : List Report) : Type 0 where
+  pub among : are_among queue (names_at s rs) ≡ true
+  pub once : are_distinct (names_at s rs) ≡ true
+
+pub queued : (m : Many) (p s : ℕ) (rs : List Report) → are_queued m p rs ≡ true → Queued s (m.places s).kernel.queue rs
+queued m p s [] h = record { among = refl; once = refl }
+queued m p s (Listener ∷ rs) h = let r = queued m p s rs (second_so (m.fronts p).reported _ h) in record { among = r.among; once = r.once }
+queued m p s (Waker ∷ rs) h = let r = queued m p s rs h in record { among = r.among; once = r.once }
+queued m p s (Of t n ∷ rs) h = by (cases_eq t s) (queued m p s rs (second_so (not (has n (names_at t rs))) _ others))
+  where
+    parts : (has n (m.places t).kernel.queue && (not (has n (names_at t rs)) && are_queued m p rs)) ≡ true
+    parts = second_so (m.server.owner t == p) _ h
+
+    others : (not (has n (names_at t rs)) && are_queued m p rs) ≡ true
+    others = second_so (has n (m.places t).kernel.queue) _ parts
+
+    by : (t ≡ s) ⊎ (t ≢ s) → Queued s (m.places s).kernel.queue rs → Queued s (m.places s).kernel.queue (Of t n ∷ rs)
+    by (inl same) rest =
+        let was : has n (m.places t).kernel.queue ≡ true = (and_parts _ _ parts).0 in
+        let fresh : not (has n (names_at t rs)) ≡ true = (and_parts _ _ others).0 in
+        let there : has n (m.places s).kernel.queue ≡ true = rw same at was in
+        let new : not (has n (names_at s rs)) ≡ true = rw same at fresh in
+        record { among = rw (eq-eqb t s same, there) rest.among; once = rw (eq-eqb t s same, new) rest.once }
+    by (inr other) rest = record { among = rw (ne_eqb t s other) rest.among; once = rw (ne_eqb t s other) rest.once }
+
+-- all reports of ends are of slots of this poller
+abbrev pub AreOwn : (ℕ → ℕ) → ℕ → List Report → Type 0
+AreOwn owner p [] = Unit {0}
+AreOwn owner p (Of s n ∷ rs) = (owner s ≡ p) × AreOwn owner p rs
+AreOwn owner p (r ∷ rs) = AreOwn owner p rs
+
+pub own_reports : (m : Many) (p : ℕ) (rs : List Report) → are_queued m p rs ≡ true → AreOwn m.server.owner p rs
+own_reports m p [] h = tt
+own_reports m p (Listener ∷ rs) h = own_reports m p rs (second_so (m.fronts p).reported _ h)
+own_reports m p (Waker ∷ rs) h = own_reports m p rs h
+own_reports m p (Of t n ∷ rs) h =
+    let others = second_so (has n (m.places t).kernel.queue) _ (second_so (m.server.owner t == p) _ h) in
+    (eqb-true (m.server.owner t) p (and_parts _ _ h).0, own_reports m p rs (second_so (not (has n (names_at t rs))) _ others))
+
+-- Ranks: a poller and thread 0 are in exchange
+
+rank_poller : (p : ℕ) → rank p p ≡ 0
+rank_poller p = rw (eq-eqb p p refl) refl
+
+rank_zero : (p : ℕ) → rank p 0 ≡ p
+rank_zero p = by (cases_eq 0 p)
+  where
+    by : (0 ≡ p) ⊎ (0 ≢ p) → rank p 0 ≡ p
+    by (inl e) = rw (eq-eqb 0 p e) e
+    by (inr other) = rw (ne_eqb 0 p other) refl
+
+rank_twice : (p i : ℕ) → rank p (rank p i) ≡ i
+rank_twice p i = by (cases_eq i p) (cases_eq i 0)
+  where
+    by : (i ≡ p) ⊎ (i ≢ p) → (i ≡ 0) ⊎ (i ≢ 0) → rank p (rank p i) ≡ i
+    by (inl e) first = rw (eq-eqb i p e) (rank_zero p ∙ sym e)
+    by (inr other) (inl e) = rw (ne_eqb i p other, eq-eqb i 0 e) (rank_poller p ∙ sym e)
+    by (inr other) (inr some) = rw (ne_eqb i p other, ne_eqb i 0 some, ne_eqb i p other, ne_eqb i 0 some) refl
+
+pub rank_first : (p : ℕ) → rank p p ≡ 0
+rank_first = rank_poller
+
+pub rank_apart : (p i j : ℕ) → i ≢ j → rank p i ≢ rank p j
+rank_apart p i j other same = other (sym (rank_twice p i) ∙ ap (rank p) same ∙ rank_twice p j)
