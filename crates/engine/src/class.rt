@@ -26,6 +26,7 @@ pub fn class_of(call: &Call, kind: ErrorKind, joined: bool) -> Class
 }
 
 /// [`class_of`] for a call of this kind.
+#[inline(always)]
 pub fn class_by(call: CallKind, kind: ErrorKind, joined: bool) -> Class
     ensures { result ≡ class_by call joined kind }
 {

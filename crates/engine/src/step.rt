@@ -11,6 +11,7 @@ use relay_core::{Answer, Call, Kind, MAX_READ, Pair, Side};
 use std::io;
 
 /// Makes the call that comes next, at the second `now`, and gives the pair the answer.
+#[inline(always)]
 pub(crate) fn step<W: Wire>(
     pair: &mut Pair,
     call: Call,
@@ -30,6 +31,7 @@ pub(crate) fn step<W: Wire>(
     }
 }
 
+#[inline(always)]
 fn read<W: Wire>(
     pair: &mut Pair,
     side: Side,
@@ -55,6 +57,7 @@ fn read<W: Wire>(
     }
 }
 
+#[inline(always)]
 fn write<W: Wire>(pair: &mut Pair, side: Side, now: u64, wire: &mut W)
     requires next { next_call pair.old ≡ Some (call.Write side) }
     requires possible { IsPossible pair.old (call.Write side) }
@@ -73,6 +76,7 @@ fn write<W: Wire>(pair: &mut Pair, side: Side, now: u64, wire: &mut W)
     }
 }
 
+#[inline(always)]
 fn offer_all<W: Wire>(pair: &mut Pair, side: Side, wire: &mut W) -> io::Result<usize>
     ensures same { pair.new ≡ pair.old }
     ensures most { WritesAtMost result (offer pair.old side) }
@@ -115,6 +119,7 @@ fn shut<W: Wire>(pair: &mut Pair, side: Side, now: u64, wire: &mut W)
 }
 
 /// What an error means, by what the wire has counted since the call began.
+#[inline(always)]
 fn error_answer<W: Wire>(wire: &W, faults: u64, blocks: u64, error: &io::Error) -> Answer<'static>
     requires { CountsError faults (W.told wire.now).faults blocks (W.told wire.now).blocks }
     ensures { IsError (kind_of_error (error_kind error.now)) (reply_of result) faults (W.told wire.now).faults blocks

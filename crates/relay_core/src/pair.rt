@@ -92,6 +92,7 @@ impl Pair {
     /// The call to make next. None if no call is worth trying before the next report ([`Pair::note`]), or if the pair
     /// is done or failed ([`Pair::verdict`]).
     #[tactic(auto, using(crate::proofs::Pairs::asked_is_possible))]
+    #[inline(always)]
     pub fn next(&self) -> Option<Call>
         ensures value { result ≡ next_call self.now }
         ensures possible { IfSome result (IsPossible self.now) }
@@ -137,6 +138,7 @@ impl Pair {
 
     /// Takes the answer that the next call got at the second `now`.
     #[tactic(auto, using(crate::proofs::Pairs::asked_is_possible, crate::proofs::Pairs::answers_keep_order, crate::proofs::Pairs::answers_pass_end_last, crate::proofs::Pairs::failures_are_told))]
+    #[inline(always)]
     pub fn answer(&mut self, call: Call, answer: Answer<'_>, now: u64)
         requires next { next_call self.old ≡ Some call }
         requires fits { fits self.old call (reply_of answer) ≡ true }
@@ -291,6 +293,7 @@ impl Pair {
     }
 
     // `possible` and `fits` give what the flow's methods require: room, and an end to pass on.
+    #[inline(always)]
     fn take_answer(&mut self, call: Call, answer: Answer<'_>, now: u64)
         requires possible { IsPossible self.old call }
         requires fits { fits self.old call (reply_of answer) ≡ true }

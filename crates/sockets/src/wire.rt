@@ -191,6 +191,7 @@ impl<S: Stream> SocketWire<S> {
     }
 
     /// Counts an error of a call by its class.
+    #[inline(always)]
     fn refuse(&mut self, call: CallKind, error: &io::Error)
         ensures counted { self.new.socket.tally ≡ counted (class_by call self.old.socket.tally.joined (error_kind error.now))
             self.old.socket.tally }
@@ -282,6 +283,7 @@ impl<S: Stream> Wire for SocketWire<S> {
 
     ghost does = { IsDone S.did };
 
+    #[inline(always)]
     fn read(&mut self, buffer: &mut [u8]) -> io::Result<usize> {
         if !self.looks() {
             let blocked = io::ErrorKind::WouldBlock;
@@ -296,6 +298,7 @@ impl<S: Stream> Wire for SocketWire<S> {
         answer
     }
 
+    #[inline(always)]
     fn write(&mut self, offer: &[u8]) -> io::Result<usize> {
         let answer = self.stream.write(offer);
         self.offered(offer.len());
