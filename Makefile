@@ -1,6 +1,6 @@
 # Thin targets over the toolchain's command `rt`. See README.md.
 
-.PHONY: help build run sim pages test test-program test-drill soak growths bench install uninstall dist deb checksum
+.PHONY: help build run sim pages test test-program test-drill soak growths bench counts install uninstall dist deb checksum
 
 # The settings file of `make run`.
 CONFIG ?= examples/relayd.toml
@@ -70,6 +70,10 @@ growths: build
 ## make bench         compares the relay with other forwarders
 bench: build
 	@bench/run --relayd $(PROGRAM)
+
+## make counts        counts instructions and system calls of the relay and of other forwarders
+counts: build
+	@bench/counts --relayd $(PROGRAM)
 
 # Builds the program if there is none yet, so that root can install what another user has built.
 $(PROGRAM):
