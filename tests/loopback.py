@@ -88,7 +88,8 @@ class Relay:
     """A relay that forwards to a port, or to this process itself, with these settings beside the two addresses or in their
     place: from a file, or if `typed` on the command line, with options after them; and if there is a `preload`, with the
     library, told by these variables. It records what it does, unless it is to have no thread or descriptor beyond those of a
-    relay that does not. It begins with these standard streams closed, and inherits these descriptors and variables."""
+    relay that does not. It begins with these standard streams closed, and inherits these descriptors and variables. A tool
+    that it is to run under stands before it, with its options."""
 
     program = None
     library = None
@@ -98,7 +99,7 @@ class Relay:
 
     def __init__(
         self, port=None, preload=None, errors=subprocess.PIPE, options=(), typed=False, descriptors=None, stdin=None,
-        recorded=True, closed=(), inherited=(), variables=None, **settings
+        recorded=True, closed=(), inherited=(), variables=None, under=(), **settings
     ):
         if port is None:
             self.listener = socket.create_server(("127.0.0.1", 0))
@@ -115,7 +116,7 @@ class Relay:
             words += ["--" + key.replace("_", "-"), str(settings[key]).lower()]
         with settings_file(settings) as path:
             self.process = start(
-                [Relay.program, *(words if typed else ["run", "--config", path]), *options]
+                [*under, Relay.program, *(words if typed else ["run", "--config", path]), *options]
                 + (["--record", self.record] if self.record else []),
                 stdin=stdin,
                 stdout=subprocess.PIPE,

@@ -4,6 +4,7 @@ import collections
 import functools
 import re
 import shutil
+import tempfile
 
 from loopback import Relay, beside_polls, echo, made, target
 from shared import asked, left_out, served
@@ -11,6 +12,8 @@ from shared import asked, left_out, served
 # The system calls of a request and its answer over a connection that is alone. A message is reported, read and written, and
 # its side is read once more, which would block; the wire of the other side knows that a read there would.
 CALLS = {"epoll_wait": 2, "recvfrom": 4, "sendto": 2}
+# The instructions of such a request outside the system, as callgrind of valgrind(1) counts them: 5,830, with 3 % of room.
+INSTRUCTIONS = 6_000
 
 
 def ask(client, many):
@@ -28,3 +31,19 @@ def a_request_makes_no_more_calls_than_is_documented():
     found = collections.Counter(re.search(r"(\w+)(?:\(| resumed>)", line)[1] for line in lines)
     # The tracer itself ends a few calls.
     assert all(found[name] <= CALLS.get(name, 0) * many + 20 for name in found), found
+
+
+def a_request_takes_no_more_instructions_than_is_documented():
+    if not shutil.which("valgrind"):
+        return left_out("valgrind")
+    totals, few, many = {}, 500, 1500
+    for requests in few, many:
+        with tempfile.NamedTemporaryFile("r") as file:
+            under = ["valgrind", "-q", "--tool=callgrind", f"--callgrind-out-file={file.name}"]
+            relay = Relay(target(echo), under=under, slots=8, workers=1, recorded=False)
+            (client,) = served(relay, 1)
+            ask(client, requests)
+            relay.end()
+            totals[requests] = int(re.search(r"^totals: (\d+)", file.read(), re.M)[1])
+    found = (totals[many] - totals[few]) / (many - few)
+    assert found <= INSTRUCTIONS, found
