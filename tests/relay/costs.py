@@ -20,6 +20,7 @@ def ask(client, many):
     assert all([asked(client) for _ in range(many)])
 
 
+# refuses turn_reads_once_more: a turn makes a read of no bytes before each read that the pair asks for
 def a_request_makes_no_more_calls_than_is_documented():
     if not shutil.which("strace"):
         return left_out("strace")
