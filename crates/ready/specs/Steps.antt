@@ -83,6 +83,11 @@ pub data BitStep : Type 0 where
   SetBits : ℕ → ℕ → BitStep
   ClearedBits : ℕ → ℕ → BitStep
 
+-- one step on the mark of a closed queue: whether it was set, or that it was set
+pub data MarkStep : Type 0 where
+  ReadMark : Bool → MarkStep
+  SetMark : MarkStep
+
 -- the bit of an end
 abbrev pub bit_of : ℕ → ℕ
 bit_of end = 2 ^ end

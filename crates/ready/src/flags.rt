@@ -1,8 +1,8 @@
 // The words that the ends of a queue of tickets share, and all atomic steps on them. These are sequentially consistent,
 // as are those of the queue: all threads see them in one order. A comment at each names the step that it pairs with.
-ghost use Rattle.std.specs.Prelude.{◌≡◌, ◌≢◌, ◌<◌, ◌↔◌, ℕ, IsNone, IsSome, IsTrue, IfErr, IfOk, IfSome, OnErr, OnOk, None, length, true, not};
+ghost use Rattle.std.specs.Prelude.{◌≡◌, ◌≢◌, ◌<◌, ◌↔◌, ℕ, IsNone, IsSome, IsTrue, IfErr, IfOk, IfSome, OnErr, OnOk, None, length, slice_get, true, not};
 ghost use Rattle.crossbeam_queue.specs.Passes.{view, IsPassOf, IsSamePass, ruled_capacity};
-ghost use Rattle.ready.specs.Steps.{BitStep, ReadBits, SetBits, ClearedBits, HeldOnce, PutOne, bit_of, has_bit};
+ghost use Rattle.ready.specs.Steps.{BitStep, ReadBits, SetBits, ClearedBits, MarkStep, ReadMark, SetMark, HeldOnce, PutOne, bit_of, has_bit};
 
 use crate::rule::{Line, LinePass, push};
 use crate::ticket::{Full, Ticket};
@@ -43,6 +43,50 @@ impl Bits for AtomicU64 {
 
     fn clear(&self, bits: u64) -> u64 {
         self.fetch_and(!bits, SeqCst)
+    }
+}
+
+/// A mark that threads share. It is only read and set. The trait leaves open what a step does.
+pub(crate) trait Mark {
+    // This step, with its answer, was made on this mark.
+    ghost did: { MarkStep → Self → Type 0 };
+
+    /// Returns whether the mark is set.
+    fn read(&self) -> bool
+        ensures { did (ReadMark result) self.now };
+
+    /// Sets the mark.
+    fn set(&self)
+        ensures { did SetMark self.now };
+}
+
+impl Mark for AtomicBool {
+    ghost did = { λ _ _. Unit {0} };
+
+    fn read(&self) -> bool {
+        self.load(SeqCst)
+    }
+
+    fn set(&self) {
+        self.store(true, SeqCst);
+    }
+}
+
+/// What wakes an end. The trait leaves open what that does.
+pub(crate) trait Unpark {
+    // The end of this parker was given a permit.
+    ghost unparked: { Self → Type 0 };
+
+    /// Gives a permit.
+    fn give(&self)
+        ensures { unparked self.now };
+}
+
+impl Unpark for Unparker {
+    ghost unparked = { λ _. Unit {0} };
+
+    fn give(&self) {
+        self.unpark();
     }
 }
 
@@ -105,11 +149,12 @@ impl Wake {
 
 impl Woken {
     /// Unparks the end. `unparkers` has one for each end, in order.
-    pub(crate) fn unpark(self, wake: Wake, unparkers: &[Unparker])
+    pub(crate) fn unpark<U: Unpark>(self, wake: Wake, unparkers: &[U])
         requires { self.end < length unparkers.now }
+        ensures { IfSome (slice_get unparkers.now self.end) U.unparked }
     {
         let (Wake(()), Woken { end }) = (wake, self);
-        unparkers[end].unpark();
+        unparkers[end].give();
     }
 }
 
@@ -194,7 +239,7 @@ impl<W: Bits> IdleBits<W> {
 
 /// The mark of a closed queue. It is never taken back.
 #[derive(Drop)]
-pub(crate) struct ClosedMark(AtomicBool);
+pub(crate) struct ClosedMark<M = AtomicBool>(M);
 
 /// Whether the queue was closed when a step read or set the mark. Only such a step makes one. It cannot be copied.
 #[derive(Drop)]
@@ -206,19 +251,24 @@ impl ClosedMark {
     pub(crate) fn new() -> ClosedMark {
         ClosedMark(AtomicBool::new(false))
     }
+}
 
-    pub(crate) fn read(&self) -> MarkSeen {
+impl<M: Mark> ClosedMark<M> {
+    pub(crate) fn read(&self) -> MarkSeen
+        ensures { M.did (ReadMark result.closed) self.now.0 }
+    {
         // Pairs with `set`. If the mark were read after the look at the queue, a ticket that was put between the look
         // and the close would be left.
-        let closed = self.0.load(SeqCst);
+        let closed = self.0.read();
         MarkSeen { closed }
     }
 
     pub(crate) fn set(&self) -> MarkSeen
-        ensures { result.closed ≡ true }
+        ensures closed { result.closed ≡ true }
+        ensures set { M.did SetMark self.now.0 }
     {
         // Pairs with `read`. If the ends were woken first, one could look, find no mark and sleep forever.
-        self.0.store(true, SeqCst);
+        self.0.set();
         MarkSeen { closed: true }
     }
 }

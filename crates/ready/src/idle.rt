@@ -1,7 +1,7 @@
 // Which ends sleep, and how they are woken.
-ghost use Rattle.std.specs.Prelude.{◌≡◌, ◌≢◌, ◌<◌, ◌≤◌, IfSome, true, vec_len};
+ghost use Rattle.std.specs.Prelude.{◌≡◌, ◌≢◌, ◌<◌, ◌≤◌, IfSome, true, vec_len, All};
 
-use crate::flags::{AllBusy, Announced, ClosedMark, IdleBits, MarkSeen, Wake, Woken};
+use crate::flags::{AllBusy, Announced, ClosedMark, IdleBits, MarkSeen, Unpark, Wake, Woken};
 use crate::sleeper::{Awake, FoundEmpty, Sleeper};
 use crate::ticket::Ticket;
 use crossbeam_utils::sync::Unparker;
@@ -9,10 +9,10 @@ use std::sync::Wait;
 
 /// The ends that are idle, and what wakes each of them.
 #[derive(Drop)]
-pub(crate) struct IdleEnds {
+pub(crate) struct IdleEnds<U = Unparker> {
     idle: IdleBits,
     mark: ClosedMark,
-    unparkers: Vec<Unparker>,
+    unparkers: Vec<U>,
     ghost few: { vec_len unparkers ≤ 32 },
 }
 
@@ -26,7 +26,9 @@ impl IdleEnds {
             unparkers,
         }
     }
+}
 
+impl<U: Unpark> IdleEnds<U> {
     pub(crate) fn mark(&self) -> MarkSeen {
         self.mark.read()
     }
@@ -91,7 +93,10 @@ impl IdleEnds {
         None
     }
 
-    pub(crate) fn close(&self) {
+    /// Sets the mark, and then wakes every end.
+    pub(crate) fn close(&self)
+        ensures { All U.unparked self.now.unparkers.items }
+    {
         let seen = self.mark.set();
         self.wake_all(&seen);
     }
@@ -99,9 +104,10 @@ impl IdleEnds {
     // Wakes every end, once the mark is set.
     fn wake_all(&self, _seen: &MarkSeen)
         requires { _seen.now.closed ≡ true }
+        ensures { All U.unparked self.now.unparkers.items }
     {
-        for unparker in self.unparkers.iter() {
-            unparker.unpark();
+        for unparker in &self.unparkers {
+            unparker.give();
         }
     }
 }
