@@ -13,9 +13,10 @@
 //! # Inside
 //!
 //! [`ParkedQueue`] is what the log and a recording have in common: bounded queues for a thread that writes. The
-//! thread sleeps only after it has announced its sleep and then found the queues open and empty. Only something to
-//! write (`There`) or a close wakes it. It ends only after it found the queues closed and then empty ([`Drained`]). A
-//! line that was taken cannot be dropped unwritten (`Unwritten`). `Missing` counts lines left out.
+//! thread sleeps only after it found the queues open and empty, has announced its sleep and then found them empty again
+//! (`Sleep`). Only something to write (`There`) or a close wakes it. These are the acts of `ready`, whose law says that
+//! nobody sleeps beside work. The thread ends only after it found the queues closed and then empty ([`Drained`]). A line
+//! that was taken cannot be dropped unwritten (`Unwritten`). `Missing` counts lines left out.
 #![tactic(auto)]
 
 mod left_out;
@@ -24,6 +25,7 @@ mod line;
 mod parked;
 mod queue;
 mod sink;
+mod sleeping;
 mod writing;
 
 pub use limits::{MAX_LINE, MAX_LINES};

@@ -1,37 +1,19 @@
 //! Queues for a thread that writes, and sleeps while there is nothing to write.
-ghost use Rattle.std.specs.Prelude.{◌≡◌, ◌<◌, IfSome, map, true, false};
+ghost use Rattle.std.specs.Prelude.{◌≡◌, ◌<◌, map, true, false};
 ghost use Rattle.crossbeam_queue.specs.Passes.{queue_capacity};
 
 use crate::left_out::Missing;
+use crate::sleeping::{Empty, MarkSeen, Sleep, There, look};
 use crossbeam_queue::ArrayQueue;
 use std::marker::Model;
 use std::sync::Wait;
-use std::sync::atomic::{AtomicBool, Ordering};
-use std::thread::Parker;
 use std::time::Duration;
-
-/// What the marks show before the queues are looked at. If the queues were closed by then, the look at them finds
-/// every item put before the close.
-#[derive(Drop)]
-struct Look {
-    is_closed: bool,
-    /// Whether the writer had announced its sleep before this look. Then an item that is put after the look wakes it.
-    is_last: bool,
-}
-
-/// All queues were found empty after a look.
-#[derive(Drop)]
-struct FoundEmpty(Look);
-
-/// There is something for the writer: an item, or a count of items left out. A writer that is woken earlier could
-/// find nothing, and sleep while the item waits. A `There` cannot be dropped, so a sleeping writer is woken.
-struct There(());
 
 /// The queues were closed, and then found empty. Only [`ParkedQueue::drain`] makes one.
 #[derive(Drop)]
 pub struct Drained {
-    empty: FoundEmpty,
-    ghost closed: { empty.0.is_closed ≡ true },
+    empty: Empty<MarkSeen>,
+    ghost closed: { empty.0.closed ≡ true },
 }
 
 /// Bounded queues of items, each oldest first, between the threads that put items and a writer. The writer sleeps
@@ -40,10 +22,7 @@ pub struct Drained {
 #[derive(Drop)]
 pub struct ParkedQueue<T: Drop, const QUEUES: usize> {
     queues: [ArrayQueue<T>; QUEUES],
-    is_closed: AtomicBool,
-    /// The writer sleeps, or makes its last look before it sleeps, and nobody has woken it yet.
-    is_asleep: AtomicBool,
-    writer: Parker,
+    sleep: Sleep,
 }
 
 /// What a writer does with the items.
@@ -70,9 +49,7 @@ impl<T: Drop, const QUEUES: usize> ParkedQueue<T, QUEUES> {
     {
         ParkedQueue {
             queues,
-            is_closed: AtomicBool::new(false),
-            is_asleep: AtomicBool::new(false),
-            writer: Parker::new(),
+            sleep: Sleep::new(),
         }
     }
 
@@ -83,7 +60,7 @@ impl<T: Drop, const QUEUES: usize> ParkedQueue<T, QUEUES> {
     {
         match self.push(rt, at, item) {
             Some(there) => {
-                self.wake(there);
+                self.sleep.wake(rt, there);
                 true
             }
             None => false,
@@ -91,9 +68,9 @@ impl<T: Drop, const QUEUES: usize> ParkedQueue<T, QUEUES> {
     }
 
     /// Counts an item that was left out.
-    pub(crate) fn count(&self, missing: &Missing) {
+    pub(crate) fn count(&self, rt: &impl Wait, missing: &Missing) {
         missing.add();
-        self.wake(There(()));
+        self.sleep.wake(rt, There(()));
     }
 
     fn push(&self, rt: &impl Wait, at: usize, item: T) -> Option<There>
@@ -102,16 +79,6 @@ impl<T: Drop, const QUEUES: usize> ParkedQueue<T, QUEUES> {
         match self.queues[at].push(rt, item) {
             Ok(()) => Some(There(())),
             Err(_) => None,
-        }
-    }
-
-    /// Wakes the writer if it sleeps. Of several threads that put items meanwhile only one wakes it.
-    fn wake(&self, there: There) {
-        let There(()) = there;
-        // Pairs with `look`. A put pushes and then reads the mark; the writer sets the mark and then looks. So one of
-        // the two sees the other's step.
-        if self.is_asleep.load(Ordering::SeqCst) && self.is_asleep.swap(false, Ordering::SeqCst) {
-            self.writer.unpark();
         }
     }
 
@@ -124,8 +91,7 @@ impl<T: Drop, const QUEUES: usize> ParkedQueue<T, QUEUES> {
 
     /// Lets the writer end once every item is written, and wakes it. What is put later may not be written.
     pub fn close(&self) {
-        self.is_closed.store(true, Ordering::SeqCst);
-        self.writer.unpark();
+        self.sleep.close();
     }
 
     /// Has a writer drain the queues until they were closed and then found empty. After a drain that found items,
@@ -136,58 +102,43 @@ impl<T: Drop, const QUEUES: usize> ParkedQueue<T, QUEUES> {
         writer: &mut W,
         rest: Duration,
     ) -> Result<Drained, W::Error> {
-        let mut is_idle = false;
         for _look in rt.forever() {
-            let look = self.look(is_idle);
+            let seen = self.sleep.read_mark();
             let some = writer.drain()?;
-            if let Some(empty) = self.found_empty(look) {
-                if empty.0.is_closed {
+            if let Ok(empty) = look(seen, &self.queues) {
+                if empty.was_closed() {
                     return Ok(Drained { empty });
                 }
-                if empty.0.is_last {
-                    self.sleep(rt, empty);
+                if !some {
+                    self.drain_or_park(rt, writer, empty)?;
                 }
             }
             if some {
-                self.writer.park_timeout(rt, rest);
+                self.sleep.rest(rt, rest);
             }
-            is_idle = !is_idle && !some;
         }
         unreachable!()
     }
 
-    /// Looks whether the queues are closed. If `is_last`, first announces that the writer goes to sleep.
-    fn look(&self, is_last: bool) -> Look
-        ensures { result.is_last ≡ is_last }
+    /// Announces that the writer sleeps, drains the queues again, and parks if they are empty.
+    fn drain_or_park<R: Wait, W: Drain>(
+        &self,
+        rt: &R,
+        writer: &mut W,
+        empty: Empty<MarkSeen>,
+    ) -> Result<(), W::Error>
+        requires open { empty.0.closed ≡ false }
     {
-        if is_last {
-            self.is_asleep.store(true, Ordering::SeqCst);
+        let announced = self.sleep.announce(empty);
+        if let Err(fault) = writer.drain() {
+            self.sleep.withdraw(announced);
+            return Err(fault);
         }
-        Look {
-            is_closed: self.is_closed.load(Ordering::SeqCst),
-            is_last,
-        }
-    }
-
-    fn found_empty(&self, look: Look) -> Option<FoundEmpty>
-        ensures { IfSome result (λ empty. empty.0 ≡ look) }
-    {
-        for queue in &self.queues {
-            if !queue.is_empty() {
-                return None;
-            }
-        }
-        Some(FoundEmpty(look))
-    }
-
-    /// Sleeps until there is something to write or the queues are closed. The writer has announced its sleep and then
-    /// found the queues open and empty: else it could sleep while an item waits.
-    fn sleep(&self, rt: &impl Wait, empty: FoundEmpty)
-        requires last { empty.0.is_last ≡ true }
-        requires open { empty.0.is_closed ≡ false }
-    {
-        let _empty = empty;
-        self.writer.park(rt);
-        self.is_asleep.store(false, Ordering::SeqCst);
+        let awake = match look(announced, &self.queues) {
+            Ok(looked) => self.sleep.park(rt, looked),
+            Err(announced) => announced,
+        };
+        self.sleep.withdraw(awake);
+        Ok(())
     }
 }

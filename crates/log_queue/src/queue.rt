@@ -46,7 +46,7 @@ impl LogQueue {
     /// Puts a line after the others, or counts it if the queue is full.
     pub fn put(&self, rt: &impl Wait, line: LogLine) {
         if !self.lines.put(rt, 0, line) {
-            self.lines.count(&self.left_out);
+            self.lines.count(rt, &self.left_out);
         }
     }
 
