@@ -14,7 +14,7 @@
 //!
 //! So each ticket has been taken once or is still there, first in, first out. The answer is Full only if some lawful
 //! state with this end's history was full, and None only if such a state was empty. It is not proved that a call
-//! returns or that a sleeping end wakes. Tests show it.
+//! returns. Tests show it.
 //!
 //! # How an end sleeps, and who wakes it
 //!
@@ -22,6 +22,7 @@
 //! looks at the queue again, and only then parks. A put first pushes its ticket, and then clears the lowest bit that is
 //! set and unparks that end. So at most one end is woken for a ticket, and no ticket is left while all ends sleep:
 //! either the put finds the bit, or the end's second look finds the ticket. A ticket may wait for an end that is awake.
+//! [`laws`] says so of all ends together, act by act (`specs/Sleep.antt`).
 //!
 //! After each `take` that gave a ticket, the end's first put wakes nobody: the end itself comes back, and takes one
 //! ticket. Each later put wakes an end, and so does each put of an end that never calls `take`. An end that has tickets
@@ -50,6 +51,7 @@ mod flags;
 mod free;
 mod history;
 mod idle;
+pub mod laws;
 mod queue;
 mod rule;
 mod sleeper;
