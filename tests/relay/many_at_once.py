@@ -1,8 +1,6 @@
 """Many connections at once: slots, pollers, workers, and what they do while nothing comes."""
 
 import contextlib
-import ctypes
-import os
 import pathlib
 import resource
 import socket
@@ -14,9 +12,9 @@ from loopback import WAIT, Relay, echo, in_thread, port_of, target, unheard, unt
 from shared import (
     answer_and_read, ask_once, asked, asking, by_time, having, is_silent, left_out, move_much, numbers_in, served,
 )
+from tracing import halted
 
 FUTEX = "202"  # the number of the system call in which a worker sleeps
-PTRACE_SEIZE, PTRACE_INTERRUPT, PTRACE_DETACH, WALL = 0x4206, 0x4207, 17, 0x40000000  # ptrace(2), waitpid(2)
 
 
 def send_both(pairs):
@@ -176,22 +174,6 @@ def leaves_clients_by_two_and_by_an_eighth():
     for fewer, margin in (0, 2), (32, 4):
         assert taken_by_the_fuller(fewer, fewer + margin) >= 8
         assert any(taken_by_the_fuller(fewer, fewer + margin + 1) <= 8 for _ in range(5))
-
-
-@contextlib.contextmanager
-def halted(task):
-    """A thread stands still meanwhile, and all others go on. Answers whether that can be had."""
-    trace = ctypes.CDLL(None).ptrace
-    trace.argtypes = [ctypes.c_long, ctypes.c_long, ctypes.c_void_p, ctypes.c_void_p]
-    if trace(PTRACE_SEIZE, task, None, None) != 0:
-        yield False
-        return
-    trace(PTRACE_INTERRUPT, task, None, None)
-    os.waitpid(task, WALL)
-    try:
-        yield True
-    finally:
-        trace(PTRACE_DETACH, task, None, None)
 
 
 # refuses left_client_waits_long: a poller that leaves a client to others waits for reports as long as without one

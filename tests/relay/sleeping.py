@@ -1,0 +1,247 @@
+"""How threads sleep and are woken. Two of them stand still for a while before or after any of their atomic instructions: one that
+puts something, and one that is about to sleep or wakes. Then they go on in either order, and nothing waits while its thread
+sleeps."""
+
+import contextlib
+import errno
+import os
+import random
+import resource
+import select
+import time
+
+from loopback import WAIT, Relay, echo, target, until
+from shared import MUCH, left_out, served
+from tracing import ACCEPT4, CLOSE, EPOLL_WAIT, FUTEX, RECVFROM, SENDTO, SLEEP, SLEEPS, SYSCALL, halted
+
+TRIES = 48  # of each pair
+MOST = 30_000  # instructions that a thread makes by single steps, at most
+SOON = 5  # seconds; whoever waits longer is not woken
+RESTARTS = -500  # answers below are of calls that go on (ERESTART_RESTARTBLOCK)
+
+
+def send(clients):
+    for client in clients:
+        client.sendall(b"!")
+
+
+class Pair:
+    """A thread that puts something, and one that sleeps for it. They stand still but where they are let run."""
+
+    def __init__(self, relay, putter, sleeper, chance=None, places=None):
+        self.relay, self.putter, self.sleeper = relay, putter, sleeper
+        # In how many places they may stand still in each stage, once it was made.
+        self.chance, self.places = chance or random.Random(0), {} if places is None else places
+        self.number = 0
+
+    def sleep(self, *threads):
+        """Lets these go on until they sleep."""
+        for thread in threads:
+            thread.go()
+        calls = [str(number) for number in SLEEPS]
+        assert until(lambda: all(self.relay.system_call(thread.task) in calls for thread in threads)), "a thread does not sleep"
+        for thread in threads:
+            thread.halt()
+
+    def step(self, thread, stage, to=SLEEP):
+        """Lets a thread make a part of this stage, which ends where it sleeps, or at this call; at first all of it. Each place
+        before or after an atomic instruction has its turn for the sleeper, the last first."""
+        if stage not in self.places:
+            self.places[stage] = 2 * thread.step(MOST, to) + 1
+            return
+        many = self.places[stage]
+        place = many - 1 - self.number // 2 % many if thread is self.sleeper else self.chance.randrange(many)
+        thread.step(MOST, to, place // 2)
+        thread.step(place % 2, to)
+
+    def go_on(self, stage, to=SLEEP):
+        """Lets both go on: one of them a little later than the other, once the putter has made a part of this stage; or in every
+        second try the sleeper, once the putter has done all and sleeps."""
+        threads = [self.putter, self.sleeper]
+        if self.number % 2:
+            self.step(self.putter, stage, to)
+            self.chance.shuffle(threads)
+        else:
+            self.sleep(self.putter)
+        for thread in threads:
+            thread.go()
+            time.sleep(0.002)
+
+
+@contextlib.contextmanager
+def pair(relay, putter, sleeper):
+    with halted(putter, sleeper) as found:
+        yield Pair(relay, *found) if found else left_out("ptrace")
+
+
+def gives(reader, seconds=SOON):
+    """What can be read within so many seconds."""
+    waiting = select.poll()
+    waiting.register(reader, select.POLLIN)
+    return os.read(reader.fileno(), 4096) if waiting.poll(1000 * seconds) else None
+
+
+def read_all_of(connection, size):
+    """Reads this many bytes."""
+    while size > 0:
+        size -= len(connection.recv(size))
+
+
+def in_call(relay, number):
+    """The threads that are in this system call. Meanwhile some may end."""
+    found = []
+    for task in relay.tasks():
+        with contextlib.suppress(FileNotFoundError, ProcessLookupError):
+            if relay.system_call(task) == str(number):
+                found.append(task)
+    return found
+
+
+def woken_of(threads):
+    """The one of these threads that no longer sleeps. They stood still before, and all others sleep on."""
+    for thread in threads:
+        # The call in which it slept begins once more.
+        thread.go(SYSCALL)
+        assert thread.stops(SOON) is not None
+        thread.go(SYSCALL)
+    for _ in range(1000):
+        for thread in threads:
+            if thread.stops(0) is not None:
+                return thread
+        time.sleep(0.001)
+    raise AssertionError("nobody wakes")
+
+
+def a_worker_beside_a_poller():
+    # Of 17 clients whose bytes the poller finds at once the worker has the last: it sleeps before, and after.
+    relay = Relay(target(echo), recorded=False, slots=64, workers=1, log="off")
+    clients = served(relay, 34)
+    with pair(relay, relay.process.pid, *relay.named("worker")) as both:
+        for number in range(TRIES if both else 0):
+            poller, worker = both.putter, both.sleeper
+            both.sleep(poller, worker)
+            send(clients[:17])
+            poller.run_to(EPOLL_WAIT, lambda answer: answer == 17)
+            poller.go()
+            both.number = number // 2
+            # Once it has been woken, or once it has run its ticket.
+            if number % 2:
+                worker.run_to(FUTEX, lambda answer: answer > RESTARTS)
+                both.step(worker, "wakes", RECVFROM)
+            else:
+                worker.run_to(SENDTO, lambda answer: answer > 0)
+                both.step(worker, "falls asleep")
+            poller.halt()
+            both.sleep(poller)
+            send(clients[17:])
+            poller.run_to(EPOLL_WAIT, lambda answer: answer == 17)
+            both.go_on("puts", RECVFROM)
+            assert all([gives(client) for client in clients]), (number, both.places)
+            poller.halt()
+            worker.halt()
+
+
+# refuses writer_sleeps_without_its_last_look: the writer of the log announces that it sleeps behind its last look
+def the_writer_of_the_log_beside_a_poller():
+    relay, lines = Relay(target(echo), recorded=False, workers=1), b""
+    clients = served(relay, 1)
+    with pair(relay, relay.process.pid, *relay.named("log")) as both:
+        for number in range(TRIES if both else 0):
+            poller, writer = both.putter, both.sleeper
+            both.sleep(poller, writer)
+            clients.append(relay.connect())
+            poller.go()
+            # After a line it rests for 5 ms, and looks again before it sleeps.
+            writer.run_to(FUTEX, lambda answer: answer == -errno.ETIMEDOUT)
+            both.number = number
+            both.step(writer, "falls asleep")
+            poller.halt()
+            both.sleep(poller)
+            clients.append(relay.connect())
+            poller.run_to(ACCEPT4, lambda answer: answer > 0)
+            both.go_on("logs")
+            while lines.count(b" open ") < len(clients):
+                more = gives(relay.process.stderr)
+                assert more, (number, both.places)
+                lines += more
+            poller.halt()
+            writer.halt()
+
+
+# refuses waker_before_the_slot: a worker wakes the slot's poller, and gives the slot after that
+def a_poller_beside_a_worker_that_gives_its_slot():
+    # The slot of the last connection, whose end is a worker's. If nobody wakes its poller, one of 16, it waits for 1.6 seconds.
+    chance, places = random.Random(0), {}
+    for number in range(TRIES // 6):
+        relay = Relay(recorded=False, workers=16, stop_after=1, log="off")
+        client, end = relay.pair()
+        with relay.stopped():
+            client.sendall(bytes(MUCH))
+        read_all_of(end, MUCH)
+        # All other pollers end before they wait.
+        assert until(lambda: relay.status("Threads") <= 19 and len(in_call(relay, EPOLL_WAIT)) == 1)
+        with halted(*in_call(relay, EPOLL_WAIT), *relay.named("worker", 16)) as found:
+            if not found:
+                return left_out("ptrace")
+            poller, *workers = found
+            client.close()
+            end.close()
+            poller.go()
+            worker = woken_of(workers)
+            both = Pair(relay, worker, poller, chance, places)
+            for _socket in range(2):
+                worker.run_to(CLOSE, lambda answer: answer == 0)
+            poller.halt()
+            both.step(worker, "gives")
+            # That its wait was interrupted is a reason to look for its slots.
+            both.step(poller, "looks")
+            for each in workers:
+                if each is not worker:
+                    each.let_go()
+            if number % 2:
+                worker.let_go()
+            # Its worker goes on once it waits, for reports or for a lock of malloc(3). No wait ends since its time is over.
+            while poller.begins(EPOLL_WAIT, worker.let_go):
+                longest = poller.longest()
+                assert poller.ends(worker.let_go) > 0 or longest == 0, places
+        assert relay.process.wait(WAIT) == 0
+
+
+def waits_of(relay, many, longest=200):
+    """For how many milliseconds the first poller may wait in its next calls, once so many clients have come. The last two are
+    the longest waits. All other pollers stand still."""
+    times = []
+    with halted(relay.process.pid, *relay.named("poller", relay.pollers - 1)) as found:
+        _clients = [relay.connect() for _ in range(many)]
+        while found and times[-2:] != [longest] * 2 and len(times) < 50:
+            assert found[0].begins(EPOLL_WAIT)
+            times.append(found[0].longest())
+            found[0].ends()
+    return times
+
+
+def polling(pollers=1, target="127.255.255.255:1"):
+    relay = Relay(target=target, recorded=False, workers=pollers, slots=64 * pollers, log="off")
+    relay.pollers = pollers
+    return relay
+
+
+# refuses long_waits_of_a_millisecond: a poller with nothing to do waits for a millisecond
+# refuses single_poller_waits_as_sixteen: a single poller waits for 1.6 seconds
+# refuses brief_waits_of_20_milliseconds: a poller that has left a client to others waits for 20 ms
+# refuses starved_accept_is_tried_at_once: a poller that lacks descriptors for a client does not wait
+# refuses starved_accept_waits_without_end: such a poller waits until there is a report
+# refuses hasty_waits_of_a_millisecond: a poller that may accept more clients waits for a millisecond
+def of_a_poller_as_long_as_it_may():
+    if not waits_of(polling(), 0):
+        return left_out("ptrace")
+    # A poller that begins tries to accept, and then waits.
+    for pollers, longest in (1, 200), (2, 200), (4, 400), (16, 1600):
+        assert set(waits_of(polling(pollers), 0, longest)) - {0} == {longest}, pollers
+    # Of nine clients four are accepted in a round. None waits for a target.
+    assert set(waits_of(polling(), 9)) == {0, 200}
+    # A poller leaves clients to another with fewer, and looks again after a millisecond.
+    assert set(waits_of(polling(2, f"127.0.0.1:{target(echo)}"), 9)) - {0} == {1, 200}
+    relay = polling()
+    relay.limit(resource.RLIMIT_NOFILE, max(relay.descriptors()) + 1)
+    assert set(waits_of(relay, 1)) - {0} == {200}
