@@ -70,7 +70,7 @@ def unstarted(started):
 
 
 # refuses unstarted_thread_is_no_fault: a thread that cannot be started is logged, and the others go on
-# refuses leave_ignores_a_fault: a poller that ends for a fault does not end the workers while another was to poll
+# refuses found_fault_leaves_the_queue_open: a thread that finds a fault does not close the queue of tickets, so workers sleep on
 # refuses serves_without_its_recorder: a relay whose recording cannot be written for want of a thread serves on without it
 # refuses fault_leaves_the_recording_open: after a fault the relay waits without end for the thread that records
 def no_thread_for_some():

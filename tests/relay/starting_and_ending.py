@@ -17,8 +17,7 @@ from loopback import (
     TESTS, WAIT, Relay, allowed, echo, in_thread, port_of, read_all, send_and_shut, settings_file, start, target, until,
 )
 from shared import (
-    OWN, answer_and_read, ask_once, asked, at_once, by_time, connected, few, having, is_open, is_silent, left_out, line_of,
-    move_much, served, unused_port,
+    OWN, ask_once, asked, at_once, by_time, connected, few, having, is_open, is_silent, left_out, line_of, served, unused_port,
 )
 
 
@@ -35,25 +34,6 @@ def goes_on_behind_its_first_poller():
     sending = in_thread(send_and_shut, second, data)
     assert read_all(second) == data and not sending.result(WAIT)
     relay.ended(within=10)
-
-
-# refuses no_wake_behind_the_last: nobody wakes a poller whose last connection a worker has ended
-# refuses pollers_behind_the_eighth_are_not_woken: of 16 pollers, those after the eighth have the eighth's waker
-@by_time
-def ends_soon_behind_its_last():
-    # Each poller has one connection. One that nobody wakes waits for 200 ms, and for 1.6 s if it is one of 16.
-    def taken(pollers):
-        relay = Relay(target(answer_and_read), slots=64 * pollers, workers=pollers, stop_after=pollers, log="off")
-        clients = served(relay, pollers)
-        move_much(relay, *clients)
-        before = time.monotonic()
-        for client in clients:
-            client.shutdown(socket.SHUT_WR)
-        relay.process.wait(WAIT)
-        return time.monotonic() - before
-
-    for pollers, most in (1, 0.15), (16, 0.7):
-        assert sorted(taken(pollers) for _ in range(7))[3] < most
 
 
 def gives_up_its_port(relay, clients):

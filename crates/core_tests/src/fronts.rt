@@ -5,7 +5,7 @@ use engine::Wire;
 use log::sink::{Discard, Lines, Memory};
 use log::{Level, Log, Logged};
 use settings::parse;
-use sockets::{Forwarding, Patience, SocketWire, Sockets, bind, open_all};
+use sockets::{Forwarding, Patience, SocketWire, Sockets, Stop, bind, open_all};
 use std::alloc::{AllocError, Global};
 use std::io::{self, ErrorKind, Write};
 use std::net::{SocketAddr, TcpListener, TcpStream};
@@ -35,7 +35,7 @@ fn fronts_to(
         proxy: false,
         patience: Patience::NONE,
     };
-    let (fronts, _wakers) = open_all(rt, rt.alloc(), bound, forwarding, split)?;
+    let (fronts, _wakers) = open_all(rt, rt.alloc(), bound, forwarding, split, &Stop::new())?;
     Ok(Fronts { fronts, address })
 }
 

@@ -10,15 +10,14 @@ use log_queue::{Direct, LogQueue, Queued};
 use os::set_thread_name;
 use relay_log::{ServerFault, log_no_thread};
 use settings::LogLevel;
+use sockets::Stop;
 use std::alloc::AllocGlobal;
 use std::io::{self, Eprint, Stdin};
-use std::sync::atomic::AtomicBool;
-use std::sync::atomic::Ordering::SeqCst;
 use std::sync::{Arc, Wait};
 use std::thread::{Builder, Threads};
 
-/// Returns a mark. If the options ask for it, starts a thread that reads standard input to its end, throws that away,
-/// and sets the mark. A read that fails counts as the end. Logs the end at level info, a failed read at level warn.
+/// Returns a stop. If the options ask for it, starts a thread that reads standard input to its end, throws that away,
+/// and sets the stop. A read that fails counts as the end. Logs the end at level info, a failed read at level warn.
 /// Refuses with `NoMemory`. Refuses with `Threads`, and logs the cause, if the thread cannot be started.
 pub fn watch<R>(
     rt: R,
@@ -26,28 +25,28 @@ pub fn watch<R>(
     level: LogLevel,
     extras: Extras,
     queue: &Arc<LogQueue>,
-) -> Result<Arc<AtomicBool>, ServerFault>
+) -> Result<Arc<Stop>, ServerFault>
 where
     R: AllocGlobal + Threads + Eprint + Wait + Send + Copy + Drop + 'static,
     ensures refused { IfErr result (λ fault. (fault ≡ ServerFault.NoMemory) ⊎ (fault ≡ ServerFault.Threads)) }
 {
-    let has_ended = Arc::new(rt.alloc(), AtomicBool::new(false))?;
+    let stop = Arc::new(rt.alloc(), Stop::new())?;
     if !extras.until_eof {
-        return Ok(has_ended);
+        return Ok(stop);
     }
     let lines = queue.clone()?;
-    let sign = has_ended.clone()?;
+    let sign = stop.clone()?;
     let level = level_filter(level);
     let read = move || {
         set_thread_name(b"stdin");
         read_to_end(&rt, input, level, &lines);
-        sign.store(true, SeqCst);
+        sign.set();
     };
     if Builder::new().spawn(&rt, read).is_err() {
         let form = queue.form();
         return Err(log_no_thread(&Direct { rt, form }));
     }
-    Ok(has_ended)
+    Ok(stop)
 }
 
 fn read_to_end<R>(rt: &R, mut input: Stdin, level: LevelFilter, queue: &LogQueue)

@@ -1,5 +1,5 @@
 //! What the program lends the server: a gate that prints where it listens, and the clock for the idle limit.
-use server::{Clock, Gate};
+use server::{Clock, Gate, Stop};
 use settings::LogLevel;
 use std::net::SocketAddr;
 use std::sync::atomic::AtomicBool;
@@ -14,7 +14,7 @@ pub struct Announcing<'a> {
     pub address: SocketAddr,
     pub level: LogLevel,
     pub is_off: &'a AtomicBool,
-    pub is_stopped: &'a AtomicBool,
+    pub stop: &'a Stop,
     pub is_unprinted: AtomicBool,
 }
 
@@ -23,7 +23,7 @@ impl Gate for Announcing<'_> {
         self.is_off.store(self.level == LogLevel::Off, SeqCst);
         if !program::print_listening(&self.rt, self.address, &mut self.rt.stdout()) {
             self.is_unprinted.store(true, SeqCst);
-            self.is_stopped.store(true, SeqCst);
+            self.stop.set();
         }
     }
 

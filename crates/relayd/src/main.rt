@@ -46,7 +46,7 @@ fn main(rt: HostRuntime) -> ExitCode {
         };
         let logged = Logged::new(rt, program::starting_filter(settings.log), lines);
         program::log_start(&logged, bound.text(), &settings);
-        let is_stopped = until_eof::watch(rt, rt.stdin(), settings.log, extras, &queue)?;
+        let stop = until_eof::watch(rt, rt.stdin(), settings.log, extras, &queue)?;
         let statistics = telling::start(rt, &settings, extras, &queue)?;
         let counted = statistics.as_ref();
         let gate = Announcing {
@@ -54,13 +54,13 @@ fn main(rt: HostRuntime) -> ExitCode {
             address: bound.text(),
             level: settings.log,
             is_off: &is_off,
-            is_stopped: &is_stopped,
+            stop: &stop,
             is_unprinted: AtomicBool::new(false),
         };
         let lent = Lent {
             gate: &gate,
             clock: &MonotonicClock(rt),
-            is_stopped: &is_stopped,
+            stop: &stop,
             statistics: counted,
             patience: extras.patience,
             log_clients: extras.log_clients,

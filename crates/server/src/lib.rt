@@ -12,5 +12,5 @@ mod serving;
 pub use dispatch::{Clock, Gate, ServerFault};
 pub use making::{build, split_of};
 pub use serving::{Lent, serve, serve_recorded};
-pub use sockets::Bound;
+pub use sockets::{Bound, Stop};
 pub use threads::Outcome;

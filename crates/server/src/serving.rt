@@ -12,12 +12,11 @@ use recording::{
 use records::Header;
 use relay_log::log_no_thread;
 use settings::{Settings, calls_for};
-use sockets::{Bound, Dial, Forwarding, Patience, open_all};
+use sockets::{Bound, Dial, Forwarding, Patience, Stop, open_all};
 use statistics::Statistics;
 use std::alloc::{AllocError, Global};
 use std::io::Write;
 use std::net::Net;
-use std::sync::atomic::AtomicBool;
 use std::sync::{Arc, Mutex, Wait};
 use std::thread::{self, Threads};
 use threads::{Outcome, Server, run_threads};
@@ -29,7 +28,7 @@ pub struct Lent<'a, G, C> {
     /// The idle limit goes by this clock.
     pub clock: &'a C,
     /// Another thread sets this once no more connections may be opened.
-    pub is_stopped: &'a AtomicBool,
+    pub stop: &'a Stop,
     /// Where connections are counted, with a place for each of the settings' slots; None to count none.
     pub statistics: Option<&'a Arc<Statistics>>,
     /// How long to wait for targets and clients that do not answer.
@@ -51,7 +50,7 @@ impl<G, C> Copy for Lent<'_, G, C> {}
 /// calling thread is a poller's. With the settings' `proxy` each target is first sent a line with its client's
 /// addresses.
 ///
-/// It returns on a fault; or once `stop_after` connections were opened or `is_stopped` was set, and all opened ones are
+/// It returns on a fault; or once `stop_after` connections were opened or `stop` was set, and all opened ones are
 /// closed. Once no more may be opened, the listening socket is closed. When it returns, every thread has ended, and
 /// every socket is closed.
 ///
@@ -163,7 +162,7 @@ fn serve_into<G: Gate + Sync, C: Clock + Sync, R: Net + Dial + Wait + Threads + 
     requires { split.slots ≡ settings.now.slots }
 {
     let forwarding = Forwarding::of(settings, lent.patience);
-    match open_all(rt, alloc, bound, forwarding, split) {
+    match open_all(rt, alloc, bound, forwarding, split, lent.stop) {
         Ok((fronts, wakers)) => match queue {
             None => run_on(rt, alloc, settings, split, fronts, wakers, lent),
             Some(queue) => run_recorded(rt, alloc, settings, split, fronts, wakers, lent, queue),
@@ -193,7 +192,7 @@ where
     match server_of(rt, alloc, settings, split, fronts, waker, &lent) {
         Ok(server) => {
             let timing = timing_of(settings, lent.clock);
-            run_threads(rt, alloc, lent.gate, timing, lent.is_stopped, server)
+            run_threads(rt, alloc, lent.gate, timing, lent.stop.flag(), server)
         }
         Err(fault) => Outcome::refused(fault),
     }
@@ -226,7 +225,7 @@ where
     let lent = Lent {
         gate: &RecordedGate::new(lent.gate, recorder.another()),
         clock: &RecordedClock::new(lent.clock, recorder.another(), settings.idle > 0),
-        is_stopped: lent.is_stopped,
+        stop: lent.stop,
         statistics: lent.statistics,
         patience: lent.patience,
         log_clients: lent.log_clients,

@@ -4,7 +4,7 @@
 //!
 //! - [`Sockets`] is the front of one poller, and [`Forwarding`] says where it connects clients. All fronts share one
 //!   listening socket ([`Bound`]), and each leaves clients to fronts that have fewer (`loads`). [`Wakers`] wakes the
-//!   poller of a slot.
+//!   poller of a slot, and a [`Stop`] all pollers.
 //! - [`SocketWire`] is one end of a connection: a socket, and what is known of it. After a read that would block it
 //!   reads again only once its front has reported something to read (`readiness`).
 //!
@@ -25,6 +25,7 @@ mod loads;
 mod options;
 mod poll;
 mod socket;
+mod stop;
 mod stream;
 mod wire;
 
@@ -32,5 +33,6 @@ pub use bound::{Bound, bind};
 pub use forwarding::{Dial, Forwarding, Patience};
 pub use poll::{Sockets, Wakers, open_all};
 pub use socket::Socket;
+pub use stop::Stop;
 pub use stream::Stream;
 pub use wire::SocketWire;

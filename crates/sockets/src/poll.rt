@@ -1,5 +1,5 @@
 //! A poller's front over epoll(7): it waits, accepts, connects and registers.
-ghost use Rattle.std.specs.{Prelude.{◌≡◌, ◌≢◌, ◌↔◌, ◌⊎◌, IsTrue, if◌then◌else◌, ◌+◌, ◌-◌, ◌<◌, ◌≤◌, ◌++◌, [], length, replicate, true, false, Some, None, IfOk, OnOk, IfErr, OnErr, IsErrAnd, vec_len, vec_capacity}, IoError.error_kind, declared.io.ErrorKind.TheVariants.Interrupted};
+ghost use Rattle.std.specs.{Prelude.{◌≡◌, ◌≢◌, ◌↔◌, ◌⊎◌, IsTrue, if◌then◌else◌, ◌+◌, ◌-◌, ◌<◌, ◌≤◌, ◌++◌, [], length, replicate, true, false, Some, None, IfOk, OnOk, IfErr, OnErr, IsErrAnd, vec_len, vec_capacity}, Arc.arc_value, IoError.error_kind, declared.io.ErrorKind.TheVariants.Interrupted};
 ghost use Rattle.mio.specs.{Event.event_token, Events.items};
 ghost use Rattle.token.specs.Numbers.{name_of};
 ghost use Rattle.sockets.specs.{Fronts.{Fails, end_in, fresh_front, heard_of, most_lacking, most_left, names_reading, numbers, v4_of, wait_of, IsLocal, IsRoute, MayTell, OnlyLacked, WaitEnded}, Wires.{SameButWatched, fresh_wire, patient, under, unlimited}};
@@ -13,6 +13,7 @@ use crate::limits::{
 };
 use crate::loads::Loads;
 use crate::socket::Socket;
+use crate::stop::Stop;
 use crate::stream::Stream;
 use crate::wire::SocketWire;
 use dispatch::{
@@ -89,8 +90,17 @@ pub struct Wakers {
     each: Vec<Waker>,
 }
 
-/// A front for each part of the slots, and the wakers for other threads. All fronts share one bound socket, which is
-/// reported to each.
+impl Wakers {
+    /// Ends the wait of every poller, or its next wait if it does not wait now.
+    pub(crate) fn wake_all(&self) {
+        for waker in self.each.iter() {
+            let _ = waker.wake();
+        }
+    }
+}
+
+/// A front for each part of the slots, and the wakers for other threads, one of which is the stop. All fronts share one
+/// bound socket, which is reported to each.
 ///
 /// Refuses with `NoMemory`, and with `Poll` if the system cannot report on sockets (epoll_create1(2), eventfd(2),
 /// epoll_ctl(2)); the cause was then logged, at level error. In both cases the listening socket is closed.
@@ -100,10 +110,11 @@ pub fn open_all<'r, R: Net + Log>(
     bound: Bound,
     forwarding: Forwarding,
     split: Split,
-) -> Result<(Vec<Sockets<'r, R>>, Wakers), ServerFault>
+    stop: &Stop,
+) -> Result<(Vec<Sockets<'r, R>>, Arc<Wakers>), ServerFault>
     ensures opened { IfOk result (λ made. made.0.items
         ≡ replicate (parts_of split.slots split.size) (fresh_front forwarding (parts_of split.slots split.size))) }
-    ensures wakers { IfOk result (λ made. made.1.split ≡ split) }
+    ensures wakers { IfOk result (λ made. (arc_value made.1).split ≡ split) }
     ensures refused { IfErr result (λ fault. (fault ≡ ServerFault.Poll) ⊎ (fault ≡ ServerFault.NoMemory)) }
 {
     let told = Arc::new(alloc, Reports::new(alloc, split.slots())?)?;
@@ -111,7 +122,9 @@ pub fn open_all<'r, R: Net + Log>(
     let (polls, each) = watched_by_all(rt, alloc, &mut listener, split.pollers())?;
     let loads = Arc::new(alloc, Loads::new(alloc, split)?)?;
     let fronts = fronts_of(rt, alloc, listener, &told, &loads, polls, forwarding)?;
-    Ok((fronts, Wakers { split, each }))
+    let wakers = Arc::new(alloc, Wakers { split, each })?;
+    stop.reach(wakers.clone()?);
+    Ok((fronts, wakers))
 }
 
 /// Makes a poll for each poller, which reports on the listening socket, and the poller's waker.
@@ -398,7 +411,7 @@ impl<R: Dial> Front for Sockets<'_, R> {
 
     type Target = SocketWire;
 
-    type Waker = Wakers;
+    type Waker = Arc<Wakers>;
 
     fn poll(&mut self, batch: &mut Vec<u64>, wait: Waiting) -> io::Result<()>
         requires room { MAX_BATCH ≤ vec_capacity batch.old }
@@ -515,7 +528,7 @@ impl<R: Dial> Front for Sockets<'_, R> {
         Ok(Opened { target, route })
     }
 
-    fn wake(wakers: &Wakers, slot: usize) {
+    fn wake(wakers: &Arc<Wakers>, slot: usize) {
         if let Some(waker) = wakers.each.get(wakers.split.poller_of(slot)) {
             let _ = waker.wake();
         }

@@ -21,6 +21,21 @@ fault_by (Met fault) = Some fault
 abbrev pub faults_by : Why → List ServerFault
 faults_by why = option_to_list (fault_by why)
 
+-- a thread that ends so ends all others: it met a fault, or found that another has met one
+abbrev pub EndsAll : Why → Type 0
+EndsAll FaultFound = Unit {0}
+EndsAll PollerOver = ⊥
+EndsAll QueueClosed = ⊥
+EndsAll (Met fault) = Unit {0}
+
+-- a fault is recorded, with its thread's number, and this mark is set
+pub record Announced : Type 0 where
+  pub mark : ℕ
+  pub first : ℕ × ServerFault
+
+abbrev pub announced : ℕ → ℕ × ServerFault → Announced
+announced mark first = record { mark = mark; first = first }
+
 -- of two faults, each with its thread's number, the lower number's; of one thread's faults the first
 abbrev pub lowest : Option (ℕ × ServerFault) → ℕ × ServerFault → ℕ × ServerFault
 lowest None new = new

@@ -1,6 +1,6 @@
 //! What every thread of a server is handed, and how a fault of one ends the others.
-ghost use Rattle.std.specs.Prelude.{◌≡◌, Bool, OnSome, option_map};
-ghost use Rattle.threads.specs.Loops.{AllWoken, fault_by};
+ghost use Rattle.std.specs.Prelude.{◌≡◌, Bool, option_map};
+ghost use Rattle.threads.specs.Loops.{AllWoken, EndsAll, announced, fault_by};
 
 use crate::ending::{Ended, Ending};
 use crate::faults::Recorded;
@@ -41,23 +41,26 @@ pub struct Context<'a, G, C, R, S = AtomicBool> {
 }
 
 impl<G, C, R: Wait, S> Context<'_, G, C, R, S> {
-    /// The loop of the thread with this number has ended. A fault that it met is recorded and ends all other threads:
-    /// those that sleep are woken.
+    /// The loop of the thread with this number has ended. A fault that it met is recorded. A fault that it met or found
+    /// ends all other threads: those that sleep are woken.
     pub fn end<F: Front>(
         &self,
         shared: &Shared<F>,
         number: usize,
         ready: &mut ReadyQueue,
         ended: Ended,
-    ) -> Option<Recorded>
+    ) -> Option<Recorded<'_>>
         ensures ready { ready.new ≡ ready.old }
-        ensures recorded { result ≡ option_map (λ fault. (number, fault)) (fault_by ended.why) }
-        ensures woken { OnSome result (AllWoken (F.woke shared.now.waker) self.now.split) }
+        ensures recorded { result ≡ option_map (λ fault. announced self.now.ending.now (number, fault)) (fault_by ended.why) }
+        ensures woken { EndsAll ended.why → AllWoken (F.woke shared.now.waker) self.now.split }
     {
-        let recorded = self.ending.end(self.rt, number, ended)?;
-        ready.close();
-        self.wake_pollers(shared);
-        Some(recorded)
+        let ends_all = ended.ends_all();
+        let recorded = self.ending.end(self.rt, number, ended);
+        if ends_all {
+            ready.close();
+            self.wake_pollers(shared);
+        }
+        recorded
     }
 
     pub(crate) fn wake_pollers<F: Front>(&self, shared: &Shared<F>)
@@ -68,12 +71,11 @@ impl<G, C, R: Wait, S> Context<'_, G, C, R, S> {
         }
     }
 
-    /// A poller has ended. After the last one, and after a fault, the queue of tickets is closed, which ends the
-    /// workers.
+    /// A poller has ended. After the last one the queue of tickets is closed, which ends the workers.
     pub fn leave(&self, ready: &mut ReadyQueue)
         ensures { ready.new ≡ ready.old }
     {
-        if self.ending.leave() || self.ending.is_recorded() {
+        if self.ending.leave() {
             ready.close();
         }
     }

@@ -1,18 +1,19 @@
 //! How the threads of a server come to their end: why the loop of each ends, and what becomes of a fault.
-ghost use Rattle.std.specs.Prelude.{◌≡◌, IfOk, IfErr, OnErr, OnOk, option_map, true, false};
+ghost use Rattle.std.specs.Prelude.{◌≡◌, ◌↔◌, IfOk, IfErr, IsTrue, OnErr, OnOk, option_map, true, false};
 ghost use Rattle.dispatch.specs.Outgoing.{PutAll};
 ghost use Rattle.ready.specs.Steps.{HeldOnce};
 ghost use Rattle.relay_log.specs.declared.faults.ServerFault.{ServerFault};
-ghost use Rattle.threads.specs.Loops.{Took, fault_by};
+ghost use Rattle.threads.specs.Loops.{EndsAll, Took, announced, fault_by};
 
 use crate::faults::{Lowest, Outcome, Recorded};
 use crate::running::Served;
 use dispatch::{Front, Own, ServerFault};
 use ready::Ticket;
 use rounds::Poller;
+use std::marker::Model;
+use std::sync::atomic::AtomicUsize;
 use std::sync::atomic::Ordering::SeqCst;
-use std::sync::atomic::{AtomicBool, AtomicUsize};
-use std::sync::{Mutex, Wait};
+use std::sync::{Mutex, OnceLock, Wait};
 
 /// Why a thread's loop ended.
 #[derive(Clone, Copy)]
@@ -34,11 +35,21 @@ pub struct Ended {
 }
 
 /// Which fault is recorded, if a thread met one, and how many pollers have not ended.
+///
+/// In a clause it is the mark at which threads look, which is set once a fault is recorded.
 #[derive(Drop)]
 pub struct Ending {
-    recorded: AtomicBool,
+    recorded: OnceLock<()>,
     first: Mutex<Lowest>,
     polling: AtomicUsize,
+}
+
+impl Model for Ending {
+    ghost use Rattle.std.specs.Prelude.{ℕ};
+
+    ghost Value = { ℕ };
+
+    ghost view = { λ e. e.recorded.id };
 }
 
 /// A look found no fault recorded. Only [`Ending::look`] makes this value. It cannot be copied, so each round and each
@@ -64,6 +75,16 @@ impl Ended {
     {
         Ended {
             why: Why::FaultFound,
+        }
+    }
+
+    /// Whether this ends all other threads, too: a fault does, whichever thread met it.
+    pub(crate) fn ends_all(&self) -> bool
+        ensures { IsTrue result ↔ EndsAll self.now.why }
+    {
+        match self.why {
+            Why::FaultFound | Why::Met(_) => true,
+            Why::PollerOver | Why::QueueClosed => false,
         }
     }
 
@@ -115,15 +136,15 @@ impl Ending {
     /// For a server with this many pollers, whose threads do not run yet.
     pub fn new(pollers: usize) -> Ending {
         Ending {
-            recorded: AtomicBool::new(false),
+            recorded: OnceLock::new(),
             first: Mutex::new(Lowest::new()),
             polling: AtomicUsize::new(pollers),
         }
     }
 
     /// Records the fault that ended the loop of the thread with this number, if a fault did.
-    pub(crate) fn end(&self, rt: &impl Wait, number: usize, ended: Ended) -> Option<Recorded>
-        ensures { result ≡ option_map (λ fault. (number, fault)) (fault_by ended.why) }
+    pub(crate) fn end(&self, rt: &impl Wait, number: usize, ended: Ended) -> Option<Recorded<'_>>
+        ensures { result ≡ option_map (λ fault. announced self.now (number, fault)) (fault_by ended.why) }
     {
         let Ended { why } = ended;
         match why {
@@ -132,16 +153,16 @@ impl Ending {
         }
     }
 
-    pub(crate) fn record(&self, rt: &impl Wait, number: usize, fault: ServerFault) -> Recorded
-        ensures { result ≡ (number, fault) }
+    pub(crate) fn record(&self, rt: &impl Wait, number: usize, fault: ServerFault) -> Recorded<'_>
+        ensures { result ≡ announced self.now (number, fault) }
     {
         let kept = self.first.lock(rt).keep(number, fault);
-        kept.announce(&self.recorded)
+        kept.announce(rt, &self.recorded)
     }
 
     /// Whether a fault is recorded.
     pub fn is_recorded(&self) -> bool {
-        self.recorded.load(SeqCst)
+        self.recorded.get().is_some()
     }
 
     /// Looks for a recorded fault: the thread goes on only if there is none.

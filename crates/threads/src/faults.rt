@@ -1,11 +1,10 @@
-//! What becomes of a fault: it is kept, unless a thread with a lower number has met one, and a flag is set.
+//! What becomes of a fault: it is kept, unless a thread with a lower number has met one, and a mark is set.
 ghost use Rattle.std.specs.Prelude.{◌≡◌, ◌↔◌, IfErr, IsOk, None, Some, option_map};
-ghost use Rattle.threads.specs.Loops.{lowest};
+ghost use Rattle.threads.specs.Loops.{announced, lowest};
 
 use dispatch::ServerFault;
 use std::marker::Model;
-use std::sync::atomic::AtomicBool;
-use std::sync::atomic::Ordering::SeqCst;
+use std::sync::{OnceLock, OnceToken, Wait};
 
 /// The lowest number of a thread that met a fault, and the fault.
 #[derive(Drop)]
@@ -19,21 +18,22 @@ pub(crate) struct Kept {
     fault: ServerFault,
 }
 
-/// A fault is recorded. Only [`Kept::announce`] makes this value, and it cannot be dropped.
+/// A fault is recorded, and a mark is set, as the token shows. Only [`Kept::announce`] makes this value, and it cannot be
+/// dropped.
 ///
-/// In a clause it is the number of the thread that met the fault, and the fault.
-pub struct Recorded {
+/// In a clause it is the number of the thread that met the fault, the fault, and which mark is set.
+pub struct Recorded<'a> {
     number: usize,
     fault: ServerFault,
+    marked: OnceToken<'a, ()>,
 }
 
-impl Model for Recorded {
-    ghost use Rattle.std.specs.Prelude.{ℕ};
-    ghost use Rattle.relay_log.specs.declared.faults.ServerFault.{ServerFault};
+impl<'a> Model for Recorded<'a> {
+    ghost use Rattle.threads.specs.Loops.{Announced, announced};
 
-    ghost Value = { ℕ × ServerFault };
+    ghost Value = { Announced };
 
-    ghost view = { λ r. (r.number, r.fault) };
+    ghost view = { λ r. announced r.marked.of (r.number, r.fault) };
 }
 
 /// How a server ended: well; or by a fault that threads met, the lowest number's; or by what refused the server before
@@ -74,13 +74,20 @@ impl Lowest {
 }
 
 impl Kept {
-    /// Sets the flag: each thread that looks at it from now on finds that there is a fault.
-    pub(crate) fn announce(self, flag: &AtomicBool) -> Recorded
-        ensures { result ≡ (self.number, self.fault) }
+    /// Sets the mark: each thread that looks at it from now on finds that there is a fault.
+    pub(crate) fn announce<'a>(self, rt: &impl Wait, mark: &'a OnceLock<()>) -> Recorded<'a>
+        ensures { result ≡ announced mark.now.id (self.number, self.fault) }
     {
         let Kept { number, fault } = self;
-        flag.store(true, SeqCst);
-        Recorded { number, fault }
+        let marked = match mark.try_insert(rt, ()) {
+            Ok(marked) => marked,
+            Err((marked, ())) => marked,
+        };
+        Recorded {
+            number,
+            fault,
+            marked,
+        }
     }
 }
 
@@ -105,12 +112,13 @@ impl Outcome {
     }
 }
 
-impl Recorded {
+impl Recorded<'_> {
     /// Called when the thread that met the fault has ended, or was not started.
     pub fn spend(self) {
         let Recorded {
             number: _,
             fault: _,
+            marked: _,
         } = self;
     }
 }

@@ -10,8 +10,9 @@
 //! queue of the slot's poller (`Worker::turn`: `gives`), and leaves none in hand (`given`). It sleeps for a ticket only
 //! if it has no ticket in hand, unless the queue was full (`take`: `put`). Why a loop ended is a value that cannot be
 //! dropped (`Ended`); only `ending.rt` makes it or takes it apart. `Context::end` takes it: a fault is recorded under
-//! its thread's number (`recorded`), the lowest number's is kept (`Lowest::keep`), and every poller is woken (`woken`).
-//! The kept fault says how a server ended, once all its threads have (`Served`). Each round, turn and taking of a
+//! its thread's number, and the mark is set at which all threads look, as a token of that mark shows (`recorded`). The
+//! lowest number's is kept (`Lowest::keep`). A thread that met a fault or found one wakes every poller (`woken`). The
+//! kept fault says how a server ended, once all its threads have (`Served`). Each round, turn and taking of a
 //! ticket requires a look of its own that found no fault (`NoFault`); a worker's turn requires a look after the taking
 //! (`Cleared`). A poller counts its sweeps from a second that the clock gave (`begin`: `begun`). If it finds that no
 //! more connections may be opened, it wakes every poller (`stop_if_asked`: `woken`). Each thread's array is its own by

@@ -1,6 +1,7 @@
 //! A server's threads, from the first to the last.
 ghost use Rattle.std.specs.Prelude.{◌≡◌};
 ghost use Rattle.dispatch.specs.Posts.{AreFresh};
+ghost use Rattle.threads.specs.Loops.{announced};
 
 use crate::context::Context;
 use crate::dividing::{Rest, ServerThreads, divide};
@@ -170,12 +171,12 @@ impl<F: Front + Drop, G: Gate, C: Clock, R: Wait + Log> Startup<'_, F, G, C, R> 
 
 /// A thread could not be started, after so many of those that are wanted beside the first. Number 0 makes this fault
 /// count before those of all threads but the first poller's.
-fn not_started<G, C, R: Wait + Log>(
-    context: &Context<G, C, R>,
+fn not_started<'a, G, C, R: Wait + Log>(
+    context: &Context<'a, G, C, R>,
     started: usize,
     wanted: usize,
-) -> Recorded
-    ensures { result ≡ (0, ServerFault.Threads) }
+) -> Recorded<'a>
+    ensures { result ≡ announced context.now.ending.now (0, ServerFault.Threads) }
 {
     let fault = log_few_threads(
         context.rt,
