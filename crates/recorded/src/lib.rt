@@ -2,13 +2,14 @@
 //!
 //! `reading` reads the file into the lists of `recording`, and `order` finds where they are no longer complete. What
 //! no thread does is refused: two acts at once (`order`), a turn that read no second (`clock`), an act that has no
-//! place in its round (`round`), more turns at once than threads (`threads`). `rounds` finds what was posted when: for
-//! reports, and in sweeps.
+//! place in its round (`round`), more turns at once than threads (`threads`), a read of which nobody heard (`reads`).
+//! `rounds` finds what was posted when: for reports, and in sweeps.
 #![tactic(auto)]
 
 mod clock;
 mod order;
 mod reading;
+mod reads;
 mod recording;
 mod round;
 mod rounds;
@@ -18,6 +19,7 @@ pub use clock::Clock;
 pub use dispatch::OWN_BUDGET;
 pub use order::put_in_order;
 pub use reading::read;
+pub use reads::check_reads;
 pub use recording::{Last, Numbered, Recording, begun_before};
 pub use round::check_rounds;
 pub use rounds::{Post, find_posts};

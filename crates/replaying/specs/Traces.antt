@@ -1,7 +1,7 @@
 -- What records and runs of the machine have in common: openings, turns, calls with their answers, turns that end quiet,
 -- and closings. What else a run has, nobody recorded. Part of the promises.
 use Rattle.std.specs.{Prelude.{◌≡◌, ◌⊎◌, ◌+◌, ◌==◌, ◌&&◌, ℕ, Bool, true, false, if◌then◌else◌, List, [], ◌∷◌, ◌++◌, length, All, Option, Some, None, IsSome, slice_get}, Option.is_none}
-use Rattle.token.specs.{Names.EndName, declared.{side.Side.{Side, TheVariants.{Client, Target}}, kind.Kind.TheVariants.Zero}}
+use Rattle.token.specs.{Names.EndName, declared.{side.Side.{Side, TheVariants.{Client, Target}}}}
 use Rattle.kernel_model.specs.declared.reply.Reply.{Reply}
 use Rattle.relay_core.specs.{Order.{next_call, offer}, Pairs.PairState, declared.call.Call.{Call, TheVariants.{Write, Join, Shut, Read}}}
 use Rattle.world.specs.{States.{State, opening}, Slots.SlotState, Steps.{step, connection_at, is_worn}, Runs.run, declared.{connection.Connection.Connection, limits.Limits.Limits, event.Event.Event}}
@@ -19,15 +19,10 @@ use Rattle.records.specs.declared.act.Answer.TheVariants as answer
 
 -- A record
 
--- a write that took nothing has failed
-abbrev pub written : Answer → Answer
-written (answer.Moved n) = if n == 0 then answer.Failed Zero else answer.Moved n
-written answer = answer
-
 -- what was done with an end. Both ends are dropped: the second drop closes the connection
 abbrev pub action_of_wire : Bool → EndName → Made → Option Action
 action_of_wire second n (made.Read most answer) = Some (Called n.generation (Read n.side most) 0 answer)
-action_of_wire second n (made.Write length answer) = Some (Called n.generation (Write n.side) length (written answer))
+action_of_wire second n (made.Write length answer) = Some (Called n.generation (Write n.side) length answer)
 action_of_wire second n (made.Join answer) = Some (Called n.generation (Join n.side) 0 answer)
 action_of_wire second n (made.Shut answer) = Some (Called n.generation (Shut n.side) 0 answer)
 action_of_wire second n made.Settle = Some (Quiet n.generation)

@@ -1,12 +1,12 @@
 //! What a record and an event of the machine have in common.
 ghost use Rattle.std.specs.Prelude.{◌≡◌, IsTrue};
 ghost use Rattle.relay_core.specs.Order.{next_call};
-ghost use Rattle.replaying.specs.Traces.{action_in, action_of, action_of_call, action_of_release, action_of_wire, answer_of, are_both, drops_other, offered, written};
+ghost use Rattle.replaying.specs.Traces.{action_in, action_of, action_of_call, action_of_release, action_of_wire, answer_of, are_both, drops_other, offered};
 
 use kernel_model::Reply;
 use records::{Act, Answer, Made, Opening, Polling};
 use relay_core::{Call, Pair};
-use token::{Kind, MAX_GENERATION, Side, Token};
+use token::{MAX_GENERATION, Side, Token};
 use world::{Act as Work, Event, Polling as Poll, World};
 
 /// What both a record of a relay and an event of the machine can show. The first number is the generation of the
@@ -69,23 +69,13 @@ fn action_of_wire(second: bool, token: Token, made: Made) -> Option<Action>
             Some(Action::Called(generation, Call::Read(side, most), 0, answer))
         }
         Made::Write(length, answer) => {
-            Some(Action::Called(generation, Call::Write(side), length, written(answer)))
+            Some(Action::Called(generation, Call::Write(side), length, answer))
         }
         Made::Join(answer) => Some(Action::Called(generation, Call::Join(side), 0, answer)),
         Made::Shut(answer) => Some(Action::Called(generation, Call::Shut(side), 0, answer)),
         Made::Settle => Some(Action::Quiet(generation)),
         Made::Drop if second => Some(Action::Closed(generation)),
         Made::Drop => None,
-    }
-}
-
-/// A write that took nothing has failed.
-fn written(answer: Answer) -> Answer
-    ensures { result ≡ written answer }
-{
-    match answer {
-        Answer::Moved(count) if count == 0 => Answer::Failed(Kind::Zero),
-        answer => answer,
     }
 }
 

@@ -58,7 +58,6 @@ fn reply_to(call: Call, answer: Answer, next: &[Numbered]) -> Reply {
     match answer {
         Answer::Moved(count) => match call {
             Call::Read(_, _) => Reply::Bytes(count),
-            _ if count == 0 => Reply::Failed(Kind::Zero),
             _ => Reply::Wrote(count, blocks_next(next, call.side())),
         },
         Answer::End => Reply::End,

@@ -10,7 +10,8 @@ use crate::results::{Results, Whose};
 use crate::slot_replay::{Findings, SlotReplay};
 use crate::writing::{write_flaw, write_results};
 use recorded::{
-    Clock, Last, Recording, check_rounds, check_threads, find_posts, put_in_order, read,
+    Clock, Last, Recording, check_reads, check_rounds, check_threads, find_posts, put_in_order,
+    read,
 };
 use records::{Header, Outcome, Replay, ReplayFault, Wanted};
 use std::alloc::Global;
@@ -24,7 +25,7 @@ pub struct OnMachine;
 impl Replay for OnMachine {
     /// Reads a recording, and replays it. With `rests`, or after the record `end`, no slot may have anything left to
     /// do. This is not asked after a failed wait for reports, which ends a relay early; nor by `rests` alone, if
-    /// records after a lost one were left out: they may have done the rest. Refuses with `Read` if the reader gives an
+    /// records are missing or were left out: they may have done the rest. Refuses with `Read` if the reader gives an
     /// error, `Broken` if a line is malformed or no relay acts in that order, `Unknown` if it lacks the connection that
     /// is wanted, `Write`, and `NoMemory`. No clause covers this call. After a refusal a part of the outcome may be
     /// written.
@@ -69,13 +70,19 @@ fn find_flaw(
     let clock = read_clock(recording)?;
     check_rounds(recording)?;
     check_threads(recording)?;
+    check_reads(recording)?;
     let posts = find_posts(recording, &clock)?;
     let findings = Findings {
         recording,
         clock: &clock,
         posts: posts.as_slice(),
         rests: recording.failed.is_none()
-            && (matches!(recording.last, Last::Ended) || rests && recording.left_out == 0),
+            && match recording.last {
+                Last::Ended => true,
+                Last::Stopped => rests && recording.left_out == 0,
+                // What the record that found no room would have said is not known.
+                Last::Full => false,
+            },
     };
     Ok(replay_all(findings, results).err())
 }
