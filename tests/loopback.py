@@ -268,7 +268,7 @@ def compare(path, relay, totals):
     """Holds a recording against the machine, and against what the log of its relay says of each connection, where that is
     known, and adds how often each kind of event occurred to the totals. A recording that is not right is kept."""
     try:
-        told = replay(path, *(["--rest"] if relay and relay.rests else []))
+        told = replay(path, "--steps", *(["--rest"] if relay and relay.rests else []))
         for count, kind in re.findall(r"^(?:count |(?=\d+ connections,))(\d+) ([a-z ]+)", told, re.M):
             totals[kind] += int(count)
         last = collections.deque(open(path), 1)[0]

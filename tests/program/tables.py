@@ -296,7 +296,8 @@ def is_told(wanted, text, status, output, errors):
 
 def recordings(lines):
     for mark, name, acts, wanted in sides(lines):
-        words = [b"replay", *{"rests": [b"--rest"], "scripts": [b"--script", b"0.1"]}.get(mark, []), b"t.record"]
+        how = {"begins": [b"--steps"], "rests": [b"--steps", b"--rest"], "scripts": [b"--script", b"0.1"]}
+        words = [b"replay", *how[mark], b"t.record"]
         text = numbered(acts.split(" | "))
         yield Row(name, words, files={"t.record": bytes_of(text)}, will_do=functools.partial(is_told, wanted, text))
 

@@ -41,10 +41,12 @@ pub enum Source<'a> {
 #[derive(Clone, Copy)]
 pub struct Replayed<'a> {
     pub path: &'a str,
-    /// The slot and generation of the connection whose script is wanted.
+    /// The slot and generation of the connection whose script is wanted, or of the one whose records are.
     pub script: Option<&'a str>,
-    /// Whether the end of each connection is wanted.
+    pub timeline: Option<&'a str>,
+    /// Whether the end of each connection is wanted, and whether what happened on the machine is.
     pub ends: bool,
+    pub steps: bool,
     /// Whether the relay must have come to rest, with nothing left to do.
     pub rests: bool,
 }
@@ -104,7 +106,9 @@ fn replay_of<'a>(path: &'a str, matches: &ArgMatches<'a>) -> Replayed<'a> {
     Replayed {
         path,
         script: matches.get_str("script"),
+        timeline: matches.get_str("timeline"),
         ends: matches.get_flag("ends"),
+        steps: matches.get_flag("steps"),
         rests: matches.get_flag("rest"),
     }
 }
@@ -151,8 +155,9 @@ enum Form {
     Flag,
     /// `--NAME` and a value, with what help calls the value.
     Value(&'static [&'static str]),
-    /// The same, but not together with the argument of the second name.
-    ValueAlone(&'static [&'static str], &'static str),
+    /// The same, but not together with the arguments of these names.
+    ValueAlone(&'static [&'static str], &'static [&'static str]),
+    FlagAlone(&'static [&'static str]),
     /// `--NAME` and a number of seconds.
     Seconds,
     /// `-c` or `--NAME` and a file, which is required.
@@ -164,14 +169,14 @@ enum Form {
 impl Form {
     fn action(self) -> ArgAction {
         match self {
-            Form::Flag => ArgAction::SetTrue,
+            Form::Flag | Form::FlagAlone(_) => ArgAction::SetTrue,
             _ => ArgAction::Set,
         }
     }
 
     fn value_names(self) -> &'static [&'static str] {
         match self {
-            Form::Flag => &[],
+            Form::Flag | Form::FlagAlone(_) => &[],
             Form::Value(names) | Form::ValueAlone(names, _) => names,
             Form::Seconds => &["SECONDS"],
             Form::NeededFile | Form::File => &["FILE"],
@@ -237,16 +242,26 @@ const EACH: ArgumentRow = ArgumentRow {
     help: "Print each step, and what it changes in the report",
 };
 /// The arguments of `replay`.
-const RECORDING: [ArgumentRow; 4] = [
+const RECORDING: [ArgumentRow; 6] = [
     ArgumentRow {
         name: "script",
-        form: Form::ValueAlone(&["SLOT.GEN"], "ends"),
+        form: Form::ValueAlone(&["SLOT.GEN"], &["ends", "timeline"]),
         help: "Print the script of this connection",
     },
     ArgumentRow {
         name: "ends",
-        form: Form::Flag,
-        help: "Print what became of each connection, as the log does",
+        form: Form::FlagAlone(&["rest", "timeline"]),
+        help: "Print what became of each connection, and what an open one waits for, by its records alone",
+    },
+    ArgumentRow {
+        name: "timeline",
+        form: Form::ValueAlone(&["SLOT.GEN"], &["rest"]),
+        help: "Print the records of this connection in order, and what its rings hold after each",
+    },
+    ArgumentRow {
+        name: "steps",
+        form: Form::FlagAlone(&["script", "ends", "timeline"]),
+        help: "Print how many events of each kind there were, or the script up to what is wrong",
     },
     ArgumentRow {
         name: "rest",
@@ -309,7 +324,7 @@ static COMMANDS: [CommandRow; 5] = [
     CommandRow {
         name: "replay",
         about: "Checks a recording of a relay against the modelled machine",
-        details: "Plays what each connection did on the machine of `relayd sim`. If each is a run of it, prints how many events of each kind that were, and how many bytes the relay read and wrote. If not, prints the first record that can stand nowhere, and the script that leads there, and the status is 1.\n\nExamples:\n  relayd replay relay.record\n  relayd replay --script 0.1 relay.record | relayd sim --each\n\nSee relayd(1) for recordings.",
+        details: "Plays what each connection did on the machine of `relayd sim`. If each is a run of it, prints how many connections there were, and how many bytes the relay read and wrote. If not, prints the first record that can stand nowhere, and what could stand there, and the status is 1. With `--ends` and `--timeline` nothing is played, so nothing is checked.\n\nExamples:\n  relayd replay relay.record\n  relayd replay --ends relay.record\n  relayd replay --script 0.1 relay.record | relayd sim --each\n\nSee relayd(1) for recordings.",
         settings: false,
         arguments: &RECORDING,
     },
@@ -372,9 +387,20 @@ fn argument_of<'a>(alloc: Global, row: ArgumentRow) -> Result<Arg<'a>, AllocErro
         Form::NeededFile => argument.long(row.name).short('c'),
         // A negative number is refused as out of range, not as an unknown option.
         Form::Seconds => argument.long(row.name).allow_negative_numbers(true),
-        Form::ValueAlone(_, other) => argument.long(row.name).conflicts_with(other)?,
+        Form::ValueAlone(_, others) | Form::FlagAlone(others) => {
+            not_with(argument.long(row.name), others)?
+        }
         _ => argument.long(row.name),
     })
+}
+
+/// An argument that cannot stand beside these.
+fn not_with<'a>(argument: Arg<'a>, others: &[&'static str]) -> Result<Arg<'a>, AllocError> {
+    let mut argument = argument;
+    for other in others {
+        argument = argument.conflicts_with(*other)?;
+    }
+    Ok(argument)
 }
 
 /// A row's argument, without its option.

@@ -33,6 +33,9 @@ pub enum ProgramFault {
     /// `--script` has a value that names no connection.
     #[error("options: script: wrong kind")]
     Connection,
+    /// `--timeline` has one.
+    #[error("options: timeline: wrong kind")]
+    Timeline,
     /// The server could not start, or failed.
     #[error(transparent)]
     Server(ServerFault),
@@ -92,7 +95,8 @@ impl ProgramFault {
             ProgramFault::Argument(_)
             | ProgramFault::Seconds(_)
             | ProgramFault::NoNumber(_)
-            | ProgramFault::Connection => USAGE,
+            | ProgramFault::Connection
+            | ProgramFault::Timeline => USAGE,
             _ => FAULT,
         }
     }

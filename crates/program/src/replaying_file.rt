@@ -1,4 +1,4 @@
-ghost use Rattle.std.specs.Prelude.{◌≡◌, IfOk, IfErr};
+ghost use Rattle.std.specs.Prelude.{◌≡◌, ◌⊎◌, IfOk, IfErr};
 ghost use Rattle.program.specs.Faults.{IsCarriedOut, status_of};
 
 use crate::acting::stream;
@@ -16,7 +16,7 @@ use std::io::{self, Write};
 use std::rt::Files;
 
 /// Returns 0 if the recording in a file is of runs of the machine, and 1 if not. Logs what is wrong with the file.
-/// Refuses with `Connection`, before anything is written, if `--script` names no connection.
+/// Refuses with `Connection` or `Timeline`, before anything is written, if `--script` or `--timeline` names no connection.
 pub(crate) fn replay<R: AllocGlobal + Files, L: Log, O: Write, P: Replay>(
     rt: &R,
     log: &L,
@@ -67,7 +67,7 @@ fn status_after(log: &impl Log, outcome: Outcome, wanted: Wanted, bytes: usize) 
     ensures { IsCarriedOut result }
 {
     let has_run = matches!(outcome, Outcome::Run);
-    if !has_run || matches!(wanted, Wanted::Script(..)) {
+    if matches!(wanted, Wanted::Script(..)) || !has_run && matches!(wanted, Wanted::Steps) {
         warn_if_long(log, bytes);
     }
     if has_run { DONE } else { FAULT }
@@ -150,30 +150,44 @@ fn other_file(rt: &impl Files, path: &str) -> Option<&'static str> {
     }
 }
 
-/// What is wanted of a recording. Refuses with `Connection`, and logs the cause, if `--script` names none.
+/// What is wanted of a recording. Refuses with `Connection` or `Timeline`, and logs the cause, if that option names none.
 fn find_wanted(log: &impl Log, replayed: Replayed<'_>) -> Result<Wanted, ProgramFault>
-    ensures { IfErr result (λ fault. fault ≡ ProgramFault.Connection) }
+    ensures { IfErr result (λ fault. (fault ≡ ProgramFault.Connection) ⊎ (fault ≡ ProgramFault.Timeline)) }
 {
     let cause = "a slot and a generation are wanted, as in 3.1";
-    match wanted_of(replayed) {
-        Some(wanted) => Ok(wanted),
-        None => {
+    if let Some(name) = replayed.script {
+        let Some((slot, generation)) = connection_named(name) else {
             log_error(log, &"options: --script", &cause);
-            Err(ProgramFault::Connection)
-        }
+            return Err(ProgramFault::Connection);
+        };
+        return Ok(Wanted::Script(slot, generation));
+    }
+    if let Some(name) = replayed.timeline {
+        let Some((slot, generation)) = connection_named(name) else {
+            log_error(log, &"options: --timeline", &cause);
+            return Err(ProgramFault::Timeline);
+        };
+        return Ok(Wanted::Timeline(slot, generation));
+    }
+    Ok(wanted_of_all(replayed))
+}
+
+/// What is wanted of all connections.
+fn wanted_of_all(replayed: Replayed<'_>) -> Wanted {
+    if replayed.ends {
+        Wanted::Ends
+    } else if replayed.steps {
+        Wanted::Steps
+    } else {
+        Wanted::Totals
     }
 }
 
-fn wanted_of(replayed: Replayed<'_>) -> Option<Wanted> {
-    match replayed.script {
-        Some(name) => {
-            let (slot, generation) = name.split_once('.')?;
-            if has_leading_zero(slot) || has_leading_zero(generation) {
-                return None;
-            }
-            Some(Wanted::Script(slot.parse().ok()?, generation.parse().ok()?))
-        }
-        None if replayed.ends => Some(Wanted::Ends),
-        None => Some(Wanted::Totals),
+/// The slot and the generation that `S.G` names.
+fn connection_named(name: &str) -> Option<(usize, u64)> {
+    let (slot, generation) = name.split_once('.')?;
+    if has_leading_zero(slot) || has_leading_zero(generation) {
+        return None;
     }
+    Some((slot.parse().ok()?, generation.parse().ok()?))
 }

@@ -1,2 +1,3 @@
 -- The crate's lemmas.
+mod Accounts
 mod Sequences

@@ -1,2 +1,3 @@
 -- The crate's definitions.
+pub mod Accounts
 pub mod Sequences

@@ -4,8 +4,11 @@
 //! no thread does is refused: two acts at once (`order`), a turn that read no second (`clock`), an act that has no
 //! place in its round (`round`), more turns at once than threads (`threads`), a read of which nobody heard (`reads`).
 //! `rounds` finds what was posted when: for reports, and in sweeps.
+//!
+//! An [`Account`] is what a connection has come to, by its records alone, in a few numbers.
 #![tactic(auto)]
 
+mod account;
 mod clock;
 mod order;
 mod reading;
@@ -15,10 +18,11 @@ mod round;
 mod rounds;
 mod threads;
 
+pub use account::{Account, Half, Waits};
 pub use clock::Clock;
 pub use dispatch::OWN_BUDGET;
 pub use order::put_in_order;
-pub use reading::read;
+pub use reading::{Sizes, Take, read, read_each};
 pub use reads::check_reads;
 pub use recording::{Last, Numbered, Recording, begun_before};
 pub use round::check_rounds;

@@ -1,5 +1,5 @@
 //! A recording is read line by line, so that its text is never all in memory.
-use crate::recording::{Last, Recording, split_of};
+use crate::recording::{Recording, split_of};
 use dispatch::Split;
 use records::{
     Act, Header, MAX_RECORD, Made, Polling, Record, ReplayFault, Wrong, read_header, read_line,
@@ -16,57 +16,124 @@ const MAX_LINE: usize = MAX_RECORD + 64;
 /// The most bytes of a wrong word that a person is shown.
 const MAX_SHOWN: usize = 64;
 
+/// What is handed the records of a file, one after the other, so that they are never all in memory.
+pub trait Take {
+    /// The first line was read.
+    fn begin(&mut self, sizes: Sizes) -> Result<(), AllocError>;
+
+    /// The record of the line with this number was read.
+    fn take(&mut self, line: u64, record: Record) -> Result<(), AllocError>;
+}
+
+/// The sizes of a relay, and how it deals its slots.
+#[derive(Clone, Copy)]
+pub struct Sizes {
+    pub header: Header,
+    pub split: Split,
+}
+
 #[derive(Drop)]
 struct Lines {
     alloc: Global,
-    recording: Option<Recording>,
+    sizes: Option<Sizes>,
+    /// Whether the record `end` or `full` was read.
+    is_over: bool,
     number: u64,
+}
+
+/// Makes a recording of what was read.
+#[derive(Drop)]
+struct Whole {
+    alloc: Global,
+    recording: Option<Recording>,
+}
+
+impl Take for Whole {
+    fn begin(&mut self, sizes: Sizes) -> Result<(), AllocError> {
+        self.recording = Some(Recording::new(self.alloc, sizes.header, sizes.split)?);
+        Ok(())
+    }
+
+    fn take(&mut self, line: u64, record: Record) -> Result<(), AllocError> {
+        match &mut self.recording {
+            Some(recording) => recording.add(line, record),
+            None => Ok(()),
+        }
+    }
 }
 
 /// Reads a recording to its end. Refuses with `Broken` the first line that is none of a recording.
 pub fn read<R: Read>(alloc: Global, reader: &mut R) -> Result<Recording, ReplayFault> {
-    let mut lines = Lines {
+    let mut whole = Whole {
         alloc,
         recording: None,
-        number: 1,
     };
-    let mut buffer = vec![in alloc; 0u8; CHUNK]?;
-    lines.take_all(reader, buffer.as_mut_slice(), &mut Vec::new(alloc))?;
-    let number = lines.number;
-    match lines.recording {
-        Some(recording) => Ok(recording),
-        None => {
-            let wrong = wanted("a recording begins with relayd recording 1");
-            Err(fault_of(alloc, number, wrong))
+    let cut = read_each(alloc, reader, &mut whole)?;
+    match whole.recording {
+        Some(mut recording) => {
+            recording.cut = cut;
+            Ok(recording)
         }
+        None => Err(fault_of(alloc, 1, wanted(FIRST))),
     }
 }
 
+/// What is wanted of a file's first line.
+const FIRST: &str = "a recording begins with relayd recording 1";
+
+/// Hands on each record of a file. Returns the number of the last line if it is cut off. Refuses with `Broken` the first
+/// line that is none of a recording.
+pub fn read_each<R: Read, T: Take>(
+    alloc: Global,
+    reader: &mut R,
+    taker: &mut T,
+) -> Result<Option<u64>, ReplayFault> {
+    let mut lines = Lines {
+        alloc,
+        sizes: None,
+        is_over: false,
+        number: 1,
+    };
+    let mut buffer = vec![in alloc; 0u8; CHUNK]?;
+    let mut line = Vec::new(alloc);
+    lines.take_all(reader, buffer.as_mut_slice(), &mut line, taker)?;
+    if lines.sizes.is_none() {
+        return Err(fault_of(alloc, lines.number, wanted(FIRST)));
+    }
+    Ok(if line.is_empty() {
+        None
+    } else {
+        Some(lines.number)
+    })
+}
+
 impl Lines {
-    fn take_all<R: Read>(
+    fn take_all<R: Read, T: Take>(
         &mut self,
         reader: &mut R,
         buffer: &mut [u8],
         line: &mut Vec<u8>,
+        taker: &mut T,
     ) -> Result<(), ReplayFault> {
         for _reads in 0..u64::MAX {
             match reader.read(buffer) {
                 Ok(0) => break,
-                Ok(count) => self.take(&buffer[..count], line)?,
+                Ok(count) => self.take(&buffer[..count], line, taker)?,
                 Err(_) => return Err(ReplayFault::Read),
             }
-        }
-        match &mut self.recording {
-            Some(recording) if !line.is_empty() => recording.cut = Some(self.number),
-            _ => {}
         }
         Ok(())
     }
 
-    fn take(&mut self, bytes: &[u8], line: &mut Vec<u8>) -> Result<(), ReplayFault> {
+    fn take<T: Take>(
+        &mut self,
+        bytes: &[u8],
+        line: &mut Vec<u8>,
+        taker: &mut T,
+    ) -> Result<(), ReplayFault> {
         for byte in bytes {
             if *byte == b'\n' {
-                self.end_line(line.as_slice())?;
+                self.end_line(line.as_slice(), taker)?;
                 line.clear();
             } else if line.len() < MAX_LINE {
                 line.push(*byte)?;
@@ -78,17 +145,21 @@ impl Lines {
         Ok(())
     }
 
-    fn end_line(&mut self, line: &[u8]) -> Result<(), ReplayFault> {
+    fn end_line<T: Take>(&mut self, line: &[u8], taker: &mut T) -> Result<(), ReplayFault> {
         let (alloc, number) = (self.alloc, self.number);
-        match &mut self.recording {
-            None => match sizes(line) {
-                Ok((header, split)) => {
-                    self.recording = Some(Recording::new(alloc, header, split)?);
+        match self.sizes {
+            None => match sizes_of(line) {
+                Ok(sizes) => {
+                    self.sizes = Some(sizes);
+                    taker.begin(sizes)?;
                 }
                 Err(wrong) => return Err(fault_of(alloc, number, wrong)),
             },
-            Some(recording) => match record_of(recording, line) {
-                Ok(record) => recording.add(number, record)?,
+            Some(sizes) => match record_of(&sizes, self.is_over, line) {
+                Ok(record) => {
+                    self.is_over = matches!(record.act, Act::Ended | Act::Full);
+                    taker.take(number, record)?;
+                }
                 Err(wrong) => return Err(fault_of(alloc, number, wrong)),
             },
         }
@@ -98,16 +169,16 @@ impl Lines {
 }
 
 /// The header of a first line, and how that relay deals its slots.
-fn sizes(line: &[u8]) -> Result<(Header, Split), Wrong<'_>> {
+fn sizes_of(line: &[u8]) -> Result<Sizes, Wrong<'_>> {
     let header = read_header(line)?;
     match split_of(&header) {
-        Some(split) => Ok((header, split)),
+        Some(split) => Ok(Sizes { header, split }),
         None => Err(wanted("a relay with these slots and workers has another number of pollers")),
     }
 }
 
-fn record_of<'a>(recording: &Recording, line: &'a [u8]) -> Result<Record, Wrong<'a>> {
-    if !matches!(recording.last, Last::Stopped) {
+fn record_of<'a>(sizes: &Sizes, is_over: bool, line: &'a [u8]) -> Result<Record, Wrong<'a>> {
+    if is_over {
         return Err(wanted("nothing comes after the record end or full"));
     }
     let record = match read_line(line) {
@@ -124,7 +195,7 @@ fn record_of<'a>(recording: &Recording, line: &'a [u8]) -> Result<Record, Wrong<
     if is_at_once && record.after - record.before > 1 {
         return Err(wanted("begin, end and settle take both counts at once"));
     }
-    match outside(recording, &record.act) {
+    match outside(sizes, &record.act) {
         Some(text) => Err(wanted(text)),
         None => Ok(record),
     }
@@ -136,8 +207,8 @@ pub(crate) fn wanted<'a>(wanted: &'static str) -> Wrong<'a> {
 
 /// What is wanted of a record that cannot be of this relay: it names a poller or a slot that the relay does not have, a
 /// slot of another poller, or a second without an idle limit.
-fn outside(recording: &Recording, act: &Act) -> Option<&'static str> {
-    let header = &recording.header;
+fn outside(sizes: &Sizes, act: &Act) -> Option<&'static str> {
+    let header = &sizes.header;
     match *act {
         Act::Poller(poller, _) if poller >= header.pollers => {
             return Some("a poller of this relay is wanted");
@@ -152,7 +223,7 @@ fn outside(recording: &Recording, act: &Act) -> Option<&'static str> {
         return Some("a slot of this relay is wanted");
     }
     match *act {
-        Act::Poller(poller, _) if recording.split.poller_of(slot) != poller => {
+        Act::Poller(poller, _) if sizes.split.poller_of(slot) != poller => {
             Some("a slot of this poller is wanted")
         }
         _ => None,

@@ -7,10 +7,14 @@ use thiserror::Error;
 /// What is wanted of a recording.
 #[derive(Clone, Copy, PartialEq, Eq)]
 pub enum Wanted {
-    /// How many connections, how many events of each kind, and how many bytes.
+    /// How many connections and events, and how many bytes; or in people's words the first record that fits nowhere.
     Totals,
-    /// What became of each connection, as the log says it.
+    /// How many events of each kind, too; or the script that leads to that record.
+    Steps,
+    /// What became of each connection, by the records alone.
     Ends,
+    /// The records of the connection of this slot and generation, and what waits in its rings after each.
+    Timeline(usize, u64),
     /// The script of the connection of this slot and generation.
     Script(usize, u64),
 }
@@ -18,8 +22,8 @@ pub enum Wanted {
 /// Whether a recording is of runs of the machine.
 #[derive(Clone, Copy, PartialEq, Eq)]
 pub enum Outcome {
-    /// What was played is of runs: each slot and each listener, or with `Script` its slot alone. What was wanted is
-    /// written.
+    /// What was played is of runs: each slot and each listener, or with `Script` its slot alone, and nothing with `Ends`
+    /// and `Timeline`. What was wanted is written.
     Run,
     /// A slot or a listener is not of runs. Written are the first record that fits nowhere, and the script up to
     /// there.

@@ -4,17 +4,24 @@
 //! `opening`, `turns`, `calls` and `posts`; `replaying` replays what a poller did at its listener. Both use the world
 //! of `machine`, and keep its `history`. `trace` compares the records of a connection with its run, by their actions
 //! (`action`). `results` has what came of it, which `writing` writes.
+//!
+//! `ends` and `timeline` play nothing: they follow each connection, or one, by its records alone (`entry`), up to its line
+//! (`live`).
 #![tactic(auto)]
 
 mod action;
 mod calls;
+mod ends;
+mod entry;
 mod history;
+mod live;
 mod machine;
 mod opening;
 mod posts;
 mod replaying;
 mod results;
 mod slot_replay;
+mod timeline;
 mod trace;
 mod turns;
 mod writing;

@@ -41,7 +41,7 @@ impl SlotReplay<'_> {
             return Ok(());
         }
         let machine = machine_before(self.findings.recording, self.next, generation)?;
-        results.take(self.slot, mem::replace(&mut self.machine, machine))?;
+        results.take(self.slot, mem::replace(&mut self.machine, machine));
         self.enter(record, generation);
         self.machine.come_in()?;
         self.machine.put(Event::Poll(Polled::Open))

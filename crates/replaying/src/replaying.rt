@@ -4,11 +4,13 @@ ghost use Rattle.world.specs.States.{IsWithinLimits};
 ghost use Rattle.recorded.specs.Sequences.{records_of};
 ghost use Rattle.replaying.specs.Traces.{AreRuns};
 
+use crate::ends::write_ends;
 use crate::machine::{Flaw, Machine};
 use crate::opening::limits_of;
-use crate::results::{Results, Whose};
+use crate::results::{Flawed, Results, Whose};
 use crate::slot_replay::{Findings, SlotReplay};
-use crate::writing::{write_flaw, write_results};
+use crate::timeline::write_timeline;
+use crate::writing::{flush, write_flaw, write_results};
 use recorded::{
     Clock, Last, Recording, check_reads, check_rounds, check_threads, find_posts, put_in_order,
     read,
@@ -23,7 +25,7 @@ use world::{Lead, Limits};
 pub struct OnMachine;
 
 impl Replay for OnMachine {
-    /// Reads a recording, and replays it. With `rests`, or after the record `end`, no slot may have anything left to
+    /// Reads a recording, and replays it; for `Ends` and `Timeline` it reads it alone. With `rests`, or after the record `end`, no slot may have anything left to
     /// do. This is not asked after a failed wait for reports, which ends a relay early; nor by `rests` alone, if
     /// records are missing or were left out: they may have done the rest. Refuses with `Read` if the reader gives an
     /// error, `Broken` if a line is malformed or no relay acts in that order, `Unknown` if it lacks the connection that
@@ -37,14 +39,31 @@ impl Replay for OnMachine {
         rests: bool,
         output: &mut W,
     ) -> Result<Outcome, ReplayFault> {
-        let mut recording = read(alloc, input)?;
-        put_in_order(&mut recording)?;
-        let mut results = Results::new(alloc, wanted);
-        let outcome = replay_recording(&recording, rests, output, &mut results);
-        drop(results);
-        drop(recording);
-        outcome
+        match wanted {
+            Wanted::Ends => write_ends(alloc, input, output)?,
+            Wanted::Timeline(slot, generation) => {
+                write_timeline(alloc, input, slot, generation, output)?;
+            }
+            _ => return replay_read(alloc, input, wanted, rests, output),
+        }
+        Ok(Outcome::Run)
     }
+}
+
+fn replay_read<R: Read, W: Write>(
+    alloc: Global,
+    input: &mut R,
+    wanted: Wanted,
+    rests: bool,
+    output: &mut W,
+) -> Result<Outcome, ReplayFault> {
+    let mut recording = read(alloc, input)?;
+    put_in_order(&mut recording)?;
+    let mut results = Results::new(wanted);
+    let outcome = replay_recording(&recording, rests, output, &mut results);
+    drop(results);
+    drop(recording);
+    outcome
 }
 
 fn replay_recording<W: Write>(
@@ -55,10 +74,8 @@ fn replay_recording<W: Write>(
 ) -> Result<Outcome, ReplayFault> {
     let flaw = find_flaw(recording, rests, results)?;
     let outcome = write_outcome(output, recording, results, flaw)?;
-    match output.flush() {
-        Ok(()) => Ok(outcome),
-        Err(_) => Err(ReplayFault::Write),
-    }
+    flush(output)?;
+    Ok(outcome)
 }
 
 /// Returns why the replay stops. None if it does not.
@@ -70,8 +87,8 @@ fn find_flaw(
     let clock = read_clock(recording)?;
     check_rounds(recording)?;
     check_threads(recording)?;
-    check_reads(recording)?;
     let posts = find_posts(recording, &clock)?;
+    check_reads(recording)?;
     let findings = Findings {
         recording,
         clock: &clock,
@@ -110,7 +127,7 @@ fn write_outcome<W: Write>(
         }
         (Some(Flaw::NoMemory), _, _) | (_, None, _) | (_, _, None) => Err(ReplayFault::NoMemory),
         (Some(flaw), Some(flawed), Some(machine)) => {
-            write_flaw(output, flawed, flaw, machine)?;
+            write_flaw(output, results.wanted, flawed, flaw, machine)?;
             Ok(Outcome::NoRun)
         }
     }
@@ -133,11 +150,18 @@ fn replay_poller(recording: &Recording, results: &mut Results, poller: usize) ->
     let mut machine = Machine::new(recording.alloc, Machine::LIMITS)?;
     for numbered in recording.poller(poller) {
         if let Err(flaw) = machine.listen(&numbered.record.act) {
-            results.end(Whose::Poller(poller), *numbered, machine);
+            let flawed = Flawed {
+                whose: Whose::Poller(poller),
+                numbered: *numbered,
+                before: None,
+                phase: None,
+            };
+            results.end(flawed, machine);
             return Err(flaw);
         }
     }
-    results.take(0, machine)
+    results.take(0, machine);
+    Ok(())
 }
 
 fn replay_slot(findings: Findings<'_>, results: &mut Results, slot: usize) -> Result<(), Flaw>
@@ -152,16 +176,15 @@ fn replay_slot(findings: Findings<'_>, results: &mut Results, slot: usize) -> Re
     let machine = Machine::new(findings.recording.alloc, limits)?;
     let mut replay = SlotReplay::new(findings, slot, *first, machine);
     let result = replay.run(findings.recording, records, results);
-    let SlotReplay {
-        state,
-        last,
-        machine,
-        ..
-    } = replay;
+    let flawed = replay.flawed();
+    let SlotReplay { machine, .. } = replay;
     match result {
-        Ok(()) => results.take(slot, machine),
+        Ok(()) => {
+            results.take(slot, machine);
+            Ok(())
+        }
         Err(flaw) => {
-            results.end(Whose::Slot(slot, state.generation), last, machine);
+            results.end(flawed, machine);
             Err(flaw)
         }
     }

@@ -1,12 +1,10 @@
 //! What came of the worlds in which slots and listeners were replayed.
 use crate::history::History;
-use crate::machine::{Flaw, Machine};
+use crate::machine::Machine;
+use crate::slot_replay::Phase;
 use kernel_model::End;
 use recorded::Numbered;
 use records::Wanted;
-use relay_core::Verdict;
-use relay_log::{Done, Failed};
-use std::alloc::{AllocError, Global};
 use std::mem;
 use world::World;
 use world_text::Counts;
@@ -14,10 +12,10 @@ use world_text::Counts;
 /// How many bytes were read at clients and at targets, and how many were written there.
 pub(crate) type Moved = [u64; 4];
 
+/// The last connection of a slot's world, and what it moved.
 #[derive(Clone, Copy)]
 struct Became {
     generation: u64,
-    verdict: Verdict,
     moved: Moved,
 }
 
@@ -34,6 +32,9 @@ pub(crate) enum Whose {
 pub(crate) struct Flawed {
     pub whose: Whose,
     pub numbered: Numbered,
+    /// Of a slot: the record before it, and what the slot was at then.
+    pub before: Option<Numbered>,
+    pub phase: Option<Phase>,
 }
 
 #[derive(Drop)]
@@ -43,8 +44,6 @@ pub(crate) struct Results {
     pub connections: u64,
     pub counts: Counts,
     pub moved: Moved,
-    /// A line for each connection: what became of it, as the log says that, or that it is open.
-    pub ends: String,
     /// Where the replay stopped.
     pub flawed: Option<Flawed>,
     /// The world where the replay stopped, or whose script is wanted.
@@ -67,47 +66,41 @@ impl Became {
             let target = world.kernel().end(connection.ends.target)?;
             return Some(Became {
                 generation: connection.pair.generation(),
-                verdict: connection.pair.verdict(),
                 moved: moved(&client.socket, &target.socket),
             });
         }
         let past = world.past().last()?;
         Some(Became {
             generation: past.generation,
-            verdict: past.verdict,
             moved: moved(&past.ends.client, &past.ends.target),
         })
     }
 }
 
 impl Results {
-    pub(crate) fn new(alloc: Global, wanted: Wanted) -> Results {
+    pub(crate) fn new(wanted: Wanted) -> Results {
         Results {
             wanted,
             connections: 0,
             counts: Counts::NONE,
             moved: [0; 4],
-            ends: String::new(alloc),
             flawed: None,
             machine: None,
         }
     }
 
     /// The replay stops at this record.
-    pub(crate) fn end(&mut self, whose: Whose, numbered: Numbered, machine: Machine) {
-        self.flawed = Some(Flawed { whose, numbered });
+    pub(crate) fn end(&mut self, flawed: Flawed, machine: Machine) {
+        self.flawed = Some(flawed);
         self.keep(machine);
     }
 
     /// A world was replayed to its end, or as far as the recording goes.
-    pub(crate) fn take(&mut self, slot: usize, machine: Machine) -> Result<(), Flaw> {
-        match self.add(slot, &machine.history) {
-            Ok(true) => Ok(self.keep(machine)),
-            Ok(false) => Ok(drop(machine)),
-            Err(error) => {
-                drop(machine);
-                Err(Flaw::from(error))
-            }
+    pub(crate) fn take(&mut self, slot: usize, machine: Machine) {
+        if self.add(slot, &machine.history) {
+            self.keep(machine);
+        } else {
+            drop(machine);
         }
     }
 
@@ -116,52 +109,20 @@ impl Results {
     }
 
     /// Counts what happened. Returns true if this script is wanted.
-    fn add(&mut self, slot: usize, history: &History) -> Result<bool, AllocError> {
+    fn add(&mut self, slot: usize, history: &History) -> bool {
         for event in history.events() {
             self.counts.count(event);
         }
         let Some(became) = Became::of(history.world()) else {
-            return Ok(false);
+            return false;
         };
         self.connections = self.connections.saturating_add(1);
         for place in 0..4 {
             self.moved[place] = self.moved[place].saturating_add(became.moved[place]);
         }
         match self.wanted {
-            Wanted::Totals => Ok(false),
-            Wanted::Ends => {
-                self.add_end(slot, &became)?;
-                Ok(false)
-            }
-            Wanted::Script(of, generation) => Ok(of == slot && generation == became.generation),
-        }
-    }
-
-    fn add_end(&mut self, slot: usize, became: &Became) -> Result<(), AllocError> {
-        let generation = became.generation;
-        let [_, _, down, up] = became.moved;
-        match became.verdict {
-            Verdict::Live => writeln!(
-                self.ends,
-                "live s={slot} g={generation} up={up} down={down}"
-            ),
-            Verdict::Done => {
-                let done = Done {
-                    slot,
-                    generation,
-                    up,
-                    down,
-                };
-                writeln!(self.ends, "{done}")
-            }
-            Verdict::Failed(fault) => {
-                let failed = Failed {
-                    slot,
-                    generation,
-                    fault,
-                };
-                writeln!(self.ends, "{failed}")
-            }
+            Wanted::Script(of, generation) => of == slot && generation == became.generation,
+            _ => false,
         }
     }
 }

@@ -3,7 +3,7 @@ ghost use Rattle.replaying.specs.Traces.{AreRuns, IsConnection};
 
 use crate::machine::{Flaw, Machine};
 use crate::posts::{Posts, posts_at};
-use crate::results::Results;
+use crate::results::{Flawed, Results, Whose};
 use crate::trace::{connection_len, is_connection};
 use recorded::{Clock, Last, Numbered, Post, Recording};
 use records::{Act, Made, Polling, Record};
@@ -67,6 +67,9 @@ pub(crate) struct SlotReplay<'a> {
     /// The record at hand, and the last one that posted.
     pub last: Numbered,
     pub posted: Numbered,
+    /// The record before the one at hand, and what the slot was at then.
+    pub before: Option<Numbered>,
+    pub phase: Phase,
     /// The world of the connection. It begins with the slot free, as the connection before left it.
     pub machine: Machine,
 }
@@ -122,7 +125,19 @@ impl<'a> SlotReplay<'a> {
             state: State::NEW,
             last: first,
             posted,
+            before: None,
+            phase: Phase::Free,
             machine,
+        }
+    }
+
+    /// The record at hand fits nowhere.
+    pub(crate) fn flawed(&self) -> Flawed {
+        Flawed {
+            whose: Whose::Slot(self.slot, self.state.generation),
+            numbered: self.last,
+            before: self.before,
+            phase: Some(self.phase),
         }
     }
 
@@ -141,6 +156,8 @@ impl<'a> SlotReplay<'a> {
             self.replay_connection(recording, connection, results)?;
             rest = next;
         }
+        self.before = None;
+        self.phase = self.state.phase;
         if self.findings.rests {
             self.rest()?;
         }
@@ -163,6 +180,10 @@ impl<'a> SlotReplay<'a> {
             let Some((first, next)) = self.next.split_first() else {
                 break;
             };
+            if self.last.line != first.line {
+                self.before = Some(self.last);
+            }
+            self.phase = self.state.phase;
             self.last = *first;
             self.next = next;
             self.act(first.record, results)?;

@@ -1,6 +1,7 @@
 //! What is written of a recording.
 use crate::machine::{Flaw, Machine};
 use crate::results::{Flawed, Results, Whose};
+use crate::slot_replay::Phase;
 use recorded::{Numbered, Recording};
 use records::{Act, Opening, Polling, ReplayFault, Wanted};
 use std::alloc::{AllocError, Global};
@@ -17,23 +18,46 @@ pub(crate) fn write_results<W: Write>(
     recording: &Recording,
 ) -> Result<(), ReplayFault> {
     match (results.wanted, &results.machine) {
-        (Wanted::Totals, _) => write(output, totals(results, recording)),
-        (Wanted::Ends, _) => write_text(output, results.ends.as_str()),
-        (_, Some(machine)) => write_script(output, machine),
+        (Wanted::Script(_, _), Some(machine)) => write_script(output, machine),
         (Wanted::Script(slot, generation), None) => {
-            let there = opened_in(recording, slot).finish()?;
-            let there = there.as_str();
-            let cause = format!(in recording.alloc; "{slot}.{generation} is not there: {there}")?;
-            Err(ReplayFault::Unknown(cause))
+            let last = recording.slot(slot).iter().rev().find_map(opened);
+            let slots = recording.header.slots;
+            Err(not_there(recording.alloc, slots, slot, generation, last))
         }
+        _ => write(output, totals(results, recording)),
     }
 }
 
+/// The fault of a recording that has no such connection. `last`: the generation of the last one that was opened in the slot.
+pub(crate) fn not_there(
+    alloc: Global,
+    slots: usize,
+    slot: usize,
+    generation: u64,
+    last: Option<u64>,
+) -> ReplayFault {
+    match cause_not_there(alloc, slots, slot, generation, last) {
+        Ok(cause) => ReplayFault::Unknown(cause),
+        Err(error) => ReplayFault::from(error),
+    }
+}
+
+fn cause_not_there(
+    alloc: Global,
+    slots: usize,
+    slot: usize,
+    generation: u64,
+    last: Option<u64>,
+) -> Result<String, AllocError> {
+    let there = opened_in(alloc, slots, slot, last).finish()?;
+    let there = there.as_str();
+    format!(in alloc; "{slot}.{generation} is not there: {there}")
+}
+
 /// Which connections were opened in a slot.
-fn opened_in(recording: &Recording, slot: usize) -> Page {
-    let mut page = Page::new(recording.alloc);
-    let slots = recording.header.slots;
-    let last = match recording.slot(slot).iter().rev().find_map(opened) {
+fn opened_in(alloc: Global, slots: usize, slot: usize, last: Option<u64>) -> Page {
+    let mut page = Page::new(alloc);
+    let last = match last {
         Some(last) => last,
         None if slot < slots => {
             page.put(&[Piece::Text("nothing was opened in that slot (--ends lists all)")]);
@@ -60,13 +84,18 @@ fn opened(numbered: &Numbered) -> Option<u64> {
     }
 }
 
-/// Writes which record fits nowhere and why, the script that leads there, and the event that was refused.
+/// Writes which record fits nowhere and why: in people's words, or for the machine, and then with the script that leads
+/// there, and the event that was refused.
 pub(crate) fn write_flaw<W: Write>(
     output: &mut W,
+    wanted: Wanted,
     flawed: &Flawed,
     flaw: Flaw,
     machine: &Machine,
 ) -> Result<(), ReplayFault> {
+    if matches!(wanted, Wanted::Totals) {
+        return write(output, in_words(flawed, flaw, machine)?);
+    }
     write(output, first_line(flawed, flaw, machine)?)?;
     write_script(output, machine)?;
     let mut page = Page::new(machine.alloc);
@@ -91,8 +120,15 @@ fn write<W: Write>(output: &mut W, page: Page) -> Result<(), ReplayFault> {
     write_text(output, text.as_str())
 }
 
-fn write_text<W: Write>(output: &mut W, text: &str) -> Result<(), ReplayFault> {
+pub(crate) fn write_text<W: Write>(output: &mut W, text: &str) -> Result<(), ReplayFault> {
     match output.write_all(text.as_bytes()) {
+        Ok(()) => Ok(()),
+        Err(_) => Err(ReplayFault::Write),
+    }
+}
+
+pub(crate) fn flush<W: Write>(output: &mut W) -> Result<(), ReplayFault> {
+    match output.flush() {
         Ok(()) => Ok(()),
         Err(_) => Err(ReplayFault::Write),
     }
@@ -112,7 +148,9 @@ fn put_totals(page: &mut Page, results: &Results) {
         Piece::Number(results.counts.sum()),
         Piece::Text(" events: each is a run of the machine\n"),
     ]);
-    results.counts.put_lines(page);
+    if matches!(results.wanted, Wanted::Steps) {
+        results.counts.put_lines(page);
+    }
     let [client_read, target_read, client_written, target_written] = results.moved;
     page.put(&[
         Piece::Named("read client=", client_read),
@@ -171,6 +209,71 @@ fn put_whose(page: &mut Page, whose: Whose) {
             Piece::Named(".", generation),
         ]),
     }
+}
+
+/// Whose record fits nowhere, which it is, the one before it, why, and what could stand there.
+fn in_words(flawed: &Flawed, flaw: Flaw, machine: &Machine) -> Result<Page, AllocError> {
+    let mut page = Page::new(machine.alloc);
+    match flawed.whose {
+        Whose::Poller(poller) => page.put(&[Piece::Named("poller ", poller as u64)]),
+        Whose::Slot(slot, generation) => page.put(&[
+            Piece::Named("slot ", slot as u64),
+            Piece::Named(", generation ", generation),
+        ]),
+    }
+    page.put(&[Piece::Text(": this is no run of the machine\n")]);
+    if let Some(before) = &flawed.before {
+        put_record(&mut page, machine.alloc, "after", before)?;
+    }
+    put_record(&mut page, machine.alloc, "wrong", &flawed.numbered)?;
+    page.put(&[Piece::Text("why: ")]);
+    put_reason(&mut page, flaw, machine);
+    match flawed.phase {
+        Some(phase) if !matches!(flaw, Flaw::NextCall) => put_expected(&mut page, phase, machine),
+        _ => {}
+    }
+    page.put(&[Piece::Text("more: relayd replay --steps shows what leads there\n")]);
+    Ok(page)
+}
+
+fn put_record(
+    page: &mut Page,
+    alloc: Global,
+    what: &str,
+    numbered: &Numbered,
+) -> Result<(), AllocError> {
+    let record = numbered.record;
+    let record = format!(in alloc; "{record}")?;
+    page.put(&[
+        Piece::Text(what),
+        Piece::Named(": line ", numbered.line),
+        Piece::Text(": "),
+        Piece::Text(record.as_str()),
+        Piece::Text("\n"),
+    ]);
+    Ok(())
+}
+
+/// Puts what could stand in the place of the record, by what the slot was at before it.
+fn put_expected(page: &mut Page, phase: Phase, machine: &Machine) {
+    let expected = match phase {
+        Phase::Calling(_) if machine.next_call().is_some() => {
+            page.put(&[Piece::Text("expected: ")]);
+            return put_next_call(page, machine);
+        }
+        Phase::Free => "an opening in this slot, of its next generation",
+        Phase::Open =>
+            "begin, for an opening, a report, a spent budget or a sweep that had no turn yet",
+        Phase::Calling(_) => "end, since the turn has no call left",
+        Phase::Settling => "settle, since the turn left no call",
+        Phase::Void(None) | Phase::Closing(None) => "drop, of both ends",
+        Phase::Void(Some(_)) | Phase::Closing(Some(_)) => "drop, of the other end",
+    };
+    page.put(&[
+        Piece::Text("expected: "),
+        Piece::Text(expected),
+        Piece::Text("\n"),
+    ]);
 }
 
 /// Puts why the record fits nowhere, and ends the line.

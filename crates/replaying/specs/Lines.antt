@@ -1,0 +1,31 @@
+-- The line of a connection that is open. Part of the promises.
+use Rattle.std.specs.{Prelude.{ℕ, Bool, ◌&&◌, if◌then◌else◌, List, ◌++◌, codes}, Fmt.decimal}
+use Rattle.records.specs.Texts.yes_or_no
+use Rattle.recorded.specs.declared.account.{Half.Half, Account.Account, Waits.{Waits, TheVariants.{Nobody, Answers, Takes, Sends}}}
+use Rattle.recorded.specs.Accounts.{ring_down, ring_up, waits_of}
+
+-- which of the two sides do this
+abbrev pub sides_text : Bool → Bool → List ℕ → List ℕ
+sides_text client target does =
+    if client && target then codes "client-" ++ (does ++ (codes ",target-" ++ does))
+    else if client then codes "client-" ++ does
+    else if target then codes "target-" ++ does
+    else codes "nobody"
+
+abbrev pub waits_text : Waits → List ℕ
+waits_text Nobody = codes "nobody"
+waits_text Answers = codes "target-answers"
+waits_text (Takes client target) = sides_text client target (codes "takes")
+waits_text (Sends client target) = sides_text client target (codes "sends")
+
+-- an end of input was not read yet, was read, or was passed on to the other side, too
+abbrev pub end_text : Half → Half → List ℕ
+end_text own other = if other.shut then codes "passed" else if own.ended then codes "read" else codes "-"
+
+abbrev pub live_text : ℕ → ℕ → Bool → Bool → Account → List ℕ
+live_text slot generation due connected a =
+    codes "live s=" ++ (decimal slot ++ (codes " g=" ++ (decimal generation ++ (codes " connected=" ++ (yes_or_no connected
+    ++ (codes " up=" ++ (decimal a.target.written ++ (codes " down=" ++ (decimal a.client.written
+    ++ (codes " ring=" ++ (decimal (ring_up a) ++ (codes "," ++ (decimal (ring_down a)
+    ++ (codes " ended=" ++ (end_text a.client a.target ++ (codes "," ++ (end_text a.target a.client
+    ++ (codes " waits=" ++ waits_text (waits_of due connected a)))))))))))))))))))

@@ -1,0 +1,87 @@
+//! The line of a connection that is open.
+ghost use Rattle.std.specs.Prelude.{◌≡◌, Some};
+ghost use Rattle.replaying.specs.Lines.{end_text, live_text, sides_text, waits_text};
+
+use recorded::{Account, Half, Waits};
+use std::fmt::{self, Display};
+
+/// An open connection. It prints as its line of `relayd replay --ends`.
+#[derive(Clone, Copy)]
+pub struct Live {
+    pub slot: usize,
+    pub generation: u64,
+    /// Whether a report has come since its last turn, and whether its target is connected.
+    pub due: bool,
+    pub connected: bool,
+    pub account: Account,
+}
+
+impl Display for Live {
+    ghost output = { λ live. Some (live_text live.slot live.generation live.due live.connected live.account) };
+
+    fn fmt<W: fmt::Write>(&self, f: &mut fmt::Formatter<W>) -> fmt::Result {
+        let (slot, generation, account) = (self.slot, self.generation, self.account);
+        let connected = if self.connected { "yes" } else { "no" };
+        let (up, down) = (account.target.written, account.client.written);
+        let (ring_up, ring_down) = (account.ring_up(), account.ring_down());
+        let (client, target) = (account.client, account.target);
+        let (client, target) = (end_text(&client, &target), end_text(&target, &client));
+        let waits = WaitsText(account.waits(self.due, self.connected));
+        write!(
+            f,
+            "live s={slot} g={generation} connected={connected} up={up} down={down} ring={ring_up},{ring_down} ended={client},{target} waits={waits}"
+        )
+    }
+}
+
+fn end_text(own: &Half, other: &Half) -> &'static str
+    ensures { result.now ≡ end_text own.now other.now }
+{
+    if other.shut {
+        "passed"
+    } else if own.ended {
+        "read"
+    } else {
+        "-"
+    }
+}
+
+#[derive(Clone, Copy)]
+struct WaitsText(Waits);
+
+impl Display for WaitsText {
+    ghost output = { λ text. Some (waits_text text.0) };
+
+    fn fmt<W: fmt::Write>(&self, f: &mut fmt::Formatter<W>) -> fmt::Result {
+        match self.0 {
+            Waits::Nobody => f.write_str("nobody"),
+            Waits::Answers => f.write_str("target-answers"),
+            Waits::Takes(client, target) => {
+                let sides = Sides(client, target, "takes");
+                write!(f, "{sides}")
+            }
+            Waits::Sends(client, target) => {
+                let sides = Sides(client, target, "sends");
+                write!(f, "{sides}")
+            }
+        }
+    }
+}
+
+/// Which of the client and the target do something.
+#[derive(Clone, Copy)]
+struct Sides(bool, bool, &'static str);
+
+impl Display for Sides {
+    ghost output = { λ sides. Some (sides_text sides.0 sides.1 sides.2.now) };
+
+    fn fmt<W: fmt::Write>(&self, f: &mut fmt::Formatter<W>) -> fmt::Result {
+        let Sides(client, target, does) = *self;
+        match (client, target) {
+            (true, true) => write!(f, "client-{does},target-{does}"),
+            (true, false) => write!(f, "client-{does}"),
+            (false, true) => write!(f, "target-{does}"),
+            (false, false) => f.write_str("nobody"),
+        }
+    }
+}
