@@ -152,11 +152,7 @@ fn play(
     source: &mut Source<'_>,
     mut sink: Sink,
 ) -> Result<Run, AllocError> {
-    let ended = if each {
-        Simulator.simulate_each(alloc, source, &mut sink, &NoCauses)
-    } else {
-        Simulator.simulate(alloc, source, &mut sink, &NoCauses)
-    };
+    let ended = Simulator.simulate(alloc, each, source, &mut sink, &NoCauses);
     let run = Run {
         ended,
         output: sink.into_taken(),

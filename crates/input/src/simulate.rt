@@ -1,5 +1,5 @@
 //! The trait of a simulator of scripts. Whoever passes a script on need not know the machine that runs it.
-ghost use Rattle.std.specs.Prelude.{◌≡◌, ◌+◌, ℕ, List, Option, IfSome, Ok, Err};
+ghost use Rattle.std.specs.Prelude.{◌≡◌, ◌+◌, ℕ, false, List, Option, IfSome, Ok, Err};
 ghost use Rattle.input.specs.Texts.{TakesAtMost, most_of_script};
 
 use std::alloc::Global;
@@ -43,30 +43,20 @@ pub trait Simulate {
     ghost refuses: { Self → List ℕ → Option (List ℕ) → Option (List ℕ) → Type 0 };
 
     /// Reads a script and writes the report of the state after it, or the one line of its fault, whose cause it
-    /// passes to `causes`. Writes nothing if the script cannot be read. Takes at most one byte more than a script may
-    /// have.
+    /// passes to `causes`. If `each`, it writes what each step changed in place of the report at the end. Writes
+    /// nothing if the script cannot be read. Takes at most one byte more than a script may have.
     fn simulate<R: Read, W: Write, C: Causes>(
         &self,
         alloc: Global,
+        each: bool,
         reader: &mut R,
         writer: &mut W,
         causes: &C,
     ) -> Result<Outcome, ScriptFault>
-        ensures report { result ≡ Ok Outcome.Report → IfSome (R.remaining reader.old)
+        ensures report { each ≡ false → result ≡ Ok Outcome.Report → IfSome (R.remaining reader.old)
             (λ text. reports self.now text (W.contents writer.old) (W.contents writer.new)) }
-        ensures refused { result ≡ Ok Outcome.Refused → IfSome (R.remaining reader.old)
+        ensures refused { each ≡ false → result ≡ Ok Outcome.Refused → IfSome (R.remaining reader.old)
             (λ text. refuses self.now text (W.contents writer.old) (W.contents writer.new)) }
-        ensures unread { result ≡ Err ScriptFault.Read → writer.new ≡ writer.old }
-        ensures taken { TakesAtMost (most_of_script + 1) (R.remaining reader.old) (R.remaining reader.new) };
-
-    /// Does as `simulate`, but writes what each step changed in place of the report at the end.
-    fn simulate_each<R: Read, W: Write, C: Causes>(
-        &self,
-        alloc: Global,
-        reader: &mut R,
-        writer: &mut W,
-        causes: &C,
-    ) -> Result<Outcome, ScriptFault>
         ensures unread { result ≡ Err ScriptFault.Read → writer.new ≡ writer.old }
         ensures taken { TakesAtMost (most_of_script + 1) (R.remaining reader.old) (R.remaining reader.new) };
 }

@@ -1,5 +1,5 @@
 //! What the program does, from its arguments to its status.
-ghost use Rattle.std.specs.Prelude.{◌≡◌, ◌⊎◌, IsTrue, IfSome, IfOk, IfErr, Ok};
+ghost use Rattle.std.specs.Prelude.{◌≡◌, ◌⊎◌, false, IsTrue, IfSome, IfOk, IfErr, Ok};
 ghost use Rattle.program.specs.Faults.{IsCarriedOut, status_of};
 
 use crate::command_line::{Command, Relay, Source, read_command};
@@ -156,7 +156,9 @@ where
 {
     match command {
         Command::Simulate { each } => {
-            simulate_by(rt.alloc(), log, each, simulator, reader, writer)
+            let mut reader = stream("input", reader, log);
+            let mut writer = stream("output", writer, log);
+            simulate(rt.alloc(), log, each, simulator, &mut reader, &mut writer)
         }
         Command::Check(path) => check(rt, log, path, writer),
         Command::Serve(relay) => run(rt, log, &relay, serve),
@@ -196,29 +198,6 @@ where
     print(rt.alloc(), &settings, &mut stream("output", writer, log))
 }
 
-fn simulate_by<M: Simulate, L: Log, I: Read, O: Write>(
-    alloc: Global,
-    log: &L,
-    each: bool,
-    simulator: &M,
-    reader: &mut I,
-    writer: &mut O,
-) -> Result<u8, ProgramFault>
-    ensures done { IfOk result (λ status. IsCarriedOut status) }
-    ensures fault { IfErr result (λ fault. status_of fault ≡ 1) }
-{
-    let mut reader = stream("input", reader, log);
-    let mut writer = stream("output", writer, log);
-    if !each {
-        return simulate(alloc, log, simulator, &mut reader, &mut writer);
-    }
-    match simulator.simulate_each(alloc, &mut reader, &mut writer, &LoggedCauses(log)) {
-        Ok(Outcome::Report) => Ok(DONE),
-        Ok(Outcome::Refused) => Ok(FAULT),
-        Err(fault) => Err(ProgramFault::Script(fault)),
-    }
-}
-
 /// A stream of this name whose errors are logged.
 pub(crate) fn stream<'a, S, L>(
     name: &'static str,
@@ -228,22 +207,24 @@ pub(crate) fn stream<'a, S, L>(
     Stream { name, inner, log }
 }
 
-/// Returns 0 if the report was written. Returns 1, and logs the cause, if the line of the script's fault was.
+/// Returns 0 if the report was written, or if `each` what each step changed. Returns 1, and logs the cause, if the line
+/// of the script's fault was.
 fn simulate<M: Simulate, L: Log, I: Read, O: Write>(
     alloc: Global,
     log: &L,
+    each: bool,
     simulator: &M,
     reader: &mut I,
     writer: &mut O,
 ) -> Result<u8, ProgramFault>
-    ensures report { result ≡ Ok 0 → IfSome (I.remaining reader.old)
+    ensures report { each ≡ false → result ≡ Ok 0 → IfSome (I.remaining reader.old)
         (λ text. M.reports simulator.now text (O.contents writer.old) (O.contents writer.new)) }
     ensures done { IfOk result (λ status. IsCarriedOut status) }
     ensures fault { IfErr result (λ fault. status_of fault ≡ 1) }
-    ensures refused { result ≡ Ok 1 → IfSome (I.remaining reader.old)
+    ensures refused { each ≡ false → result ≡ Ok 1 → IfSome (I.remaining reader.old)
         (λ text. M.refuses simulator.now text (O.contents writer.old) (O.contents writer.new)) }
 {
-    match simulator.simulate(alloc, reader, writer, &LoggedCauses(log)) {
+    match simulator.simulate(alloc, each, reader, writer, &LoggedCauses(log)) {
         Ok(Outcome::Report) => Ok(DONE),
         Ok(Outcome::Refused) => Ok(FAULT),
         Err(fault) => Err(ProgramFault::Script(fault)),

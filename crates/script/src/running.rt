@@ -27,21 +27,16 @@ impl Simulate for Simulator {
     fn simulate<R: Read, W: Write, C: Causes>(
         &self,
         alloc: Global,
+        each: bool,
         reader: &mut R,
         writer: &mut W,
         causes: &C,
     ) -> Result<Outcome, ScriptFault> {
-        run(alloc, reader, writer, causes)
-    }
-
-    fn simulate_each<R: Read, W: Write, C: Causes>(
-        &self,
-        alloc: Global,
-        reader: &mut R,
-        writer: &mut W,
-        causes: &C,
-    ) -> Result<Outcome, ScriptFault> {
-        run_each(alloc, reader, writer, causes)
+        if each {
+            run_each(alloc, reader, writer, causes)
+        } else {
+            run(alloc, reader, writer, causes)
+        }
     }
 }
 

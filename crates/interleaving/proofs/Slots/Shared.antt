@@ -92,7 +92,12 @@ module _ (m : Many) (between : Between m) where
     each = λ s. record { own = []; sees = refl; leads = refl };
     apart = between.apart;
     fronts = λ p. let f = m.fronts p in
-        record { listener = or_flag f.flag _ _ (told_holds f.armed (m.backlog == 0) f.reported (list_any is_listener f.batch)) (between.fronts p).listener; share = (between.fronts p).share; own = (between.fronts p).own };
+        record {
+          listener = or_flag f.flag _ _ (told_holds f.armed (m.backlog == 0) f.reported (list_any is_listener f.batch))
+              (between.fronts p).listener;
+          share = (between.fronts p).share;
+          own = (between.fronts p).own;
+        };
   })
 
   rumours : (p : ℕ) → Kept (Next m (Rumour p)) (shared m (Rumour p))
@@ -150,7 +155,9 @@ module _ (m : Many) (between : Between m) where
   puts : (i s : ℕ) → Kept (Next m (Put i s)) (shared m (Put i s))
   puts i s = kept_map _ (first_of (suits i (Some s)) m.tickets) (λ c is. record {
     server = refl;
-    each = λ t. record { own = []; sees = refl; leads = ap Some (sym (framed m (record m { tickets = c.rest ++ record c.ticket { hand = None } ∷ [] }) t refl refl refl (same c is t (cases_eq t c.ticket.slot)))) };
+    each = λ t. record { own = []; sees = refl; leads = ap Some
+        (sym (framed m (record m { tickets = c.rest ++ record c.ticket { hand = None } ∷ [] }) t refl refl refl
+            (same c is t (cases_eq t c.ticket.slot)))) };
     apart = between.apart;
     fronts = between.fronts;
   })
