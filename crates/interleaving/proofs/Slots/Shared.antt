@@ -155,9 +155,13 @@ module _ (m : Many) (between : Between m) where
   puts : (i s : ℕ) → Kept (Next m (Put i s)) (shared m (Put i s))
   puts i s = kept_map _ (first_of (suits i (Some s)) m.tickets) (λ c is. record {
     server = refl;
-    each = λ t. record { own = []; sees = refl; leads = ap Some
-        (sym (framed m (record m { tickets = c.rest ++ record c.ticket { hand = None } ∷ [] }) t refl refl refl
-            (same c is t (cases_eq t c.ticket.slot)))) };
+    each = λ t. record {
+      own = [];
+      sees = refl;
+      leads = ap Some
+          (sym (framed m (record m { tickets = c.rest ++ record c.ticket { hand = None } ∷ [] }) t refl refl refl
+          (same c is t (cases_eq t c.ticket.slot))));
+    };
     apart = between.apart;
     fronts = between.fronts;
   })

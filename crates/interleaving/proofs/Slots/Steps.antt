@@ -324,8 +324,8 @@ module _ (m : Many) (between : Between m) where
             server = refl;
             each = each_slot m (Begin i from most) d now q
                 (λ t own e. e ∙ ap (λ (o : Option Taken). steps_at t (option_map
-                    (λ (c : Taken). record { slot = c.ticket.slot; thread = i; own = alone.Begin (rank_at m c.ticket.slot i) most ∷ [] })
-                    o)) (sym is))
+                (λ (c : Taken). record { slot = c.ticket.slot; thread = i; own = alone.Begin (rank_at m c.ticket.slot i) most ∷ [] })
+                o)) (sym is))
                 ran (done q left none);
             apart = apart_moved m (Begin i from most) d now q (done q left none) i (record {
               here = set_here m.busy_at i c.ticket.slot;
