@@ -120,7 +120,8 @@ impl<T: Drop, const QUEUES: usize> ParkedQueue<T, QUEUES> {
         unreachable!()
     }
 
-    /// Announces that the writer sleeps, drains the queues again, and parks if they are empty.
+    /// Announces that the writer sleeps, drains the queues again, and parks if they are empty. No queue shows what was
+    /// left out since the drain before, but a drain does.
     fn drain_or_park<R: Wait, W: Drain>(
         &self,
         rt: &R,

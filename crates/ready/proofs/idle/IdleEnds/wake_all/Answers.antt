@@ -1,4 +1,4 @@
-use Rattle.std.proofs.{Common.{◌≡◌, arith}, lemmas.List.{take_all, Elements.All-more}}
+use Rattle.std.proofs.{lemmas.List.{take_all, Elements.All-more}}
 use Rattle.ready.proofs.idle.IdleEnds.wake_all.Goals as goal
 
 pub loop-unparker-preserved : goal.loop-unparker-preserved
