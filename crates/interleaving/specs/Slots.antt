@@ -324,8 +324,8 @@ pub record StandsApart (server : Server) (steps : List Step) (m : Many) (s : ℕ
   pub leads : alone.run (alone.start (one_slot server.limits)) own ≡ Some (slot_of m s)
   pub run : IsARun (one_slot server.limits) own (slot_of m s)
 
--- While a client waits, the poller's accept flag is up, or a report of the listener is queued for it or in its batch.
--- And it has opened no more than its share
+-- While a client waits, the poller's accept flag is up, or a report of the listener is queued for it or in its batch; here
+-- each poller listens. And it has opened no more than its share
 pub record PollerHolds (m : Many) (p : ℕ) : Type 0 where
   pub listener : (m.fronts p).flag ≡ false
       → (m.backlog == 0) || ((m.fronts p).reported || list_any is_listener (m.fronts p).batch) ≡ true
