@@ -1,6 +1,6 @@
 -- The line of a connection that is open. Part of the promises.
 use Rattle.std.specs.{Prelude.{ℕ, Bool, ◌&&◌, if◌then◌else◌, List, ◌++◌, codes}, Fmt.decimal}
-use Rattle.records.specs.Texts.yes_or_no
+use Rattle.records.specs.Texts.{yes_or_no}
 use Rattle.recorded.specs.declared.account.{Half.Half, Account.Account, Waits.{Waits, TheVariants.{Nobody, Answers, Takes, Sends}}}
 use Rattle.recorded.specs.Accounts.{ring_down, ring_up, waits_of}
 

@@ -69,12 +69,12 @@ impl Take for Ends {
     }
 
     fn take(&mut self, _line: u64, record: Record) -> Result<(), AllocError> {
-        match record.act {
+        match &record.act {
             Act::Poller(_, Polling::Open(slot, generation, Opening::Opened)) => {
-                return self.open(slot, generation);
+                return self.open(*slot, *generation);
             }
             Act::Poller(_, Polling::Reported(Name::End(token))) => {
-                if let Some(entry) = self.entry(token.slot(), Some(token)) {
+                if let Some(entry) = self.entry(token.slot(), Some(*token)) {
                     entry.report(token.side(), record.after);
                 }
             }
@@ -83,12 +83,12 @@ impl Take for Ends {
                 self.failed = Some(first.min(record.after));
             }
             Act::Begin(slot) | Act::End(slot) => {
-                if let Some(entry) = self.entry(slot, None) {
+                if let Some(entry) = self.entry(*slot, None) {
                     entry.act(&record);
                 }
             }
             Act::Wire(token, _) => {
-                if let Some(entry) = self.entry(token.slot(), Some(token)) {
+                if let Some(entry) = self.entry(token.slot(), Some(*token)) {
                     entry.act(&record);
                 }
             }

@@ -58,9 +58,9 @@ impl Take for Course {
     }
 
     fn take(&mut self, _line: u64, record: Record) -> Result<(), AllocError> {
-        let is_its = match record.act {
+        let is_its = match &record.act {
             Act::Poller(_, Polling::Open(slot, generation, Opening::Opened)) => {
-                self.open(slot, generation)
+                self.open(*slot, *generation)
             }
             Act::Poller(_, Polling::Reported(Name::End(token))) | Act::Wire(token, _) => {
                 token.slot() == self.slot && token.generation() == self.generation
@@ -71,7 +71,7 @@ impl Take for Course {
                 false
             }
             Act::Begin(slot) | Act::End(slot) => {
-                slot == self.slot && self.last == Some(self.generation)
+                *slot == self.slot && self.last == Some(self.generation)
             }
             _ => false,
         };

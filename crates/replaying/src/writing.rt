@@ -223,9 +223,11 @@ fn in_words(flawed: &Flawed, flaw: Flaw, machine: &Machine) -> Result<Page, Allo
     }
     page.put(&[Piece::Text(": this is no run of the machine\n")]);
     if let Some(before) = &flawed.before {
-        put_record(&mut page, machine.alloc, "after", before)?;
+        page.put(&[Piece::Text("after")]);
+        page = with_record(page, machine.alloc, before)?;
     }
-    put_record(&mut page, machine.alloc, "wrong", &flawed.numbered)?;
+    page.put(&[Piece::Text("wrong")]);
+    page = with_record(page, machine.alloc, &flawed.numbered)?;
     page.put(&[Piece::Text("why: ")]);
     put_reason(&mut page, flaw, machine);
     match flawed.phase {
@@ -236,22 +238,17 @@ fn in_words(flawed: &Flawed, flaw: Flaw, machine: &Machine) -> Result<Page, Allo
     Ok(page)
 }
 
-fn put_record(
-    page: &mut Page,
-    alloc: Global,
-    what: &str,
-    numbered: &Numbered,
-) -> Result<(), AllocError> {
+fn with_record(page: Page, alloc: Global, numbered: &Numbered) -> Result<Page, AllocError> {
     let record = numbered.record;
     let record = format!(in alloc; "{record}")?;
+    let mut page = page;
     page.put(&[
-        Piece::Text(what),
         Piece::Named(": line ", numbered.line),
         Piece::Text(": "),
         Piece::Text(record.as_str()),
         Piece::Text("\n"),
     ]);
-    Ok(())
+    Ok(page)
 }
 
 /// Puts what could stand in the place of the record, by what the slot was at before it.

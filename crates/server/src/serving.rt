@@ -64,7 +64,7 @@ pub fn serve<G: Gate + Sync, C: Clock + Sync, R: Net + Dial + Wait + Threads + L
     bound: Bound,
     lent: Lent<'_, G, C>,
 ) -> Outcome {
-    serve_into(rt, alloc, settings, split_of(settings), bound, lent, None)
+    serve_into(rt, alloc, settings, bound, lent, None)
 }
 
 /// Serves as [`serve`] does. If there is a file, what each thread does is recorded into it until the server ends; the
@@ -102,7 +102,7 @@ pub fn serve_recorded<
     let queue = &recording.queue;
     serve_beside(
         &recording,
-        move || serve_into(rt, alloc, settings, split, bound, lent, Some(queue)),
+        move || serve_into(rt, alloc, settings, bound, lent, Some(queue)),
     )
 }
 
@@ -154,13 +154,11 @@ fn serve_into<G: Gate + Sync, C: Clock + Sync, R: Net + Dial + Wait + Threads + 
     rt: &R,
     alloc: Global,
     settings: &Settings,
-    split: Split,
     bound: Bound,
     lent: Lent<'_, G, C>,
     queue: Option<&RecordQueue>,
-) -> Outcome
-    requires { split.slots ≡ settings.now.slots }
-{
+) -> Outcome {
+    let split = split_of(settings);
     let forwarding = Forwarding::of(settings, lent.patience);
     match open_all(rt, alloc, bound, forwarding, split, lent.stop) {
         Ok((fronts, wakers)) => match queue {

@@ -9,7 +9,7 @@ loop-number-preserved g c =
     let popped = c.in-Some.ensures in
     record {
       left = omega (arith, was.left, popped.len, c.loop-number.fronts.ok.0, c.pop.new.self.ok.0);
-      begun = one_begun _ _ _ _ _ _ _ c.loop-number.number _ pushed.items popped.items c.in_ok-poller_of-in-Some.ensures was.begun;
+      begun = one_begun c.args.settings.now c.args.split _ _ _ _ _ c.loop-number.number _ pushed.items popped.items c.in_ok-poller_of-in-Some.ensures was.begun;
       len = pushed.len ∙ ap (λ (n : ℕ). n + 1) was.len;
       room = omega (arith, pushed.capacity, was.room);
     }
@@ -18,7 +18,7 @@ pub returns : goal.returns
 returns g c =
     let was = c.loop-number.invariant in
     let none : length c.loop-number.fronts.items ≡ 0 = omega (arith, was.left, c.loop-number-test.false, c.pollers-count.ensures.parts) in
-    all_made _ _ _ _ c.loop-number.fronts.items _ _ none was.begun
+    all_made c.args.settings.now c.args.split _ _ c.loop-number.fronts.items _ _ none was.begun
 
 pub loop-number-init : goal.loop-number-init
 loop-number-init g c =
