@@ -22,10 +22,15 @@ waits_text (Sends client target) = sides_text client target (codes "sends")
 abbrev pub end_text : Half → Half → List ℕ
 end_text own other = if other.shut then codes "passed" else if own.ended then codes "read" else codes "-"
 
+-- what waits in the rings, which ends were read, and what it waits for
+abbrev pub standing_text : Bool → Bool → Account → List ℕ
+standing_text due connected a =
+    codes "ring=" ++ (decimal (ring_up a) ++ (codes "," ++ (decimal (ring_down a)
+    ++ (codes " ended=" ++ (end_text a.client a.target ++ (codes "," ++ (end_text a.target a.client
+    ++ (codes " waits=" ++ waits_text (waits_of due connected a)))))))))
+
 abbrev pub live_text : ℕ → ℕ → Bool → Bool → Account → List ℕ
 live_text slot generation due connected a =
     codes "live s=" ++ (decimal slot ++ (codes " g=" ++ (decimal generation ++ (codes " connected=" ++ (yes_or_no connected
     ++ (codes " up=" ++ (decimal a.target.written ++ (codes " down=" ++ (decimal a.client.written
-    ++ (codes " ring=" ++ (decimal (ring_up a) ++ (codes "," ++ (decimal (ring_down a)
-    ++ (codes " ended=" ++ (end_text a.client a.target ++ (codes "," ++ (end_text a.target a.client
-    ++ (codes " waits=" ++ waits_text (waits_of due connected a)))))))))))))))))))
+    ++ (codes " " ++ standing_text due connected a))))))))))

@@ -1,6 +1,7 @@
 //! The line of a connection that is open.
 ghost use Rattle.std.specs.Prelude.{◌≡◌, Some};
-ghost use Rattle.replaying.specs.Lines.{end_text, live_text, sides_text, waits_text};
+ghost use Rattle.records.specs.Texts.{yes_or_no};
+ghost use Rattle.replaying.specs.Lines.{end_text, live_text, sides_text, standing_text, waits_text};
 
 use recorded::{Account, Half, Waits};
 use std::fmt::{self, Display};
@@ -20,18 +21,38 @@ impl Display for Live {
     ghost output = { λ live. Some (live_text live.slot live.generation live.due live.connected live.account) };
 
     fn fmt<W: fmt::Write>(&self, f: &mut fmt::Formatter<W>) -> fmt::Result {
-        let (slot, generation, account) = (self.slot, self.generation, self.account);
-        let connected = if self.connected { "yes" } else { "no" };
-        let (up, down) = (account.target.written, account.client.written);
-        let (ring_up, ring_down) = (account.ring_up(), account.ring_down());
-        let (client, target) = (account.client, account.target);
-        let (client, target) = (end_text(&client, &target), end_text(&target, &client));
-        let waits = WaitsText(account.waits(self.due, self.connected));
+        let (slot, generation) = (self.slot, self.generation);
+        let connected = yes_or_no(self.connected);
+        let (up, down) = (self.account.target.written, self.account.client.written);
+        let standing = Standing(self.due, self.connected, self.account);
         write!(
             f,
-            "live s={slot} g={generation} connected={connected} up={up} down={down} ring={ring_up},{ring_down} ended={client},{target} waits={waits}"
+            "live s={slot} g={generation} connected={connected} up={up} down={down} {standing}"
         )
     }
+}
+
+/// What waits in the rings, which ends were read, and what the connection waits for.
+#[derive(Clone, Copy)]
+struct Standing(bool, bool, Account);
+
+impl Display for Standing {
+    ghost output = { λ standing. Some (standing_text standing.0 standing.1 standing.2) };
+
+    fn fmt<W: fmt::Write>(&self, f: &mut fmt::Formatter<W>) -> fmt::Result {
+        let Standing(due, connected, account) = *self;
+        let (up, down) = (account.ring_up(), account.ring_down());
+        let client = end_text(&account.client, &account.target);
+        let target = end_text(&account.target, &account.client);
+        let waits = WaitsText(account.waits(due, connected));
+        write!(f, "ring={up},{down} ended={client},{target} waits={waits}")
+    }
+}
+
+fn yes_or_no(so: bool) -> &'static str
+    ensures { result.now ≡ yes_or_no so }
+{
+    if so { "yes" } else { "no" }
 }
 
 fn end_text(own: &Half, other: &Half) -> &'static str
