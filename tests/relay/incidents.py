@@ -61,7 +61,7 @@ def tells_that_a_target_does_not_answer():
     if not Relay.records:
         return left_out("recording")
     with unanswered() as port:
-        relay = Relay(port)
+        relay = Relay(port, slots=8)
         with relay.connect() as client:
             client.sendall(b"?")
             assert is_told(relay, r"live s=0 g=1 connected=no up=0 down=0 ring=1,0 ended=-,- waits=target-answers")
