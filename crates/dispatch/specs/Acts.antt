@@ -25,8 +25,12 @@ pub data Act : Type 0 where
   Settle : Act
   PutTicket : Act
 
+-- what is known of an act at a slot that led from one state to another
+abbrev pub Made : Type 0 → Type 1
+Made S = Act → ℕ → S → S → Type 0
+
 -- these acts were made at a slot, one after the other, and no others
-abbrev pub AreMade : {S : Type 0} → (Act → ℕ → S → S → Type 0) → ℕ → List Act → S → S → Type 0
+abbrev pub AreMade : {S : Type 0} → Made S → ℕ → List Act → S → S → Type 0
 AreMade made slot [] old new = new ≡ old
 AreMade {S} made slot (act ∷ acts) old new = (between : S) × made act slot old between × AreMade made slot acts between new
 

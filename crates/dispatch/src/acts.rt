@@ -114,7 +114,7 @@ pub trait Acts {
 
 /// The acts of a thread with a slot's connection.
 pub trait Moves<F: Front>: Acts {
-    ghost use Rattle.std.specs.Prelude.{◌≡◌, ◌<◌, ℕ, IfSome, IfOk, IfErr, OnOk, OnErr};
+    ghost use Rattle.std.specs.Prelude.{◌≡◌, ◌<◌, ℕ, Option, Some, None, IfSome, IsNone, IfOk, IfErr, OnOk, OnErr};
     ghost use Rattle.claims.specs.Seats.{Holds};
     ghost use Rattle.statistics.specs.declared.event.Event.{Event};
     ghost use Rattle.dispatch.specs.declared.places.Berth.{Berth};
@@ -122,6 +122,9 @@ pub trait Moves<F: Front>: Acts {
 
     // The last act took this connection out of its place, put it in, or closed it.
     ghost moved: { Berth F.Client F.Target → Self → Type 0 };
+
+    // The last act looked into a place, and found a connection of this generation, or none.
+    ghost found: { Option ℕ → Self → Type 0 };
 
     // This event was counted at a slot.
     ghost counted: { ℕ → Event → Self → Type 0 };
@@ -145,20 +148,22 @@ pub trait Moves<F: Front>: Acts {
     fn take_out<R: Wait>(
         &mut self,
         rt: &R,
-        places: &Places<F::Client, F::Target>,
+        places: &Places<F::Client, F::Target, Self>,
         seat: &ClaimSeat,
         slot: usize,
     ) -> Option<Box<Berth<F::Client, F::Target>>>
         requires inside { slot < places.now }
         requires holder { Holds seat.now slot }
         ensures made { Self.made act.TakeOut slot self.old self.new }
-        ensures moved { IfSome result (λ berth. moved berth.value self.new) };
+        ensures moved { IfSome result (λ berth. moved berth.value self.new) }
+        ensures found { IfSome result (λ berth. found (Some berth.value.pair.generation) self.new) }
+        ensures empty { IsNone result → found None self.new };
 
     /// [`Places::put_in`].
     fn put_in<R: Wait>(
         &mut self,
         rt: &R,
-        places: &Places<F::Client, F::Target>,
+        places: &Places<F::Client, F::Target, Self>,
         seat: &ClaimSeat,
         slot: usize,
         berth: Box<Berth<F::Client, F::Target>>,
@@ -181,7 +186,7 @@ pub trait Moves<F: Front>: Acts {
         ensures moved { moved berth.value self.new };
 
     /// [`Shared::count`].
-    fn count(&self, shared: &Shared<F>, slot: usize, event: Event)
+    fn count(&self, shared: &Shared<F, Self>, slot: usize, event: Event)
         ensures { counted slot event self.now };
 }
 
@@ -244,6 +249,8 @@ impl<F: Front> Moves<F> for () {
     ghost use Rattle.claims.specs.Seats.{Holds};
 
     ghost moved = { λ _ _. Unit {0} };
+
+    ghost found = { λ _ _. Unit {0} };
 
     ghost counted = { λ _ _ _. Unit {0} };
 

@@ -13,7 +13,7 @@ ghost use Rattle.claims.specs.Seats.{Holds};
 use claims::ClaimSeat;
 use relay_core::Pair;
 use std::alloc::{AllocError, Global};
-use std::marker::Model;
+use std::marker::{Model, PhantomData};
 use std::sync::{Mutex, MutexGuard, Wait};
 
 /// A connection: its pair and its two wires. Dropping it closes what its wires own.
@@ -30,16 +30,18 @@ pub struct Berth<C, T> {
 #[derive(Drop)]
 pub struct Occupied<B>(pub B);
 
-/// A place for each slot, empty or with one berth, which only [`Moves`](crate::Moves) reaches. The threads share the
-/// places by `&`. A berth is boxed, since it has some 460 bytes, and a turn hands it on several times.
+/// A place for each slot, empty or with one berth, which only the acts `A` reach ([`Moves`](crate::Moves)). So code over
+/// any acts reaches no place by others. The threads share the places by `&`. A berth is boxed, since it has some 460
+/// bytes, and a turn hands it on several times.
 ///
 /// In a clause it is the number of slots.
 #[derive(Drop)]
-pub struct Places<C, T> {
+pub struct Places<C, T, A = ()> {
     places: Vec<Mutex<Option<Box<Berth<C, T>>>>>,
+    by: PhantomData<A>,
 }
 
-impl<C, T> Model for Places<C, T> {
+impl<C, T, A> Model for Places<C, T, A> {
     ghost use Rattle.std.specs.Prelude.{ℕ, vec_len};
 
     ghost Value = { ℕ };
@@ -47,10 +49,10 @@ impl<C, T> Model for Places<C, T> {
     ghost view = { λ p. vec_len p.places };
 }
 
-impl<C, T> Places<C, T> {
+impl<C, T, A> Places<C, T, A> {
     /// An empty place for each of `slots` slots. This allocates all the memory that the places ever use, and fails only
     /// if there is not enough.
-    pub fn new(alloc: Global, slots: usize) -> Result<Places<C, T>, AllocError>
+    pub fn new(alloc: Global, slots: usize) -> Result<Places<C, T, A>, AllocError>
     where
         C: Drop,
         T: Drop,
@@ -60,7 +62,10 @@ impl<C, T> Places<C, T> {
         for _slot in 0..slots {
             places.push(Mutex::new(None))?;
         }
-        Ok(Places { places })
+        Ok(Places {
+            places,
+            by: PhantomData,
+        })
     }
 
     /// Puts a berth into the place of a slot that the caller's seat holds. If another is there, Occupied gives this one

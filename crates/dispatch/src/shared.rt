@@ -15,13 +15,13 @@ use std::sync::Arc;
 use std::sync::atomic::AtomicUsize;
 use std::sync::atomic::Ordering::SeqCst;
 
-/// What all threads of a server share.
+/// What all threads of a server share. Its places are reached by the acts `A` alone.
 #[derive(Drop)]
-pub struct Shared<F: Front> {
+pub struct Shared<F: Front, A = ()> {
     /// Who holds which slot, and how many notes wait there.
     pub claims: Claims,
     /// The place of each slot's connection.
-    pub places: Places<F::Client, F::Target>,
+    pub places: Places<F::Client, F::Target, A>,
     /// What ends a poller's wait for reports.
     pub waker: F::Waker,
     /// The most calls that one turn makes, 1 to 1,024.
@@ -88,7 +88,7 @@ impl<F: Front> Counting for F {
     }
 }
 
-impl<F: Front + Counting> Shared<F> {
+impl<F: Front + Counting, A> Shared<F, A> {
     /// Counts an event at a slot that the thread holds, or for a drop, that the poller has in hand.
     pub fn count(&self, slot: usize, event: Event)
         ensures { F.counted slot event }

@@ -274,14 +274,16 @@ pub ended_by : (p : PollerState) (own : Own) → (p.starved ≡ true) ⊎ (HasLe
 ended_by p own why = grind arith
 
 -- what became of an accepted connection that was placed, with the acts that were made from there on
-fate_by : {slot : ℕ} {p q : PollerState} {opened : Type 0} {dropped : Cause → Type 0} {after made : List Act → Type 0} {a b : SeatState} → ((acts : List Act) → after acts → made (Register ∷ acts))
-    → (IsOpened p q × opened × after placing) ⊎ (IsLost p q × Adds slot (exchange.NotFree ∷ []) a b × after (Adopt ∷ [])) → Fate slot opened dropped made p q a b
-fate_by joined (inl done) = Opened done.0 done.1 (joined placing done.2)
-fate_by joined (inr lost) = NotFree lost.0 lost.1 (joined (Adopt ∷ []) lost.2)
+fate_by : {slot : ℕ} {p q : PollerState} {told opened : Type 0} {dropped : Cause → Type 0} {after made : List Act → Type 0} {a b : SeatState} → (told → opened)
+    → ((acts : List Act) → after acts → made (Register ∷ acts))
+    → (IsOpened p q × told) ⊎ (IsLost p q × Adds slot (exchange.NotFree ∷ []) a b × after (Adopt ∷ [])) → Fate slot opened dropped made p q a b
+fate_by opens joined (inl done) = Opened done.0 (opens done.1)
+fate_by opens joined (inr lost) = NotFree lost.0 lost.1 (joined (Adopt ∷ []) lost.2)
 
-pub placed_fate : {slot : ℕ} {p s q : PollerState} {told : Ticket → Type 0} {dropped : Cause → Type 0} {after made : List Act → Type 0} {a b : Own} {t : Ticket} → s ≡ p → t ≡ next_in p slot
-    → ((acts : List Act) → after acts → made (Register ∷ acts)) → Placed told after t s q a b → Fate slot (told (next_in p slot)) dropped made p q a.seat b.seat
-placed_fate same next joined placed = fate_by joined (rw (same, next) at placed.counted)
+pub placed_fate : {slot : ℕ} {p s q : PollerState} {told : Ticket → Type 0} {opened : Type 0} {dropped : Cause → Type 0} {after made : List Act → Type 0} {a b : Own} {t : Ticket} → s ≡ p
+    → t ≡ next_in p slot → (told (next_in p slot) → opened) → ((acts : List Act) → after acts → made (Register ∷ acts)) → Placed told after t s q a b
+    → Fate slot opened dropped made p q a.seat b.seat
+placed_fate same next opens joined placed = fate_by opens joined (rw (same, next) at placed.counted)
 
 -- a slot that has no next names
 pub no_names : (table : List ℕ) (slot : ℕ) → (slot ≤ 32767 → slot < length table → slice_index table slot ≡ last_generation)

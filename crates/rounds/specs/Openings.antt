@@ -2,13 +2,13 @@
 use Rattle.std.specs.{Prelude.{◌≡◌, ◌⊎◌, ℕ, ◌+◌, ◌<◌, ◌≤◌, ◌==◌, Bool, true, false, List, [], ◌∷◌, ◌++◌, length, drop, map, Option, Some, None, Result, Ok, Err, replicate, slice_index, slice_set}, List.count_by, declared.net.socket_addr.SocketAddrV4.SocketAddrV4, Net.{Addr.ipv4_octets, Socket.{v4_ip, v4_port}}}
 use Rattle.claims.specs.{Seats.{SeatState, TableId, Adds, HoldsNothing, account_at}, Views.minted_by}
 use Rattle.ready.specs.declared.ticket.Ticket.{Ticket}
-use Rattle.dispatch.specs.{declared.{shared.Own.Own, front.{Unopened.Unopened, Route.Route}, split.Part.Part}, Splits.IsIn, Hands.ticket_room, Posts.IsWorn, Told.Seen}
+use Rattle.dispatch.specs.{declared.{shared.Own.Own, places.Berth.Berth, front.{Unopened.Unopened, Route.Route}, split.Part.Part}, Splits.IsIn, Hands.ticket_room, Posts.IsWorn, Told.Seen}
 use Rattle.token.specs.Names.{last_generation}
 use Rattle.rounds.specs.{Pollers.{PollerState, Counted, counted_up}, Acts.{SeatAct, made_by, opening, ActsMade, AreTries, at_slot}, Episodes.{dropped_for, no_episodes, opened_after}, declared.opening.Opening.Opening}
 use Rattle.log.specs.declared.level.Level.{Level}
 use Rattle.statistics.specs.declared.event.Event.{Event}
 use Rattle.relay_log.specs.{Messages.open_message, declared.cause.Cause.Cause}
-use Rattle.relay_core.specs.Proxy.{proxy_line}
+use Rattle.relay_core.specs.{Pairs.fresh, Proxy.proxy_line}
 use Rattle.claims.specs.declared.view.Exchange.TheVariants as exchange
 use Rattle.dispatch.specs.Acts as act
 use Rattle.log.specs.declared.level.Level.TheVariants as level
@@ -160,6 +160,23 @@ lacks (Some lead) = cause.Memory
 abbrev pub LeadGiven : (Route → Type 0) → Bool → Option (List ℕ) → Type 0
 LeadGiven may_tell proxy lead = (route : Route) × may_tell route × (lead_of proxy route ≡ lead)
 
+-- A connection as it is opened: it has made no call yet, its rings have the poller's size, its lead is one that may be
+-- given, and it counts from the round's second
+pub record IsFresh {C T : Type 0} (may_tell : Route → Type 0) (p : PollerState) (ticket : Ticket) (berth : Berth C T) : Type 0 where
+  pub pair : berth.pair ≡ fresh ticket.slot ticket.generation p.opening.ring p.second berth.pair.up.lead
+  pub lead : LeadGiven may_tell p.opening.proxy (Some berth.pair.up.lead)
+  pub second : berth.second ≡ p.second
+
+-- what is known of acts, of which PutIn put this connection into its place
+abbrev pub Putting : {S C T : Type 0} → (Berth C T → S → Type 0) → act.Made S → Berth C T → act.Made S
+Putting moved made berth act.PutIn slot from to = made act.PutIn slot from to × moved berth to
+Putting moved made berth act slot from to = made act slot from to
+
+-- the acts of an opening, which put a fresh connection into its place
+abbrev pub OpensFresh : {S C T : Type 0} → (Berth C T → S → Type 0) → act.Made S → (Route → Type 0) → PollerState → Ticket → S → S → Type 0
+OpensFresh {C = C} {T = T} moved made may_tell p ticket from to =
+    (berth : Berth C T) × IsFresh may_tell p ticket berth × act.AreMade (Putting moved made berth) ticket.slot act.open_slot from to
+
 -- Why an accepted connection is closed unopened: the front refused to open it; or the front opened it, but an address
 -- for the line is missing, or memory ran out
 abbrev pub DropsFor : (Unopened → Type 0) → (Route → Type 0) → Bool → Cause → Type 0
@@ -169,7 +186,7 @@ DropsFor may_refuse may_tell proxy cause.Register = may_refuse unopened.Register
 DropsFor may_refuse may_tell proxy cause.Address = LeadGiven may_tell proxy None
 
 -- before a connection is placed, its sockets are registered; if none is placed, they may have been, and are closed
-abbrev pub Registered : {S T E : Type 0} → (act.Act → ℕ → S → S → Type 0) → ℕ → Result T E → S → S → Type 0
+abbrev pub Registered : {S T E : Type 0} → act.Made S → ℕ → Result T E → S → S → Type 0
 Registered made slot (Ok opened) from to = made act.Register slot from to
 Registered made slot (Err cause) from to = (to ≡ from) ⊎ made act.Register slot from to
 
@@ -177,7 +194,7 @@ Registered made slot (Err cause) from to = (to ≡ from) ⊎ made act.Register s
 -- was opened; it was dropped, for this cause; the slot can have no connection; or one exchange found the slot not free
 pub data Fate (slot : ℕ) (opened : Type 0) (dropped : Cause → Type 0) (made : List act.Act → Type 0)
     (old new : PollerState) (had has : SeatState) : Type 0 where
-  Opened : IsOpened old new → opened → made act.open_slot → Fate slot opened dropped made old new had has
+  Opened : IsOpened old new → opened → Fate slot opened dropped made old new had has
   Dropped : (why : Cause) → IsDropped why old new → dropped why → made [] ⊎ made (act.Register ∷ [])
       → Fate slot opened dropped made old new had has
   Spent : IsLost old new → IsSpent old slot → made [] → Fate slot opened dropped made old new had has
@@ -205,12 +222,12 @@ pub record IsNext (p : PollerState) (t : Ticket) : Type 0 where
 
 -- placing a connection: it was opened in its slot, or the slot was found not free and is no longer used. A seat that is
 -- worn posts no note for it
-pub record Placed (logged : Ticket → Type 0) (made : List act.Act → Type 0) (t : Ticket)
+pub record Placed (placed : Ticket → Type 0) (made : List act.Act → Type 0) (t : Ticket)
     (old new : PollerState) (had has : Own) : Type 0 where
   pub done : IsWorn had.seat ⊎ (
       (Connected (t ∷ []) [] [] old new had has ⊎ Connected [] (t.slot ∷ []) (t.slot ∷ []) old new had has)
       × (ticket_room had.hand ≤ ticket_room has.hand + 1))
-  pub counted : (IsOpened old new × logged t × made act.placing)
+  pub counted : (IsOpened old new × placed t)
       ⊎ (IsLost old new × Adds t.slot (exchange.NotFree ∷ []) had.seat has.seat × made (act.Adopt ∷ []))
   pub free : has.free ≡ had.free
   pub slots : has.hand.slots ≡ had.hand.slots

@@ -2,7 +2,7 @@
 ghost use Rattle.std.specs.{Prelude.{◌≡◌, ◌+◌, ◌<◌, ◌≤◌, [], ◌∷◌, ◌++◌, drop, length, Err, Some, None, ◌⊎◌, IfOk, IfErr, OnOk, OnErr, OnSome, IfSome, IsNone, slice_get, slice_index}, Net.{Addr.ipv4_octets, Socket.{v4_ip, v4_port}}};
 ghost use Rattle.claims.specs.Seats.{HoldsNothing, OnlyAt};
 ghost use Rattle.relay_core.specs.{Pairs.fresh, Proxy.proxy_line};
-ghost use Rattle.rounds.specs.{Openings.{lacks, lead_of, next_in, Between, DropCounted, DropLogged, DropsFor, Fate, IsNext, LeadGiven, LetGo, OneAccepted, OnlyOpened, OpeningLogged, Placed, Registered, SameQueues, Started}, Pollers.AreGenerations};
+ghost use Rattle.rounds.specs.{Openings.{lacks, lead_of, next_in, Between, DropCounted, DropLogged, DropsFor, Fate, IsFresh, IsNext, LeadGiven, LetGo, OneAccepted, OnlyOpened, OpeningLogged, OpensFresh, Placed, Putting, Registered, SameQueues, Started}, Pollers.AreGenerations};
 ghost use Rattle.dispatch.specs.{Acts.{AreMade, placing}, Posts.{HoldsOnly, IsWorn}, Hands.ticket_room};
 ghost use Rattle.token.specs.Names.{last_generation};
 ghost use Rattle.dispatch.specs.Acts as act;
@@ -53,7 +53,7 @@ pub fn open<F: Front + Counting, A: Moves<F>, R: Wait + Logs>(
     rt: &R,
     alloc: Global,
     acts: &mut A,
-    shared: &Shared<F>,
+    shared: &Shared<F, A>,
     own: &mut Own,
     poller: &mut Poller<F>,
     client: F::Client,
@@ -64,8 +64,10 @@ pub fn open<F: Front + Counting, A: Moves<F>, R: Wait + Logs>(
     requires slot { 1 ≤ length own.old.hand.slots }
     ensures between { Between shared.now.claims own.new poller.new }
     ensures counted { IfSome (slice_get own.old.hand.slots 0) (λ slot. Fate slot
-        (OpeningLogged (R.logged rt.now) F.counted (next_in poller.old slot)) (DropCounted F.counted F.lacked slot)
-        (λ made. AreMade A.made slot made acts.old acts.new) poller.old poller.new own.old.seat own.new.seat) }
+        (OpeningLogged (R.logged rt.now) F.counted (next_in poller.old slot)
+            × OpensFresh A.moved A.made (F.may_tell client) poller.old (next_in poller.old slot) acts.old acts.new)
+        (DropCounted F.counted F.lacked slot) (λ made. AreMade A.made slot made acts.old acts.new)
+        poller.old poller.new own.old.seat own.new.seat) }
     ensures done { IsWorn own.old.seat ⊎ OneAccepted poller.old poller.new own.old own.new }
     ensures ready { own.new.ready ≡ own.old.ready }
     ensures poller { OnlyOpened poller.old poller.new }
@@ -115,8 +117,8 @@ fn prepare<F: Front, A: Moves<F>, N: Log>(
 ) -> Result<Box<Berth<F::Client, F::Target>>, Dropped>
     requires { length hand.old.slots < hand.old.capacity }
     ensures acts { Registered A.made names.client.slot result acts.old acts.new }
-    ensures slot { IfOk result (λ berth. berth.value.pair.slot ≡ names.client.slot) }
-    ensures generation { IfOk result (λ berth. berth.value.pair.generation ≡ names.client.generation) }
+    ensures fresh { IfOk result (λ berth. IsFresh (F.may_tell client) poller.old
+        (record { slot = names.client.slot; generation = names.client.generation }) berth.value) }
     ensures prepared { OnOk result (hand.new ≡ hand.old) }
     ensures cause { IfErr result (λ dropped. DropsFor (F.may_refuse client) (F.may_tell client) poller.old.opening.proxy dropped) }
     ensures lacked { IfErr result (λ dropped. dropped ≡ Cause.Memory → F.lacked) }
@@ -169,10 +171,8 @@ fn connect<F: Front, A: Moves<F>, N: Log>(
     names: Names,
 ) -> Result<Box<Berth<F::Client, F::Target>>, Cause>
     ensures acts { Registered A.made names.client.slot result acts.old acts.new }
-    ensures pair { IfOk result (λ berth. berth.value.pair ≡ fresh names.client.slot names.client.generation poller.old.opening.ring
-        poller.old.second berth.value.pair.up.lead) }
-    ensures second { IfOk result (λ berth. berth.value.second ≡ poller.old.second) }
-    ensures lead { IfOk result (λ berth. LeadGiven (F.may_tell client) poller.old.opening.proxy (Some berth.value.pair.up.lead)) }
+    ensures fresh { IfOk result (λ berth. IsFresh (F.may_tell client) poller.old
+        (record { slot = names.client.slot; generation = names.client.generation }) berth.value) }
     ensures cause { IfErr result (λ cause. DropsFor (F.may_refuse client) (F.may_tell client) poller.old.opening.proxy cause) }
     ensures same { poller.new ≡ poller.old }
 {
@@ -315,7 +315,7 @@ fn log_unopened<N: Log>(
 fn place<F: Front + Counting, A: Moves<F>, R: Wait + Logs>(
     rt: &R,
     acts: &mut A,
-    shared: &Shared<F>,
+    shared: &Shared<F, A>,
     own: &mut Own,
     poller: &mut Poller<F>,
     ticket: Ticket,
@@ -324,10 +324,10 @@ fn place<F: Front + Counting, A: Moves<F>, R: Wait + Logs>(
 )
     requires between { Between shared.now.claims own.old poller.old }
     requires next { IsNext poller.old ticket }
-    requires berth { (berth.value.pair.slot ≡ ticket.slot) × (berth.value.pair.generation ≡ ticket.generation) }
     requires room { 1 ≤ ticket_room own.old.hand }
     ensures between { Between shared.now.claims own.new poller.new }
-    ensures placed { Placed (OpeningLogged (R.logged rt.now) F.counted)
+    ensures placed { Placed (λ t. OpeningLogged (R.logged rt.now) F.counted t
+            × AreMade (Putting A.moved A.made berth.value) ticket.slot placing acts.old acts.new)
         (λ made. AreMade A.made ticket.slot made acts.old acts.new) ticket poller.old poller.new own.old own.new }
     ensures poller { OnlyOpened poller.old poller.new }
     ensures ready { own.new.ready ≡ own.old.ready }
@@ -350,7 +350,7 @@ fn place<F: Front + Counting, A: Moves<F>, R: Wait + Logs>(
 fn start<F: Front, A: Moves<F>, R: Wait>(
     rt: &R,
     acts: &mut A,
-    shared: &Shared<F>,
+    shared: &Shared<F, A>,
     own: &mut Own,
     ticket: Ticket,
     berth: Box<Berth<F::Client, F::Target>>,
@@ -359,7 +359,7 @@ fn start<F: Front, A: Moves<F>, R: Wait>(
     requires inside { ticket.slot < shared.now.claims.words }
     requires holder { HoldsOnly ticket.slot own.old.seat }
     requires room { length own.old.hand.tickets < own.old.hand.capacity }
-    ensures made { AreMade A.made ticket.slot (drop 2 placing) acts.old acts.new }
+    ensures made { AreMade (Putting A.moved A.made berth.value) ticket.slot (drop 2 placing) acts.old acts.new }
     ensures idle { HoldsNothing own.new.seat }
     ensures only { OnlyAt ticket.slot own.old.seat own.new.seat }
     ensures started { IsWorn own.old.seat ⊎ Started ticket own.old own.new }
@@ -376,7 +376,7 @@ fn start<F: Front, A: Moves<F>, R: Wait>(
 
 /// Releases the held slot, and keeps the ticket in hand if notes wait.
 #[tactic(auto, using(crate::proofs::Rounds::holding))]
-fn let_go<F: Front, A: Acts>(acts: &mut A, shared: &Shared<F>, own: &mut Own, ticket: Ticket)
+fn let_go<F: Front, A: Acts>(acts: &mut A, shared: &Shared<F, A>, own: &mut Own, ticket: Ticket)
     requires same { own.old.seat.table ≡ shared.now.claims }
     requires inside { ticket.slot < shared.now.claims.words }
     requires holder { HoldsOnly ticket.slot own.old.seat }

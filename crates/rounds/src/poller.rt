@@ -225,7 +225,7 @@ impl<F: Front> Poller<F> {
     pub(crate) fn count_opened<A: Acts>(
         &mut self,
         acts: &mut A,
-        shared: &Shared<F>,
+        shared: &Shared<F, A>,
         ticket: Ticket,
         uncounted: Uncounted,
     )
@@ -296,9 +296,9 @@ impl<F: Front> Poller<F> {
 
 impl Uncounted {
     /// Counts a drop at a slot, which is in hand again. The drop was logged, or is counted for a later line.
-    pub(crate) fn count_dropped<F: Front + Counting>(
+    pub(crate) fn count_dropped<F: Front + Counting, A>(
         self,
-        shared: &Shared<F>,
+        shared: &Shared<F, A>,
         slot: usize,
         dropped: Dropped,
     )

@@ -2,7 +2,7 @@
 ghost use Rattle.std.specs.{Prelude.{◌≡◌, ◌≢◌, ◌↔◌, ◌⊎◌, IsTrue, if◌then◌else◌, ◌+◌, ◌-◌, ◌<◌, ◌≤◌, ◌++◌, [], length, replicate, true, false, Some, None, IfOk, OnOk, IfErr, OnErr, IsErrAnd, vec_len, vec_capacity}, Arc.arc_value, IoError.error_kind, declared.io.ErrorKind.TheVariants.Interrupted};
 ghost use Rattle.mio.specs.{Event.event_token, Events.items};
 ghost use Rattle.token.specs.Numbers.{name_of};
-ghost use Rattle.sockets.specs.{Fronts.{Fails, end_in, fresh_front, heard_of, most_lacking, most_left, names_reading, numbers, v4_of, wait_of, IsLocal, IsRoute, MayTell, OnlyLacked, WaitEnded}, Wires.{SameButWatched, fresh_wire, patient, under, unlimited}};
+ghost use Rattle.sockets.specs.{Fronts.{Fails, end_in, fresh_front, heard_of, most_lacking, most_left, names_reading, numbers, v4_of, wait_of, LacksMemory, IsLocal, IsRoute, MayTell, OnlyLacked, WaitEnded}, Wires.{SameButWatched, fresh_wire, patient, under, unlimited}};
 ghost use Rattle.dispatch.specs.{Splits.parts_of, Told.unaccepted_of, declared.front.{Unaccepted.TheVariants.Starved, Unopened.TheVariants.{Connect, Register}}};
 
 use crate::bound::Bound;
@@ -286,6 +286,8 @@ impl<R: Dial> Sockets<'_, R> {
     /// For epoll_ctl(2) a user's sockets may take only a part of it, and ENOSPC says that they have that.
     fn find_short(&mut self, error: &io::Error)
         ensures lacking { OnlyLacked self.old self.new }
+        ensures memory { LacksMemory error.now → self.new.lacking ≡ most_lacking }
+        ensures other { (LacksMemory error.now → ⊥) → self.new ≡ self.old }
     {
         match error.raw_os_error() {
             Some(EMFILE | ENFILE) => self.loads.set_short(true),

@@ -242,7 +242,7 @@ module _ {t : Ticket} {a b : Own} (took : Took t a b) where
   }
 
 -- a worker's turn, between two exchanges of its ends
-pub one_ran : {words p : ℕ} {t : Ticket} {answer : Result Worked ServerFault} {S : Type 0} {acts : Act → ℕ → S → S → Type 0} {from to : S} {a c : Own} {g h i : End}
+pub one_ran : {words p : ℕ} {t : Ticket} {answer : Result Worked ServerFault} {S : Type 0} {acts : Option ℕ → Act → ℕ → S → S → Type 0} {from to : S} {a c : Own} {g h i : End}
     {hand : HandState} {xs ys zs : List End}
     → a.seat.table.words ≡ words → Changes p a.free g xs ys → WorkerTurn acts words t answer (record a { free = g }) c from to → hand.tickets ≡ c.hand.tickets
     → h.history.taken ≡ c.free.history.taken → outgoing h.history hand.slots ≡ slots_out c → Changes p h i ys zs
@@ -326,7 +326,7 @@ own_both one two = record {
 }
 
 -- the oldest ticket in hand was run
-own_one : {words : ℕ} {answer : Result Worked ServerFault} {S : Type 0} {acts : Act → ℕ → S → S → Type 0} {from to : S} {a b : Own} → a.seat.table.words ≡ words
+own_one : {words : ℕ} {answer : Result Worked ServerFault} {S : Type 0} {acts : Option ℕ → Act → ℕ → S → S → Type 0} {from to : S} {a b : Own} → a.seat.table.words ≡ words
     → OldestRan acts words answer a b from to → OwnTurnsRan 1 (fault_in answer) a b
 own_one {answer = answer} {a = a} {b = b} same run =
     let t = run.ticket in
@@ -352,7 +352,7 @@ abbrev pub OwnRan : Result (Option Worked) ServerFault → Own → Own → Type 
 OwnRan (Ok worked) a b = OnSome worked (OwnTurnsRan 1 [] a b)
 OwnRan (Err fault) a b = OwnTurnsRan 1 (fault ∷ []) a b
 
-pub own_turn_ran : (words : ℕ) {S : Type 0} (acts : Act → ℕ → S → S → Type 0) (from to : S) (result : Result (Option Worked) ServerFault) (a b : Own)
+pub own_turn_ran : (words : ℕ) {S : Type 0} (acts : Option ℕ → Act → ℕ → S → S → Type 0) (from to : S) (result : Result (Option Worked) ServerFault) (a b : Own)
     → a.seat.table.words ≡ words → OwnTurn acts words result a b from to → OwnRan result a b
 own_turn_ran words acts from to (Ok None) a b same turn = tt
 own_turn_ran words acts from to (Ok (Some worked)) a b same turn = own_one same turn

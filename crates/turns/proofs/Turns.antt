@@ -1,11 +1,12 @@
 -- The end of a turn, after the steps that took the notes and ran the connection; and the tickets in hand of which some
 -- were looked at: each of those is put, or after the others in hand.
-use Rattle.std.proofs.{Common.{◌≡◌, ◌==◌, ◌^◌, ◌⊎◌, ◌+◌, ◌↔◌, ◌<◌, ◌≤◌, ℕ, List, [], ◌∷◌, length, drop, slice_get, get_or, Bool, true, false, IsTrue, Option, Some, None, Result, Ok, Err, IfNone, IfSome, inl, inr, refl, sym, ap, ◌∙◌, arith, suc, ◌++◌, append_assoc, zero, nat_lt}, lemmas.{Option.{none-some, same_Some}, Bool.{eqb-true, eqb-false, ltb-true, ltb-false, false≢true}, List.{append-nil, drop_more, drop_all}}}
+use Rattle.std.proofs.{Common.{◌≡◌, ◌≢◌, ◌==◌, ◌^◌, ◌⊎◌, ◌+◌, ◌↔◌, ◌<◌, ◌≤◌, ℕ, List, [], ◌∷◌, length, drop, slice_get, get_or, Bool, true, false, IsTrue, Option, Some, None, Result, Ok, Err, IfNone, IfSome, inl, inr, refl, sym, ap, ◌∙◌, arith, suc, ◌++◌, append_assoc, zero, nat_lt}, lemmas.{Option.{none-some, same_Some}, Bool.{eqb-true, eqb-false, ltb-true, ltb-false, false≢true}, List.{append-nil, drop_more, drop_all}}}
 use Rattle.claims.{specs.{declared.{view.{Account.Account, Exchange.{Exchange, TheVariants.{Busy, Held, Take, Post}}}, answers.Posted.Posted}, Calls.PostChange, Views.{after_all, minted_by}, Seats.{TableId, SeatState, account_at, posts_of, Holds, HoldsNothing, OnlyAt, Adds}}, proofs.Seats.{adds_none, adds_both, account_after, minted_both, holds_nothing_again}}
-use Rattle.dispatch.{proofs.{Holding.{posts_still, woke_behind_post}, Outgoing.took_both}, specs.{declared.shared.Own.Own, Outgoing.{PutAll, TookNothing, outgoing, tickets_out, slots_out}, Posts.{AtRest, HoldsOnly, IsWorn}, Hands.HandState, Acts.Act, Heavy.looked_at}}
+use Rattle.dispatch.{proofs.{Holding.{posts_still, woke_behind_post}, Outgoing.took_both}, specs.{declared.shared.Own.Own, Outgoing.{PutAll, TookNothing, outgoing, tickets_out, slots_out}, Posts.{AtRest, HoldsOnly, IsWorn}, Hands.HandState, Acts.{Act, Made}, Heavy.looked_at}}
 use Rattle.ready.specs.{declared.ticket.Ticket.Ticket, Steps.EndState}
 use Rattle.relay_log.specs.declared.faults.ServerFault.{ServerFault}
-use Rattle.turns.specs.{declared.worker.Worked.Worked, Turns.{answer_by, answer_of, if_posted, WasHeld, TurnInOrder, program, acts_of, AtWork, TicketsKept, SlotGiven, SlotsKept, HandPut, TurnDone, TurnRest, LeftSlot, TurnMade, NoOwnTurn, marks_after}, Shares.{AreShared, IsLight, OneShared, Passed, Stays}}
+use Rattle.token.specs.Names.{last_generation}
+use Rattle.turns.specs.{declared.worker.Worked.Worked, Turns.{answer_by, answer_of, if_posted, ActsLeft, Finding, Finds, WasHeld, TurnInOrder, program, acts_of, AtWork, TicketsKept, SlotGiven, SlotsKept, HandPut, TurnDone, TurnRest, LeftSlot, TurnMade, NoOwnTurn, marks_after}, Shares.{AreShared, IsLight, OneShared, Passed, Stays}}
 use Rattle.claims.specs.declared.answers.Posted.TheVariants as posted
 use Rattle.turns.specs.declared.worker.Worked.TheVariants as worked
 use Rattle.dispatch.specs.Acts as act
@@ -71,59 +72,108 @@ done_after {t} {fs} {r} {a} {b} {c} es adds none same done =
     }
 
 -- what comes first in a turn that held its slot, and in what is left of it
-pub firsts : (r : Answer) → WasHeld r → (found noted notes g : ℕ) (other woke : Bool)
+pub firsts : (r : Answer) → WasHeld r → (found noted notes g : ℕ) (place : Option ℕ) (woke : Bool)
     → (Held found ∷ drop 1 (program r 0 noted woke) ≡ program r found noted woke)
     × (Take notes ∷ drop 2 (program r 0 noted woke) ≡ drop 1 (program r 0 notes woke))
-    × (acts_of r g other woke ≡ act.Claim ∷ drop 1 (acts_of r g other woke))
-    × (drop 1 (acts_of r g other woke) ≡ act.TakeOut ∷ drop 2 (acts_of r g other woke))
-firsts (Ok worked.Busy) held found noted notes g other woke = absurd held
-firsts _ held found noted notes g other woke = (refl, refl, refl, refl)
+    × (acts_of r g place woke ≡ act.Claim ∷ drop 1 (acts_of r g place woke))
+firsts (Ok worked.Busy) held found noted notes g place woke = absurd held
+firsts _ held found noted notes g place woke = (refl, refl, refl)
 
 -- of one whose connection is due again
-pub again_firsts : (spent : Bool) (g : ℕ) (other woke : Bool) → let r = answer_of (if_posted worked.Again spent) in
-    (drop 2 (acts_of r g other woke) ≡ act.TakeNotes ∷ drop 3 (acts_of r g other woke))
-    × (drop 3 (acts_of r g other woke) ≡ act.PutIn ∷ drop 4 (acts_of r g other woke))
-again_firsts true g other woke = (refl, refl)
-again_firsts false g other woke = (refl, refl)
+pub again_firsts : (spent : Bool) (g : ℕ) (place : Option ℕ) (woke : Bool) → let r = answer_of (if_posted worked.Again spent) in
+    (drop 2 (acts_of r g place woke) ≡ act.TakeNotes ∷ drop 3 (acts_of r g place woke))
+    × (drop 3 (acts_of r g place woke) ≡ act.PutIn ∷ drop 4 (acts_of r g place woke))
+again_firsts true g place woke = (refl, refl)
+again_firsts false g place woke = (refl, refl)
 
-module _ {S : Type 0} {made : Act → ℕ → S → S → Type 0} {t : Ticket} {a c : Own} {from mid to : S} where
-  pub act_first : {r : Answer} {other : Bool} {e n : ℕ} {one : Act}
-      → ((woke : Bool) → drop n (acts_of r t.generation other woke) ≡ one ∷ drop (suc n) (acts_of r t.generation other woke))
-      → made one t.slot from mid → TurnRest made t r other e (suc n) a c mid to → TurnRest made t r other e n a c from to
+module _ {S : Type 0} {made : Made S} {t : Ticket} {a c : Own} {from mid to : S} where
+  pub act_first : {r : Answer} {place : Option ℕ} {e n : ℕ} {one : Act}
+      → ((woke : Bool) → drop n (acts_of r t.generation place woke) ≡ one ∷ drop (suc n) (acts_of r t.generation place woke))
+      → made one t.slot from mid → TurnRest made t r place e (suc n) a c mid to → TurnRest made t r place e n a c from to
   act_first next first rest =
       record { noted = rest.noted; woke = rest.woke; held = rest.held; done = rest.done; acts = rw (next rest.woke) (mid, first, rest.acts) }
 
   -- the notes were taken, and then the turn came to its end
   pub played_then : {r : Answer} {notes : ℕ} {b : Own}
-      → ((woke : Bool) → drop 2 (acts_of r t.generation false woke) ≡ act.TakeNotes ∷ drop 3 (acts_of r t.generation false woke))
+      → ((woke : Bool) → drop 2 (acts_of r t.generation None woke) ≡ act.TakeNotes ∷ drop 3 (acts_of r t.generation None woke))
       → made act.TakeNotes t.slot from mid → Adds t.slot (Take notes ∷ []) a.seat b.seat → Still a b
-      → TurnRest made t r false 2 3 b c mid to → TurnRest made t r false 1 2 a c from to
+      → TurnRest made t r None 2 3 b c mid to → TurnRest made t r None 1 2 a c from to
   played_then {r} {notes} next first adds same rest = record {
     noted = notes;
     woke = rest.woke;
     held = rest.held;
-    done = rw (firsts r rest.held 0 rest.noted notes 0 false rest.woke).1 at (done_after (Take notes ∷ []) adds refl same rest.done);
+    done = rw (firsts r rest.held 0 rest.noted notes 0 None rest.woke).1 at (done_after (Take notes ∷ []) adds refl same rest.done);
     acts = rw (next rest.woke) (mid, first, rest.acts);
   }
 
+module _ {S : Type 0} (found : Option ℕ → S → Type 0) (made : Made S) (t : Ticket) (from mid to : S) where
+  -- acts behind the look into the place, when the ticket's connection was there
+  behind_own : (w : Worked) (spent woke : Bool) → let r = answer_of (if_posted w spent) in WasHeld r → (w ≡ worked.Gone → ⊥)
+      → ActsLeft made t r 2 None woke mid to → made act.TakeOut t.slot from mid → found (Some t.generation) mid
+      → Finds t r (Some t.generation) × ActsLeft (Finding found made (Some t.generation)) t r 1 (Some t.generation) woke from to
+  behind_own worked.Busy spent woke held own acts out is = absurd held
+  behind_own worked.Gone spent woke held own acts out is = absurd (own refl)
+  behind_own worked.Quiet spent true held own acts out is = (refl, (mid, (out, is), acts))
+  behind_own worked.Quiet spent false held own acts out is = (refl, (mid, (out, is), acts))
+  behind_own worked.Again false woke held own acts out is = (refl, (mid, (out, is), acts))
+  behind_own worked.Again true true held own acts out is = (refl, (mid, (out, is), acts))
+  behind_own worked.Again true false held own acts out is = (refl, (mid, (out, is), acts))
+  behind_own worked.Ended spent woke held own acts out is = by_last (nat_lt t.generation last_generation) refl where
+    by_last : (given : Bool) → nat_lt t.generation last_generation ≡ given
+        → Finds t (Ok worked.Ended) (Some t.generation)
+          × ActsLeft (Finding found made (Some t.generation)) t (Ok worked.Ended) 1 (Some t.generation) woke from to
+    by_last true less = rw less (refl, (mid, (out, is), rw less at acts))
+    by_last false less = rw less (refl, (mid, (out, is), rw less at acts))
+
+module _ {S : Type 0} (found : Option ℕ → S → Type 0) (made : Made S) {t : Ticket} {a c : Own} {from mid to : S} where
+  pub own_found : (w : Worked) (spent : Bool) → let r = answer_of (if_posted w spent) in (w ≡ worked.Gone → ⊥)
+      → made act.TakeOut t.slot from mid → found (Some t.generation) mid → TurnRest made t r None 1 2 a c mid to
+      → (place : Option ℕ) × Finds t r place × TurnRest (Finding found made place) t r place 1 1 a c from to
+  own_found w spent own out is rest =
+      let acts = behind_own found made t from mid to w spent rest.woke rest.held own rest.acts out is in
+      (Some t.generation, acts.0, record { noted = rest.noted; woke = rest.woke; held = rest.held; done = rest.done; acts = acts.1 })
+
+  -- the place was empty
+  pub none_found : made act.TakeOut t.slot from mid → found None mid → TurnRest made t (Ok worked.Gone) None 1 2 a c mid to
+      → (place : Option ℕ) × Finds t (Ok worked.Gone) place × TurnRest (Finding found made place) t (Ok worked.Gone) place 1 1 a c from to
+  none_found out is rest = (None, λ some. none-some t.generation some, record {
+    noted = rest.noted; woke = rest.woke; held = tt; done = rest.done; acts = left rest.woke rest.acts }) where
+    left : (woke : Bool) → ActsLeft made t (Ok worked.Gone) 2 None woke mid to
+        → ActsLeft (Finding found made None) t (Ok worked.Gone) 1 None woke from to
+    left true acts = (mid, (out, is), acts)
+    left false acts = (mid, (out, is), acts)
+
+  -- another connection was in the place, and was put back
+  pub other_found : {back : S} {g : ℕ} → g ≢ t.generation → made act.TakeOut t.slot from mid → found (Some g) mid → made act.PutIn t.slot mid back
+      → TurnRest made t (Ok worked.Gone) None 1 2 a c back to
+      → (place : Option ℕ) × Finds t (Ok worked.Gone) place × TurnRest (Finding found made place) t (Ok worked.Gone) place 1 1 a c from to
+  other_found {back} {g} other out is put rest = (Some g, λ same. other (same_Some g t.generation same), record {
+    noted = rest.noted; woke = rest.woke; held = tt; done = rest.done; acts = left rest.woke rest.acts }) where
+    left : (woke : Bool) → ActsLeft made t (Ok worked.Gone) 2 None woke back to
+        → ActsLeft (Finding found made (Some g)) t (Ok worked.Gone) 1 (Some g) woke from to
+    left true acts = (mid, (out, is), (back, put, acts))
+    left false acts = (mid, (out, is), (back, put, acts))
+
+module _ {S : Type 0} (made : Option ℕ → Made S) {t : Ticket} {words : ℕ} {a c : Own} {from mid to : S} where
   -- the slot was claimed, and then the turn went on
-  pub claimed_then : {words : ℕ} {r : Answer} {found : ℕ} {b : Own} → t.slot < words → made act.Claim t.slot from mid
-      → Adds t.slot (Held found ∷ []) a.seat b.seat → Still a b → (other : Bool) × TurnRest made t r other 1 1 b c mid to → TurnInOrder made words t r a c from to
-  claimed_then {r = r} {found = found} within first adds same (other, rest) =
-      let first_of = firsts r rest.held found rest.noted 0 t.generation other rest.woke in (
+  pub claimed_then : {r : Answer} {found : ℕ} {b : Own} → t.slot < words → ((place : Option ℕ) → made place act.Claim t.slot from mid)
+      → Adds t.slot (Held found ∷ []) a.seat b.seat → Still a b
+      → (place : Option ℕ) × Finds t r place × TurnRest (made place) t r place 1 1 b c mid to → TurnInOrder made words t r a c from to
+  claimed_then {r = r} {found = found} within first adds same (place, finds, rest) =
+      let first_of = firsts r rest.held found rest.noted 0 t.generation place rest.woke in (
         record {
           exchanges = Held found ∷ drop 1 (program r 0 rest.noted rest.woke);
           are = record { found = found; noted = rest.noted; woke = rest.woke; inside = λ lt. first_of.0; outside = λ past. absurd (omega arith) };
           done = done_after (Held found ∷ []) adds refl same rest.done;
           outside = λ past. absurd (omega arith);
         },
-        λ lt. (other, rw first_of.2 (mid, first, rest.acts)),
+        λ lt. (place, finds, rw first_of.2 (mid, first place, rest.acts)),
         λ past. absurd (omega arith),
       )
 
-module _ {S : Type 0} (made : Act → ℕ → S → S → Type 0) {words : ℕ} {a c : Own} {from to : S} where
+module _ {S : Type 0} (made : Option ℕ → Made S) {t : Ticket} {words : ℕ} {a c : Own} {from to : S} where
   -- the slot was held by another
-  pub busy_made : {t : Ticket} → t.slot < words → made act.Claim t.slot from to → Adds t.slot (Busy ∷ []) a.seat c.seat → Still a c
+  pub busy_made : t.slot < words → ((place : Option ℕ) → made place act.Claim t.slot from to) → Adds t.slot (Busy ∷ []) a.seat c.seat → Still a c
       → TurnInOrder made words t (Ok worked.Busy) a c from to
   busy_made within first adds same = (
     record {
@@ -132,7 +182,7 @@ module _ {S : Type 0} (made : Act → ℕ → S → S → Type 0) {words : ℕ} 
       done = record { seat = adds; tickets = same.tickets; slots = same.slots; took = same.took };
       outside = λ past. absurd (omega arith);
     },
-    λ lt. (false, (to, first, refl)),
+    λ lt. (None, tt, (to, first None, refl)),
     λ past. absurd (omega arith),
   )
 
@@ -147,9 +197,9 @@ worn_is : (spent : Bool) (s : SeatState) → (IsTrue spent ↔ IsWorn s) → (po
 worn_is spent s is = grind (arith, eqb-true, eqb-false)
 
 -- the post was refused if the seat was worn, and the slot was released
-pub due_again : {S : Type 0} {made : Act → ℕ → S → S → Type 0} {t : Ticket} {a b c : Own} {from mid to : S} (r : Posted) → (r ≡ posted.Worn ↔ IsWorn a.seat)
+pub due_again : {S : Type 0} {made : Made S} {t : Ticket} {a b c : Own} {from mid to : S} (r : Posted) → (r ≡ posted.Worn ↔ IsWorn a.seat)
     → PostChange t.slot a.seat r b.seat → Holds a.seat t.slot → Still a b → made act.Post t.slot from mid → LeftSlot made t b c mid to
-    → TurnRest made t (answer_by a.seat worked.Again) false 2 4 a c from to
+    → TurnRest made t (answer_by a.seat worked.Again) None 2 4 a c from to
 due_again {a = a} posted.Worn spent change holds same first left =
     let done = done_after [] (rw change.0 (adds_none _ _)) refl same left.done in
     rw (worn_is true a.seat (λ is. spent.0 refl, λ is. refl)) (record {
@@ -200,7 +250,7 @@ refused_worn false worked.Again is made = tt
 refused_worn spent _ is made = tt
 
 -- what a turn was, by what its thread found before it and what it is answered
-pub turn_answered : {S : Type 0} (made : Act → ℕ → S → S → Type 0) (w : Worked) {claims : TableId} {t : Ticket} {spent : Bool} {r : Option Worked} {a b : Own} {from to : S}
+pub turn_answered : {S : Type 0} (made : Option ℕ → Made S) (w : Worked) {claims : TableId} {t : Ticket} {spent : Bool} {r : Option Worked} {a b : Own} {from to : S}
     → r ≡ if_posted w spent → (IsTrue spent ↔ IsWorn a.seat) → AtRest claims a → TurnInOrder made claims.words t (answer_by a.seat w) a b from to
     → AtRest claims b × TurnInOrder made claims.words t (answer_of r) a b from to × IfNone r (IsWorn b.seat)
 turn_answered made w {spent = spent} {a = a} said is rest turn =

@@ -1,12 +1,12 @@
 -- What a turn does to what its thread owns, by its answer. Part of the promises.
-use Rattle.std.specs.Prelude.{◌≡◌, ◌⊎◌, ℕ, zero, suc, ◌<◌, ◌≤◌, ◌^◌, ◌==◌, Bool, true, false, nat_lt, if◌then◌else◌, Option, Some, None, Result, Ok, Err, List, [], ◌∷◌, drop, length, slice_get, slice_set}
+use Rattle.std.specs.{Prelude.{◌≡◌, ◌≢◌, ◌⊎◌, ℕ, zero, suc, ◌<◌, ◌≤◌, ◌^◌, ◌==◌, Bool, true, false, nat_lt, if◌then◌else◌, Option, Some, None, Result, Ok, Err, List, [], ◌∷◌, drop, length, slice_get, slice_set}, Option.is_some}
 use Rattle.claims.specs.{declared.view.Exchange.{Exchange, TheVariants.{Post, Busy, Held, Take, Release, Retire}}, Views.minted_by, Seats.{SeatState, TableId, account_at, posts_of, Adds}}
 use Rattle.ready.specs.declared.ticket.Ticket.{Ticket}
 use Rattle.relay_core.specs.{Pairs.{PairState, noted}, Replies.AnswerValue, declared.Side.Side}
 use Rattle.engine.specs.Turns.{IsTurn}
 use Rattle.turns.specs.declared.{terms.Terms.Terms, worker.Worked.Worked}
 use Rattle.relay_log.specs.declared.faults.ServerFault.{ServerFault, TheVariants.Worn}
-use Rattle.dispatch.specs.{declared.{places.Berth.Berth, shared.Own.Own}, Acts.{Act, AreMade, busy_turn, gone_turn, quiet_turn, again_turn, ended_turn, leaving}, Hands.HasRoom, Limits.heavy_marks, Posts.HoldsOnly, Outgoing.{Inserted, KeepsTicket, KeepsSlot, PutAll, TookNothing, tickets_out, slots_out, without_first}}
+use Rattle.dispatch.specs.{declared.{places.Berth.Berth, shared.Own.Own}, Acts.{Act, Made, TakeOut, AreMade, busy_turn, gone_turn, quiet_turn, again_turn, ended_turn, leaving}, Hands.HasRoom, Limits.heavy_marks, Posts.HoldsOnly, Outgoing.{Inserted, KeepsTicket, KeepsSlot, PutAll, TookNothing, tickets_out, slots_out, without_first}}
 use Rattle.token.specs.Names.{last_generation}
 use Rattle.turns.specs.declared.worker.Worked.TheVariants as worked
 
@@ -39,19 +39,30 @@ program (Ok worked.Again) found noted woke = Held found ∷ Take noted ∷ Post 
 program (Ok worked.Ended) found noted woke = Held found ∷ Take noted ∷ Retire ∷ []
 program (Err fault) found noted woke = Held found ∷ Take noted ∷ Release woke ∷ []
 
--- The acts of a turn but its calls, in order, by its answer and the ticket's generation. `other`: another connection
--- was in the place. `woke`: the release answered Wake
-abbrev pub acts_of : Result Worked ServerFault → ℕ → Bool → Bool → List Act
-acts_of (Ok worked.Busy) generation other woke = busy_turn
-acts_of (Ok worked.Gone) generation other woke = gone_turn other woke
-acts_of (Ok worked.Quiet) generation other woke = quiet_turn woke
-acts_of (Ok worked.Again) generation other woke = again_turn true
-acts_of (Ok worked.Ended) generation other woke = ended_turn (nat_lt generation last_generation)
-acts_of (Err fault) generation other woke = again_turn woke
+-- The acts of a turn but its calls, in order, by its answer and the ticket's generation. `found`: the generation of the
+-- connection that was in the place. `woke`: the release answered Wake
+abbrev pub acts_of : Result Worked ServerFault → ℕ → Option ℕ → Bool → List Act
+acts_of (Ok worked.Busy) generation found woke = busy_turn
+acts_of (Ok worked.Gone) generation found woke = gone_turn (is_some found) woke
+acts_of (Ok worked.Quiet) generation found woke = quiet_turn woke
+acts_of (Ok worked.Again) generation found woke = again_turn true
+acts_of (Ok worked.Ended) generation found woke = ended_turn (nat_lt generation last_generation)
+acts_of (Err fault) generation found woke = again_turn woke
+
+-- a turn is Gone exactly if its place did not have the ticket's connection; a busy one does not look
+abbrev pub Finds : Ticket → Result Worked ServerFault → Option ℕ → Type 0
+Finds ticket (Ok worked.Busy) found = Unit {0}
+Finds ticket (Ok worked.Gone) found = found ≢ Some ticket.generation
+Finds ticket result found = found ≡ Some ticket.generation
+
+-- the acts of a turn, by what its place had: TakeOut found that, and the others are as they are
+abbrev pub Finding : {S : Type 0} → (Option ℕ → S → Type 0) → Made S → Option ℕ → Made S
+Finding found made place TakeOut slot from to = made TakeOut slot from to × found place to
+Finding found made place act slot from to = made act slot from to
 
 -- the acts of a turn but its first n were made
-abbrev pub ActsLeft : {S : Type 0} → (Act → ℕ → S → S → Type 0) → Ticket → Result Worked ServerFault → ℕ → Bool → Bool → S → S → Type 0
-ActsLeft made ticket result n other woke from to = AreMade made ticket.slot (drop n (acts_of result ticket.generation other woke)) from to
+abbrev pub ActsLeft : {S : Type 0} → Made S → Ticket → Result Worked ServerFault → ℕ → Option ℕ → Bool → S → S → Type 0
+ActsLeft made ticket result n found woke from to = AreMade made ticket.slot (drop n (acts_of result ticket.generation found woke)) from to
 
 -- the thread holds this slot of these claim words and no other, and its hand has room
 pub record AtWork (claims : TableId) (slot : ℕ) (own : Own) : Type 0 where
@@ -90,16 +101,16 @@ pub record TurnDone (ticket : Ticket) (exchanges : List Exchange) (result : Resu
   pub took : TookNothing old new
 
 -- the rest of a turn, after `exchanged` of its exchanges and `acted` of its acts
-pub record TurnRest {S : Type 0} (made : Act → ℕ → S → S → Type 0) (ticket : Ticket) (result : Result Worked ServerFault)
-    (other : Bool) (exchanged acted : ℕ) (old new : Own) (from to : S) : Type 0 where
+pub record TurnRest {S : Type 0} (made : Made S) (ticket : Ticket) (result : Result Worked ServerFault)
+    (found : Option ℕ) (exchanged acted : ℕ) (old new : Own) (from to : S) : Type 0 where
   pub noted : ℕ
   pub woke : Bool
   pub held : WasHeld result
   pub done : TurnDone ticket (drop exchanged (program result 0 noted woke)) result old new
-  pub acts : ActsLeft made ticket result acted other woke from to
+  pub acts : ActsLeft made ticket result acted found woke from to
 
 -- a release alone, which answers Quiet only if the seat knew of no note
-pub record LeftSlot {S : Type 0} (made : Act → ℕ → S → S → Type 0) (ticket : Ticket) (old new : Own) (from to : S) : Type 0 where
+pub record LeftSlot {S : Type 0} (made : Made S) (ticket : Ticket) (old new : Own) (from to : S) : Type 0 where
   pub woke : Bool
   pub quiet : woke ≡ false → (account_at old.seat ticket.slot).known ≡ 0
   pub done : TurnDone ticket (Release woke ∷ []) (Ok worked.Quiet) old new
@@ -121,11 +132,13 @@ pub record TurnMade (words : ℕ) (ticket : Ticket) (result : Result Worked Serv
   pub done : TurnDone ticket exchanges result old new
   pub outside : words ≤ ticket.slot → new.seat ≡ old.seat
 
--- `TurnMade`, with the acts of the turn but its calls, in order. If the claim words lack the slot, no act is made
-abbrev pub TurnInOrder : {S : Type 0} → (Act → ℕ → S → S → Type 0) → ℕ → Ticket → Result Worked ServerFault → Own → Own → S → S → Type 0
+-- `TurnMade`, with the acts of the turn but its calls, in order, and with what it found in its place. If the claim words
+-- lack the slot, no act is made
+abbrev pub TurnInOrder : {S : Type 0} → (Option ℕ → Made S) → ℕ → Ticket → Result Worked ServerFault → Own → Own → S → S → Type 0
 TurnInOrder made words ticket result old new from to =
     (turn : TurnMade words ticket result old new)
-    × (ticket.slot < words → (other : Bool) × ActsLeft made ticket result 0 other turn.are.woke from to)
+    × (ticket.slot < words → (found : Option ℕ) × Finds ticket result found
+        × ActsLeft (made found) ticket result 0 found turn.are.woke from to)
     × (words ≤ ticket.slot → to ≡ from)
 
 -- what was in hand was put, until nothing was left or the queue was full at one moment
@@ -138,21 +151,21 @@ pub record HandPut (old new : Own) : Type 0 where
   pub all_slots : PutAll new.free new.hand.slots
 
 -- a worker's turn: what is in hand is put before anything else
-pub record WorkerTurn {S : Type 0} (made : Act → ℕ → S → S → Type 0) (words : ℕ) (ticket : Ticket) (result : Result Worked ServerFault)
+pub record WorkerTurn {S : Type 0} (made : Option ℕ → Made S) (words : ℕ) (ticket : Ticket) (result : Result Worked ServerFault)
     (old new : Own) (from to : S) : Type 0 where
   pub begun : Own
   pub put : HandPut old begun
   pub turn : TurnInOrder made words ticket result begun new from to
 
 -- the oldest ticket in hand was taken out, and had its turn
-pub record OldestRan {S : Type 0} (made : Act → ℕ → S → S → Type 0) (words : ℕ) (result : Result Worked ServerFault) (old new : Own)
+pub record OldestRan {S : Type 0} (made : Option ℕ → Made S) (words : ℕ) (result : Result Worked ServerFault) (old new : Own)
     (from to : S) : Type 0 where
   pub ticket : Ticket
   pub oldest : slice_get old.hand.tickets 0 ≡ Some ticket
   pub turn : TurnInOrder made words ticket result (without_first old) new from to
 
 -- a poller's own turn. After None nothing has changed
-abbrev pub OwnTurn : {S : Type 0} → (Act → ℕ → S → S → Type 0) → ℕ → Result (Option Worked) ServerFault → Own → Own → S → S → Type 0
+abbrev pub OwnTurn : {S : Type 0} → (Option ℕ → Made S) → ℕ → Result (Option Worked) ServerFault → Own → Own → S → S → Type 0
 OwnTurn made words (Ok None) old new from to = (new ≡ old) × (to ≡ from)
 OwnTurn made words (Ok (Some worked)) old new from to = OldestRan made words (Ok worked) old new from to
 OwnTurn made words (Err fault) old new from to = OldestRan made words (Err fault) old new from to

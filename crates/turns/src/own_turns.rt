@@ -2,7 +2,7 @@
 ghost use Rattle.std.specs.Prelude.{◌≡◌, ◌↔◌, ◌<◌, ◌≤◌, ◌∷◌, ◌++◌, [], length, slice_get, Ok, Some, None, IfErr, IfSome, IsSome, false, true};
 ghost use Rattle.claims.specs.Seats.{HoldsNothing};
 ghost use Rattle.dispatch.specs.{Heavy.looked_at, Limits.first_light, Posts.{AtRest, OnlyWorn}};
-ghost use Rattle.turns.specs.{Shares.{IsLight, Stays, TicketsShared}, Turns.{marks_after, NoOwnTurn, OwnTurn}};
+ghost use Rattle.turns.specs.{Shares.{IsLight, Stays, TicketsShared}, Turns.{marks_after, Finding, NoOwnTurn, OwnTurn}};
 
 use crate::giving::put_ticket;
 use crate::terms::Terms;
@@ -102,7 +102,7 @@ fn keep(hand: &mut Hand, ticket: Ticket, _kept: usize, _shares_light: bool, _sta
 pub fn own_turn<F: Front, A: Moves<F>, G: Gate, C: Clock, R: Wait + Log>(
     rt: &R,
     acts: &mut A,
-    shared: &Shared<F>,
+    shared: &Shared<F, A>,
     own: &mut Own,
     gate: &G,
     heavy: &mut HeavyMarks,
@@ -112,7 +112,7 @@ pub fn own_turn<F: Front, A: Moves<F>, G: Gate, C: Clock, R: Wait + Log>(
     requires rest { AtRest shared.now.claims own.old }
     ensures rest { AtRest shared.now.claims own.new }
     ensures none { result ≡ Ok None ↔ NoOwnTurn own.old }
-    ensures turn { OwnTurn A.made shared.now.claims.words result own.old own.new acts.old acts.new }
+    ensures turn { OwnTurn (Finding A.found A.made) shared.now.claims.words result own.old own.new acts.old acts.new }
     ensures marks { heavy.new ≡ marks_after (slice_get own.old.hand.tickets 0) result heavy.old }
     ensures worn { IfErr result (λ fault. OnlyWorn fault own.new.seat) }
     ensures woken { result ≡ Ok (Some Worked.Ended) → is_closing ≡ true
@@ -134,8 +134,8 @@ pub fn own_turn<F: Front, A: Moves<F>, G: Gate, C: Clock, R: Wait + Log>(
     }
 }
 
-fn follow_up<F: Front>(
-    shared: &Shared<F>,
+fn follow_up<F: Front, A>(
+    shared: &Shared<F, A>,
     heavy: &mut HeavyMarks,
     is_closing: bool,
     ticket: Ticket,

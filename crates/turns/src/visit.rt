@@ -1,5 +1,5 @@
 //! The connection of a held slot, out of its place.
-ghost use Rattle.std.specs.Prelude.{◌≡◌, ◌<◌, ◌≤◌, IfOk, IfErr};
+ghost use Rattle.std.specs.Prelude.{◌≡◌, ◌<◌, ◌≤◌, Some, None, IfOk, IfErr};
 ghost use Rattle.engine.specs.Turns.{outcome_of, IsServed};
 ghost use Rattle.dispatch.specs.{Posts.HoldsOnly, Told.{ended_by, moved_by}};
 ghost use Rattle.turns.specs.Turns.{noted_by, Plays};
@@ -56,7 +56,7 @@ impl Model for Closed {
 pub(crate) fn take_out<F: Front, A: Moves<F>, R: Wait>(
     rt: &R,
     acts: &mut A,
-    shared: &Shared<F>,
+    shared: &Shared<F, A>,
     own: &Own,
     ticket: Ticket,
 ) -> Result<Visit<F>, Back>
@@ -65,7 +65,8 @@ pub(crate) fn take_out<F: Front, A: Moves<F>, R: Wait>(
     ensures made { A.made act.TakeOut ticket.slot acts.old acts.new }
     ensures out { IfOk result (λ visit. visit.ticket ≡ ticket) }
     ensures moved { IfOk result (λ visit. A.moved visit.berth.value acts.new) }
-    ensures empty { IfErr result (λ back. back ≡ ticket.slot) }
+    ensures found { IfOk result (λ visit. A.found (Some visit.berth.value.pair.generation) acts.new) }
+    ensures empty { IfErr result (λ back. (back ≡ ticket.slot) × A.found None acts.new) }
 {
     let slot = ticket.slot;
     match acts.take_out(rt, &shared.places, &own.seat, slot) {
@@ -87,7 +88,7 @@ fn tell_notes(pair: &mut Pair, notes: u64)
 pub(crate) fn put_in<F: Front, A: Moves<F>, R: Wait>(
     rt: &R,
     acts: &mut A,
-    shared: &Shared<F>,
+    shared: &Shared<F, A>,
     own: &Own,
     visit: Visit<F>,
 ) -> Back
@@ -169,7 +170,7 @@ impl<F: Front> Visit<F> {
     }
 
     /// Counts the connection as ended, and closes both sockets.
-    pub(crate) fn close<A: Moves<F>>(self, acts: &mut A, shared: &Shared<F>) -> Closed
+    pub(crate) fn close<A: Moves<F>>(self, acts: &mut A, shared: &Shared<F, A>) -> Closed
         ensures closed { result ≡ self.ticket.slot }
         ensures counted { A.counted self.ticket.slot (ended_by self.berth.value.pair) acts.old }
         ensures made { A.made act.Close self.ticket.slot acts.old acts.new }

@@ -1,10 +1,10 @@
 //! One turn of a worker.
-ghost use Rattle.std.specs.Prelude.{◌≡◌, ◌⊎◌, ℕ, ◌<◌, ◌≤◌, [], ◌∷◌, Bool, false, Ok, IfErr, IfNone};
+ghost use Rattle.std.specs.Prelude.{◌≡◌, ◌⊎◌, ℕ, ◌<◌, ◌≤◌, [], ◌∷◌, Option, None, Ok, IfErr, IfNone};
 ghost use Rattle.claims.specs.Seats.{Adds};
 ghost use Rattle.engine.specs.Turns.{outcome_of, IsServed};
 ghost use Rattle.dispatch.specs.{Hands.HasRoom, Outgoing.KeepsSlot, Posts.{AtRest, HoldsOnly, IsWorn, OnlyWorn}};
 ghost use Rattle.token.specs.Names.{last_generation};
-ghost use Rattle.turns.specs.Turns.{answer_by, answer_of, if_posted, AtWork, TurnRest, TurnInOrder, LeftSlot, WorkerTurn, Plays};
+ghost use Rattle.turns.specs.Turns.{answer_by, answer_of, if_posted, AtWork, Finding, Finds, TurnRest, TurnInOrder, LeftSlot, WorkerTurn, Plays};
 ghost use Rattle.claims.specs.declared.view.Exchange.TheVariants as exchange;
 ghost use Rattle.dispatch.specs.Acts as act;
 
@@ -51,7 +51,7 @@ pub enum Worked {
 pub fn worker_turn<F: Front, A: Moves<F>, G: Gate, C: Clock, R: Wait + Log>(
     rt: &R,
     acts: &mut A,
-    shared: &Shared<F>,
+    shared: &Shared<F, A>,
     own: &mut Own,
     gate: &G,
     ticket: Ticket,
@@ -60,7 +60,8 @@ pub fn worker_turn<F: Front, A: Moves<F>, G: Gate, C: Clock, R: Wait + Log>(
     requires rest { AtRest shared.now.claims own.old }
     requires room { HasRoom own.old.hand }
     ensures rest { AtRest shared.now.claims own.new }
-    ensures made { WorkerTurn A.made shared.now.claims.words ticket result own.old own.new acts.old acts.new }
+    ensures made { WorkerTurn (Finding A.found A.made) shared.now.claims.words ticket result own.old own.new
+        acts.old acts.new }
     ensures worn { IfErr result (λ fault. OnlyWorn fault own.new.seat) }
     ensures woken { result ≡ Ok Worked.Ended → F.woke shared.now.waker ticket.slot }
 {
@@ -84,7 +85,7 @@ pub fn worker_turn<F: Front, A: Moves<F>, G: Gate, C: Clock, R: Wait + Log>(
 pub(crate) fn turn_of<F: Front, A: Moves<F>, G: Gate, R: Wait + Log>(
     rt: &R,
     acts: &mut A,
-    shared: &Shared<F>,
+    shared: &Shared<F, A>,
     own: &mut Own,
     gate: &G,
     ticket: Ticket,
@@ -94,7 +95,8 @@ pub(crate) fn turn_of<F: Front, A: Moves<F>, G: Gate, R: Wait + Log>(
     requires room { HasRoom own.old.hand }
     requires budget { (1 ≤ terms.budget) × (terms.budget ≤ 1024) }
     ensures rest { AtRest shared.now.claims own.new }
-    ensures made { TurnInOrder A.made shared.now.claims.words ticket (answer_of result) own.old own.new acts.old acts.new }
+    ensures made { TurnInOrder (Finding A.found A.made) shared.now.claims.words ticket (answer_of result) own.old own.new
+        acts.old acts.new }
     ensures worn { IfNone result (IsWorn own.new.seat) }
 {
     let worn = own.seat.is_worn();
@@ -115,7 +117,7 @@ fn if_posted(worked: Worked, worn: bool) -> Option<Worked>
 fn claim<F: Front, A: Moves<F>, G: Gate, R: Wait + Log>(
     rt: &R,
     acts: &mut A,
-    shared: &Shared<F>,
+    shared: &Shared<F, A>,
     own: &mut Own,
     gate: &G,
     ticket: Ticket,
@@ -124,8 +126,8 @@ fn claim<F: Front, A: Moves<F>, G: Gate, R: Wait + Log>(
     requires rest { AtRest shared.now.claims own.old }
     requires room { HasRoom own.old.hand }
     requires budget { (1 ≤ terms.budget) × (terms.budget ≤ 1024) }
-    ensures made { TurnInOrder A.made shared.now.claims.words ticket (answer_by own.old.seat result) own.old own.new
-        acts.old acts.new }
+    ensures made { TurnInOrder (Finding A.found A.made) shared.now.claims.words ticket (answer_by own.old.seat result)
+        own.old own.new acts.old acts.new }
 {
     if ticket.slot >= shared.claims.slots() {
         return Worked::Gone;
@@ -139,7 +141,7 @@ fn claim<F: Front, A: Moves<F>, G: Gate, R: Wait + Log>(
 fn claimed<F: Front, A: Moves<F>, G: Gate, R: Wait + Log>(
     rt: &R,
     acts: &mut A,
-    shared: &Shared<F>,
+    shared: &Shared<F, A>,
     own: &mut Own,
     gate: &G,
     ticket: Ticket,
@@ -147,7 +149,8 @@ fn claimed<F: Front, A: Moves<F>, G: Gate, R: Wait + Log>(
 ) -> Worked
     requires work { AtWork shared.now.claims ticket.slot own.old }
     requires budget { (1 ≤ terms.budget) × (terms.budget ≤ 1024) }
-    ensures done { (other : Bool) × TurnRest A.made ticket (answer_by own.old.seat result) other 1 1 own.old own.new
+    ensures done { (found : Option ℕ) × Finds ticket (answer_by own.old.seat result) found
+        × TurnRest (Finding A.found A.made found) ticket (answer_by own.old.seat result) found 1 1 own.old own.new
         acts.old acts.new }
 {
     match take_out(rt, acts, shared, own, ticket) {
@@ -170,14 +173,14 @@ fn claimed<F: Front, A: Moves<F>, G: Gate, R: Wait + Log>(
 fn give_up<F: Front, A: Acts, R: Wait>(
     rt: &R,
     acts: &mut A,
-    shared: &Shared<F>,
+    shared: &Shared<F, A>,
     own: &mut Own,
     ticket: Ticket,
     back: Back,
 )
     requires work { AtWork shared.now.claims ticket.slot own.old }
     requires back { back ≡ ticket.slot }
-    ensures done { TurnRest A.made ticket (Ok Worked.Gone) false 1 2 own.old own.new acts.old acts.new }
+    ensures done { TurnRest A.made ticket (Ok Worked.Gone) None 1 2 own.old own.new acts.old acts.new }
 {
     acts.discard(&shared.claims, &mut own.seat, ticket.slot);
     leave(rt, acts, shared, own, ticket, back);
@@ -187,7 +190,7 @@ fn give_up<F: Front, A: Acts, R: Wait>(
 fn run<F: Front, A: Moves<F>, G: Gate, R: Wait + Log>(
     rt: &R,
     acts: &mut A,
-    shared: &Shared<F>,
+    shared: &Shared<F, A>,
     own: &mut Own,
     gate: &G,
     mut visit: Visit<F>,
@@ -196,7 +199,8 @@ fn run<F: Front, A: Moves<F>, G: Gate, R: Wait + Log>(
     requires work { AtWork shared.now.claims visit.ticket.slot own.old }
     requires own { visit.berth.value.pair.generation ≡ visit.ticket.generation }
     requires budget { (1 ≤ terms.budget) × (terms.budget ≤ 1024) }
-    ensures done { TurnRest A.made visit.ticket (answer_by own.old.seat result) false 1 2 own.old own.new acts.old acts.new }
+    ensures done { TurnRest A.made visit.ticket (answer_by own.old.seat result) None 1 2 own.old own.new acts.old acts.new }
+    ensures own { result ≡ Worked.Gone → ⊥ }
 {
     match play(
         acts,
@@ -227,7 +231,7 @@ fn run<F: Front, A: Moves<F>, G: Gate, R: Wait + Log>(
 /// allocator nor anything that may wait, so it allocates nothing and waits for no lock.
 fn play<F: Front, A: Acts, G: Gate>(
     acts: &mut A,
-    shared: &Shared<F>,
+    shared: &Shared<F, A>,
     seat: &mut ClaimSeat,
     gate: &G,
     visit: &mut Visit<F>,
@@ -258,13 +262,13 @@ fn play<F: Front, A: Acts, G: Gate>(
 fn again<F: Front, A: Moves<F>, R: Wait>(
     rt: &R,
     acts: &mut A,
-    shared: &Shared<F>,
+    shared: &Shared<F, A>,
     own: &mut Own,
     visit: Visit<F>,
 )
     requires work { AtWork shared.now.claims visit.ticket.slot own.old }
     requires due { outcome_of visit.berth.value.pair ≡ Turn.Again }
-    ensures done { TurnRest A.made visit.ticket (answer_by own.old.seat Worked.Again) false 2 3 own.old own.new acts.old acts.new }
+    ensures done { TurnRest A.made visit.ticket (answer_by own.old.seat Worked.Again) None 2 3 own.old own.new acts.old acts.new }
 {
     let ticket = visit.ticket;
     let back = put_in(rt, acts, shared, own, visit);
@@ -276,14 +280,14 @@ fn again<F: Front, A: Moves<F>, R: Wait>(
 fn stay_due<F: Front, A: Acts, R: Wait>(
     rt: &R,
     acts: &mut A,
-    shared: &Shared<F>,
+    shared: &Shared<F, A>,
     own: &mut Own,
     ticket: Ticket,
     back: Back,
 )
     requires work { AtWork shared.now.claims ticket.slot own.old }
     requires back { back ≡ ticket.slot }
-    ensures done { TurnRest A.made ticket (answer_by own.old.seat Worked.Again) false 2 4 own.old own.new acts.old acts.new }
+    ensures done { TurnRest A.made ticket (answer_by own.old.seat Worked.Again) None 2 4 own.old own.new acts.old acts.new }
 {
     let _ = acts.post(&shared.claims, &mut own.seat, ticket.slot);
     leave(rt, acts, shared, own, ticket, back);
@@ -293,13 +297,13 @@ fn stay_due<F: Front, A: Acts, R: Wait>(
 fn rest<F: Front, A: Moves<F>, R: Wait>(
     rt: &R,
     acts: &mut A,
-    shared: &Shared<F>,
+    shared: &Shared<F, A>,
     own: &mut Own,
     mut visit: Visit<F>,
 )
     requires work { AtWork shared.now.claims visit.ticket.slot own.old }
     requires quiet { outcome_of visit.berth.value.pair ≡ Turn.Quiet }
-    ensures done { TurnRest A.made visit.ticket (Ok Worked.Quiet) false 2 3 own.old own.new acts.old acts.new }
+    ensures done { TurnRest A.made visit.ticket (Ok Worked.Quiet) None 2 3 own.old own.new acts.old acts.new }
 {
     visit.settle(acts);
     leave_settled(rt, acts, shared, own, visit);
@@ -308,14 +312,14 @@ fn rest<F: Front, A: Moves<F>, R: Wait>(
 fn leave_settled<F: Front, A: Moves<F>, R: Wait>(
     rt: &R,
     acts: &mut A,
-    shared: &Shared<F>,
+    shared: &Shared<F, A>,
     own: &mut Own,
     visit: Visit<F>,
 )
     requires work { AtWork shared.now.claims visit.ticket.slot own.old }
     requires client { F.Client.settled visit.berth.value.client }
     requires target { F.Target.settled visit.berth.value.target }
-    ensures done { TurnRest A.made visit.ticket (Ok Worked.Quiet) false 2 4 own.old own.new acts.old acts.new }
+    ensures done { TurnRest A.made visit.ticket (Ok Worked.Quiet) None 2 4 own.old own.new acts.old acts.new }
 {
     let ticket = visit.ticket;
     let back = put_in(rt, acts, shared, own, visit);
@@ -326,7 +330,7 @@ fn leave_settled<F: Front, A: Moves<F>, R: Wait>(
 fn leave<F: Front, A: Acts, R: Wait>(
     rt: &R,
     acts: &mut A,
-    shared: &Shared<F>,
+    shared: &Shared<F, A>,
     own: &mut Own,
     ticket: Ticket,
     back: Back,
@@ -345,13 +349,13 @@ fn leave<F: Front, A: Acts, R: Wait>(
 fn end<F: Front, A: Moves<F>, R: Wait + Log>(
     rt: &R,
     acts: &mut A,
-    shared: &Shared<F>,
+    shared: &Shared<F, A>,
     own: &mut Own,
     visit: Visit<F>,
 )
     requires work { AtWork shared.now.claims visit.ticket.slot own.old }
     requires over { (outcome_of visit.berth.value.pair ≡ Turn.Done) ⊎ (outcome_of visit.berth.value.pair ≡ Turn.Failed) }
-    ensures done { TurnRest A.made visit.ticket (Ok Worked.Ended) false 2 3 own.old own.new acts.old acts.new }
+    ensures done { TurnRest A.made visit.ticket (Ok Worked.Ended) None 2 3 own.old own.new acts.old acts.new }
 {
     let ticket = visit.ticket;
     log_end(rt, visit.pair());
@@ -362,7 +366,7 @@ fn end<F: Front, A: Moves<F>, R: Wait + Log>(
 
 /// If the connection has ended, wakes the poller, which may wait for the slot. If it were woken before the slot is given
 /// back, it could wait on.
-fn wake_if_ended<F: Front>(shared: &Shared<F>, _own: &Own, ticket: Ticket, worked: Worked)
+fn wake_if_ended<F: Front, A>(shared: &Shared<F, A>, _own: &Own, ticket: Ticket, worked: Worked)
     requires given { worked ≡ Worked.Ended → ticket.generation < last_generation
         → KeepsSlot ticket.slot _own.now.free.history _own.now.hand }
     ensures woken { worked ≡ Worked.Ended → F.woke shared.now.waker ticket.slot }

@@ -1,5 +1,6 @@
 use Rattle.std.proofs.Common.{rules, ◌≡◌, refl, inl, inr, arith, sym, ◌∙◌}
-use Rattle.rounds.{specs.Openings.{Dropped, Spent}, proofs.Rounds.{between_still, no_names, opened_never, opened_not, placed_fate, placed_there, registered_once, some_first, still}}
+use Rattle.rounds.{specs.Openings.{Dropped, Spent, next_in}, proofs.Rounds.{between_still, no_names, opened_never, opened_not, placed_fate, placed_there, registered_once, some_first, still}}
+use Rattle.ready.specs.declared.ticket.Ticket.{Ticket}
 use Rattle.rounds.proofs.opening.open.Goals as goal
 
 pub returns-in_default : goal.returns-in_default
@@ -47,9 +48,11 @@ returns-in-Ok g c =
     let hand = c.in-Ok.ensures.prepared ∙ c.take_slot.ensures.left in
     let named : c.in-Some-next_names.names.client.slot ≡ c.in-Some.slot = rw c.in-Some-next_names.ensures.client in
     let registered = rw named at c.in-Ok.ensures.acts in
+    let next : ◌≡◌ {A = Ticket} (record { slot = c.in-Some.slot; generation = c.generation-generation.result }) (next_in c.args.poller.now c.in-Some.slot) = rw (c.generation-generation.ensures.value, c.in-Some-next_names.ensures.client, c.table.ensures.table) in
     record {
       between = c.place.ensures.between;
-      counted = rw first (placed_fate c.in-Ok.ensures.same (rw (c.generation-generation.ensures.value, c.in-Some-next_names.ensures.client, c.table.ensures.table))
+      counted = rw first (placed_fate c.in-Ok.ensures.same next
+          (λ opened. (opened.0, (c.in-Ok.berth.value, rw (c.in-Some-next_names.ensures.client, c.table.ensures.table) at c.in-Ok.ensures.fresh, (c.prepare.new.acts, registered, opened.1))))
           (λ acts made. (c.prepare.new.acts, registered, made)) c.place.ensures.placed);
       done = placed_there hand first c.in-Ok.ensures.same c.place.ensures.placed;
       ready = c.place.ensures.ready;

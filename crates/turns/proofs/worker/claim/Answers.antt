@@ -1,7 +1,7 @@
 use Rattle.std.proofs.Common.{[], arith, false, refl, ◌∙◌}
 use Rattle.claims.proofs.Seats.{adds_none}
 use Rattle.dispatch.proofs.Holding.{holds_from}
-use Rattle.turns.proofs.Turns.{answer_after, busy_made, claimed_then, still}
+use Rattle.turns.{specs.Turns.Finding, proofs.Turns.{answer_after, busy_made, claimed_then, still}}
 use Rattle.turns.proofs.worker.claim.Goals as goal
 
 pub returns-then-ticket-slots : goal.returns-then-ticket-slots
@@ -29,9 +29,9 @@ claimed-requires-clause-work g c =
     }
 
 pub returns-in-Busy : goal.returns-in-Busy
-returns-in-Busy g c = record { made = busy_made g.A.Acts.made (omega arith) c.in-Busy.ensures.made c.in-Busy.ensures.change (still refl refl refl) }
+returns-in-Busy g c = record { made = busy_made (Finding g.A.Moves.found g.A.Acts.made) (omega arith) (λ place. c.in-Busy.ensures.made) c.in-Busy.ensures.change (still refl refl refl) }
 
 pub returns-in-Held : goal.returns-in-Held
 returns-in-Held g c =
     let claimed = c.in-Held.ensures.change.1 in
-    record { made = claimed_then (omega arith) c.in-Held.ensures.made claimed (still refl refl refl) (rw (answer_after _ claimed refl c.claimed.result) at c.claimed.ensures.done) }
+    record { made = claimed_then (Finding g.A.Moves.found g.A.Acts.made) (omega arith) (λ place. c.in-Held.ensures.made) claimed (still refl refl refl) (rw (answer_after _ claimed refl c.claimed.result) at c.claimed.ensures.done) }
