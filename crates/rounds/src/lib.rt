@@ -18,10 +18,9 @@
 //!   counts are logged (`end_episodes`). A starved accept(2) has no new line before an opening (`episodes_after`). A
 //!   poller becomes full if the listener was reported, it may open more, and no slot was free before it accepted
 //!   anybody (`log_if_full`: `full`, `found`). It stays full until accept(2) answers that nobody waits.
-//! - Both tokens of a connection have the next generation of its slot (`next_names`). Its pair is fresh, with the
-//!   poller's ring size and the second of the round (`connect`: `pair`). The pair's lead is the PROXY line of the
-//!   addresses that the front gave, or nothing (`lead`, by `LeadGiven`). `DropsFor` says which cause is logged if there
-//!   is no pair (`cause`).
+//! - Both tokens of a connection have the next generation of its slot (`next_names`). What is put into its place is a
+//!   fresh connection (`open`: `counted`, by `OpensFresh`): its lead is the PROXY line of the addresses that the front
+//!   gave, or nothing (`LeadGiven`). `DropsFor` says which cause is logged if there is none (`cause`).
 //! - An accepted connection counts once (`Uncounted`): as opened, as dropped, or its slot as lost (`open`: `counted`,
 //!   by `Fate`). An opening passes its line to the log. Openings and drops are counted at their slots (`OpeningLogged`,
 //!   `DropCounted`, by which the front is told of a lack of memory). A drop counts only if the log gets a line or a

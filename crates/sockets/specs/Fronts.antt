@@ -1,5 +1,5 @@
 -- Where a server listens, and what is reported. Part of the promises.
-use Rattle.std.specs.{Prelude.{◌≡◌, ◌≢◌, ◌⊎◌, ℕ, ◌*◌, max, min, Bool, true, false, ◌||◌, if◌then◌else◌, List, [], map, OnOk, IsTrue, ◌↔◌, Option, Some, None, Result, Ok, Err}, IoError.{error_kind, raw_os_error}, declared.{io.{Error.Error, ErrorKind.TheVariants.Interrupted}, net.{SocketAddr.{SocketAddr, TheVariants.{V4, V6}}, SocketAddrV4.SocketAddrV4}}, Result.result_ok, Net.{Addr.{IsV4And, ipv4_octets}, Socket.{socket_ip, IsPlainSocket}}}
+use Rattle.std.specs.{Prelude.{◌≡◌, ◌≢◌, ◌⊎◌, ℕ, pos, ◌*◌, max, min, Bool, true, false, ◌||◌, if◌then◌else◌, List, [], map, OnOk, IsTrue, ◌↔◌, Option, Some, None, Result, Ok, Err}, IoError.{error_kind, raw_os_error}, declared.{io.{Error.Error, ErrorKind.TheVariants.Interrupted}, net.{SocketAddr.{SocketAddr, TheVariants.{V4, V6}}, SocketAddrV4.SocketAddrV4}}, Result.result_ok, Net.{Addr.{IsV4And, ipv4_octets}, Socket.{socket_ip, IsPlainSocket}}}
 use Rattle.token.specs.{Names.EndName, Numbers.name_of, declared.name.Name.{Name, TheVariants.{Listener, Waker, End}}}
 use Rattle.readiness.specs.Words.{WordName, word_of}
 use Rattle.settings.specs.Addresses.{SocketAddress}
@@ -73,7 +73,8 @@ most_lacking = 16
 -- The system lacks memory for a socket (ENOMEM, ENOBUFS), or the user's sockets have their part of it (ENOSPC of
 -- epoll_ctl(2)). The numbers are those of errno(3)
 abbrev pub LacksMemory : Error → Type 0
-LacksMemory error = (raw_os_error error ≡ Some 12) ⊎ ((raw_os_error error ≡ Some 105) ⊎ (raw_os_error error ≡ Some 28))
+LacksMemory error =
+    (raw_os_error error ≡ Some (pos 12)) ⊎ ((raw_os_error error ≡ Some (pos 105)) ⊎ (raw_os_error error ≡ Some (pos 28)))
 
 -- an opening changes at most this of a front: it may have lacked memory
 abbrev pub OnlyLacked : Watched → Watched → Type 0

@@ -289,10 +289,11 @@ impl<R: Dial> Sockets<'_, R> {
         ensures memory { LacksMemory error.now → self.new.lacking ≡ most_lacking }
         ensures other { (LacksMemory error.now → ⊥) → self.new ≡ self.old }
     {
-        match error.raw_os_error() {
-            Some(EMFILE | ENFILE) => self.loads.set_short(true),
-            Some(ENOMEM | ENOBUFS | ENOSPC) => self.lacking = MOST_LACKING,
-            Some(_) | None => {}
+        if lacks_memory(error) {
+            self.lacking = MOST_LACKING;
+        }
+        if matches!(error.raw_os_error(), Some(EMFILE | ENFILE)) {
+            self.loads.set_short(true);
         }
     }
 
@@ -305,6 +306,13 @@ impl<R: Dial> Sockets<'_, R> {
         self.lacking = self.lacking.saturating_sub(1);
         lacks
     }
+}
+
+/// Whether an opening failed since the system lacks memory for its sockets.
+fn lacks_memory(error: &io::Error) -> bool
+    ensures { IsTrue result ↔ LacksMemory error.now }
+{
+    matches!(error.raw_os_error(), Some(ENOMEM | ENOBUFS | ENOSPC))
 }
 
 /// Fails if the process cannot have two descriptors more: those of a client and its target.

@@ -10,6 +10,8 @@
 //!
 //! - A turn touches words, places, queues and what sockets hold back only by its acts ([`Acts`](dispatch::Acts),
 //!   [`Moves`](dispatch::Moves)), and makes these in the order of its program (`acts_of` of `specs/Turns.antt`).
+//! - A place is reached by these acts alone (`Places`). A turn is Gone exactly if its place did not have the ticket's
+//!   connection (`Finds`).
 //! - The connection that is put back or closed is the one that was taken out (`Visit`, which cannot be dropped; `moved`
 //!   of `take_out`, `put_in` and `close`). Its bytes, or its end, are counted at its slot (`counted`). It has a turn of
 //!   `engine` only if its generation is the ticket's (`run`: `own`): at its terms' moment, with at most its terms' calls,
