@@ -122,7 +122,7 @@ pub enum Waiting {
 
 /// Where connections and reports come from: the system's sockets, or an in-memory fake.
 pub trait Front {
-    ghost use Rattle.dispatch.specs.{Told.Seen, declared.front.{Unopened.Unopened, Route.Route}};
+    ghost use Rattle.dispatch.specs.{Told.Seen, declared.front.{Unaccepted.Unaccepted, Unopened.Unopened, Route.Route}};
 
     // What it shows of its last wait for reports, and whether it listens.
     ghost seen: { Self → Seen };
@@ -132,6 +132,9 @@ pub trait Front {
 
     // For which reasons it may refuse to open a client's connection.
     ghost may_refuse: { Self.Client → Unopened → Type 0 } = { λ _ _. Unit {0} };
+
+    // That accept(2) gave no connection for this reason.
+    ghost gave_none: { Unaccepted → Type 0 } = { λ _. Unit {0} };
 
     // Whether it was told of a lack of memory.
     ghost lacked: { Type 0 } = { Unit {0} };
@@ -170,6 +173,7 @@ pub trait Front {
 
     /// Accepts the next connection that waits (accept(2)).
     fn accept(&mut self) -> io::Result<Self::Client>
+        ensures none { IfErr result (λ error. gave_none (unaccepted_of (error_kind error))) }
         ensures seen { seen self.new ≡ seen self.old };
 
     /// Memory ran out for a client that it gave, which is closed unopened. So the front may answer for a while as if

@@ -1,11 +1,11 @@
 -- Connections that are opened one after the other, why one is closed unopened, and a round of its parts.
-use Rattle.std.proofs.{Common.{◌≡◌, ◌⊎◌, ℕ, ◌+◌, ◌<◌, ◌≤◌, List, [], ◌∷◌, ◌++◌, length, drop, slice_get, slice_set, min, cond, Bool, true, refl, sym, ◌∙◌, arith, inl, inr, append_assoc, length-append, Option, Some, None, ◌==◌, Result, Ok, Err, IfErr, IsErrAnd, slice_index, ap, ◌↔◌, IsTrue, IsNone, false}, lemmas.{Bool.{cases_lt, false≢true}, List.{append-nil, length-set, get_or-set_other, get_or_past, Sums.sum_by-append}, Grind.get_or-set_at, Option.{none-some, same_Some}}}
+use Rattle.std.proofs.{Common.{◌≡◌, ◌⊎◌, ℕ, ◌+◌, ◌<◌, ◌≤◌, List, [], ◌∷◌, ◌++◌, length, drop, slice_get, slice_set, min, cond, Bool, true, refl, sym, ◌∙◌, arith, inl, inr, append_assoc, length-append, Option, Some, None, ◌==◌, Result, Ok, Err, IfErr, IsErrAnd, slice_index, ap, ◌↔◌, IsTrue, IsNone, false, Contains}, lemmas.{Bool.{cases_lt, false≢true}, List.{append-nil, length-set, get_or-set_other, get_or_past, Sums.sum_by-append}, Grind.get_or-set_at, Option.{none-some, same_Some}}}
 use Rattle.std.specs.Option.{ok_or}
 use Rattle.claims.{specs.{declared.answers.Posted.Posted, Calls.PostChange, Seats.{SeatState, TableId, Adds, account_at}, declared.view.{Account.Account, Exchange.Exchange}, Views.after_all}, proofs.Seats.{account_after, adds_both}}
-use Rattle.dispatch.{specs.{Posts.{HoldsOnly, IsWorn}, declared.{shared.Own.Own, front.{Unopened.Unopened, Route.Route, Waiting.{Waiting, TheVariants.{No, Brief, Long}}}}, Hands.{HandState, ticket_room}, Acts.{Act, AreMade, Register, Adopt, placing}, Told.cause_of}, proofs.Holding.{holds_still, released_all, woke_behind_post, worn_still}}
+use Rattle.dispatch.{specs.{Posts.{HoldsOnly, IsWorn}, declared.{shared.Own.Own, front.{Unaccepted.{Unaccepted, TheVariants.{Blocked, Starved}}, Unopened.Unopened, Route.Route, Waiting.{Waiting, TheVariants.{No, Brief, Long}}}}, Hands.{HandState, ticket_room}, Acts.{Act, AreMade, Register, Adopt, placing}, Told.cause_of}, proofs.Holding.{holds_still, released_all, woke_behind_post, worn_still}}
 use Rattle.ready.specs.declared.ticket.Ticket.{Ticket}
 use Rattle.token.specs.Names.{last_generation}
-use Rattle.rounds.{specs.{Acts.{SeatAct, opening, ActsMade, AreTries, all_reported, ArePosted, Delivered, swept_after, sweep_of}, Openings.{times, slots_in, AreIn, AreOpened, OnlyTook, Between, LetGo, Started, Connected, AcceptDone, OneAccepted, IsOpened, IsLost, IsSpent, AreLost, IsNext, SameQueues, Fate, next_in, Opened, NotFree, DropsFor, Placed, lacks, lead_of}, Pollers.{PollerState, Counted, counted_up, HasOpenedAll}, Rounds.{AcceptEnded, HasLeft, IsOver, RoundDone, RoundKeeps, ListenerKept, ListensNoMore, ListensToOpen, Looked, OnlyListens, RoundRefused, MayWait, MayWaitBriefly, WaitLasted, WaitedAsMay}}, proofs.Acts.{at_slot-append, acts_none, acts_one, acts_both, none_at, try_opened, tries_none, tries_both, posted_none, posts_still, no_sweep}}
+use Rattle.rounds.{specs.{Acts.{SeatAct, opening, ActsMade, AreTries, all_reported, ArePosted, Delivered, swept_after, sweep_of}, Openings.{times, slots_in, AreIn, AreOpened, OnlyTook, Between, LetGo, Started, Connected, AcceptDone, OneAccepted, IsOpened, IsLost, IsSpent, AreLost, IsNext, SameQueues, Fate, next_in, Opened, NotFree, DropsFor, Placed, lacks, lead_of}, Pollers.{PollerState, Counted, counted_up, HasOpenedAll}, Rounds.{AcceptEnded, FlagIsDown, HasLeft, IsOver, RoundDone, RoundKeeps, ListenerKept, ListensNoMore, ListensToOpen, Looked, OnlyAnswered, OnlyListens, RoundRefused, MayWait, MayWaitBriefly, WaitLasted, WaitedAsMay}}, proofs.Acts.{at_slot-append, acts_none, acts_one, acts_both, none_at, try_opened, tries_none, tries_both, posted_none, posts_still, no_sweep}}
 use Rattle.relay_log.specs.declared.{cause.Cause.{Cause}, faults.ServerFault.{ServerFault, TheVariants.Worn}}
 use Rattle.claims.specs.declared.view.Exchange.TheVariants as exchange
 use Rattle.claims.specs.declared.answers.Posted.TheVariants as posted
@@ -407,6 +407,37 @@ round_ended {p} {q} {a} {b} looked none took =
     let unswept : sweep_of q q ≡ [] = no_sweep q q.swept refl in
     round_of b {v = q} (λ worn. refl) (λ worn. refl) looked took (rw none (posted_none b.seat b.hand)) refl refl (λ slot out. rw none) refl
     (rw unswept (posted_none b.seat b.hand)) refl refl (λ slot out. rw unswept) refl (accept_none (still q)) refl
+
+-- what answers made of the poller, one after the other
+pub answered_both : {gave : Unaccepted → Type 0} {p q r : PollerState} → OnlyAnswered gave p q → OnlyAnswered gave q r → OnlyAnswered gave p r
+answered_both {gave} {p} {q} {r} first then = record { flag = λ down. flag (then.flag down); starved = λ starved. lack (then.starved starved) } where
+  flag : (q.accepting ≡ false) ⊎ gave Blocked → (p.accepting ≡ false) ⊎ gave Blocked
+  flag (inl down) = first.flag down
+  flag (inr gave) = inr gave
+  lack : (q.starved ≡ true) ⊎ gave Starved → (p.starved ≡ true) ⊎ gave Starved
+  lack (inl starved) = first.starved starved
+  lack (inr gave) = inr gave
+
+pub answered_none : {gave : Unaccepted → Type 0} {p q : PollerState} → q.accepting ≡ p.accepting → (q.starved ≡ p.starved) ⊎ (q.starved ≡ false) → OnlyAnswered gave p q
+answered_none {gave} {p} {q} flag lack = record { flag = λ down. inl (sym flag ∙ down); starved = λ starved. by lack starved } where
+  by : (q.starved ≡ p.starved) ⊎ (q.starved ≡ false) → q.starved ≡ true → (p.starved ≡ true) ⊎ gave Starved
+  by (inl same) starved = inl (sym same ∙ starved)
+  by (inr none) starved = absurd (false≢true (sym none ∙ starved))
+
+-- the flag that the listener's report may have raised is down
+pub flag_down : (gave : Type 0) (reported : Type 0) (old mid : Bool) → (IsTrue mid ↔ (IsTrue old ⊎ reported)) → (mid ≡ false) ⊎ gave
+    → ((old ≡ false) × (reported → ⊥)) ⊎ gave
+flag_down gave reported old mid is (inr answered) = inr answered
+flag_down gave reported true mid is (inl down) = absurd (false≢true (sym down ∙ is.1 (inl refl)))
+flag_down gave reported false mid is (inl down) = inl (refl, λ was. false≢true (sym down ∙ is.1 (inr was)))
+
+pub flag_ended : (gave : Unaccepted → Type 0) (p q r v t : PollerState) {seat last : SeatState} → Looked p q → (IsWorn seat → last ≡ seat)
+    → IsWorn seat ⊎ (IsTrue r.accepting ↔ (IsTrue q.accepting ⊎ Contains q.batch 0)) → v.accepting ≡ r.accepting → t.batch ≡ q.batch
+    → (t.accepting ≡ false → (v.accepting ≡ false) ⊎ gave Blocked) → IsWorn last ⊎ FlagIsDown gave p t
+flag_ended gave p q r v t looked still (inl worn) same batch answered = inl (rw (still worn) worn)
+flag_ended gave p q r v t looked still (inr is) same batch answered =
+    let was : q.accepting ≡ p.accepting = ap (λ (x : PollerState). x.accepting) looked in
+    inr (λ down. rw batch (rw was at (flag_down (gave Blocked) (Contains q.batch 0) q.accepting r.accepting is (rw same at (answered down)))))
 
 -- why accepting ended stays the reason, since the slots are taken back only once all connections were opened
 pub ended_still : {p q : PollerState} {a b : Own} → AcceptEnded p a → OnlyListens (record p { over = q.over }) q

@@ -2,9 +2,10 @@
 -- what its thread owns. Part of the promises.
 use Rattle.std.specs.Prelude.{◌≡◌, ◌≢◌, ◌⊎◌, ◌↔◌, ℕ, ◌+◌, ◌<◌, ◌≤◌, true, false, List, [], ◌++◌, length, Contains, Result, Err}
 use Rattle.ready.specs.{declared.ticket.Ticket.Ticket, Steps.HeldOnce}
-use Rattle.dispatch.specs.{declared.{front.Waiting.Waiting, shared.Own.Own}, Hands.{HasRoom, ticket_room}, Outgoing.tickets_out, Posts.{IsWorn, OnlyWorn}}
+use Rattle.dispatch.specs.{declared.{front.{Unaccepted.Unaccepted, Waiting.Waiting}, shared.Own.Own}, Hands.{HasRoom, ticket_room}, Outgoing.tickets_out, Posts.{IsWorn, OnlyWorn}}
 use Rattle.rounds.specs.{Acts.{SeatAct, due_of, ActsMade, ArePosts, AreTries, all_reported, ArePosted, is_due, sweep_of, swept_after}, Openings.{AreIn, AreLost, AreOpened, OnlyTook, SlotsCounted}, Pollers.{PollerState, HasOpenedAll, Counted, spare_room}, Episodes.AreLogged}
 use Rattle.relay_log.specs.declared.faults.ServerFault.{ServerFault}
+use Rattle.dispatch.specs.declared.front.Unaccepted.TheVariants as unaccepted
 use Rattle.dispatch.specs.declared.front.Waiting.TheVariants as waiting
 use Rattle.relay_log.specs.declared.faults.ServerFault.TheVariants as server_fault
 
@@ -86,6 +87,17 @@ abbrev pub WaitedAsMay : ℕ → PollerState → PollerState → Own → Type 0
 WaitedAsMay limit old new had =
     new.seen.waited ≢ 0 → MayWait limit old had ⊎ ((new.seen.waited ≤ 1) × MayWaitBriefly limit old had)
 
+-- What the answers of accept(2) made of the poller: the accept flag is down only if it was, or no client waited; it is
+-- starved only if it was, or the system lacked what accept(2) needs
+pub record OnlyAnswered (gave_none : Unaccepted → Type 0) (old new : PollerState) : Type 0 where
+  pub flag : new.accepting ≡ false → (old.accepting ≡ false) ⊎ gave_none unaccepted.Blocked
+  pub starved : new.starved ≡ true → (old.starved ≡ true) ⊎ gave_none unaccepted.Starved
+
+-- the accept flag is down only if it was and the listener was not reported, or accept(2) answered that no client waits
+abbrev pub FlagIsDown : (Unaccepted → Type 0) → PollerState → PollerState → Type 0
+FlagIsDown gave_none old new =
+    new.accepting ≡ false → ((old.accepting ≡ false) × (Contains new.batch 0 → ⊥)) ⊎ gave_none unaccepted.Blocked
+
 -- why accepting ends: it may, or a client was left to other pollers, or accept(2) was tried 4 times, or the seat is worn
 abbrev pub AcceptEnded : PollerState → Own → Type 0
 AcceptEnded p own = AcceptMayEnd p own ⊎ (HasLeft p ⊎ ((p.tries ≡ 0) ⊎ IsWorn own.seat))
@@ -150,15 +162,17 @@ pub record SweepMade (limit : ℕ) (old new : PollerState) (had has : Own) : Typ
   pub swept : new.swept ≡ swept_after limit old.second old.swept
 
 -- A round that began, and whose poll did not fail: it is refused exactly if the seat is worn then. It delivered what its
--- front reported, at a second that the clock may show. A sweep was made if one was due, accepting ended for a reason,
--- and no drop is left to be logged at this second
-pub record RoundEnded (result : Result (Unit {0}) ServerFault) (tells : ℕ → Type 0) (limit : ℕ) (old new : PollerState)
-    (has : Own) : Type 0 where
+-- front reported, at a second that the clock may show. A sweep was made if one was due, accepting ended for a reason, the
+-- accept flag is down and accept(2) starved only by an answer or as before, and no drop is left to be logged at this second
+pub record RoundEnded (result : Result (Unit {0}) ServerFault) (tells : ℕ → Type 0) (gave_none : Unaccepted → Type 0) (limit : ℕ)
+    (old new : PollerState) (has : Own) : Type 0 where
   pub answer : (result ≡ Err server_fault.Worn) ↔ IsWorn has.seat
   pub read : new.batch ≡ new.seen.reported
   pub second : tells new.second
   pub swept : new.swept ≡ swept_after limit old.second old.swept
   pub accepted : AcceptEnded new has
+  pub flag : IsWorn has.seat ⊎ FlagIsDown gave_none old new
+  pub starved : new.starved ≡ true → (old.starved ≡ true) ⊎ gave_none unaccepted.Starved
   pub closed : ListensToOpen new
   pub back : LooksForAll new has
   pub drops : AreLogged new.second new.episodes.drops

@@ -1,7 +1,7 @@
 //! What a poller keeps between its rounds.
-ghost use Rattle.std.specs.Prelude.{◌≡◌, ◌||◌, if◌then◌else◌, ◌-◌, ◌<◌, ◌≤◌, ◌↔◌, length, IfOk, OnOk, OnErr, IsTrue, slice_set, true, false};
+ghost use Rattle.std.specs.{Prelude.{◌≡◌, ◌||◌, if◌then◌else◌, ◌-◌, ◌<◌, ◌≤◌, ◌↔◌, length, IfOk, IfErr, OnOk, OnErr, IsTrue, slice_set, true, false}, IoError.error_kind};
 ghost use Rattle.token.specs.Names.{last_generation};
-ghost use Rattle.dispatch.specs.Splits.{IsIn};
+ghost use Rattle.dispatch.specs.{Splits.IsIn, Told.unaccepted_of};
 ghost use Rattle.rounds.specs.{Episodes.{all_logged_at, opened_after, AreLogged}, Openings.{fresh_poller, DropLogged}, Pollers.{AreGenerations, IsOwnTable, HasOpenedAll, counted_up, max_accepts}};
 ghost use Rattle.dispatch.specs.Acts as act;
 
@@ -213,6 +213,7 @@ impl<F: Front> Poller<F> {
     pub(crate) fn accept(&mut self) -> io::Result<(F::Client, Uncounted)>
         ensures accepted { OnOk result (self.new ≡ record self.old { tries = self.old.tries - 1; starved = false }) }
         ensures refused { OnErr result (self.new ≡ record self.old { tries = self.old.tries - 1 }) }
+        ensures none { IfErr result (λ error. F.gave_none (unaccepted_of (error_kind error))) }
     {
         self.tries = self.tries.saturating_sub(1);
         let client = self.front.accept()?;

@@ -1,7 +1,7 @@
 //! A round of the poller.
 ghost use Rattle.std.specs.{Prelude.{◌≡◌, ◌⊎◌, ◌+◌, ◌-◌, ◌<◌, ◌≤◌, ◌↔◌, [], length, Err, IsNone, IsOk, IfErr, IsTrue, MatchResult, Contains, true, false}, IoError.error_kind, declared.io.ErrorKind.TheVariants.Interrupted};
 ghost use Rattle.ready.specs.Steps.{HeldOnce};
-ghost use Rattle.rounds.specs.{Acts.{Delivered, all_reported}, Episodes.{episodes_after, flag_after, starved_after}, Openings.{AreIn, Between, OnlyTook, AcceptDone, OneAccepted, OnlyAccepted}, Pollers.{HasOpenedAll, max_accepts, spare_room}, Rounds.{AcceptEnded, EndedEarly, HasLeft, IsFull, IsOver, ListensNoMore, ListensToOpen, Looked, LooksForAll, MayAccept, MayNotWait, MayWait, MayWaitBriefly, NoSlot, NoneToAccept, NotBegun, OnlyListens, RoundDone, RoundEnded, RoundKeeps, RoundRefused, TookAll, WaitLasted, WaitedAsMay, WaitsAsMay}};
+ghost use Rattle.rounds.specs.{Acts.{Delivered, all_reported}, Episodes.{episodes_after, flag_after, starved_after}, Openings.{AreIn, Between, OnlyTook, AcceptDone, OneAccepted, OnlyAccepted}, Pollers.{HasOpenedAll, max_accepts, spare_room}, Rounds.{AcceptEnded, EndedEarly, HasLeft, IsFull, IsOver, ListensNoMore, ListensToOpen, Looked, LooksForAll, MayAccept, MayNotWait, MayWait, MayWaitBriefly, NoSlot, NoneToAccept, NotBegun, OnlyAnswered, OnlyListens, RoundDone, RoundEnded, RoundKeeps, RoundRefused, TookAll, WaitLasted, WaitedAsMay, WaitsAsMay}};
 ghost use Rattle.dispatch.specs.{Hands.ticket_room, Posts.IsWorn, Told.unaccepted_of};
 
 use crate::delivering::deliver;
@@ -56,7 +56,7 @@ pub fn poller_round<F: Front, C: Clock, R: Wait + Log>(
     ensures waits { EndedEarly shared.now.claims.words own.old ⊎ WaitedAsMay timing.now.limit poller.old poller.new own.old }
     ensures round { RoundDone poller.old poller.new own.old own.new }
     ensures ended { EndedEarly shared.now.claims.words own.old ⊎ ((result ≡ Err ServerFault.Poll)
-        ⊎ RoundEnded result (C.tells timing.now.clock.now) timing.now.limit poller.old poller.new own.new) }
+        ⊎ RoundEnded result (C.tells timing.now.clock.now) F.gave_none timing.now.limit poller.old poller.new own.new) }
     ensures keeps { RoundKeeps timing.now.limit poller.old poller.new own.old own.new }
     ensures refused { IfErr result (λ fault. RoundRefused fault poller.old poller.new own.old own.new) }
 {
@@ -248,6 +248,7 @@ fn accept<F: Front, R: Wait + Log>(
     ensures between { Between shared.now.claims own.new poller.new }
     ensures done { AcceptDone poller.old poller.new own.old own.new }
     ensures ended { AcceptEnded poller.new own.new }
+    ensures answered { OnlyAnswered F.gave_none poller.old poller.new }
     ensures still { IsWorn own.old.seat → own.new.seat ≡ own.old.seat }
     ensures ready { own.new.ready ≡ own.old.ready }
     ensures poller { OnlyAccepted poller.old poller.new }
@@ -292,6 +293,7 @@ fn accept_next<F: Front, R: Wait + Log>(
     ensures ready { own.new.ready ≡ own.old.ready }
     ensures tries { result ≡ true → poller.new.tries ≡ poller.old.tries - 1 }
     ensures ended { result ≡ false → (poller.new.starved ≡ true) ⊎ (HasLeft poller.new ⊎ IsWorn own.new.seat) }
+    ensures answered { OnlyAnswered F.gave_none poller.old poller.new }
     ensures poller { OnlyAccepted poller.old poller.new }
 {
     if own.seat.is_worn() {
@@ -344,6 +346,8 @@ fn not_accepted<F: Front, R: Log>(
     poller: &mut Poller<F>,
     error: &io::Error,
 ) -> Unaccepted
+    requires none { F.gave_none (unaccepted_of (error_kind error.now)) }
+    ensures answered { OnlyAnswered F.gave_none poller.old poller.new }
     ensures class { result ≡ unaccepted_of (error_kind error.now) }
     ensures flag { poller.new ≡ record poller.old {
       accepting = flag_after result poller.old.accepting;

@@ -1,5 +1,5 @@
 use Rattle.std.proofs.Common.{inl, inr, refl, ◌∙◌, arith}
-use Rattle.rounds.proofs.Rounds.{accept_and_took, accept_both, accept_took, between_took, ended_by, room_same, still, worn_on}
+use Rattle.rounds.proofs.Rounds.{accept_and_took, accept_both, accept_took, answered_both, answered_none, between_took, ended_by, room_same, still, worn_on}
 use Rattle.rounds.proofs.round.accept.Goals as goal
 
 pub loop-try-init : goal.loop-try-init
@@ -12,6 +12,7 @@ loop-try-init g c =
       done = accept_took (rw (c.reset_tries.ensures, full.poller) (still c.args.poller.now)) full.took;
       poller = rw (c.reset_tries.ensures, full.poller);
       still = λ worn. full.took.seat;
+      answered = answered_none (rw (c.reset_tries.ensures, full.poller)) (inl (rw (c.reset_tries.ensures, full.poller)));
     }
 
 pub accept_next-requires : goal.accept_next-requires
@@ -36,6 +37,7 @@ returns-then-not-may_accept g c =
       ready = took.ready ∙ before.done.connected.ready;
       poller = before.poller;
       still = λ worn. took.seat ∙ before.still worn;
+      answered = before.answered;
     }
 
 pub returns-then-not-accept_next : goal.returns-then-not-accept_next
@@ -46,6 +48,7 @@ returns-then-not-accept_next g c = record {
   ready = c.accept_next.ensures.ready ∙ c.may_accept.ensures.took.ready ∙ c.loop-try.invariant.done.connected.ready;
   poller = rw (c.accept_next.ensures.poller, c.loop-try.invariant.poller);
   still = worn_on c.loop-try.invariant.still c.may_accept.ensures.took.seat c.accept_next.ensures.still;
+  answered = answered_both c.loop-try.invariant.answered c.accept_next.ensures.answered;
 }
 
 pub loop-try-preserved : goal.loop-try-preserved
@@ -59,4 +62,5 @@ loop-try-preserved g c =
       done = accept_both (accept_and_took before.done c.may_accept.ensures.took) tried.done.done;
       poller = rw (c.accept_next.ensures.poller, before.poller);
       still = worn_on before.still c.may_accept.ensures.took.seat tried.still;
+      answered = answered_both before.answered tried.answered;
     }

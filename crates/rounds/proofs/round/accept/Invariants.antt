@@ -1,6 +1,6 @@
 use Rattle.std.proofs.Common.{◌≡◌, ◌+◌, ◌≤◌}
 use Rattle.dispatch.specs.{Hands.ticket_room, Posts.IsWorn}
-use Rattle.rounds.specs.Openings.{Between, AcceptDone, OnlyAccepted}
+use Rattle.rounds.specs.{Openings.{Between, AcceptDone, OnlyAccepted}, Rounds.OnlyAnswered}
 use Rattle.rounds.proofs.round.accept.Given as goal
 
 -- each try takes at most one ticket in hand
@@ -12,4 +12,5 @@ invariant-loop-try g l = record {
   done : AcceptDone l.fn.poller l.poller l.fn.own l.own;
   poller : OnlyAccepted l.fn.poller l.poller;
   still : IsWorn l.fn.own.seat → l.own.seat ≡ l.fn.own.seat;
+  answered : OnlyAnswered g.F.Front.gave_none l.fn.poller l.poller;
 }

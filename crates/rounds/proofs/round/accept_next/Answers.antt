@@ -1,5 +1,5 @@
-use Rattle.std.proofs.Common.{arith}
-use Rattle.rounds.proofs.Rounds.{accept_both, accept_none, not_worn, still, unless}
+use Rattle.std.proofs.Common.{arith, inl, inr, refl}
+use Rattle.rounds.proofs.Rounds.{accept_both, accept_none, answered_both, answered_none, not_worn, still, unless}
 use Rattle.rounds.proofs.round.accept_next.Goals as goal
 
 pub returns-then-is_worn-clause-done : goal.returns-then-is_worn-clause-done
@@ -30,3 +30,17 @@ returns-in-Err-clause-poller g c = rw (c.not_accepted.ensures.flag, c.in-Err.ens
 
 pub returns-in-Ok-clause-poller : goal.returns-in-Ok-clause-poller
 returns-in-Ok-clause-poller g c = rw (c.open.ensures.poller, c.in-Ok.ensures.accepted, c.leaves.ensures)
+
+pub returns-then-is_worn-clause-answered : goal.returns-then-is_worn-clause-answered
+returns-then-is_worn-clause-answered g c = answered_none refl (inl refl)
+
+pub returns-then-leaves-clause-answered : goal.returns-then-leaves-clause-answered
+returns-then-leaves-clause-answered g c = answered_none (rw c.leaves.ensures) (inl (rw c.leaves.ensures))
+
+pub returns-in-Err-clause-answered : goal.returns-in-Err-clause-answered
+returns-in-Err-clause-answered g c =
+    answered_both (answered_none (rw (c.in-Err.ensures.refused, c.leaves.ensures)) (inl (rw (c.in-Err.ensures.refused, c.leaves.ensures)))) c.not_accepted.ensures.answered
+
+pub returns-in-Ok-clause-answered : goal.returns-in-Ok-clause-answered
+returns-in-Ok-clause-answered g c =
+    answered_none (rw (c.open.ensures.poller, c.in-Ok.ensures.accepted, c.leaves.ensures)) (inr (rw (c.open.ensures.poller, c.in-Ok.ensures.accepted)))

@@ -1,5 +1,5 @@
 use Rattle.std.proofs.Common.{refl, inl, inr, arith}
-use Rattle.rounds.proofs.{Rounds.{accept_both, accept_took, between_still, between_took, room_same, still, took_none, worn_on, answered, Lasting, begun_not_early, ended_still, keeps, listens_still, looked_lasts, over_before, round_ended, round_of}, Acts.{few_tickets, capacity_kept, reported_le, few_sweep}}
+use Rattle.rounds.proofs.{Rounds.{accept_both, accept_took, between_still, between_took, room_same, still, took_none, worn_on, answered, Lasting, begun_not_early, ended_still, flag_ended, keeps, listens_still, looked_lasts, over_before, round_ended, round_of}, Acts.{few_tickets, capacity_kept, reported_le, few_sweep}}
 use Rattle.rounds.specs.Rounds.{Looked}
 use Rattle.rounds.proofs.round.poller_round.Goals as goal
 
@@ -100,6 +100,10 @@ returns g c =
         second = rw (end, told, accepted.poller) c.keep_time.ensures.told;
         swept = rw (end, told, accepted.poller) swept;
         accepted = ended_still (rw told c.accept.ensures.ended) end back.unlimited;
+        flag = flag_ended g.F.Front.gave_none c.args.poller.now c.look.new.poller c.deliver_batch.new.poller c.keep_time.new.poller c.take_back.new.poller begun
+            still_all delivered.flag (rw timed.poller) (rw (end, told, accepted.poller, timed.poller, delivered.poller))
+            (λ down. accepted.answered.flag (rw (end, told) at down));
+        starved = λ starved. rw (timed.poller, delivered.poller, looked.poller, c.begin.ensures.poller) at (accepted.answered.starved (rw (end, told) at starved));
         closed = back.closed;
         back = back.all;
         drops = rw end c.log_counted.ensures.all;
