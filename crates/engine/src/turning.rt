@@ -1,5 +1,5 @@
 //! A turn: steps until there is no next call or the budget is spent.
-ghost use Rattle.std.specs.Prelude.{◌≡◌, ◌≤◌, Some};
+ghost use Rattle.std.specs.Prelude.{◌≡◌, ◌≤◌, None, Some};
 ghost use Rattle.relay_core.specs.{Order.next_call, Idle.expired, Laws.IsPossible};
 ghost use Rattle.engine.specs.{Steps.IsMove, Turns.{outcome_of, IsServed, IsTurn}};
 
@@ -64,7 +64,7 @@ pub fn turn_with<A: Wire, B: Wire>(
 {
     for _calls in 0..budget {
         let Some(call) = pair.next() else {
-            return finish(pair, moment);
+            return rest(pair, moment);
         };
         advance(pair, call, moment.second, client, target, buffer);
     }
@@ -91,15 +91,26 @@ fn advance<A: Wire, B: Wire>(
     }
 }
 
-/// The outcome. A live pair without a next call fails here if the idle limit has passed.
+/// The outcome once the budget is spent.
 fn finish(pair: &mut Pair, moment: Moment) -> Turn
+    ensures outcome { result ≡ outcome_of pair.new }
+    ensures held { pair.new ≡ expired moment.second moment.limit pair.old }
+{
+    if pair.next().is_some() {
+        return Turn::Again;
+    }
+    rest(pair, moment)
+}
+
+/// The outcome without a next call. A live pair fails here if the idle limit has passed.
+fn rest(pair: &mut Pair, moment: Moment) -> Turn
+    requires none { next_call pair.old ≡ None }
     ensures outcome { result ≡ outcome_of pair.new }
     ensures held { pair.new ≡ expired moment.second moment.limit pair.old }
 {
     match pair.verdict() {
         Verdict::Done => Turn::Done,
         Verdict::Failed(_) => Turn::Failed,
-        Verdict::Live if pair.next().is_some() => Turn::Again,
         Verdict::Live if pair.expire(moment.second, moment.limit) => Turn::Failed,
         Verdict::Live => Turn::Quiet,
     }

@@ -9,7 +9,7 @@ pub loop-calls-preserved : goal.loop-calls-preserved
 loop-calls-preserved g c = goes_on c.loop-calls.invariant c.advance.ensures
 
 pub returns-in_default-clause-run : goal.returns-in_default-clause-run
-returns-in_default-clause-run g c = ends (omega arith) (inl (cc)) c.finish.ensures.held c.loop-calls.invariant
+returns-in_default-clause-run g c = ends (omega arith) (inl (cc)) c.rest.ensures.held c.loop-calls.invariant
 
 pub returns-clause-run : goal.returns-clause-run
-returns-clause-run g c = ends (omega arith) (inr (omega arith)) c.finish-2.ensures.held c.loop-calls.invariant
+returns-clause-run g c = ends (omega arith) (inr (omega arith)) c.finish.ensures.held c.loop-calls.invariant
