@@ -120,11 +120,11 @@ pub trait Moves<F: Front>: Acts {
     ghost use Rattle.dispatch.specs.declared.places.Berth.{Berth};
     ghost use Rattle.dispatch.specs.Acts as act;
 
-    // The last act took this connection out of its place, put it in, or closed it.
-    ghost moved: { Berth F.Client F.Target → Self → Type 0 };
+    // The last act took this connection out of its place, or found none there.
+    ghost found: { Option (Berth F.Client F.Target) → Self → Type 0 };
 
-    // The last act looked into a place, and found a connection of this generation, or none.
-    ghost found: { Option ℕ → Self → Type 0 };
+    // The last act put this connection into its place, or closed it.
+    ghost moved: { Berth F.Client F.Target → Self → Type 0 };
 
     // This event was counted at a slot.
     ghost counted: { ℕ → Event → Self → Type 0 };
@@ -155,8 +155,7 @@ pub trait Moves<F: Front>: Acts {
         requires inside { slot < places.now }
         requires holder { Holds seat.now slot }
         ensures made { Self.made act.TakeOut slot self.old self.new }
-        ensures moved { IfSome result (λ berth. moved berth.value self.new) }
-        ensures found { IfSome result (λ berth. found (Some berth.value.pair.generation) self.new) }
+        ensures found { IfSome result (λ berth. found (Some berth.value) self.new) }
         ensures empty { IsNone result → found None self.new };
 
     /// [`Places::put_in`].

@@ -414,6 +414,7 @@ answered_both {gave} {p} {q} {r} first then = record { flag = λ down. flag (the
   flag : (q.accepting ≡ false) ⊎ gave Blocked → (p.accepting ≡ false) ⊎ gave Blocked
   flag (inl down) = first.flag down
   flag (inr gave) = inr gave
+
   lack : (q.starved ≡ true) ⊎ gave Starved → (p.starved ≡ true) ⊎ gave Starved
   lack (inl starved) = first.starved starved
   lack (inr gave) = inr gave

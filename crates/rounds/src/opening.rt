@@ -65,7 +65,7 @@ pub fn open<F: Front + Counting, A: Moves<F>, R: Wait + Logs>(
     ensures between { Between shared.now.claims own.new poller.new }
     ensures counted { IfSome (slice_get own.old.hand.slots 0) (λ slot. Fate slot
         (OpeningLogged (R.logged rt.now) F.counted (next_in poller.old slot)
-            × OpensFresh A.moved A.made (F.may_tell client) poller.old (next_in poller.old slot) acts.old acts.new)
+        × OpensFresh A.moved A.made (F.may_tell client) poller.old (next_in poller.old slot) acts.old acts.new)
         (DropCounted F.counted F.lacked slot) (λ made. AreMade A.made slot made acts.old acts.new)
         poller.old poller.new own.old.seat own.new.seat) }
     ensures done { IsWorn own.old.seat ⊎ OneAccepted poller.old poller.new own.old own.new }
@@ -327,7 +327,7 @@ fn place<F: Front + Counting, A: Moves<F>, R: Wait + Logs>(
     requires room { 1 ≤ ticket_room own.old.hand }
     ensures between { Between shared.now.claims own.new poller.new }
     ensures placed { Placed (λ t. OpeningLogged (R.logged rt.now) F.counted t
-            × AreMade (Putting A.moved A.made berth.value) ticket.slot placing acts.old acts.new)
+        × AreMade (Putting A.moved A.made berth.value) ticket.slot placing acts.old acts.new)
         (λ made. AreMade A.made ticket.slot made acts.old acts.new) ticket poller.old poller.new own.old own.new }
     ensures poller { OnlyOpened poller.old poller.new }
     ensures ready { own.new.ready ≡ own.old.ready }

@@ -3,8 +3,8 @@ use Rattle.std.{proofs.{Common.{◌≡◌, ◌≢◌, ℕ, zero, suc, ◌+◌, �
 use Rattle.claims.specs.{declared.view.Exchange.Exchange, Views.minted_by, Seats.SeatState}
 use Rattle.ready.specs.{declared.ticket.Ticket.Ticket, Steps.EndState}
 use Rattle.relay_log.specs.declared.faults.ServerFault.{ServerFault, TheVariants.Worn}
-use Rattle.dispatch.{proofs.Outgoing.took_both, specs.{declared.shared.Own.Own, Acts.Act, Hands.HandState, Outgoing.{Inserted, outgoing, tickets_out, slots_out, without_first}, Heavy.looked_at, Limits.own_turns, Posts.OnlyWorn}}
-use Rattle.turns.specs.{declared.worker.Worked.Worked, Shares.{AreShared, OneShared, TicketsShared}, Turns.{TicketsKept, SlotsKept, TurnMade, WorkerTurn, OldestRan, OwnTurn, program}}
+use Rattle.dispatch.{proofs.Outgoing.took_both, specs.{declared.shared.Own.Own, Acts.Made, Hands.HandState, Outgoing.{Inserted, outgoing, tickets_out, slots_out, without_first}, Heavy.looked_at, Limits.own_turns, Posts.OnlyWorn}}
+use Rattle.turns.specs.{declared.worker.Worked.Worked, Shares.{AreShared, OneShared, TicketsShared}, Turns.{TicketsKept, SlotsKept, TurnMade, WorkerTurn, OldestRan, OwnTurn, Handled, Playing, program}}
 use Rattle.threads.{proofs.Divided.End, specs.{declared.ending.{Ended.Ended, Why.{Why, TheVariants.{FaultFound, Met}}}, Loops.{faults_by, times_of, freed, Run, tickets_of, act_of, acts_of, due_from, fault_in, faults_of, IsRun, TurnsMade, takes_of, times_by, times_given, SlotsGiven, Changes, OthersKept, OneRan, tickets_in, Took, WorkerMayEnd, WorkerEnded, WorkerRan, OwnTurnsRan, SharedAndRan, TurnsCut, WornEnd, NoTicketTaken, Asked, RoundMade, RoundCut, TurnsAfter, StepCut, StepsMade, IsPollerAct, PollerRan, opened_by, openings_of}}}
 use Rattle.rounds.{specs.{Pollers.PollerState, Rounds.{RoundDone, RoundRefused, ListenerKept}, Acts.{SeatAct, made_by, due_of, IsPost, IsTry}, Openings.{slots_in, times}}, proofs.Acts.{all_none, all_one, acts_none, acts_one, acts_both, at_slot-append, due-append}}
 use Rattle.turns.specs.declared.worker.Worked.TheVariants as worked
@@ -242,9 +242,9 @@ module _ {t : Ticket} {a b : Own} (took : Took t a b) where
   }
 
 -- a worker's turn, between two exchanges of its ends
-pub one_ran : {words p : ℕ} {t : Ticket} {answer : Result Worked ServerFault} {S : Type 0} {acts : Option ℕ → Act → ℕ → S → S → Type 0} {from to : S} {a c : Own} {g h i : End}
+pub one_ran : {words p : ℕ} {t : Ticket} {answer : Result Worked ServerFault} {S C T : Type 0} {acts : Handled C T → Made S} {plays : Playing C T} {from to : S} {a c : Own} {g h i : End}
     {hand : HandState} {xs ys zs : List End}
-    → a.seat.table.words ≡ words → Changes p a.free g xs ys → WorkerTurn acts words t answer (record a { free = g }) c from to → hand.tickets ≡ c.hand.tickets
+    → a.seat.table.words ≡ words → Changes p a.free g xs ys → WorkerTurn acts plays words t answer (record a { free = g }) c from to → hand.tickets ≡ c.hand.tickets
     → h.history.taken ≡ c.free.history.taken → outgoing h.history hand.slots ≡ slots_out c → Changes p h i ys zs
     → OneRan t answer a (record c { free = i; hand = hand }) xs zs
 one_ran {p = p} {t = t} {answer = answer} {a = a} {c = c} {g = g} {h = h} {hand = hand} same one made tickets took slots two =
@@ -326,8 +326,8 @@ own_both one two = record {
 }
 
 -- the oldest ticket in hand was run
-own_one : {words : ℕ} {answer : Result Worked ServerFault} {S : Type 0} {acts : Option ℕ → Act → ℕ → S → S → Type 0} {from to : S} {a b : Own} → a.seat.table.words ≡ words
-    → OldestRan acts words answer a b from to → OwnTurnsRan 1 (fault_in answer) a b
+own_one : {words : ℕ} {answer : Result Worked ServerFault} {S C T : Type 0} {acts : Handled C T → Made S} {plays : Playing C T} {from to : S} {a b : Own} → a.seat.table.words ≡ words
+    → OldestRan acts plays words answer a b from to → OwnTurnsRan 1 (fault_in answer) a b
 own_one {answer = answer} {a = a} {b = b} same run =
     let t = run.ticket in
     let made = run.turn.0 in
@@ -352,11 +352,11 @@ abbrev pub OwnRan : Result (Option Worked) ServerFault → Own → Own → Type 
 OwnRan (Ok worked) a b = OnSome worked (OwnTurnsRan 1 [] a b)
 OwnRan (Err fault) a b = OwnTurnsRan 1 (fault ∷ []) a b
 
-pub own_turn_ran : (words : ℕ) {S : Type 0} (acts : Option ℕ → Act → ℕ → S → S → Type 0) (from to : S) (result : Result (Option Worked) ServerFault) (a b : Own)
-    → a.seat.table.words ≡ words → OwnTurn acts words result a b from to → OwnRan result a b
-own_turn_ran words acts from to (Ok None) a b same turn = tt
-own_turn_ran words acts from to (Ok (Some worked)) a b same turn = own_one same turn
-own_turn_ran words acts from to (Err fault) a b same turn = own_one same turn
+pub own_turn_ran : (words : ℕ) {S C T : Type 0} (acts : Handled C T → Made S) (plays : Playing C T) (from to : S) (result : Result (Option Worked) ServerFault) (a b : Own)
+    → a.seat.table.words ≡ words → OwnTurn acts plays words result a b from to → OwnRan result a b
+own_turn_ran words acts plays from to (Ok None) a b same turn = tt
+own_turn_ran words acts plays from to (Ok (Some worked)) a b same turn = own_one same turn
+own_turn_ran words acts plays from to (Err fault) a b same turn = own_one same turn
 
 -- in the next turn the seat was worn
 pub cut_worn : {count : ℕ} {why : Why} {p r q : PollerState} {a b c : Own} → WornEnd why c → SharedAndRan count [] p r a b → OwnTurnsRan 1 (Worn ∷ []) b c

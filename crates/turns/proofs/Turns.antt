@@ -1,12 +1,13 @@
 -- The end of a turn, after the steps that took the notes and ran the connection; and the tickets in hand of which some
 -- were looked at: each of those is put, or after the others in hand.
 use Rattle.std.proofs.{Common.{◌≡◌, ◌≢◌, ◌==◌, ◌^◌, ◌⊎◌, ◌+◌, ◌↔◌, ◌<◌, ◌≤◌, ℕ, List, [], ◌∷◌, length, drop, slice_get, get_or, Bool, true, false, IsTrue, Option, Some, None, Result, Ok, Err, IfNone, IfSome, inl, inr, refl, sym, ap, ◌∙◌, arith, suc, ◌++◌, append_assoc, zero, nat_lt}, lemmas.{Option.{none-some, same_Some}, Bool.{eqb-true, eqb-false, ltb-true, ltb-false, false≢true}, List.{append-nil, drop_more, drop_all}}}
+use Rattle.std.specs.Option.{is_some}
 use Rattle.claims.{specs.{declared.{view.{Account.Account, Exchange.{Exchange, TheVariants.{Busy, Held, Take, Post}}}, answers.Posted.Posted}, Calls.PostChange, Views.{after_all, minted_by}, Seats.{TableId, SeatState, account_at, posts_of, Holds, HoldsNothing, OnlyAt, Adds}}, proofs.Seats.{adds_none, adds_both, account_after, minted_both, holds_nothing_again}}
-use Rattle.dispatch.{proofs.{Holding.{posts_still, woke_behind_post}, Outgoing.took_both}, specs.{declared.shared.Own.Own, Outgoing.{PutAll, TookNothing, outgoing, tickets_out, slots_out}, Posts.{AtRest, HoldsOnly, IsWorn}, Hands.HandState, Acts.{Act, Made}, Heavy.looked_at}}
+use Rattle.dispatch.{proofs.{Holding.{posts_still, woke_behind_post}, Outgoing.took_both}, specs.{declared.{places.Berth.Berth, shared.Own.Own}, Outgoing.{PutAll, TookNothing, outgoing, tickets_out, slots_out}, Posts.{AtRest, HoldsOnly, IsWorn}, Hands.HandState, Acts.{Act, AreMade, Made, giving, leaving}, Heavy.looked_at}}
 use Rattle.ready.specs.{declared.ticket.Ticket.Ticket, Steps.EndState}
 use Rattle.relay_log.specs.declared.faults.ServerFault.{ServerFault}
 use Rattle.token.specs.Names.{last_generation}
-use Rattle.turns.specs.{declared.worker.Worked.Worked, Turns.{answer_by, answer_of, if_posted, ActsLeft, Finding, Finds, WasHeld, TurnInOrder, program, acts_of, AtWork, TicketsKept, SlotGiven, SlotsKept, HandPut, TurnDone, TurnRest, LeftSlot, TurnMade, NoOwnTurn, marks_after}, Shares.{AreShared, IsLight, OneShared, Passed, Stays}}
+use Rattle.turns.specs.{declared.{terms.Terms.Terms, worker.Worked.Worked}, Turns.{answer_by, answer_of, if_posted, ActsLeft, Handled, Handles, Handling, IsLeft, Leaving, Playing, PlaysAt, PlaysBy, Serves, WasHeld, TurnInOrder, program, acts_of, AtWork, TicketsKept, SlotGiven, SlotsKept, HandPut, TurnDone, TurnRest, LeftSlot, TurnMade, NoOwnTurn, marks_after}, Shares.{AreShared, IsLight, OneShared, Passed, Stays}}
 use Rattle.claims.specs.declared.answers.Posted.TheVariants as posted
 use Rattle.turns.specs.declared.worker.Worked.TheVariants as worked
 use Rattle.dispatch.specs.Acts as act
@@ -72,109 +73,160 @@ done_after {t} {fs} {r} {a} {b} {c} es adds none same done =
     }
 
 -- what comes first in a turn that held its slot, and in what is left of it
-pub firsts : (r : Answer) → WasHeld r → (found noted notes g : ℕ) (place : Option ℕ) (woke : Bool)
+pub firsts : (r : Answer) → WasHeld r → (found noted notes g : ℕ) (other woke : Bool)
     → (Held found ∷ drop 1 (program r 0 noted woke) ≡ program r found noted woke)
     × (Take notes ∷ drop 2 (program r 0 noted woke) ≡ drop 1 (program r 0 notes woke))
-    × (acts_of r g place woke ≡ act.Claim ∷ drop 1 (acts_of r g place woke))
-firsts (Ok worked.Busy) held found noted notes g place woke = absurd held
-firsts _ held found noted notes g place woke = (refl, refl, refl)
+    × (acts_of r g other woke ≡ act.Claim ∷ drop 1 (acts_of r g other woke))
+firsts (Ok worked.Busy) held found noted notes g other woke = absurd held
+firsts _ held found noted notes g other woke = (refl, refl, refl)
 
 -- of one whose connection is due again
-pub again_firsts : (spent : Bool) (g : ℕ) (place : Option ℕ) (woke : Bool) → let r = answer_of (if_posted worked.Again spent) in
-    (drop 2 (acts_of r g place woke) ≡ act.TakeNotes ∷ drop 3 (acts_of r g place woke))
-    × (drop 3 (acts_of r g place woke) ≡ act.PutIn ∷ drop 4 (acts_of r g place woke))
-again_firsts true g place woke = (refl, refl)
-again_firsts false g place woke = (refl, refl)
+pub again_firsts : (spent : Bool) (g : ℕ) (other woke : Bool) → let r = answer_of (if_posted worked.Again spent) in
+    (drop 2 (acts_of r g other woke) ≡ act.TakeNotes ∷ drop 3 (acts_of r g other woke))
+    × (drop 3 (acts_of r g other woke) ≡ act.PutIn ∷ drop 4 (acts_of r g other woke))
+again_firsts true g other woke = (refl, refl)
+again_firsts false g other woke = (refl, refl)
 
 module _ {S : Type 0} {made : Made S} {t : Ticket} {a c : Own} {from mid to : S} where
-  pub act_first : {r : Answer} {place : Option ℕ} {e n : ℕ} {one : Act}
-      → ((woke : Bool) → drop n (acts_of r t.generation place woke) ≡ one ∷ drop (suc n) (acts_of r t.generation place woke))
-      → made one t.slot from mid → TurnRest made t r place e (suc n) a c mid to → TurnRest made t r place e n a c from to
+  pub act_first : {r : Answer} {other : Bool} {e n : ℕ} {one : Act}
+      → ((woke : Bool) → drop n (acts_of r t.generation other woke) ≡ one ∷ drop (suc n) (acts_of r t.generation other woke))
+      → made one t.slot from mid → TurnRest made t r other e (suc n) a c mid to → TurnRest made t r other e n a c from to
   act_first next first rest =
       record { noted = rest.noted; woke = rest.woke; held = rest.held; done = rest.done; acts = rw (next rest.woke) (mid, first, rest.acts) }
 
   -- the notes were taken, and then the turn came to its end
   pub played_then : {r : Answer} {notes : ℕ} {b : Own}
-      → ((woke : Bool) → drop 2 (acts_of r t.generation None woke) ≡ act.TakeNotes ∷ drop 3 (acts_of r t.generation None woke))
+      → ((woke : Bool) → drop 2 (acts_of r t.generation false woke) ≡ act.TakeNotes ∷ drop 3 (acts_of r t.generation false woke))
       → made act.TakeNotes t.slot from mid → Adds t.slot (Take notes ∷ []) a.seat b.seat → Still a b
-      → TurnRest made t r None 2 3 b c mid to → TurnRest made t r None 1 2 a c from to
+      → TurnRest made t r false 2 3 b c mid to → TurnRest made t r false 1 2 a c from to
   played_then {r} {notes} next first adds same rest = record {
     noted = notes;
     woke = rest.woke;
     held = rest.held;
-    done = rw (firsts r rest.held 0 rest.noted notes 0 None rest.woke).1 at (done_after (Take notes ∷ []) adds refl same rest.done);
+    done = rw (firsts r rest.held 0 rest.noted notes 0 false rest.woke).1 at (done_after (Take notes ∷ []) adds refl same rest.done);
     acts = rw (next rest.woke) (mid, first, rest.acts);
   }
 
-module _ {S : Type 0} (found : Option ℕ → S → Type 0) (made : Made S) (t : Ticket) (from mid to : S) where
-  -- acts behind the look into the place, when the ticket's connection was there
-  behind_own : (w : Worked) (spent woke : Bool) → let r = answer_of (if_posted w spent) in WasHeld r → (w ≡ worked.Gone → ⊥)
-      → ActsLeft made t r 2 None woke mid to → made act.TakeOut t.slot from mid → found (Some t.generation) mid
-      → Finds t r (Some t.generation) × ActsLeft (Finding found made (Some t.generation)) t r 1 (Some t.generation) woke from to
-  behind_own worked.Busy spent woke held own acts out is = absurd held
-  behind_own worked.Gone spent woke held own acts out is = absurd (own refl)
-  behind_own worked.Quiet spent true held own acts out is = (refl, (mid, (out, is), acts))
-  behind_own worked.Quiet spent false held own acts out is = (refl, (mid, (out, is), acts))
-  behind_own worked.Again false woke held own acts out is = (refl, (mid, (out, is), acts))
-  behind_own worked.Again true true held own acts out is = (refl, (mid, (out, is), acts))
-  behind_own worked.Again true false held own acts out is = (refl, (mid, (out, is), acts))
-  behind_own worked.Ended spent woke held own acts out is = by_last (nat_lt t.generation last_generation) refl where
-    by_last : (given : Bool) → nat_lt t.generation last_generation ≡ given
-        → Finds t (Ok worked.Ended) (Some t.generation)
-          × ActsLeft (Finding found made (Some t.generation)) t (Ok worked.Ended) 1 (Some t.generation) woke from to
-    by_last true less = rw less (refl, (mid, (out, is), rw less at acts))
-    by_last false less = rw less (refl, (mid, (out, is), rw less at acts))
+-- acts that put no connection in, and close none, are known as they are
 
-module _ {S : Type 0} (found : Option ℕ → S → Type 0) (made : Made S) {t : Ticket} {a c : Own} {from mid to : S} where
-  pub own_found : (w : Worked) (spent : Bool) → let r = answer_of (if_posted w spent) in (w ≡ worked.Gone → ⊥)
-      → made act.TakeOut t.slot from mid → found (Some t.generation) mid → TurnRest made t r None 1 2 a c mid to
-      → (place : Option ℕ) × Finds t r place × TurnRest (Finding found made place) t r place 1 1 a c from to
-  own_found w spent own out is rest =
-      let acts = behind_own found made t from mid to w spent rest.woke rest.held own rest.acts out is in
-      (Some t.generation, acts.0, record { noted = rest.noted; woke = rest.woke; held = rest.held; done = rest.done; acts = acts.1 })
+pub leaves_as : {S C T : Type 0} (moved : Berth C T → S → Type 0) (made : Made S) (left : Option (Berth C T)) (slot : ℕ) (woke : Bool) (from to : S)
+    → AreMade made slot (leaving woke) from to → AreMade (Leaving moved made left) slot (leaving woke) from to
+leaves_as moved made left slot true from to acts = acts
+leaves_as moved made left slot false from to acts = acts
+
+pub gives_as : {S C T : Type 0} (moved : Berth C T → S → Type 0) (made : Made S) (left : Option (Berth C T)) (slot : ℕ) (given : Bool) (from to : S)
+    → AreMade made slot (giving given) from to → AreMade (Leaving moved made left) slot (giving given) from to
+gives_as moved made left slot true from to acts = acts
+gives_as moved made left slot false from to acts = acts
+
+pub due_as : {S C T : Type 0} (moved : Berth C T → S → Type 0) (made : Made S) (left : Option (Berth C T)) {t : Ticket} {a b : Own} {from to : S} (spent : Bool)
+    → let r = answer_of (if_posted worked.Again spent) in TurnRest made t r false 2 4 a b from to → TurnRest (Leaving moved made left) t r false 2 4 a b from to
+due_as moved made left {t} {to = to} true rest = record {
+  noted = rest.noted;
+  woke = rest.woke;
+  held = tt;
+  done = rest.done;
+  acts = (rest.acts.0, rest.acts.1, leaves_as moved made left t.slot rest.woke rest.acts.0 to rest.acts.2);
+}
+due_as moved made left false rest = record { noted = rest.noted; woke = rest.woke; held = tt; done = rest.done; acts = rest.acts }
+
+-- What a turn did with the connection, and its acts from the look into the place on
+
+module _ {S C T : Type 0} (found : Option (Berth C T) → S → Type 0) (moved : Berth C T → S → Type 0) (made : Made S) (t : Ticket)
+    (old new : Berth C T) (from mid to : S) where
+  own_acts : (w : Worked) (spent woke : Bool) → let r = answer_of (if_posted w spent) in WasHeld r → (w ≡ worked.Gone → ⊥)
+      → ActsLeft (Leaving moved made (Some new)) t r 2 false woke mid to → made act.TakeOut t.slot from mid → found (Some old) mid
+      → ActsLeft (Handling found moved made (record { found = Some old; left = Some new })) t r 1 true woke from to
+  own_acts worked.Busy spent woke held own acts out is = absurd held
+  own_acts worked.Gone spent woke held own acts out is = absurd (own refl)
+  own_acts worked.Quiet spent true held own acts out is = (mid, (out, is), acts)
+  own_acts worked.Quiet spent false held own acts out is = (mid, (out, is), acts)
+  own_acts worked.Again false woke held own acts out is = (mid, (out, is), acts)
+  own_acts worked.Again true true held own acts out is = (mid, (out, is), acts)
+  own_acts worked.Again true false held own acts out is = (mid, (out, is), acts)
+  own_acts worked.Ended spent woke held own acts out is = by_last (nat_lt t.generation last_generation) refl where
+    by_last : (given : Bool) → nat_lt t.generation last_generation ≡ given
+        → ActsLeft (Handling found moved made (record { found = Some old; left = Some new })) t (Ok worked.Ended) 1 true woke from to
+    by_last true less = rw less (mid, (out, is), rw less at acts)
+    by_last false less = rw less (mid, (out, is), rw less at acts)
+
+module _ {C T : Type 0} (plays : Playing C T) (t : Ticket) (old new : Berth C T) where
+  own_handled : (w : Worked) (spent : Bool) → let r = answer_of (if_posted w spent) in (w ≡ worked.Gone → ⊥)
+      → old.pair.generation ≡ t.generation → plays old new → IsLeft (Ok w) new.pair → Handles plays t r (record { found = Some old; left = Some new })
+  own_handled worked.Busy spent own same played left = tt
+  own_handled worked.Gone spent own same played left = absurd (own refl)
+  own_handled worked.Quiet spent own same played left = (old, new, refl, refl, same, played, left)
+  own_handled worked.Again true own same played left = (old, new, refl, refl, same, played, left)
+  own_handled worked.Again false own same played left = (old, new, refl, refl, same, played, left)
+  own_handled worked.Ended spent own same played left = (old, new, refl, refl, same, played, left)
+
+module _ {S C T : Type 0} (found : Option (Berth C T) → S → Type 0) (moved : Berth C T → S → Type 0) (made : Made S) (plays : Playing C T)
+    {t : Ticket} {a c : Own} {from mid to : S} where
+  -- the ticket's connection was in the place
+  pub own_found : (w : Worked) (spent : Bool) (old new : Berth C T) → let r = answer_of (if_posted w spent) in (w ≡ worked.Gone → ⊥)
+      → old.pair.generation ≡ t.generation → plays old new → IsLeft (Ok w) new.pair → made act.TakeOut t.slot from mid → found (Some old) mid
+      → TurnRest (Leaving moved made (Some new)) t r false 1 2 a c mid to
+      → (h : Handled C T) × Handles plays t r h × TurnRest (Handling found moved made h) t r (is_some h.found) 1 1 a c from to
+  own_found w spent old new own same played left out is rest = (
+    record { found = Some old; left = Some new },
+    own_handled plays t old new w spent own same played left,
+    record {
+      noted = rest.noted;
+      woke = rest.woke;
+      held = rest.held;
+      done = rest.done;
+      acts = own_acts found moved made t old new from mid to w spent rest.woke rest.held own rest.acts out is;
+    },
+  )
 
   -- the place was empty
-  pub none_found : made act.TakeOut t.slot from mid → found None mid → TurnRest made t (Ok worked.Gone) None 1 2 a c mid to
-      → (place : Option ℕ) × Finds t (Ok worked.Gone) place × TurnRest (Finding found made place) t (Ok worked.Gone) place 1 1 a c from to
-  none_found out is rest = (None, λ some. none-some t.generation some, record {
-    noted = rest.noted; woke = rest.woke; held = tt; done = rest.done; acts = left rest.woke rest.acts }) where
-    left : (woke : Bool) → ActsLeft made t (Ok worked.Gone) 2 None woke mid to
-        → ActsLeft (Finding found made None) t (Ok worked.Gone) 1 None woke from to
+  pub none_found : made act.TakeOut t.slot from mid → found None mid → TurnRest made t (Ok worked.Gone) false 1 2 a c mid to
+      → (h : Handled C T) × Handles plays t (Ok worked.Gone) h × TurnRest (Handling found moved made h) t (Ok worked.Gone) (is_some h.found) 1 1 a c from to
+  none_found out is rest = (
+    record { found = None; left = None },
+    (tt, refl),
+    record { noted = rest.noted; woke = rest.woke; held = tt; done = rest.done; acts = left rest.woke rest.acts },
+  ) where
+    left : (woke : Bool) → ActsLeft made t (Ok worked.Gone) 2 false woke mid to
+        → ActsLeft (Handling found moved made (record { found = None; left = None })) t (Ok worked.Gone) 1 false woke from to
     left true acts = (mid, (out, is), acts)
     left false acts = (mid, (out, is), acts)
 
   -- another connection was in the place, and was put back
-  pub other_found : {back : S} {g : ℕ} → g ≢ t.generation → made act.TakeOut t.slot from mid → found (Some g) mid → made act.PutIn t.slot mid back
-      → TurnRest made t (Ok worked.Gone) None 1 2 a c back to
-      → (place : Option ℕ) × Finds t (Ok worked.Gone) place × TurnRest (Finding found made place) t (Ok worked.Gone) place 1 1 a c from to
-  other_found {back} {g} other out is put rest = (Some g, λ same. other (same_Some g t.generation same), record {
-    noted = rest.noted; woke = rest.woke; held = tt; done = rest.done; acts = left rest.woke rest.acts }) where
-    left : (woke : Bool) → ActsLeft made t (Ok worked.Gone) 2 None woke back to
-        → ActsLeft (Finding found made (Some g)) t (Ok worked.Gone) 1 (Some g) woke from to
-    left true acts = (mid, (out, is), (back, put, acts))
-    left false acts = (mid, (out, is), (back, put, acts))
+  pub other_found : {back : S} {other : Berth C T} → other.pair.generation ≢ t.generation → made act.TakeOut t.slot from mid → found (Some other) mid
+      → made act.PutIn t.slot mid back → moved other back → TurnRest made t (Ok worked.Gone) false 1 2 a c back to
+      → (h : Handled C T) × Handles plays t (Ok worked.Gone) h × TurnRest (Handling found moved made h) t (Ok worked.Gone) (is_some h.found) 1 1 a c from to
+  other_found {back} {other} differs out is put put_back rest = (
+    record { found = Some other; left = Some other },
+    (differs, refl),
+    record { noted = rest.noted; woke = rest.woke; held = tt; done = rest.done; acts = left rest.woke rest.acts },
+  ) where
+    left : (woke : Bool) → ActsLeft made t (Ok worked.Gone) 2 false woke back to
+        → ActsLeft (Handling found moved made (record { found = Some other; left = Some other })) t (Ok worked.Gone) 1 true woke from to
+    left true acts = (mid, (out, is), (back, (put, put_back), acts))
+    left false acts = (mid, (out, is), (back, (put, put_back), acts))
 
-module _ {S : Type 0} (made : Option ℕ → Made S) {t : Ticket} {words : ℕ} {a c : Own} {from mid to : S} where
+module _ {S C T : Type 0} (made : Handled C T → Made S) (plays : Playing C T) {t : Ticket} {words : ℕ} {a c : Own} {from mid to : S} where
   -- the slot was claimed, and then the turn went on
-  pub claimed_then : {r : Answer} {found : ℕ} {b : Own} → t.slot < words → ((place : Option ℕ) → made place act.Claim t.slot from mid)
+  pub claimed_then : {r : Answer} {found : ℕ} {b : Own} → t.slot < words → ((h : Handled C T) → made h act.Claim t.slot from mid)
       → Adds t.slot (Held found ∷ []) a.seat b.seat → Still a b
-      → (place : Option ℕ) × Finds t r place × TurnRest (made place) t r place 1 1 b c mid to → TurnInOrder made words t r a c from to
-  claimed_then {r = r} {found = found} within first adds same (place, finds, rest) =
-      let first_of = firsts r rest.held found rest.noted 0 t.generation place rest.woke in (
+      → (h : Handled C T) × Handles plays t r h × TurnRest (made h) t r (is_some h.found) 1 1 b c mid to → TurnInOrder made plays words t r a c from to
+  claimed_then {r = r} {found = found} within first adds same (h, handles, rest) =
+      let first_of = firsts r rest.held found rest.noted 0 t.generation (is_some h.found) rest.woke in (
         record {
           exchanges = Held found ∷ drop 1 (program r 0 rest.noted rest.woke);
           are = record { found = found; noted = rest.noted; woke = rest.woke; inside = λ lt. first_of.0; outside = λ past. absurd (omega arith) };
           done = done_after (Held found ∷ []) adds refl same rest.done;
           outside = λ past. absurd (omega arith);
         },
-        λ lt. (place, finds, rw first_of.2 (mid, first place, rest.acts)),
+        λ lt. (h, handles, rw first_of.2 (mid, first h, rest.acts)),
         λ past. absurd (omega arith),
       )
 
-module _ {S : Type 0} (made : Option ℕ → Made S) {t : Ticket} {words : ℕ} {a c : Own} {from to : S} where
+module _ {S C T : Type 0} (made : Handled C T → Made S) (plays : Playing C T) {t : Ticket} {words : ℕ} {a c : Own} {from to : S} where
   -- the slot was held by another
-  pub busy_made : t.slot < words → ((place : Option ℕ) → made place act.Claim t.slot from to) → Adds t.slot (Busy ∷ []) a.seat c.seat → Still a c
-      → TurnInOrder made words t (Ok worked.Busy) a c from to
+  pub busy_made : t.slot < words → ((h : Handled C T) → made h act.Claim t.slot from to) → Adds t.slot (Busy ∷ []) a.seat c.seat → Still a c
+      → TurnInOrder made plays words t (Ok worked.Busy) a c from to
   busy_made within first adds same = (
     record {
       exchanges = Busy ∷ [];
@@ -182,9 +234,26 @@ module _ {S : Type 0} (made : Option ℕ → Made S) {t : Ticket} {words : ℕ} 
       done = record { seat = adds; tickets = same.tickets; slots = same.slots; took = same.took };
       outside = λ past. absurd (omega arith);
     },
-    λ lt. (None, tt, (to, first None, refl)),
+    λ lt. (record { found = None; left = None }, tt, (to, first (record { found = None; left = None }), refl)),
     λ past. absurd (omega arith),
   )
+
+-- what is known of how a connection was played may be said in other words
+module _ {C T : Type 0} {P Q : Playing C T} (more : (a b : Berth C T) → P a b → Q a b) where
+  handles_more : (t : Ticket) (r : Answer) (h : Handled C T) → Handles P t r h → Handles Q t r h
+  handles_more t (Ok worked.Busy) h handles = tt
+  handles_more t (Ok worked.Gone) h handles = handles
+  handles_more t _ h (old, new, found, left, same, played, is) = (old, new, found, left, same, more old new played, is)
+
+  pub turn_more : {S : Type 0} (made : Handled C T → Made S) {words : ℕ} {t : Ticket} {r : Answer} {a b : Own} {from to : S}
+      → TurnInOrder made P words t r a b from to → TurnInOrder made Q words t r a b from to
+  turn_more made {t = t} {r = r} turn = (turn.0, λ lt. (let said = turn.1 lt in (said.0, handles_more t r said.0 said.1, said.2)), turn.2)
+
+-- by terms whose second the clock told
+pub plays_at : {C T : Type 0} (client : Serves C) (target : Serves T) {tells : ℕ → Type 0} {budget limit : ℕ} (terms : Terms) → tells terms.moment.second
+    → terms.budget ≡ budget → terms.moment.limit ≡ limit → (a b : Berth C T) → PlaysBy client target terms a b → PlaysAt client target tells budget limit a b
+plays_at client target terms told calls same a b (second, notes, played, is, pair, plays) =
+    (second, notes, played, rw is told, pair, rw (← calls, ← same) plays)
 
 -- a post by the slot's holder does not answer Wake
 pub posted_quiet : (slot : ℕ) (r : Posted) {a b : SeatState} → (r ≡ posted.Wake) ⊎ (r ≡ posted.Quiet) → Holds a slot → PostChange slot a r b → Adds slot (Post false ∷ []) a b
@@ -199,7 +268,7 @@ worn_is spent s is = grind (arith, eqb-true, eqb-false)
 -- the post was refused if the seat was worn, and the slot was released
 pub due_again : {S : Type 0} {made : Made S} {t : Ticket} {a b c : Own} {from mid to : S} (r : Posted) → (r ≡ posted.Worn ↔ IsWorn a.seat)
     → PostChange t.slot a.seat r b.seat → Holds a.seat t.slot → Still a b → made act.Post t.slot from mid → LeftSlot made t b c mid to
-    → TurnRest made t (answer_by a.seat worked.Again) None 2 4 a c from to
+    → TurnRest made t (answer_by a.seat worked.Again) false 2 4 a c from to
 due_again {a = a} posted.Worn spent change holds same first left =
     let done = done_after [] (rw change.0 (adds_none _ _)) refl same left.done in
     rw (worn_is true a.seat (λ is. spent.0 refl, λ is. refl)) (record {
@@ -250,10 +319,10 @@ refused_worn false worked.Again is made = tt
 refused_worn spent _ is made = tt
 
 -- what a turn was, by what its thread found before it and what it is answered
-pub turn_answered : {S : Type 0} (made : Option ℕ → Made S) (w : Worked) {claims : TableId} {t : Ticket} {spent : Bool} {r : Option Worked} {a b : Own} {from to : S}
-    → r ≡ if_posted w spent → (IsTrue spent ↔ IsWorn a.seat) → AtRest claims a → TurnInOrder made claims.words t (answer_by a.seat w) a b from to
-    → AtRest claims b × TurnInOrder made claims.words t (answer_of r) a b from to × IfNone r (IsWorn b.seat)
-turn_answered made w {spent = spent} {a = a} said is rest turn =
+pub turn_answered : {S C T : Type 0} (made : Handled C T → Made S) (plays : Playing C T) (w : Worked) {claims : TableId} {t : Ticket} {spent : Bool} {r : Option Worked} {a b : Own} {from to : S}
+    → r ≡ if_posted w spent → (IsTrue spent ↔ IsWorn a.seat) → AtRest claims a → TurnInOrder made plays claims.words t (answer_by a.seat w) a b from to
+    → AtRest claims b × TurnInOrder made plays claims.words t (answer_of r) a b from to × IfNone r (IsWorn b.seat)
+turn_answered made plays w {spent = spent} {a = a} said is rest turn =
     let here = rw (worn_is spent a.seat is) at turn in
     rw said (
       record { same = turn.0.done.seat.only.table ∙ rest.same; idle = made_idle turn.0 rest.idle },

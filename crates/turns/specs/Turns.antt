@@ -1,13 +1,14 @@
 -- What a turn does to what its thread owns, by its answer. Part of the promises.
-use Rattle.std.specs.{Prelude.{◌≡◌, ◌≢◌, ◌⊎◌, ℕ, zero, suc, ◌<◌, ◌≤◌, ◌^◌, ◌==◌, Bool, true, false, nat_lt, if◌then◌else◌, Option, Some, None, Result, Ok, Err, List, [], ◌∷◌, drop, length, slice_get, slice_set}, Option.is_some}
+use Rattle.std.specs.{Prelude.{◌≡◌, ◌≢◌, ◌⊎◌, ℕ, zero, suc, ◌<◌, ◌≤◌, ◌^◌, ◌==◌, Bool, true, false, nat_lt, if◌then◌else◌, Option, Some, None, Result, Ok, Err, List, [], ◌∷◌, drop, length, slice_get, slice_set, IfSome}, Option.is_some}
 use Rattle.claims.specs.{declared.view.Exchange.{Exchange, TheVariants.{Post, Busy, Held, Take, Release, Retire}}, Views.minted_by, Seats.{SeatState, TableId, account_at, posts_of, Adds}}
 use Rattle.ready.specs.declared.ticket.Ticket.{Ticket}
 use Rattle.relay_core.specs.{Pairs.{PairState, noted}, Replies.AnswerValue, declared.Side.Side}
-use Rattle.engine.specs.Turns.{IsTurn}
+use Rattle.engine.specs.Turns.{IsTurn, outcome_of}
 use Rattle.turns.specs.declared.{terms.Terms.Terms, worker.Worked.Worked}
 use Rattle.relay_log.specs.declared.faults.ServerFault.{ServerFault, TheVariants.Worn}
-use Rattle.dispatch.specs.{declared.{places.Berth.Berth, shared.Own.Own}, Acts.{Act, Made, TakeOut, AreMade, busy_turn, gone_turn, quiet_turn, again_turn, ended_turn, leaving}, Hands.HasRoom, Limits.heavy_marks, Posts.HoldsOnly, Outgoing.{Inserted, KeepsTicket, KeepsSlot, PutAll, TookNothing, tickets_out, slots_out, without_first}}
+use Rattle.dispatch.specs.{declared.{places.Berth.Berth, shared.Own.Own}, Acts.{Act, Made, TakeOut, PutIn, Close, AreMade, busy_turn, gone_turn, quiet_turn, again_turn, ended_turn, leaving}, Hands.HasRoom, Limits.heavy_marks, Posts.HoldsOnly, Outgoing.{Inserted, KeepsTicket, KeepsSlot, PutAll, TookNothing, tickets_out, slots_out, without_first}}
 use Rattle.token.specs.Names.{last_generation}
+use Rattle.engine.specs.declared.outcome.Turn.TheVariants as turn
 use Rattle.turns.specs.declared.worker.Worked.TheVariants as worked
 
 -- after Again a note is posted, unless the seat was worn before
@@ -39,30 +40,19 @@ program (Ok worked.Again) found noted woke = Held found ∷ Take noted ∷ Post 
 program (Ok worked.Ended) found noted woke = Held found ∷ Take noted ∷ Retire ∷ []
 program (Err fault) found noted woke = Held found ∷ Take noted ∷ Release woke ∷ []
 
--- The acts of a turn but its calls, in order, by its answer and the ticket's generation. `found`: the generation of the
--- connection that was in the place. `woke`: the release answered Wake
-abbrev pub acts_of : Result Worked ServerFault → ℕ → Option ℕ → Bool → List Act
-acts_of (Ok worked.Busy) generation found woke = busy_turn
-acts_of (Ok worked.Gone) generation found woke = gone_turn (is_some found) woke
-acts_of (Ok worked.Quiet) generation found woke = quiet_turn woke
-acts_of (Ok worked.Again) generation found woke = again_turn true
-acts_of (Ok worked.Ended) generation found woke = ended_turn (nat_lt generation last_generation)
-acts_of (Err fault) generation found woke = again_turn woke
-
--- a turn is Gone exactly if its place did not have the ticket's connection; a busy one does not look
-abbrev pub Finds : Ticket → Result Worked ServerFault → Option ℕ → Type 0
-Finds ticket (Ok worked.Busy) found = Unit {0}
-Finds ticket (Ok worked.Gone) found = found ≢ Some ticket.generation
-Finds ticket result found = found ≡ Some ticket.generation
-
--- the acts of a turn, by what its place had: TakeOut found that, and the others are as they are
-abbrev pub Finding : {S : Type 0} → (Option ℕ → S → Type 0) → Made S → Option ℕ → Made S
-Finding found made place TakeOut slot from to = made TakeOut slot from to × found place to
-Finding found made place act slot from to = made act slot from to
+-- The acts of a turn but its calls, in order, by its answer and the ticket's generation. `other`: another connection
+-- was in the place. `woke`: the release answered Wake
+abbrev pub acts_of : Result Worked ServerFault → ℕ → Bool → Bool → List Act
+acts_of (Ok worked.Busy) generation other woke = busy_turn
+acts_of (Ok worked.Gone) generation other woke = gone_turn other woke
+acts_of (Ok worked.Quiet) generation other woke = quiet_turn woke
+acts_of (Ok worked.Again) generation other woke = again_turn true
+acts_of (Ok worked.Ended) generation other woke = ended_turn (nat_lt generation last_generation)
+acts_of (Err fault) generation other woke = again_turn woke
 
 -- the acts of a turn but its first n were made
-abbrev pub ActsLeft : {S : Type 0} → Made S → Ticket → Result Worked ServerFault → ℕ → Option ℕ → Bool → S → S → Type 0
-ActsLeft made ticket result n found woke from to = AreMade made ticket.slot (drop n (acts_of result ticket.generation found woke)) from to
+abbrev pub ActsLeft : {S : Type 0} → Made S → Ticket → Result Worked ServerFault → ℕ → Bool → Bool → S → S → Type 0
+ActsLeft made ticket result n other woke from to = AreMade made ticket.slot (drop n (acts_of result ticket.generation other woke)) from to
 
 -- the thread holds this slot of these claim words and no other, and its hand has room
 pub record AtWork (claims : TableId) (slot : ℕ) (own : Own) : Type 0 where
@@ -102,12 +92,12 @@ pub record TurnDone (ticket : Ticket) (exchanges : List Exchange) (result : Resu
 
 -- the rest of a turn, after `exchanged` of its exchanges and `acted` of its acts
 pub record TurnRest {S : Type 0} (made : Made S) (ticket : Ticket) (result : Result Worked ServerFault)
-    (found : Option ℕ) (exchanged acted : ℕ) (old new : Own) (from to : S) : Type 0 where
+    (other : Bool) (exchanged acted : ℕ) (old new : Own) (from to : S) : Type 0 where
   pub noted : ℕ
   pub woke : Bool
   pub held : WasHeld result
   pub done : TurnDone ticket (drop exchanged (program result 0 noted woke)) result old new
-  pub acts : ActsLeft made ticket result acted found woke from to
+  pub acts : ActsLeft made ticket result acted other woke from to
 
 -- a release alone, which answers Quiet only if the seat knew of no note
 pub record LeftSlot {S : Type 0} (made : Made S) (ticket : Ticket) (old new : Own) (from to : S) : Type 0 where
@@ -132,53 +122,6 @@ pub record TurnMade (words : ℕ) (ticket : Ticket) (result : Result Worked Serv
   pub done : TurnDone ticket exchanges result old new
   pub outside : words ≤ ticket.slot → new.seat ≡ old.seat
 
--- `TurnMade`, with the acts of the turn but its calls, in order, and with what it found in its place. If the claim words
--- lack the slot, no act is made
-abbrev pub TurnInOrder : {S : Type 0} → (Option ℕ → Made S) → ℕ → Ticket → Result Worked ServerFault → Own → Own → S → S → Type 0
-TurnInOrder made words ticket result old new from to =
-    (turn : TurnMade words ticket result old new)
-    × (ticket.slot < words → (found : Option ℕ) × Finds ticket result found
-        × ActsLeft (made found) ticket result 0 found turn.are.woke from to)
-    × (words ≤ ticket.slot → to ≡ from)
-
--- what was in hand was put, until nothing was left or the queue was full at one moment
-pub record HandPut (old new : Own) : Type 0 where
-  pub seat : new.seat ≡ old.seat
-  pub tickets : tickets_out new ≡ tickets_out old
-  pub slots : slots_out new ≡ slots_out old
-  pub took : TookNothing old new
-  pub all_tickets : PutAll new.ready new.hand.tickets
-  pub all_slots : PutAll new.free new.hand.slots
-
--- a worker's turn: what is in hand is put before anything else
-pub record WorkerTurn {S : Type 0} (made : Option ℕ → Made S) (words : ℕ) (ticket : Ticket) (result : Result Worked ServerFault)
-    (old new : Own) (from to : S) : Type 0 where
-  pub begun : Own
-  pub put : HandPut old begun
-  pub turn : TurnInOrder made words ticket result begun new from to
-
--- the oldest ticket in hand was taken out, and had its turn
-pub record OldestRan {S : Type 0} (made : Option ℕ → Made S) (words : ℕ) (result : Result Worked ServerFault) (old new : Own)
-    (from to : S) : Type 0 where
-  pub ticket : Ticket
-  pub oldest : slice_get old.hand.tickets 0 ≡ Some ticket
-  pub turn : TurnInOrder made words ticket result (without_first old) new from to
-
--- a poller's own turn. After None nothing has changed
-abbrev pub OwnTurn : {S : Type 0} → (Option ℕ → Made S) → ℕ → Result (Option Worked) ServerFault → Own → Own → S → S → Type 0
-OwnTurn made words (Ok None) old new from to = (new ≡ old) × (to ≡ from)
-OwnTurn made words (Ok (Some worked)) old new from to = OldestRan made words (Ok worked) old new from to
-OwnTurn made words (Err fault) old new from to = OldestRan made words (Err fault) old new from to
-
--- the heavy marks after an own turn: a slot whose connection spent the budget has all 16
-abbrev pub marks_after : Option Ticket → Result (Option Worked) ServerFault → List ℕ → List ℕ
-marks_after (Some ticket) (Ok (Some worked.Again)) heavy = slice_set heavy ticket.slot heavy_marks
-marks_after ticket result heavy = heavy
-
--- why a poller's thread runs no turn: no ticket is in hand, or no further slot fits there
-abbrev pub NoOwnTurn : Own → Type 0
-NoOwnTurn own = (own.hand.tickets ≡ []) ⊎ (own.hand.capacity ≤ length own.hand.slots)
-
 -- the pair, noted if there were notes
 abbrev pub noted_by : ℕ → PairState → PairState
 noted_by notes pair = if nat_lt 0 notes then noted pair else pair
@@ -192,3 +135,97 @@ abbrev pub Plays : {C T : Type 0} → Serves C → Serves T → Terms → ℕ �
 Plays client target terms notes old new =
     IsTurn terms.budget terms.moment.second terms.moment.limit (noted_by notes old.pair) new.pair
     (client terms.moment.second old.client new.client) (target terms.moment.second old.target new.target)
+
+-- how a connection is played: what it was, and what it is
+abbrev pub Playing : Type 0 → Type 0 → Type 1
+Playing C T = Berth C T → Berth C T → Type 0
+
+-- as its terms allow, at a second that the clock may show, with so many calls at most and this idle limit. What holds bytes
+-- back may have sent them after it
+abbrev pub PlaysAt : {C T : Type 0} → Serves C → Serves T → (ℕ → Type 0) → ℕ → ℕ → Playing C T
+PlaysAt {C} {T} client target tells budget limit old new =
+    (second notes : ℕ) × (played : Berth C T) × tells second × (new.pair ≡ played.pair)
+    × Plays client target (record { budget = budget; moment = record { second = second; limit = limit } }) notes old played
+
+-- by these terms
+abbrev pub PlaysBy : {C T : Type 0} → Serves C → Serves T → Terms → Playing C T
+PlaysBy client target terms = PlaysAt client target (λ second. second ≡ terms.moment.second) terms.budget terms.moment.limit
+
+-- What a turn did with its slot's connection: which it found in the place, and which it put in or closed
+pub record Handled (C T : Type 0) : Type 0 where
+  pub found : Option (Berth C T)
+  pub left : Option (Berth C T)
+
+-- what is known of a turn's acts, of which the one that puts a connection in or closes it does so with this one
+abbrev pub Leaving : {S C T : Type 0} → (Berth C T → S → Type 0) → Made S → Option (Berth C T) → Made S
+Leaving moved made left PutIn slot from to = made PutIn slot from to × IfSome left (λ berth. moved berth to)
+Leaving moved made left Close slot from to = made Close slot from to × IfSome left (λ berth. moved berth to)
+Leaving moved made left act slot from to = made act slot from to
+
+-- of these the one that looks into the place finds what it found
+abbrev pub Handling : {S C T : Type 0} → (Option (Berth C T) → S → Type 0) → (Berth C T → S → Type 0) → Made S → Handled C T → Made S
+Handling found moved made h TakeOut slot from to = made TakeOut slot from to × found h.found to
+Handling found moved made h act slot from to = Leaving moved made h.left act slot from to
+
+-- what is left of a connection after a turn with this answer
+abbrev pub IsLeft : Result Worked ServerFault → PairState → Type 0
+IsLeft (Ok worked.Ended) pair = (outcome_of pair ≡ turn.Done) ⊎ (outcome_of pair ≡ turn.Failed)
+IsLeft (Ok worked.Quiet) pair = outcome_of pair ≡ turn.Quiet
+IsLeft result pair = outcome_of pair ≡ turn.Again
+
+-- A turn that is Gone found no connection of the ticket's generation, and put back what it found. One that got its slot and is
+-- not Gone found the ticket's own, played it, and put it back or closed it. A busy turn does not look
+abbrev pub Handles : {C T : Type 0} → Playing C T → Ticket → Result Worked ServerFault → Handled C T → Type 0
+Handles plays ticket (Ok worked.Busy) h = Unit {0}
+Handles plays ticket (Ok worked.Gone) h = IfSome h.found (λ berth. berth.pair.generation ≢ ticket.generation) × (h.left ≡ h.found)
+Handles {C} {T} plays ticket result h = (old new : Berth C T) × (h.found ≡ Some old) × (h.left ≡ Some new)
+    × (old.pair.generation ≡ ticket.generation) × plays old new × IsLeft result new.pair
+
+-- `TurnMade`, with the acts of the turn but its calls, in order, and with what it did with the connection. If the claim
+-- words lack the slot, no act is made
+abbrev pub TurnInOrder : {S C T : Type 0} → (Handled C T → Made S) → Playing C T → ℕ → Ticket
+    → Result Worked ServerFault → Own → Own → S → S → Type 0
+TurnInOrder {C = C} {T = T} made plays words ticket result old new from to =
+    (turn : TurnMade words ticket result old new)
+    × (ticket.slot < words → (h : Handled C T) × Handles plays ticket result h
+    × ActsLeft (made h) ticket result 0 (is_some h.found) turn.are.woke from to)
+    × (words ≤ ticket.slot → to ≡ from)
+
+-- what was in hand was put, until nothing was left or the queue was full at one moment
+pub record HandPut (old new : Own) : Type 0 where
+  pub seat : new.seat ≡ old.seat
+  pub tickets : tickets_out new ≡ tickets_out old
+  pub slots : slots_out new ≡ slots_out old
+  pub took : TookNothing old new
+  pub all_tickets : PutAll new.ready new.hand.tickets
+  pub all_slots : PutAll new.free new.hand.slots
+
+-- a worker's turn: what is in hand is put before anything else
+pub record WorkerTurn {S C T : Type 0} (made : Handled C T → Made S) (plays : Playing C T) (words : ℕ) (ticket : Ticket)
+    (result : Result Worked ServerFault) (old new : Own) (from to : S) : Type 0 where
+  pub begun : Own
+  pub put : HandPut old begun
+  pub turn : TurnInOrder made plays words ticket result begun new from to
+
+-- the oldest ticket in hand was taken out, and had its turn
+pub record OldestRan {S C T : Type 0} (made : Handled C T → Made S) (plays : Playing C T) (words : ℕ)
+    (result : Result Worked ServerFault) (old new : Own) (from to : S) : Type 0 where
+  pub ticket : Ticket
+  pub oldest : slice_get old.hand.tickets 0 ≡ Some ticket
+  pub turn : TurnInOrder made plays words ticket result (without_first old) new from to
+
+-- a poller's own turn. After None nothing has changed
+abbrev pub OwnTurn : {S C T : Type 0} → (Handled C T → Made S) → Playing C T → ℕ
+    → Result (Option Worked) ServerFault → Own → Own → S → S → Type 0
+OwnTurn made plays words (Ok None) old new from to = (new ≡ old) × (to ≡ from)
+OwnTurn made plays words (Ok (Some worked)) old new from to = OldestRan made plays words (Ok worked) old new from to
+OwnTurn made plays words (Err fault) old new from to = OldestRan made plays words (Err fault) old new from to
+
+-- the heavy marks after an own turn: a slot whose connection spent the budget has all 16
+abbrev pub marks_after : Option Ticket → Result (Option Worked) ServerFault → List ℕ → List ℕ
+marks_after (Some ticket) (Ok (Some worked.Again)) heavy = slice_set heavy ticket.slot heavy_marks
+marks_after ticket result heavy = heavy
+
+-- why a poller's thread runs no turn: no ticket is in hand, or no further slot fits there
+abbrev pub NoOwnTurn : Own → Type 0
+NoOwnTurn own = (own.hand.tickets ≡ []) ⊎ (own.hand.capacity ≤ length own.hand.slots)

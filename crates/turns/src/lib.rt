@@ -10,14 +10,11 @@
 //!
 //! - A turn touches words, places, queues and what sockets hold back only by its acts ([`Acts`](dispatch::Acts),
 //!   [`Moves`](dispatch::Moves)), and makes these in the order of its program (`acts_of` of `specs/Turns.antt`).
-//! - A place is reached by these acts alone (`Places`). A turn is Gone exactly if its place did not have the ticket's
-//!   connection (`Finds`).
-//! - The connection that is put back or closed is the one that was taken out (`Visit`, which cannot be dropped; `moved`
-//!   of `take_out`, `put_in` and `close`). Its bytes, or its end, are counted at its slot (`counted`). It has a turn of
-//!   `engine` only if its generation is the ticket's (`run`: `own`): at its terms' moment, with at most its terms' calls,
-//!   and with its flags raised if notes were taken (`play`: `run`). After that it is put back for Again and Quiet alone,
-//!   for Quiet once both wires hold nothing back (`leave_settled`: `client`, `target`), and closed for Done and Failed
-//!   alone (`due`, `quiet`, `over`).
+//! - A place is reached by these acts alone (`Places`). What a turn found there, how it played that, and what it put back
+//!   or closed is said of its acts (`Handles` and `PlaysAt` of `specs/Turns.antt`).
+//! - The connection that is put back or closed is the one that was taken out (`Visit`, which cannot be dropped). Its
+//!   bytes, or its end, are counted at its slot (`counted`). After Quiet it is put back once both wires hold nothing back
+//!   (`leave_settled`: `client`, `target`).
 //! - A slot is released once for each `Back`, which says that no connection of it is out of its place (`leave`:
 //!   `back`). A ticket is put, and a slot is given back, once the seat no longer holds the slot (`put_ticket`:
 //!   `released`; `give_back`: `retired`), and a slot only once its connection is closed (`Closed`). Then the poller is

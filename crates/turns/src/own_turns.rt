@@ -1,8 +1,9 @@
 //! The turns that a poller's thread runs by itself, so that no worker has to be woken for them.
-ghost use Rattle.std.specs.Prelude.{◌≡◌, ◌↔◌, ◌<◌, ◌≤◌, ◌∷◌, ◌++◌, [], length, slice_get, Ok, Some, None, IfErr, IfSome, IsSome, false, true};
+ghost use Rattle.std.specs.Prelude.{◌≡◌, ◌↔◌, ◌<◌, ◌≤◌, ◌∷◌, ◌++◌, [], length, min, slice_get, Ok, Some, None, IfErr, IfSome, IsSome, false, true};
 ghost use Rattle.claims.specs.Seats.{HoldsNothing};
-ghost use Rattle.dispatch.specs.{Heavy.looked_at, Limits.first_light, Posts.{AtRest, OnlyWorn}};
-ghost use Rattle.turns.specs.{Shares.{IsLight, Stays, TicketsShared}, Turns.{marks_after, Finding, NoOwnTurn, OwnTurn}};
+ghost use Rattle.engine.specs.Turns.{IsServed};
+ghost use Rattle.dispatch.specs.{Heavy.looked_at, Limits.{first_light, own_budget}, Posts.{AtRest, OnlyWorn}};
+ghost use Rattle.turns.specs.{Shares.{IsLight, Stays, TicketsShared}, Turns.{marks_after, Handling, NoOwnTurn, OwnTurn, PlaysAt}};
 
 use crate::giving::put_ticket;
 use crate::terms::Terms;
@@ -112,7 +113,10 @@ pub fn own_turn<F: Front, A: Moves<F>, G: Gate, C: Clock, R: Wait + Log>(
     requires rest { AtRest shared.now.claims own.old }
     ensures rest { AtRest shared.now.claims own.new }
     ensures none { result ≡ Ok None ↔ NoOwnTurn own.old }
-    ensures turn { OwnTurn (Finding A.found A.made) shared.now.claims.words result own.old own.new acts.old acts.new }
+    ensures turn { OwnTurn (Handling A.found A.moved A.made)
+        (PlaysAt (IsServed F.Client.told F.Client.does) (IsServed F.Target.told F.Target.does)
+        (C.tells timing.now.clock.now) (min shared.now.budget own_budget) timing.now.limit)
+        shared.now.claims.words result own.old own.new acts.old acts.new }
     ensures marks { heavy.new ≡ marks_after (slice_get own.old.hand.tickets 0) result heavy.old }
     ensures worn { IfErr result (λ fault. OnlyWorn fault own.new.seat) }
     ensures woken { result ≡ Ok (Some Worked.Ended) → is_closing ≡ true

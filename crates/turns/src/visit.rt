@@ -64,8 +64,7 @@ pub(crate) fn take_out<F: Front, A: Moves<F>, R: Wait>(
     requires holder { HoldsOnly ticket.slot own.now.seat }
     ensures made { A.made act.TakeOut ticket.slot acts.old acts.new }
     ensures out { IfOk result (λ visit. visit.ticket ≡ ticket) }
-    ensures moved { IfOk result (λ visit. A.moved visit.berth.value acts.new) }
-    ensures found { IfOk result (λ visit. A.found (Some visit.berth.value.pair.generation) acts.new) }
+    ensures found { IfOk result (λ visit. A.found (Some visit.berth.value) acts.new) }
     ensures empty { IfErr result (λ back. (back ≡ ticket.slot) × A.found None acts.new) }
 {
     let slot = ticket.slot;

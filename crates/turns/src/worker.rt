@@ -1,10 +1,10 @@
 //! One turn of a worker.
-ghost use Rattle.std.specs.Prelude.{◌≡◌, ◌⊎◌, ℕ, ◌<◌, ◌≤◌, [], ◌∷◌, Option, None, Ok, IfErr, IfNone};
+ghost use Rattle.std.specs.{Prelude.{◌≡◌, ◌⊎◌, ℕ, ◌<◌, ◌≤◌, [], ◌∷◌, false, Some, Ok, IfErr, IfNone}, Option.is_some};
 ghost use Rattle.claims.specs.Seats.{Adds};
 ghost use Rattle.engine.specs.Turns.{outcome_of, IsServed};
-ghost use Rattle.dispatch.specs.{Hands.HasRoom, Outgoing.KeepsSlot, Posts.{AtRest, HoldsOnly, IsWorn, OnlyWorn}};
+ghost use Rattle.dispatch.specs.{declared.places.Berth.Berth, Hands.HasRoom, Outgoing.KeepsSlot, Posts.{AtRest, HoldsOnly, IsWorn, OnlyWorn}};
 ghost use Rattle.token.specs.Names.{last_generation};
-ghost use Rattle.turns.specs.Turns.{answer_by, answer_of, if_posted, AtWork, Finding, Finds, TurnRest, TurnInOrder, LeftSlot, WorkerTurn, Plays};
+ghost use Rattle.turns.specs.Turns.{answer_by, answer_of, if_posted, AtWork, Handled, Handles, Handling, IsLeft, Leaving, PlaysAt, PlaysBy, TurnRest, TurnInOrder, LeftSlot, WorkerTurn, Plays};
 ghost use Rattle.claims.specs.declared.view.Exchange.TheVariants as exchange;
 ghost use Rattle.dispatch.specs.Acts as act;
 
@@ -60,8 +60,10 @@ pub fn worker_turn<F: Front, A: Moves<F>, G: Gate, C: Clock, R: Wait + Log>(
     requires rest { AtRest shared.now.claims own.old }
     requires room { HasRoom own.old.hand }
     ensures rest { AtRest shared.now.claims own.new }
-    ensures made { WorkerTurn (Finding A.found A.made) shared.now.claims.words ticket result own.old own.new
-        acts.old acts.new }
+    ensures made { WorkerTurn (Handling A.found A.moved A.made)
+        (PlaysAt (IsServed F.Client.told F.Client.does) (IsServed F.Target.told F.Target.does)
+        (C.tells timing.now.clock.now) shared.now.budget timing.now.limit)
+        shared.now.claims.words ticket result own.old own.new acts.old acts.new }
     ensures worn { IfErr result (λ fault. OnlyWorn fault own.new.seat) }
     ensures woken { result ≡ Ok Worked.Ended → F.woke shared.now.waker ticket.slot }
 {
@@ -95,8 +97,8 @@ pub(crate) fn turn_of<F: Front, A: Moves<F>, G: Gate, R: Wait + Log>(
     requires room { HasRoom own.old.hand }
     requires budget { (1 ≤ terms.budget) × (terms.budget ≤ 1024) }
     ensures rest { AtRest shared.now.claims own.new }
-    ensures made { TurnInOrder (Finding A.found A.made) shared.now.claims.words ticket (answer_of result) own.old own.new
-        acts.old acts.new }
+    ensures made { TurnInOrder (Handling A.found A.moved A.made) (PlaysBy (IsServed F.Client.told F.Client.does) (IsServed F.Target.told F.Target.does) terms)
+        shared.now.claims.words ticket (answer_of result) own.old own.new acts.old acts.new }
     ensures worn { IfNone result (IsWorn own.new.seat) }
 {
     let worn = own.seat.is_worn();
@@ -126,8 +128,8 @@ fn claim<F: Front, A: Moves<F>, G: Gate, R: Wait + Log>(
     requires rest { AtRest shared.now.claims own.old }
     requires room { HasRoom own.old.hand }
     requires budget { (1 ≤ terms.budget) × (terms.budget ≤ 1024) }
-    ensures made { TurnInOrder (Finding A.found A.made) shared.now.claims.words ticket (answer_by own.old.seat result)
-        own.old own.new acts.old acts.new }
+    ensures made { TurnInOrder (Handling A.found A.moved A.made) (PlaysBy (IsServed F.Client.told F.Client.does) (IsServed F.Target.told F.Target.does) terms)
+        shared.now.claims.words ticket (answer_by own.old.seat result) own.old own.new acts.old acts.new }
 {
     if ticket.slot >= shared.claims.slots() {
         return Worked::Gone;
@@ -149,9 +151,11 @@ fn claimed<F: Front, A: Moves<F>, G: Gate, R: Wait + Log>(
 ) -> Worked
     requires work { AtWork shared.now.claims ticket.slot own.old }
     requires budget { (1 ≤ terms.budget) × (terms.budget ≤ 1024) }
-    ensures done { (found : Option ℕ) × Finds ticket (answer_by own.old.seat result) found
-        × TurnRest (Finding A.found A.made found) ticket (answer_by own.old.seat result) found 1 1 own.old own.new
-        acts.old acts.new }
+    ensures done { (h : Handled F.Client F.Target)
+        × Handles (PlaysBy (IsServed F.Client.told F.Client.does) (IsServed F.Target.told F.Target.does) terms)
+        ticket (answer_by own.old.seat result) h
+        × TurnRest (Handling A.found A.moved A.made h) ticket (answer_by own.old.seat result) (is_some h.found) 1 1
+        own.old own.new acts.old acts.new }
 {
     match take_out(rt, acts, shared, own, ticket) {
         Ok(visit) if visit.pair().generation() == ticket.generation => {
@@ -180,7 +184,7 @@ fn give_up<F: Front, A: Acts, R: Wait>(
 )
     requires work { AtWork shared.now.claims ticket.slot own.old }
     requires back { back ≡ ticket.slot }
-    ensures done { TurnRest A.made ticket (Ok Worked.Gone) None 1 2 own.old own.new acts.old acts.new }
+    ensures done { TurnRest A.made ticket (Ok Worked.Gone) false 1 2 own.old own.new acts.old acts.new }
 {
     acts.discard(&shared.claims, &mut own.seat, ticket.slot);
     leave(rt, acts, shared, own, ticket, back);
@@ -199,8 +203,11 @@ fn run<F: Front, A: Moves<F>, G: Gate, R: Wait + Log>(
     requires work { AtWork shared.now.claims visit.ticket.slot own.old }
     requires own { visit.berth.value.pair.generation ≡ visit.ticket.generation }
     requires budget { (1 ≤ terms.budget) × (terms.budget ≤ 1024) }
-    ensures done { TurnRest A.made visit.ticket (answer_by own.old.seat result) None 1 2 own.old own.new acts.old acts.new }
     ensures own { result ≡ Worked.Gone → ⊥ }
+    ensures done { (left : Berth F.Client F.Target) × IsLeft (Ok result) left.pair
+        × PlaysBy (IsServed F.Client.told F.Client.does) (IsServed F.Target.told F.Target.does) terms visit.berth.value left
+        × TurnRest (Leaving A.moved A.made (Some left)) visit.ticket (answer_by own.old.seat result) false 1 2
+        own.old own.new acts.old acts.new }
 {
     match play(
         acts,
@@ -268,7 +275,8 @@ fn again<F: Front, A: Moves<F>, R: Wait>(
 )
     requires work { AtWork shared.now.claims visit.ticket.slot own.old }
     requires due { outcome_of visit.berth.value.pair ≡ Turn.Again }
-    ensures done { TurnRest A.made visit.ticket (answer_by own.old.seat Worked.Again) None 2 3 own.old own.new acts.old acts.new }
+    ensures done { TurnRest (Leaving A.moved A.made (Some visit.berth.value)) visit.ticket (answer_by own.old.seat Worked.Again) false 2 3
+        own.old own.new acts.old acts.new }
 {
     let ticket = visit.ticket;
     let back = put_in(rt, acts, shared, own, visit);
@@ -287,7 +295,7 @@ fn stay_due<F: Front, A: Acts, R: Wait>(
 )
     requires work { AtWork shared.now.claims ticket.slot own.old }
     requires back { back ≡ ticket.slot }
-    ensures done { TurnRest A.made ticket (answer_by own.old.seat Worked.Again) None 2 4 own.old own.new acts.old acts.new }
+    ensures done { TurnRest A.made ticket (answer_by own.old.seat Worked.Again) false 2 4 own.old own.new acts.old acts.new }
 {
     let _ = acts.post(&shared.claims, &mut own.seat, ticket.slot);
     leave(rt, acts, shared, own, ticket, back);
@@ -303,7 +311,9 @@ fn rest<F: Front, A: Moves<F>, R: Wait>(
 )
     requires work { AtWork shared.now.claims visit.ticket.slot own.old }
     requires quiet { outcome_of visit.berth.value.pair ≡ Turn.Quiet }
-    ensures done { TurnRest A.made visit.ticket (Ok Worked.Quiet) None 2 3 own.old own.new acts.old acts.new }
+    ensures done { (left : Berth F.Client F.Target) × (left.pair ≡ visit.berth.value.pair)
+        × TurnRest (Leaving A.moved A.made (Some left)) visit.ticket (Ok Worked.Quiet) false 2 3
+        own.old own.new acts.old acts.new }
 {
     visit.settle(acts);
     leave_settled(rt, acts, shared, own, visit);
@@ -319,7 +329,8 @@ fn leave_settled<F: Front, A: Moves<F>, R: Wait>(
     requires work { AtWork shared.now.claims visit.ticket.slot own.old }
     requires client { F.Client.settled visit.berth.value.client }
     requires target { F.Target.settled visit.berth.value.target }
-    ensures done { TurnRest A.made visit.ticket (Ok Worked.Quiet) None 2 4 own.old own.new acts.old acts.new }
+    ensures done { TurnRest (Leaving A.moved A.made (Some visit.berth.value)) visit.ticket (Ok Worked.Quiet) false 2 4
+        own.old own.new acts.old acts.new }
 {
     let ticket = visit.ticket;
     let back = put_in(rt, acts, shared, own, visit);
@@ -355,7 +366,8 @@ fn end<F: Front, A: Moves<F>, R: Wait + Log>(
 )
     requires work { AtWork shared.now.claims visit.ticket.slot own.old }
     requires over { (outcome_of visit.berth.value.pair ≡ Turn.Done) ⊎ (outcome_of visit.berth.value.pair ≡ Turn.Failed) }
-    ensures done { TurnRest A.made visit.ticket (Ok Worked.Ended) None 2 3 own.old own.new acts.old acts.new }
+    ensures done { TurnRest (Leaving A.moved A.made (Some visit.berth.value)) visit.ticket (Ok Worked.Ended) false 2 3
+        own.old own.new acts.old acts.new }
 {
     let ticket = visit.ticket;
     log_end(rt, visit.pair());

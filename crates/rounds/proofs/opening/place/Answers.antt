@@ -20,8 +20,10 @@ returns-in-Adopted g c =
         done = opened_once c.start.ensures.started c.requires.next change.1 c.start.ensures.queues (rw (told, counted));
         counted = inl (
           rw (told, counted) (refl, refl, refl),
-          ((c.log_open.ensures, c.count_opened.ensures.counted),
-          (c.adopt.new.self, c.adopt.ensures.made, (c.count_opened.new.acts, c.count_opened.ensures.made, c.start.ensures.made))),
+          (
+            (c.log_open.ensures, c.count_opened.ensures.counted),
+            (c.adopt.new.self, c.adopt.ensures.made, (c.count_opened.new.acts, c.count_opened.ensures.made, c.start.ensures.made)),
+          ),
         );
         free = c.start.ensures.queues.free;
         slots = c.start.ensures.slots;

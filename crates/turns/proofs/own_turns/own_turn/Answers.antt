@@ -1,5 +1,6 @@
 use Rattle.std.proofs.Common.{rules, ◌≡◌, ◌∙◌, Some, None, slice_get, refl, sym, inl, inr}
-use Rattle.turns.proofs.Turns.{empty_is, marks_none, no_room, none_taken, ran, same_answer, some_not_none}
+use Rattle.engine.specs.Turns.{IsServed}
+use Rattle.turns.{specs.Turns.Handling, proofs.Turns.{empty_is, marks_none, no_room, none_taken, plays_at, ran, same_answer, some_not_none, turn_more}}
 use Rattle.turns.specs.declared.worker.Worked.TheVariants as worked
 use Rattle.turns.proofs.own_turns.own_turn.Goals as goal
 
@@ -38,7 +39,13 @@ returns-in-Some-turn_of g c =
         λ is. some_not_none c.in-Some-turn_of.worked is,
         λ no. absurd (ran c.args.own.now first c.has_slot_room.ensures c.if-not-has_slot_room.false no),
       );
-      turn = record { ticket = c.in-Some.ticket; oldest = first; turn = rw c.take_ticket.ensures.left at c.in-Some-turn_of.ensures.made };
+      turn = record {
+        ticket = c.in-Some.ticket;
+        oldest = first;
+        turn = turn_more (plays_at (IsServed g.F.Client.Wire.told g.F.Client.Wire.does) (IsServed g.F.Target.Wire.told g.F.Target.Wire.does) c.own-terms.result
+            (rw c.own-terms.ensures c.moment.ensures.told) (rw c.own-terms.ensures) (rw c.own-terms.ensures c.moment.ensures.limit))
+            (Handling g.A.Moves.found g.A.Moves.moved g.A.Acts.made) (rw c.take_ticket.ensures.left at c.in-Some-turn_of.ensures.made);
+      };
       marks = rw first c.follow_up.ensures.marks;
       worn = tt;
       woken = λ is all. rw first (c.follow_up.ensures.woken (same_answer c.in-Some-turn_of.worked worked.Ended is) all);
@@ -50,7 +57,13 @@ returns-in-None g c =
     record {
       rest = c.in-None.ensures.rest;
       none = (λ is. absurd (cc), λ no. absurd (ran c.args.own.now first c.has_slot_room.ensures c.if-not-has_slot_room.false no));
-      turn = record { ticket = c.in-Some.ticket; oldest = first; turn = rw c.take_ticket.ensures.left at c.in-None.ensures.made };
+      turn = record {
+        ticket = c.in-Some.ticket;
+        oldest = first;
+        turn = turn_more (plays_at (IsServed g.F.Client.Wire.told g.F.Client.Wire.does) (IsServed g.F.Target.Wire.told g.F.Target.Wire.does) c.own-terms.result
+            (rw c.own-terms.ensures c.moment.ensures.told) (rw c.own-terms.ensures) (rw c.own-terms.ensures c.moment.ensures.limit))
+            (Handling g.A.Moves.found g.A.Moves.moved g.A.Acts.made) (rw c.take_ticket.ensures.left at c.in-None.ensures.made);
+      };
       marks = rw first;
       worn = (refl, c.in-None.ensures.worn);
       woken = λ is. absurd (cc);

@@ -1,7 +1,8 @@
 use Rattle.std.proofs.Common.{[], arith, false, refl, ◌∙◌}
+use Rattle.engine.specs.Turns.{IsServed}
 use Rattle.claims.proofs.Seats.{adds_none}
 use Rattle.dispatch.proofs.Holding.{holds_from}
-use Rattle.turns.{specs.Turns.Finding, proofs.Turns.{answer_after, busy_made, claimed_then, still}}
+use Rattle.turns.{specs.Turns.{Handling, PlaysBy}, proofs.Turns.{answer_after, busy_made, claimed_then, still}}
 use Rattle.turns.proofs.worker.claim.Goals as goal
 
 pub returns-then-ticket-slots : goal.returns-then-ticket-slots
@@ -29,9 +30,17 @@ claimed-requires-clause-work g c =
     }
 
 pub returns-in-Busy : goal.returns-in-Busy
-returns-in-Busy g c = record { made = busy_made (Finding g.A.Moves.found g.A.Acts.made) (omega arith) (λ place. c.in-Busy.ensures.made) c.in-Busy.ensures.change (still refl refl refl) }
+returns-in-Busy g c = record {
+  made = busy_made (Handling g.A.Moves.found g.A.Moves.moved g.A.Acts.made)
+      (PlaysBy (IsServed g.F.Client.Wire.told g.F.Client.Wire.does) (IsServed g.F.Target.Wire.told g.F.Target.Wire.does) c.args.terms)
+      (omega arith) (λ h. c.in-Busy.ensures.made) c.in-Busy.ensures.change (still refl refl refl);
+}
 
 pub returns-in-Held : goal.returns-in-Held
 returns-in-Held g c =
     let claimed = c.in-Held.ensures.change.1 in
-    record { made = claimed_then (Finding g.A.Moves.found g.A.Acts.made) (omega arith) (λ place. c.in-Held.ensures.made) claimed (still refl refl refl) (rw (answer_after _ claimed refl c.claimed.result) at c.claimed.ensures.done) }
+    record {
+      made = claimed_then (Handling g.A.Moves.found g.A.Moves.moved g.A.Acts.made)
+          (PlaysBy (IsServed g.F.Client.Wire.told g.F.Client.Wire.does) (IsServed g.F.Target.Wire.told g.F.Target.Wire.does) c.args.terms)
+          (omega arith) (λ h. c.in-Held.ensures.made) claimed (still refl refl refl) (rw (answer_after _ claimed refl c.claimed.result) at c.claimed.ensures.done);
+    }

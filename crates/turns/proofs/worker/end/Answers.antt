@@ -1,5 +1,6 @@
-use Rattle.std.proofs.Common.{false, refl}
+use Rattle.std.proofs.Common.{Some, false, refl}
 use Rattle.dispatch.proofs.Holding.{let_go}
+use Rattle.turns.proofs.Turns.{gives_as}
 use Rattle.turns.proofs.worker.end.Goals as goal
 
 pub give_back-requires-clause-retired : goal.give_back-requires-clause-retired
@@ -19,6 +20,6 @@ returns g c =
           slots = record { kept = given.given.kept; slots = given.given.slots; last = given.given.last };
           took = record { tickets = rw given.ready; slots = given.took };
         };
-        acts = (_, c.close-closed.ensures.made, (_, c.retire.ensures.made, given.made));
+        acts = (_, (c.close-closed.ensures.made, c.close-closed.ensures.moved), (_, c.retire.ensures.made, gives_as g.A.Moves.moved g.A.Acts.made (Some c.args.visit.berth.value) _ _ _ _ given.made));
       };
     }

@@ -1,4 +1,6 @@
-use Rattle.turns.proofs.Turns.{given_if_ended, hand_put}
+use Rattle.std.proofs.Common.{refl}
+use Rattle.engine.specs.Turns.{IsServed}
+use Rattle.turns.{specs.Turns.Handling, proofs.Turns.{given_if_ended, hand_put, plays_at, turn_more}}
 use Rattle.turns.proofs.worker.worker_turn.Goals as goal
 
 pub returns-in-Some-clause-made : goal.returns-in-Some-clause-made
@@ -8,7 +10,8 @@ returns-in-Some-clause-made g c =
     record {
       begun = _;
       put = hand_put c.args.own.now c.put_tickets.new.hand put.tickets put.slots put.took put.all gave.slots gave.tickets gave.took gave.all;
-      turn = c.in-Some.ensures.made;
+      turn = turn_more (plays_at (IsServed g.F.Client.Wire.told g.F.Client.Wire.does) (IsServed g.F.Target.Wire.told g.F.Target.Wire.does) _ c.moment.ensures.told refl c.moment.ensures.limit)
+          (Handling g.A.Moves.found g.A.Moves.moved g.A.Acts.made) c.in-Some.ensures.made;
     }
 
 pub returns-in-None-clause-made : goal.returns-in-None-clause-made
@@ -18,7 +21,8 @@ returns-in-None-clause-made g c =
     record {
       begun = _;
       put = hand_put c.args.own.now c.put_tickets.new.hand put.tickets put.slots put.took put.all gave.slots gave.tickets gave.took gave.all;
-      turn = c.in-None.ensures.made;
+      turn = turn_more (plays_at (IsServed g.F.Client.Wire.told g.F.Client.Wire.does) (IsServed g.F.Target.Wire.told g.F.Target.Wire.does) _ c.moment.ensures.told refl c.moment.ensures.limit)
+          (Handling g.A.Moves.found g.A.Moves.moved g.A.Acts.made) c.in-None.ensures.made;
     }
 
 pub wake_if_ended-requires : goal.wake_if_ended-requires
