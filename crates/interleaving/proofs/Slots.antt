@@ -3,19 +3,19 @@ pub mod Leaves
 pub mod Views
 pub mod Steps
 pub mod Shared
-use Rattle.std.{proofs.{Common.{Bool, List, Some, [], ap, arith, false, replicate, slice_get, suc, zero, if◌then◌else◌, refl, true, ℕ, ◌&&◌, ◌||◌, ◌++◌, ◌+◌, ◌==◌, ◌∙◌, ◌∷◌, ◌≡◌, ◌<◌}, lemmas.Option.{option_and_then_some, same_Some}}, specs.List.list_any}
+use Rattle.std.{proofs.{Common.{Bool, List, Some, [], ap, arith, false, replicate, slice_get, suc, zero, if◌then◌else◌, not, refl, true, ℕ, ◌&&◌, ◌||◌, ◌++◌, ◌+◌, ◌==◌, ◌∙◌, ◌∷◌, ◌≡◌, ◌<◌}, lemmas.Option.{option_and_then_some, same_Some}}, specs.List.list_any}
 use Rattle.world.proofs.Headline.Ends.Pairs.Holders.Events.Lists.{kept_at}
 use Rattle.interleaving.specs.{Threads.{System, resting, rests_at}, Likeness.EveryInterleavingIsARun, Slots.{AllStandApart, Sees, SeesAll, Many, Server, SlotsStandApart, Step, is_listener, one_slot, rank, run, slot_of, start, step}}
 use Steps.{Apart, Between, FrontsHold, Next}
 use Shared.{next}
 use Rattle.interleaving.specs.Threads as alone
 
-alone_append : (xs ys : List alone.Step) (st mid : System) → alone.run st xs ≡ Some mid → alone.run st (xs ++ ys) ≡ alone.run mid ys
+pub alone_append : (xs ys : List alone.Step) (st mid : System) → alone.run st xs ≡ Some mid → alone.run st (xs ++ ys) ≡ alone.run mid ys
 alone_append [] ys st mid is = ap (λ (q : System). alone.run q ys) (same_Some st mid is)
 alone_append (x ∷ xs) ys st mid is = option_and_then_some (λ (q : System). alone.run q xs) (alone.step st x) mid is (λ q there rest. rw there (alone_append xs ys q mid rest))
 
 -- a state that steps lead to
-record Reached (server : Server) (m : Many) : Type 0 where
+pub record Reached (server : Server) (m : Many) : Type 0 where
   pub same : m.server ≡ server
   pub own : ℕ → List alone.Step
   pub leads : (s : ℕ) → alone.run (alone.start (one_slot server.limits)) (own s) ≡ Some (slot_of m s)
@@ -23,12 +23,12 @@ record Reached (server : Server) (m : Many) : Type 0 where
   pub fronts : FrontsHold m
 
 -- what the slot s has seen of these steps
-record Seen (m : Many) (steps : List Step) (to : Many) (s : ℕ) : Type 0 where
+pub record Seen (m : Many) (steps : List Step) (to : Many) (s : ℕ) : Type 0 where
   pub own : List alone.Step
   pub sees : SeesAll m s steps own
   pub leads : alone.run (slot_of m s) own ≡ Some (slot_of to s)
 
-record Went (server : Server) (m : Many) (steps : List Step) (to : Many) : Type 0 where
+pub record Went (server : Server) (m : Many) (steps : List Step) (to : Many) : Type 0 where
   pub reached : Reached server to
   pub each : (s : ℕ) → Seen m steps to s
 
@@ -49,7 +49,7 @@ rank_below n p i below some = by (i == p) (i == 0)
     by false false = some
 
 module _ (law : EveryInterleavingIsARun) (server : Server) (inside : (s : ℕ) → server.owner s < server.limits.workers) where
-  between : (m : Many) → Reached server m → Between m
+  pub between : (m : Many) → Reached server m → Between m
   between m r = record {
     inside = λ s. rw r.same (inside s);
     one_ticket = λ s. (law (one_slot server.limits) (r.own s) (slot_of m s) refl (r.leads s)).nothing.one_ticket;
@@ -57,7 +57,7 @@ module _ (law : EveryInterleavingIsARun) (server : Server) (inside : (s : ℕ) �
     fronts = r.fronts;
   }
 
-  reach : (m : Many) (x : Step) (n : Many) → Reached server m → Next m x n → Reached server n
+  pub reach : (m : Many) (x : Step) (n : Many) → Reached server m → Next m x n → Reached server n
   reach m x n r it = record {
     same = it.server ∙ r.same;
     own = λ s. r.own s ++ (it.each s).own;
@@ -66,7 +66,7 @@ module _ (law : EveryInterleavingIsARun) (server : Server) (inside : (s : ℕ) �
     fronts = it.fronts;
   }
 
-  goes : (steps : List Step) (m to : Many) → Reached server m → run m steps ≡ Some to → Went server m steps to
+  pub goes : (steps : List Step) (m to : Many) → Reached server m → run m steps ≡ Some to → Went server m steps to
   goes [] m to r ran = rw (← same_Some m to ran) (record { reached = r; each = λ s. record { own = []; sees = refl; leads = refl } })
   goes (x ∷ xs) m to r ran = option_and_then_some (λ (n : Many). run n xs) (step m x) to ran (λ n is rest.
       let it : Next m x n = kept_at {P = Next m x} (step m x) n is (next m (between m r) x) in
@@ -80,7 +80,7 @@ module _ (law : EveryInterleavingIsARun) (server : Server) (inside : (s : ℕ) �
         };
       })
 
-  first : Reached server (start server)
+  pub first : Reached server (start server)
   first = record {
     same = refl;
     own = λ s. [];
@@ -89,11 +89,8 @@ module _ (law : EveryInterleavingIsARun) (server : Server) (inside : (s : ℕ) �
     fronts = λ p. record { listener = refl; share = omega arith; own = tt };
   }
 
-  waits : (flag armed none rest : Bool) → (flag || ((armed && none) || rest)) ≡ true → flag ≡ false → (none || rest) ≡ true
-  waits true armed none rest h down = cc
-  waits false armed true rest h down = refl
-  waits false true false rest h down = h
-  waits false false false rest h down = h
+  waits : (listens flag armed none rest : Bool) → ((not listens || flag) || ((armed && none) || rest)) ≡ true → listens ≡ true → flag ≡ false → (none || rest) ≡ true
+  waits listens flag armed none rest h on down = grind arith
 
   stand : (steps : List Step) (m : Many) → run (start server) steps ≡ Some m → AllStandApart server steps m
   stand steps m ran =
@@ -107,7 +104,7 @@ module _ (law : EveryInterleavingIsARun) (server : Server) (inside : (s : ℕ) �
           run = law (one_slot server.limits) (w.each s).own (slot_of m s) refl (w.each s).leads;
         };
         pollers = λ p. let f = m.fronts p in let h = r.fronts p in record {
-          listener = waits f.flag f.armed (m.backlog == 0) (f.reported || list_any is_listener f.batch) h.listener;
+          listener = waits f.listens f.flag f.armed (m.backlog == 0) (f.reported || list_any is_listener f.batch) h.listener;
           share = let least = h.share in omega arith;
         };
         one_place = λ i s some other. rw r.same at (r.apart i s (rw r.same some) other);

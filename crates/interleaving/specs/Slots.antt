@@ -1,17 +1,18 @@
 -- A server of many slots and pollers, and the law that each of its slots can be looked at alone. Part of the promises.
 -- What is done at a slot is a step of `System`, which has one slot (`Threads.antt`). Here is only what slots share.
-use Rattle.std.specs.{Prelude.{◌≡◌, ◌≢◌, ℕ, ◌+◌, ◌-◌, ◌<◌, ◌≤◌, ◌==◌, Bool, true, false, not, ◌&&◌, ◌||◌, nat_lt, nat_le, if◌then◌else◌, List, [], ◌∷◌, ◌++◌, length, map, drop, slice_get, Option, Some, None, option_map, option_and_then, IfSome, Vec}, Global.Global, Option.is_none, List.list_any}
+use Rattle.std.specs.{Prelude.{◌≡◌, ◌≢◌, ℕ, ◌+◌, ◌-◌, ◌<◌, ◌≤◌, ◌==◌, Bool, true, false, not, ◌&&◌, ◌||◌, nat_lt, nat_le, if◌then◌else◌, List, [], ◌∷◌, ◌++◌, length, map, drop, slice_get, Option, Some, None, option_map, option_and_then, IfSome, Vec}, Global.Global, Option.is_none, List.{list_all, list_any}}
 use Rattle.token.specs.declared.{side.Side.Side, name.Name.Name}
 use Rattle.kernel_model.specs.{declared.{reply.Reply.Reply, accepting.Accepting.{Accepting, TheVariants.{Accepted, Blocked, Again, Starved}}}, Outcome.guard, Names.{has, without_names}}
-use Rattle.world.specs.{declared.{limits.Limits.Limits, event.Change.Change}, Calls.when}
+use Rattle.world.specs.{declared.{limits.Limits.Limits, event.Change.Change}, Calls.when, States.numbers_below}
 use Rattle.interleaving.specs.{Threads.{System, rests_at}, Likeness.IsARun}
 use Rattle.world.specs.declared.event.Reported.TheVariants as reported
 use Rattle.interleaving.specs.Threads as alone
 
 -- The server
 
--- The limits are those of each slot; `workers` is the number of all threads, pollers' and others. `owner` says which
--- thread is a slot's poller, and `share` how many connections that thread may open in all
+-- The limits are those of each slot, but for `slots`, of which there are so many, and `workers`, the number of all
+-- threads, pollers' and others. `owner` says which thread is a slot's poller, and `share` how many connections that
+-- thread may open in all
 pub record Server : Type 0 where
   pub limits : Limits
   pub owner : ℕ → ℕ
@@ -23,9 +24,11 @@ pub data Report : Type 0 where
   Waker : Report
   Of : ℕ → Name → Report
 
--- A poller: its accept flag; whether the next client must be reported to it (`armed`), and whether a report of the
--- listener is queued for it (`reported`); perhaps a client that it `accepted`; how many it has opened; the rest of its batch
+-- A poller: whether it listens; its accept flag; whether the next client must be reported to it (`armed`), and whether a
+-- report of the listener is queued for it (`reported`); perhaps a client that it `accepted`; how many it has opened; the
+-- rest of its batch
 pub record Front : Type 0 where
+  pub listens : Bool
   pub flag : Bool
   pub armed : Bool
   pub reported : Bool
@@ -90,16 +93,17 @@ start server = record {
   server = server;
   backlog = 0;
   places = λ s. alone.start (one_slot server.limits);
-  fronts = λ p. record { flag = true; armed = false; reported = false; accepted = false; opened = 0; batch = [] };
+  fronts = λ p. record { listens = true; flag = true; armed = false; reported = false; accepted = false; opened = 0; batch = [] };
   tickets = [];
   busy_at = λ i. 0;
 }
 
 -- What may happen: seconds pass for a slot; the network does something at a slot; a report of an end comes without cause or is
 -- taken back; a client connects; a report of the listener comes to a poller without cause, or is taken back (`Rumour`,
--- `Retract`). A poller polls, delivers the first report of its batch, posts for time at a slot, calls accept(2), drops
--- its client, or opens a slot for it. A thread begins a turn, with the oldest ticket of the queue (None) or with its
--- ticket of a slot, and a number of calls; puts its ticket of a slot into the queue; makes its program's next act or call
+-- `Retract`); once nobody listens, those that wait are refused. A poller polls, delivers the first report of its batch, posts
+-- for time at a slot, calls accept(2), drops its client, opens a slot for it, or stops to listen. A thread begins a turn, with
+-- the oldest ticket of the queue (None) or with its ticket of a slot, and a number of calls; puts its ticket of a slot into
+-- the queue; makes its program's next act or call
 pub data Step : Type 0 where
   Tick : ℕ → ℕ → Step
   Network : ℕ → Side → Change → Step
@@ -108,12 +112,14 @@ pub data Step : Type 0 where
   Connect : Step
   Rumour : ℕ → Step
   Retract : ℕ → Step
+  Refuse : Step
   Poll : ℕ → List Report → Step
   Deliver : ℕ → Step
   Sweep : ℕ → ℕ → Step
   Accept : ℕ → Accepting → Step
   Drop : ℕ → Step
   Open : ℕ → ℕ → Step
+  Stop : ℕ → Step
   Begin : ℕ → Option ℕ → ℕ → Step
   Put : ℕ → ℕ → Step
   Acts : ℕ → Step
@@ -208,12 +214,12 @@ abbrev pub is_listener : Report → Bool
 is_listener Listener = true
 is_listener r = false
 
--- poller p may be given each of these reports; a report of an end is queued at a slot of the poller's, and comes once
+-- poller p may be given each of these reports; one of an end is queued at a slot of the poller's; each comes once
 abbrev pub are_queued : Many → ℕ → List Report → Bool
 are_queued m p [] = true
-are_queued m p (Listener ∷ rest) = (m.fronts p).reported && are_queued m p rest
+are_queued m p (Listener ∷ rest) = ((m.fronts p).reported && not (list_any is_listener rest)) && are_queued m p rest
 are_queued m p (Waker ∷ rest) = are_queued m p rest
-are_queued m p (Of s name ∷ rest) = (m.server.owner s == p)
+are_queued m p (Of s name ∷ rest) = (nat_lt s m.server.limits.slots && m.server.owner s == p)
     && (has name (m.places s).kernel.queue && (not (has name (names_at s rest)) && are_queued m p rest))
 
 abbrev pub unqueued : System → List Name → System
@@ -248,13 +254,19 @@ told f = record f { armed = false; reported = f.reported || f.armed }
 
 -- the poller may open one more
 abbrev pub may_accept : Server → ℕ → Front → Bool
-may_accept server p f = f.flag && (not f.accepted && nat_lt f.opened (server.share p))
+may_accept server p f = (f.listens && f.flag) && (not f.accepted && nat_lt f.opened (server.share p))
+
+abbrev pub is_stopped : Many → ℕ → Bool
+is_stopped m p = not (m.fronts p).listens
 
 abbrev pub shared : Many → Step → Option Many
-shared m Connect = guard (nat_lt m.backlog 4096) (record m { backlog = m.backlog + 1; fronts = λ p. told (m.fronts p) })
-shared m (Rumour p) = Some (with_front m p (record (m.fronts p) { reported = true }))
+shared m Connect = Some (record m { backlog = m.backlog + 1; fronts = λ p. told (m.fronts p) })
+shared m (Rumour p) = guard (m.fronts p).listens (with_front m p (record (m.fronts p) { reported = true }))
 shared m (Retract p) = guard ((m.fronts p).reported && m.backlog == 0)
     (with_front m p (record (m.fronts p) { reported = false; armed = true }))
+shared m Refuse = guard (list_all (is_stopped m) (numbers_below m.server.limits.workers)) (record m { backlog = 0 })
+shared m (Stop p) = guard (m.fronts p).listens
+    (with_front m p (record (m.fronts p) { listens = false; armed = false; reported = false }))
 shared m (Poll p reports) =
     guard (nat_le (length reports) 256 && (length (m.fronts p).batch == 0 && are_queued m p reports)) (polled m p reports)
 shared m (Deliver p) = heard m p (m.fronts p).batch
@@ -267,9 +279,9 @@ shared m x = None
 
 -- Any step
 
--- the thread has no program where it is
+-- it is a thread, and has no program where it is
 abbrev pub rests : Many → ℕ → Bool
-rests m i = rests_at (slice_get (m.places (m.busy_at i)).threads (rank_at m (m.busy_at i) i))
+rests m i = nat_lt i m.server.limits.workers && rests_at (slice_get (m.places (m.busy_at i)).threads (rank_at m (m.busy_at i) i))
 
 -- A thread begins nothing, and as a poller does nothing, while it has a program. A poller opens and sweeps its own slots
 abbrev pub may : Many → Step → Bool
@@ -278,13 +290,15 @@ may m (Deliver p) = rests m p
 may m (Sweep p s) = rests m p && m.server.owner s == p
 may m (Accept p reply) = rests m p
 may m (Drop p) = rests m p
+may m (Stop p) = rests m p
 may m (Open p s) = rests m p && (m.server.owner s == p && (m.fronts p).accepted)
 may m (Begin i from most) = rests m i
 may m x = true
 
 abbrev pub makes : Many → Step → Option Deed → Option Many
 makes m x None = shared m x
-makes m x (Some d) = option_map (λ (q : System). besides m x (written m d q)) (alone.run (slot_of m d.slot) d.own)
+makes m x (Some d) = when (nat_lt d.slot m.server.limits.slots)
+    (option_map (λ (q : System). besides m x (written m d q)) (alone.run (slot_of m d.slot) d.own))
 
 abbrev pub step : Many → Step → Option Many
 step m x = when (may m x) (makes m x (deed m x))
@@ -324,10 +338,10 @@ pub record StandsApart (server : Server) (steps : List Step) (m : Many) (s : ℕ
   pub leads : alone.run (alone.start (one_slot server.limits)) own ≡ Some (slot_of m s)
   pub run : IsARun (one_slot server.limits) own (slot_of m s)
 
--- While a client waits, the poller's accept flag is up, or a report of the listener is queued for it or in its batch; here
--- each poller listens. And it has opened no more than its share
+-- While a client waits and the poller listens, its accept flag is up, or a report of the listener is queued for it or in
+-- its batch. And it has opened no more than its share
 pub record PollerHolds (m : Many) (p : ℕ) : Type 0 where
-  pub listener : (m.fronts p).flag ≡ false
+  pub listener : (m.fronts p).listens ≡ true → (m.fronts p).flag ≡ false
       → (m.backlog == 0) || ((m.fronts p).reported || list_any is_listener (m.fronts p).batch) ≡ true
   pub share : (m.fronts p).opened ≤ m.server.share p
 
@@ -338,8 +352,7 @@ pub record AllStandApart (server : Server) (steps : List Step) (m : Many) : Type
   pub one_place : (i s : ℕ) → i < server.limits.workers → s ≢ m.busy_at i
       → rests_at (slice_get (m.places s).threads (rank (server.owner s) i)) ≡ true
 
--- For each list of steps of a server, whatever its limits, whichever of its threads is each slot's poller. A server of n
--- slots is one that uses the first n
+-- For each list of steps of a server, whatever its limits, whichever of its threads is each slot's poller
 abbrev pub SlotsStandApart : Type 0
 SlotsStandApart = (server : Server) (steps : List Step) (m : Many)
     → ((s : ℕ) → server.owner s < server.limits.workers) → run (start server) steps ≡ Some m → AllStandApart server steps m

@@ -1,7 +1,7 @@
 -- The steps of a server that are at no slot alone, and then any step.
 use Rattle.std.{proofs.{Common.{Bool, List, None, Some, Vec, [], ap, append-nil, arith, false, if◌then◌else◌, inl, inr, length, not, refl, slice_get, sym, true, ℕ, nat_le, nat_lt, ◌&&◌, ◌||◌, ◌++◌, ◌+◌, ◌-◌, ◌==◌, ◌∙◌, ◌∷◌, ◌≡◌, ◌≢◌, ◌≤◌, ◌<◌, ◌⊎◌, eq-eqb, eqb-true, ne_eqb, le-leb, leb-true}, lemmas.{Bool.{and_parts, cases_eq, ltb-true, or_right}, List.nil_from_length}}, specs.{Cmp.second_so, Global.Global, List.list_any}}
 use denote.RawPtr.{null_ptr}
-use Rattle.interleaving.specs.{Threads.{System, rests_at}, Slots.{Front, Many, Report, Of, Listener, Waker, Taken, Step, Tick, Network, Spurious, Vanish, Connect, Rumour, Retract, Poll, Deliver, Sweep, Accept, Drop, Open, Begin, Put, Acts, Calls, Sees, Server, may_accept, are_queued, answered, delivering, first_of, is_listener, makes, may, names_at, polled, rank, rank_at, rests, shared, slot_of, step, suits, tickets_at, unqueued, with_front}}
+use Rattle.interleaving.specs.{Threads.{System, rests_at}, Slots.{Front, Many, Report, Of, Listener, Waker, Taken, Step, Tick, Network, Spurious, Vanish, Connect, Rumour, Retract, Refuse, Poll, Deliver, Sweep, Accept, Drop, Stop, Open, Begin, Put, Acts, Calls, Sees, Server, may_accept, are_queued, answered, delivering, first_of, is_listener, makes, may, names_at, polled, rank, rank_at, rests, shared, slot_of, step, suits, tickets_at, unqueued, with_front}}
 use Rattle.world.proofs.Headline.Ends.Pairs.Holders.Events.Lists.{Kept, kept_guard, kept_map, kept_none, kept_some, kept_when}
 use Rattle.kernel_model.specs.{declared.accepting.Accepting.{Accepting, TheVariants.{Accepted, Blocked, Again, Starved}}}
 use Rattle.token.specs.declared.name.Name.{Name}
@@ -16,9 +16,17 @@ or_flag : (flag x y : Bool) → (x ≡ true → y ≡ true) → (flag || x) ≡ 
 or_flag true x y next h = refl
 or_flag false x y next h = next h
 
+raised : (listens rest : Bool) → ((not listens || true) || rest) ≡ true
+raised true rest = refl
+raised false rest = refl
+
 up : (flag : Bool) → (flag || true) ≡ true
 up true = refl
 up false = refl
+
+nobody : (armed none rest : Bool) → ((armed && none) || rest) ≡ true → ((armed && true) || rest) ≡ true
+nobody true none rest h = refl
+nobody false none rest h = h
 
 some_wait : (armed now rest : Bool) → ((armed && false) || rest) ≡ true → ((armed && now) || rest) ≡ true
 some_wait false now rest h = h
@@ -42,8 +50,8 @@ with_backlog : (server : Server) (b c p : ℕ) (f : Front) → nat_lt 0 b ≡ tr
 with_backlog server b c p f some h =
     let more : 0 < b = ltb-true 0 b some in
     let none : (b == 0) ≡ false = ne_eqb b 0 (λ e. absurd (omega arith)) in
-    let was : (f.flag || ((f.armed && false) || (f.reported || list_any is_listener f.batch))) ≡ true = rw none at h.listener in
-    record { listener = or_flag f.flag _ _ (some_wait f.armed (c == 0) (f.reported || list_any is_listener f.batch)) was; share = h.share; own = h.own }
+    let was : ((not f.listens || f.flag) || ((f.armed && false) || (f.reported || list_any is_listener f.batch))) ≡ true = rw none at h.listener in
+    record { listener = or_flag (not f.listens || f.flag) _ _ (some_wait f.armed (c == 0) (f.reported || list_any is_listener f.batch)) was; share = h.share; own = h.own }
 
 -- names as a poll gives them
 vec_of : (names : List Name) → length names ≤ 256 → (v : Vec Name Global) × (v.items ≡ names)
@@ -87,13 +95,13 @@ module _ (m : Many) (between : Between m) where
   }
 
   connects : Kept (Next m Connect) (shared m Connect)
-  connects = kept_guard _ _ (λ few. record {
+  connects = kept_some (record {
     server = refl;
     each = λ s. record { own = []; sees = refl; leads = refl };
     apart = between.apart;
     fronts = λ p. let f = m.fronts p in
         record {
-          listener = or_flag f.flag _ _ (told_holds f.armed (m.backlog == 0) f.reported (list_any is_listener f.batch))
+          listener = or_flag (not f.listens || f.flag) _ _ (told_holds f.armed (m.backlog == 0) f.reported (list_any is_listener f.batch))
               (between.fronts p).listener;
           share = (between.fronts p).share;
           own = (between.fronts p).own;
@@ -102,15 +110,19 @@ module _ (m : Many) (between : Between m) where
 
   rumours : (p : ℕ) → Kept (Next m (Rumour p)) (shared m (Rumour p))
   rumours p = let f = m.fronts p in
-      kept_some (front_next (Rumour p) p (record f { reported = true }) m.backlog (λ s. refl) (λ s. refl) between.fronts
-      (record { listener = or_flag f.flag true _ (λ h. or_right (f.armed && m.backlog == 0) true refl) (up f.flag); share = (between.fronts p).share; own = (between.fronts p).own }))
+      kept_guard _ _ (λ may. front_next (Rumour p) p (record f { reported = true }) m.backlog (λ s. refl) (λ s. refl) between.fronts
+      (record {
+        listener = or_flag (not f.listens || f.flag) true _ (λ h. or_right (f.armed && m.backlog == 0) true refl) (up (not f.listens || f.flag));
+        share = (between.fronts p).share;
+        own = (between.fronts p).own;
+      }))
 
   retracts : (p : ℕ) → Kept (Next m (Retract p)) (shared m (Retract p))
   retracts p = let f = m.fronts p in
       kept_guard _ _ (λ h.
       let none : (m.backlog == 0) ≡ true = second_so f.reported _ h in
       front_next (Retract p) p (record f { reported = false; armed = true }) m.backlog (λ s. refl) (λ s. refl) between.fronts
-      (record { listener = rw none (up f.flag); share = (between.fronts p).share; own = (between.fronts p).own }))
+      (record { listener = rw none (up (not f.listens || f.flag)); share = (between.fronts p).share; own = (between.fronts p).own }))
 
   drops : (p : ℕ) → Kept (Next m (Drop p)) (shared m (Drop p))
   drops p = let f = m.fronts p in
@@ -119,10 +131,25 @@ module _ (m : Many) (between : Between m) where
       front_next (Drop p) p (record f { accepted = false }) m.backlog (λ s. refl) (λ s. refl) between.fronts
       (record { listener = (between.fronts p).listener; share = omega arith; own = (between.fronts p).own }))
 
+  stops : (p : ℕ) → Kept (Next m (Stop p)) (shared m (Stop p))
+  stops p = let f = m.fronts p in
+      kept_guard _ _ (λ may. front_next (Stop p) p (record f { listens = false; armed = false; reported = false }) m.backlog (λ s. refl) (λ s. refl) between.fronts
+      (record { listener = refl; share = (between.fronts p).share; own = (between.fronts p).own }))
+
+  refuses : Kept (Next m Refuse) (shared m Refuse)
+  refuses = kept_guard _ _ (λ none. record {
+    server = refl;
+    each = λ s. record { own = []; sees = refl; leads = refl };
+    apart = between.apart;
+    fronts = λ p. let f = m.fronts p in
+        let h = between.fronts p in
+        record { listener = or_flag (not f.listens || f.flag) _ _ (nobody f.armed (m.backlog == 0) (f.reported || list_any is_listener f.batch)) h.listener; share = h.share; own = h.own };
+  })
+
   -- a report of the listener or of the waker
   hears : (p : ℕ) (r : Report) (rest : List Report) (flag : Bool) → (m.fronts p).batch ≡ r ∷ rest → ((s : ℕ) → names_at s (r ∷ rest) ≡ names_at s rest)
       → AreOwn m.server.owner p rest → ((s : ℕ) → Sees m s (Deliver p) [])
-      → (flag || (((m.fronts p).armed && m.backlog == 0) || ((m.fronts p).reported || list_any is_listener rest))) ≡ true
+      → ((not (m.fronts p).listens || flag) || (((m.fronts p).armed && m.backlog == 0) || ((m.fronts p).reported || list_any is_listener rest))) ≡ true
       → Next m (Deliver p) (with_front m p (record (m.fronts p) { flag = flag; batch = rest }))
   hears p r rest flag is names own at_none holds =
       front_next (Deliver p) p (record (m.fronts p) { flag = flag; batch = rest }) m.backlog at_none (λ s. rw is (sym (names s))) between.fronts
@@ -131,7 +158,7 @@ module _ (m : Many) (between : Between m) where
   delivers : (p : ℕ) (batch : List Report) → (m.fronts p).batch ≡ batch → Kept (Next m (Deliver p)) (makes m (Deliver p) (delivering p batch))
   delivers p [] is = rw is kept_none
   delivers p (Listener ∷ rest) is = let own : AreOwn m.server.owner p rest = rw is at (between.fronts p).own in
-      rw is (kept_some (hears p Listener rest true is (λ s. refl) own (λ s. rw is refl) refl))
+      rw is (kept_some (hears p Listener rest true is (λ s. refl) own (λ s. rw is refl) (raised (m.fronts p).listens _)))
   delivers p (Waker ∷ rest) is = let own : AreOwn m.server.owner p rest = rw is at (between.fronts p).own in
       let was = rw is at (between.fronts p).listener in
       rw is (kept_some (hears p Waker rest (m.fronts p).flag is (λ s. refl) own (λ s. rw is refl) was))
@@ -141,14 +168,14 @@ module _ (m : Many) (between : Between m) where
       → Kept (Next m (Accept p reply)) (answered m p reply)
   answers p Accepted may =
       let f = m.fronts p in
-      let less : f.opened < m.server.share p = ltb-true f.opened (m.server.share p) (second_so (not f.accepted) _ (second_so f.flag _ may)) in
-      let flag_up : f.flag ≡ true = (and_parts f.flag _ may).0 in
+      let less : f.opened < m.server.share p = ltb-true f.opened (m.server.share p) (second_so (not f.accepted) _ (second_so (f.listens && f.flag) _ may)) in
+      let flag_up : f.flag ≡ true = second_so f.listens f.flag (and_parts (f.listens && f.flag) _ may).0 in
       kept_guard _ _ (λ some. front_next (Accept p Accepted) p (record f { accepted = true }) (m.backlog - 1) (λ s. refl) (λ s. refl)
       (λ i. with_backlog m.server m.backlog (m.backlog - 1) i (m.fronts i) some (between.fronts i))
-      (record { listener = rw flag_up refl; share = omega arith; own = (between.fronts p).own }))
+      (record { listener = rw flag_up (raised f.listens _); share = omega arith; own = (between.fronts p).own }))
   answers p Blocked may = let f = m.fronts p in
       kept_guard _ _ (λ none. front_next (Accept p Blocked) p (record f { flag = false; armed = true }) m.backlog (λ s. refl) (λ s. refl) between.fronts
-      (record { listener = rw none refl; share = (between.fronts p).share; own = (between.fronts p).own }))
+      (record { listener = rw none (up (not f.listens || false)); share = (between.fronts p).share; own = (between.fronts p).own }))
   answers p Again may = kept_some (nothing_next (Accept p Again) (λ s. refl))
   answers p Starved may = kept_some (nothing_next (Accept p Starved) (λ s. refl))
 
@@ -211,7 +238,7 @@ module _ (m : Many) (between : Between m) where
           idle_at : (s : ℕ) → m.server.owner s ≡ p → (s ≡ m.busy_at p) ⊎ (s ≢ m.busy_at p) → rests_at (slice_get (m.places s).threads 0) ≡ true
           idle_at s own (inl here) =
               let first : rank (m.server.owner (m.busy_at p)) p ≡ 0 = rw (← here, own) (rank_first p) in
-              let now = rw first at rested in
+              let now = rw first at (second_so (nat_lt p m.server.limits.workers) _ rested) in
               rw here now
           idle_at s own (inr other) =
               let first : rank (m.server.owner s) p ≡ 0 = rw own (rank_first p) in
@@ -235,7 +262,7 @@ module _ (m : Many) (between : Between m) where
             each = λ s. by s few empty given (cases_eq (m.server.owner s) p);
             apart = λ i s some other. rw (same_threads (m.server.owner s == p) (m.places s) (names_at s reports)) (between.apart i s some other);
             fronts = at_each (λ i f. FrontHolds m.server m.backlog i f) m.fronts p new between.fronts (record {
-              listener = or_flag f.flag _ _ (polled_holds (f.armed && m.backlog == 0) f.reported (list_any is_listener reports)) was;
+              listener = or_flag (not f.listens || f.flag) _ _ (polled_holds (f.armed && m.backlog == 0) f.reported (list_any is_listener reports)) was;
               share = (between.fronts p).share;
               own = own_reports m p reports given;
             });
@@ -257,8 +284,10 @@ module _ (m : Many) (between : Between m) where
   next (Retract p) = retracts p
   next (Poll p reports) = kept_when (rests m p) _ (λ rested. polls p reports rested)
   next (Deliver p) = kept_when (rests m p) _ (λ rested. delivers p (m.fronts p).batch refl)
-  next (Sweep p s) = kept_when _ _ (λ h. by_still m between (Sweep p s) _ (λ t own e. e) (leaves_sweep (slot_of m s)))
+  next (Sweep p s) = kept_when (may m (Sweep p s)) _ (λ h. by_still m between (Sweep p s) _ (λ t own e. e) (leaves_sweep (slot_of m s)))
   next (Accept p reply) = kept_when (rests m p) _ (λ rested. kept_when _ _ (λ h. answers p reply h))
+  next Refuse = refuses
+  next (Stop p) = kept_when (rests m p) _ (λ rested. stops p)
   next (Drop p) = kept_when (rests m p) _ (λ rested. drops p)
   next (Open p s) = kept_when _ _ (λ h. opens m between p s h)
   next (Begin i from most) = kept_when (rests m i) _ (λ rested. begins m between i from most rested (first_of (suits i from) m.tickets) refl)

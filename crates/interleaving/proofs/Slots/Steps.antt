@@ -1,7 +1,7 @@
 -- What a step of a server is at each slot, and what stays true by it.
-use Rattle.std.{proofs.{Common.{Bool, List, None, Option, Some, [], ap, arith, drop, false, if◌then◌else◌, inl, inr, length, option_map, refl, slice_get, sym, true, ℕ, ◌&&◌, ◌||◌, ◌+◌, ◌==◌, ◌∙◌, ◌∷◌, ◌≡◌, ◌≢◌, ◌≤◌, ◌<◌, ◌⊎◌, eq-eqb, eqb-true, ne_eqb}, lemmas.{Bool.{and_parts, cases_eq}}}, specs.{Cmp.second_so, List.list_any}}
+use Rattle.std.{proofs.{Common.{Bool, List, None, Option, Some, [], ap, arith, drop, false, if◌then◌else◌, inl, inr, length, nat_lt, not, option_map, refl, slice_get, sym, true, ℕ, ◌&&◌, ◌||◌, ◌+◌, ◌==◌, ◌∙◌, ◌∷◌, ◌≡◌, ◌≢◌, ◌≤◌, ◌<◌, ◌⊎◌, eq-eqb, eqb-true, ne_eqb}, lemmas.{Bool.{and_parts, cases_eq}}}, specs.{Cmp.second_so, List.list_any}}
 use Rattle.interleaving.specs.{Threads.{System, Thread, rests_at}, Slots.{Deed, Front, Many, Report, Of, Server, Taken, Step, Deliver, Open, Begin, Sees, besides, deed, delivering, first_of, is_listener, makes, names_at, one_slot, opening, rank, rank_at, rests, set, slot_of, steps_at, suits, tickets_at, written}}
-use Rattle.world.{proofs.Headline.Ends.Pairs.Holders.Events.Lists.{Kept, kept_at, kept_map, kept_none}, specs.declared.limits.Limits.Limits}
+use Rattle.world.{proofs.Headline.Ends.Pairs.Holders.Events.Lists.{Kept, kept_at, kept_map, kept_none, kept_when}, specs.{Calls.when, declared.limits.Limits.Limits}}
 use Rattle.token.specs.declared.name.Name.{Name}
 use Rattle.interleaving.proofs.Slots.{Leaves.{Begins, Delivers, Leaves, common, leaves_begin, leaves_delivery, leaves_opening, nobody, only}, Views.{Alone, AreOwn, brought_here, brought_there, framed, rank_apart, rank_first, set_here, set_there, taken_here, taken_there, viewed}}
 use Rattle.interleaving.specs.Threads as alone
@@ -19,10 +19,10 @@ Apart m = (i s : ℕ) → i < m.server.limits.workers → s ≢ m.busy_at i → 
 abbrev pub count : Bool → ℕ
 count b = if b then 1 else 0
 
--- The accept flag is up, or the next client must be reported and nobody waits, or a report is on its way. An accepted
+-- A poller that listens has its accept flag up, or the next client must be reported and nobody waits, or a report is on its way. An accepted
 -- client counts for the share. All reports of ends in the batch are of the poller's slots
 pub record FrontHolds (server : Server) (backlog p : ℕ) (f : Front) : Type 0 where
-  pub listener : (f.flag || ((f.armed && backlog == 0) || (f.reported || list_any is_listener f.batch))) ≡ true
+  pub listener : ((not f.listens || f.flag) || ((f.armed && backlog == 0) || (f.reported || list_any is_listener f.batch))) ≡ true
   pub share : f.opened + count f.accepted ≤ server.share p
   pub own : AreOwn server.owner p f.batch
 
@@ -131,7 +131,7 @@ module _ (m : Many) (x : Step) (d : Deed) (n : Many) (q : System) where
 
       left : i ≡ k → s ≢ d.slot → s ≡ m.busy_at k → (m.busy_at k ≡ d.slot) ⊎ (rests m k ≡ true) → RestsAt n s i
       left own apart was (inl at_slot) = absurd (apart (was ∙ at_slot))
-      left own apart was (inr rested) = there apart (rw (own, was) rested)
+      left own apart was (inr rested) = let now = second_so (nat_lt k m.server.limits.workers) _ rested in there apart (rw (own, was) now)
 
       by : (i ≡ k) ⊎ (i ≢ k) → (s ≡ d.slot) ⊎ (s ≢ d.slot) → (s ≡ m.busy_at k) ⊎ (s ≢ m.busy_at k) → RestsAt n s i
       by (inl own) (inl here) busy = absurd (other (here ∙ sym moves.here ∙ ap n.busy_at (sym own)))
@@ -160,8 +160,9 @@ written_done m x d q left = record {
 
 module _ (m : Many) (between : Between m) where
   pub by_still : (x : Step) (d : Deed) → ((s : ℕ) (own : List alone.Step) → own ≡ steps_at s (Some d) → Sees m s x own)
-      → Kept (Leaves nobody (slot_of m d.slot)) (alone.run (slot_of m d.slot) d.own) → Kept (Next m x) (option_map (λ (q : System). written m d q) (alone.run (slot_of m d.slot) d.own))
-  by_still x d is kept = kept_map (λ (q : System). written m d q) (alone.run (slot_of m d.slot) d.own) (λ q ran.
+      → Kept (Leaves nobody (slot_of m d.slot)) (alone.run (slot_of m d.slot) d.own)
+      → Kept (Next m x) (when (nat_lt d.slot m.server.limits.slots) (option_map (λ (q : System). written m d q) (alone.run (slot_of m d.slot) d.own)))
+  by_still x d is kept = kept_when _ _ (λ within. kept_map (λ (q : System). written m d q) (alone.run (slot_of m d.slot) d.own) (λ q ran.
       let left : Leaves nobody (slot_of m d.slot) q = kept_at {P = Leaves nobody (slot_of m d.slot)} _ q ran kept in
       let done = written_done m x d q left in
       record {
@@ -169,14 +170,14 @@ module _ (m : Many) (between : Between m) where
         each = each_slot m x d (written m d q) q is ran done;
         apart = apart_still m x d (written m d q) q done (λ i. refl) (λ j. left.others j (λ no. no)) between.apart;
         fronts = between.fronts;
-      })
+      }))
 
   -- the next act or call of the thread i
   pub by_thread : (x : Step) (i : ℕ) (own : List alone.Step) → let d : Deed = record { slot = m.busy_at i; thread = i; own = own } in
       ((s : ℕ) (own : List alone.Step) → own ≡ steps_at s (Some d) → Sees m s x own)
       → Kept (Leaves (only (rank_at m (m.busy_at i) i)) (slot_of m (m.busy_at i))) (alone.run (slot_of m (m.busy_at i)) own)
-      → Kept (Next m x) (option_map (λ (q : System). written m d q) (alone.run (slot_of m (m.busy_at i)) own))
-  by_thread x i own is kept = kept_map _ (alone.run (slot_of m (m.busy_at i)) own) (λ q ran.
+      → Kept (Next m x) (when (nat_lt d.slot m.server.limits.slots) (option_map (λ (q : System). written m d q) (alone.run (slot_of m (m.busy_at i)) own)))
+  by_thread x i own is kept = kept_when _ _ (λ within. kept_map _ (alone.run (slot_of m (m.busy_at i)) own) (λ q ran.
       let d : Deed = record { slot = m.busy_at i; thread = i; own = own } in
       let left : Leaves (only (rank_at m (m.busy_at i) i)) (slot_of m (m.busy_at i)) q = kept_at {P = Leaves (only (rank_at m (m.busy_at i) i)) (slot_of m (m.busy_at i))} _ q ran kept in
       let done = written_done m x d q left in
@@ -185,12 +186,12 @@ module _ (m : Many) (between : Between m) where
         each = each_slot m x d (written m d q) q is ran done;
         apart = apart_moved m x d (written m d q) q done i (record { here = refl; busy = λ j other. refl; before = inl refl; others = λ j other. left.others j other }) between.apart;
         fronts = between.fronts;
-      })
+      }))
 
   pub opens : (p s : ℕ) → (rests m p && (m.server.owner s == p && (m.fronts p).accepted)) ≡ true → Kept (Next m (Open p s)) (makes m (Open p s) (deed m (Open p s)))
-  opens p s allowed = kept_map _ (alone.run (slot_of m s) opening) (λ q ran.
+  opens p s allowed = kept_when _ _ (λ within. kept_map _ (alone.run (slot_of m s) opening) (λ q ran.
       let left : Leaves (only 0) (slot_of m s) q = kept_at {P = Leaves (only 0) (slot_of m s)} _ q ran (leaves_opening (slot_of m s) refl) in
-      opened q ran left)
+      opened q ran left))
     where
       d : Deed
       d = record { slot = s; thread = p; own = opening }
@@ -247,8 +248,8 @@ module _ (m : Many) (between : Between m) where
   -- a report of an end
   pub delivers_end : (p s : ℕ) (name : Name) (rest : List Report) → (m.fronts p).batch ≡ Of s name ∷ rest
       → Kept (Next m (Deliver p)) (makes m (Deliver p) (delivering p (Of s name ∷ rest)))
-  delivers_end p s name rest is = kept_map _ (alone.run (slot_of m s) (alone.Deliver ∷ [])) (λ q ran.
-      delivered q ran (kept_at {P = Delivers (slot_of m s)} _ q ran (leaves_delivery (slot_of m s) refl)))
+  delivers_end p s name rest is = kept_when _ _ (λ within. kept_map _ (alone.run (slot_of m s) (alone.Deliver ∷ [])) (λ q ran.
+      delivered q ran (kept_at {P = Delivers (slot_of m s)} _ q ran (leaves_delivery (slot_of m s) refl))))
     where
       d : Deed
       d = record { slot = s; thread = p; own = alone.Deliver ∷ [] }
@@ -303,8 +304,8 @@ module _ (m : Many) (between : Between m) where
       → Kept (Next m (Begin i from most)) (makes m (Begin i from most)
       (option_map (λ (c : Taken). record { slot = c.ticket.slot; thread = i; own = alone.Begin (rank_at m c.ticket.slot i) most ∷ [] }) o))
   begins i from most rested None is = kept_none
-  begins i from most rested (Some c) is = kept_map _ (alone.run (slot_of m c.ticket.slot) (alone.Begin (rank_at m c.ticket.slot i) most ∷ [])) (λ q ran.
-      begun q ran (kept_at {P = Begins (rank_at m c.ticket.slot i) (slot_of m c.ticket.slot)} _ q ran (leaves_begin (slot_of m c.ticket.slot) (rank_at m c.ticket.slot i) most)))
+  begins i from most rested (Some c) is = kept_when _ _ (λ within. kept_map _ (alone.run (slot_of m c.ticket.slot) (alone.Begin (rank_at m c.ticket.slot i) most ∷ [])) (λ q ran.
+      begun q ran (kept_at {P = Begins (rank_at m c.ticket.slot i) (slot_of m c.ticket.slot)} _ q ran (leaves_begin (slot_of m c.ticket.slot) (rank_at m c.ticket.slot i) most))))
     where
       s : ℕ
       s = c.ticket.slot

@@ -1,6 +1,6 @@
 -- What a slot of a server shows: its view before and after a step of the server, its tickets and its names.
-use Rattle.std.{proofs.{Common.{Bool, List, None, Option, Some, [], ap, append-nil, arith, drop, false, if◌then◌else◌, inl, inr, length, map, not, option_map, refl, sym, true, suc, ℕ, ◌&&◌, ◌++◌, ◌==◌, ◌∙◌, ◌∷◌, ◌≡◌, ◌≢◌, ◌≤◌, ◌⊎◌, eq-eqb, eqb-true, ne_eqb}, lemmas.{Bool.{and_parts, cases_eq}, List.nil_from_length, Option.same_Some}, Math.Seq.drop-append_seam}, specs.Cmp.second_so}
-use Rattle.interleaving.specs.{Threads.{System}, Slots.{Many, Report, Of, Listener, Waker, Taken, Ticket, are_queued, first_of, in_hand, names_at, one_slot, rank, set, slot_of, tickets_at}}
+use Rattle.std.{proofs.{Common.{Bool, List, None, Option, Some, [], ap, append-nil, arith, drop, false, if◌then◌else◌, inl, inr, length, map, nat_lt, not, option_map, refl, sym, true, suc, ℕ, ◌&&◌, ◌++◌, ◌==◌, ◌∙◌, ◌∷◌, ◌≡◌, ◌≢◌, ◌≤◌, ◌⊎◌, eq-eqb, eqb-true, ne_eqb}, lemmas.{Bool.{and_parts, cases_eq}, List.nil_from_length, Option.same_Some}, Math.Seq.drop-append_seam}, specs.{Cmp.second_so, List.list_any}}
+use Rattle.interleaving.specs.{Threads.{System}, Slots.{Many, Report, Of, Listener, Waker, Taken, Ticket, are_queued, first_of, in_hand, is_listener, names_at, one_slot, rank, set, slot_of, tickets_at}}
 use Rattle.kernel_model.specs.Names.{are_among, are_distinct, has}
 use Rattle.token.specs.declared.name.Name.{Name}
 
@@ -57,23 +57,23 @@ brought_there s t i ts gs other = tickets_append t ts _ ∙ ap (λ (hs : List �
 
 -- The ticket that is taken
 
--- it is the first ticket, or behind it
-abbrev Found : (Ticket → Bool) → Ticket → List Ticket → Taken → Type 0
-Found test t ts c = (c ≡ record { ticket = t; rest = ts })
+-- it is the first ticket, which passes the test, or behind it
+abbrev pub Found : (Ticket → Bool) → Ticket → List Ticket → Taken → Type 0
+Found test t ts c = ((c ≡ record { ticket = t; rest = ts }) × (test t ≡ true))
     ⊎ ((d : Taken) × (first_of test ts ≡ Some d) × (c ≡ record { ticket = d.ticket; rest = t ∷ d.rest }))
 
-found : (test : Ticket → Bool) (t : Ticket) (ts : List Ticket) (c : Taken) → first_of test (t ∷ ts) ≡ Some c → Found test t ts c
-found test t ts c is = by (test t) is
+pub found : (test : Ticket → Bool) (t : Ticket) (ts : List Ticket) (c : Taken) → first_of test (t ∷ ts) ≡ Some c → Found test t ts c
+found test t ts c is = by (test t) refl is
   where
     behind : (o : Option Taken) → first_of test ts ≡ o → option_map (λ (d : Taken). record { ticket = d.ticket; rest = t ∷ d.rest }) o ≡ Some c
         → Found test t ts c
     behind None there is = cc
     behind (Some d) there is = inr (d, there, sym (same_Some _ _ is))
 
-    by : (b : Bool) → (if b then Some (record { ticket = t; rest = ts }) else option_map (λ (d : Taken). record { ticket = d.ticket; rest = t ∷ d.rest }) (first_of test ts)) ≡ Some c
+    by : (b : Bool) → test t ≡ b → (if b then Some (record { ticket = t; rest = ts }) else option_map (λ (d : Taken). record { ticket = d.ticket; rest = t ∷ d.rest }) (first_of test ts)) ≡ Some c
         → Found test t ts c
-    by true is = inl (sym (same_Some _ _ is))
-    by false is = behind (first_of test ts) refl is
+    by true passes is = inl (sym (same_Some _ _ is), passes)
+    by false passes is = behind (first_of test ts) refl is
 
 -- of another slot
 pub taken_there : (test : Ticket → Bool) (ts : List Ticket) (c : Taken) → first_of test ts ≡ Some c → (s : ℕ) → s ≢ c.ticket.slot → tickets_at s c.rest ≡ tickets_at s ts
@@ -83,7 +83,7 @@ taken_there test (t ∷ ts) c is s other = by (found test t ts c is) (λ d there
     by : Found test t ts c
         → ((d : Taken) → first_of test ts ≡ Some d → s ≢ d.ticket.slot → tickets_at s d.rest ≡ tickets_at s ts)
         → tickets_at s c.rest ≡ tickets_at s (t ∷ ts)
-    by (inl same) rest =
+    by (inl (same, passes)) rest =
         let apart : t.slot ≢ s = λ e. other (sym e ∙ sym (ap (λ (c : Taken). c.ticket.slot) same)) in
         rw (same, ne_eqb t.slot s apart) refl
     by (inr it) rest =
@@ -109,7 +109,7 @@ taken_some test (t ∷ ts) c is s own = by (found test t ts c is) (λ d there ow
   where
     by : Found test t ts c
         → ((d : Taken) → first_of test ts ≡ Some d → d.ticket.slot ≡ s → 1 ≤ length (tickets_at s ts)) → 1 ≤ length (tickets_at s (t ∷ ts))
-    by (inl same) rest =
+    by (inl (same, passes)) rest =
         let own : t.slot ≡ s = sym (ap (λ (c : Taken). c.ticket.slot) same) ∙ own in
         rw (eq-eqb t.slot s own) (omega arith)
     by (inr it) rest =
@@ -130,7 +130,7 @@ taken_here test (t ∷ ts) c is s own most = by (found test t ts c is) (λ d the
 
     by : Found test t ts c
         → ((d : Taken) → first_of test ts ≡ Some d → d.ticket.slot ≡ s → length (tickets_at s ts) ≤ 1 → Alone s ts d) → Alone s (t ∷ ts) c
-    by (inl same) rest =
+    by (inl (same, passes)) rest =
         let here : t.slot ≡ s = sym (ap (λ (c : Taken). c.ticket.slot) same) ∙ own in
         let fewer : length (t.generation ∷ tickets_at s ts) ≤ 1 = rw (eq-eqb t.slot s here) at most in
         let none : tickets_at s ts ≡ [] = nil_from_length (tickets_at s ts) (omega arith) in
@@ -159,12 +159,12 @@ pub record Queued (s : ℕ) (queue : List Name) (rs : List Report) : Type 0 wher
 
 pub queued : (m : Many) (p s : ℕ) (rs : List Report) → are_queued m p rs ≡ true → Queued s (m.places s).kernel.queue rs
 queued m p s [] h = record { among = refl; once = refl }
-queued m p s (Listener ∷ rs) h = let r = queued m p s rs (second_so (m.fronts p).reported _ h) in record { among = r.among; once = r.once }
+queued m p s (Listener ∷ rs) h = let r = queued m p s rs (second_so ((m.fronts p).reported && not (list_any is_listener rs)) _ h) in record { among = r.among; once = r.once }
 queued m p s (Waker ∷ rs) h = let r = queued m p s rs h in record { among = r.among; once = r.once }
 queued m p s (Of t n ∷ rs) h = by (cases_eq t s) (queued m p s rs (second_so (not (has n (names_at t rs))) _ others))
   where
     parts : (has n (m.places t).kernel.queue && (not (has n (names_at t rs)) && are_queued m p rs)) ≡ true
-    parts = second_so (m.server.owner t == p) _ h
+    parts = second_so (nat_lt t m.server.limits.slots && m.server.owner t == p) _ h
 
     others : (not (has n (names_at t rs)) && are_queued m p rs) ≡ true
     others = second_so (has n (m.places t).kernel.queue) _ parts
@@ -186,11 +186,12 @@ AreOwn owner p (r ∷ rs) = AreOwn owner p rs
 
 pub own_reports : (m : Many) (p : ℕ) (rs : List Report) → are_queued m p rs ≡ true → AreOwn m.server.owner p rs
 own_reports m p [] h = tt
-own_reports m p (Listener ∷ rs) h = own_reports m p rs (second_so (m.fronts p).reported _ h)
+own_reports m p (Listener ∷ rs) h = own_reports m p rs (second_so ((m.fronts p).reported && not (list_any is_listener rs)) _ h)
 own_reports m p (Waker ∷ rs) h = own_reports m p rs h
 own_reports m p (Of t n ∷ rs) h =
-    let others = second_so (has n (m.places t).kernel.queue) _ (second_so (m.server.owner t == p) _ h) in
-    (eqb-true (m.server.owner t) p (and_parts _ _ h).0, own_reports m p rs (second_so (not (has n (names_at t rs))) _ others))
+    let parts = and_parts (nat_lt t m.server.limits.slots && m.server.owner t == p) _ h in
+    let others = second_so (has n (m.places t).kernel.queue) _ parts.1 in
+    (eqb-true (m.server.owner t) p (second_so (nat_lt t m.server.limits.slots) _ parts.0), own_reports m p rs (second_so (not (has n (names_at t rs))) _ others))
 
 -- Ranks: a poller and thread 0 are in exchange
 
