@@ -3,3 +3,4 @@ pub mod Threads
 pub mod Likeness
 pub mod Rest
 pub mod Slots
+pub mod Whole

@@ -1,5 +1,5 @@
 //! What holds for every interleaving. The functions do nothing: the contract of each is the law that it is named after.
-ghost use Rattle.interleaving.specs.{Likeness.{EveryInterleavingIsARun, EveryStepIsFollowed}, Rest.{LeftAloneItEnds, LeftAloneItRests}, Slots.SlotsStandApart, Threads.ProgramsAreThese};
+ghost use Rattle.interleaving.specs.{Likeness.{EveryInterleavingIsARun, EveryStepIsFollowed}, Rest.{LeftAloneItEnds, LeftAloneItRests}, Slots.SlotsStandApart, Threads.ProgramsAreThese, Whole.ServersComeToRest};
 
 use relay_core::laws;
 
@@ -65,4 +65,14 @@ pub fn slots_stand_apart()
     ensures { SlotsStandApart }
 {
     every_interleaving_is_a_run();
+}
+
+/// The same of a whole server, whose weight is a sum over its slots and pollers: from any state to which steps lead, no
+/// more of its own steps can follow, in any order and by any of its threads, than it weighs, but for two for each report
+/// of the waker that a poll gives.
+pub fn servers_come_to_rest()
+    ensures { ServersComeToRest }
+{
+    every_interleaving_is_a_run();
+    left_alone_it_ends();
 }

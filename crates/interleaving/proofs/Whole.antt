@@ -1,0 +1,371 @@
+-- A whole server, left alone, comes to rest: each of its own steps makes it lighter.
+use Rattle.std.{proofs.{Common.{Bool, List, None, Option, Some, [], ap, arith, drop, false, if◌then◌else◌, inl, inr, length, map, nat_lt, not, option_map, refl, suc, sym, true, zero, ℕ, ◌&&◌, ◌++◌, ◌+◌, ◌-◌, ◌*◌, ◌==◌, ◌∙◌, ◌∷◌, ◌≡◌, ◌≢◌, ◌≤◌, ◌<◌, ◌⊎◌, eq-eqb, length-append, ltb-true, nat_le, ne_eqb}, lemmas.{Bool.{and_parts, cases_eq}, List.length-drop, Option.{option_and_then_some, same_Some}}}, specs.{Cmp.second_so, List.list_any, Option.is_none}}
+use Rattle.claims.specs.Words.{one}
+use Rattle.kernel_model.specs.{Kernel.reported, Names.{has, without_names}, declared.accepting.Accepting.{Accepting, TheVariants.{Accepted, Blocked, Again, Starved}}}
+use Rattle.token.specs.declared.name.Name.{Name, TheVariants.Listener as listener_name}
+use Rattle.world.{proofs.Headline.Ends.Pairs.Holders.Events.Lists.{Kept, kept_at, kept_guard, kept_map, kept_none, kept_over, kept_some, kept_when, total_le, total_push}, specs.{States.numbers_below, Support.total}}
+use Rattle.interleaving.specs.{Threads.{System}, Likeness.EveryInterleavingIsARun, Rest.{LeftAloneItEnds, client_weight}, Slots.{Deed, Front, Many, Report, Of, Listener, Waker, Server, Taken, Ticket, Step, Poll, Deliver, Accept, Drop, Open, Begin, Put, Acts, Calls, Sees, answered, are_queued, besides, deed, delivering, first_of, in_hand, is_hand, is_listener, makes, may, may_accept, names_at, one_slot, opening, polled, rank_at, rests, run, set, shared, slot_of, start, step, steps_at, suits, tickets_at, with_front, written}, Whole.{ServersComeToRest, accepted_weight, are_own, front_weight, hand_weight, is_own, is_waker, report_weight, weight, wakes}}
+use Rattle.interleaving.proofs.{Slots.{Reached, alone_append, between, first, goes, reach, Shared.{next}, Steps.{Next}, Views.{Found, found, queued, set_here, set_there}}, Rest.Kernels.{not_so, polled as left_queue}}
+use Rattle.interleaving.specs.Threads as alone
+use Rattle.interleaving.specs.Rest as slot
+use Rattle.kernel_model.specs.Kernel as kernel
+
+-- Totals over the numbers below n
+
+same_below : (n : ℕ) (f g : ℕ → ℕ) → ((i : ℕ) → i < n → f i ≡ g i) → total f (numbers_below n) ≡ total g (numbers_below n)
+same_below zero f g same = refl
+same_below (suc n) f g same =
+    let rest = same_below n f g (λ i less. same i (omega arith)) in
+    let this = same n (omega arith) in
+    omega (arith, total_push f (numbers_below n) n, total_push g (numbers_below n) n)
+
+-- of functions that differ at one number
+differs_at : (n k : ℕ) (f g : ℕ → ℕ) → k < n → ((i : ℕ) → i ≢ k → f i ≡ g i) → total f (numbers_below n) + g k ≡ total g (numbers_below n) + f k
+differs_at zero k f g below same = absurd (omega arith)
+differs_at (suc n) k f g below same = by (cases_eq n k) (λ less. differs_at n k f g less same)
+  where
+    by : (n ≡ k) ⊎ (n ≢ k) → (k < n → total f (numbers_below n) + g k ≡ total g (numbers_below n) + f k) → total f (numbers_below (suc n)) + g k ≡ total g (numbers_below (suc n)) + f k
+    by (inl e) lower =
+        let rest = same_below n f g (λ i less. same i (λ at. absurd (omega arith))) in
+        rw (← e) (omega (arith, total_push f (numbers_below n) n, total_push g (numbers_below n) n))
+    by (inr other) lower =
+        let rest = lower (omega arith) in
+        let this = same n other in
+        omega (arith, total_push f (numbers_below n) n, total_push g (numbers_below n) n)
+
+total_both : (n : ℕ) (f g : ℕ → ℕ) → total (λ i. f i + g i) (numbers_below n) ≡ total f (numbers_below n) + total g (numbers_below n)
+total_both zero f g = refl
+total_both (suc n) f g =
+    let rest = total_both n f g in
+    omega (arith, total_push f (numbers_below n) n, total_push g (numbers_below n) n, total_push (λ i. f i + g i) (numbers_below n) n)
+
+-- Tickets in hands
+
+hands_more : (s i : ℕ) (ts : List Ticket) (gs : List ℕ) → total hand_weight (ts ++ map (in_hand s i) gs) ≡ total hand_weight ts + length gs
+hands_more s i [] [] = refl
+hands_more s i [] (g ∷ gs) = let rest = hands_more s i [] gs in omega arith
+hands_more s i (t ∷ ts) gs = let rest = hands_more s i ts gs in omega arith
+
+-- the test passes the ticket that is taken, and the weight is split
+abbrev Splits : (Ticket → Bool) → List Ticket → Taken → Type 0
+Splits test ts c = (test c.ticket ≡ true) × (total hand_weight c.rest + hand_weight c.ticket ≡ total hand_weight ts)
+
+taken_weighs : (test : Ticket → Bool) (ts : List Ticket) (c : Taken) → first_of test ts ≡ Some c → Splits test ts c
+taken_weighs test [] c is = cc
+taken_weighs test (t ∷ ts) c is = by (found test t ts c is) (λ d there. taken_weighs test ts d there)
+  where
+    by : Found test t ts c → ((d : Taken) → first_of test ts ≡ Some d → Splits test ts d) → Splits test (t ∷ ts) c
+    by (inl it) lower = rw it.0 (it.1, omega arith)
+    by (inr it) lower = let rest = lower it.0 it.1 in rw it.2 (rest.0, omega arith)
+
+in_a_hand : (i s : ℕ) (t : Ticket) → suits i (Some s) t ≡ true → hand_weight t ≡ 1
+in_a_hand i s t suits = by t.hand (second_so (t.slot == s) _ suits)
+  where
+    by : (o : Option ℕ) → is_hand i o ≡ true → one (not (is_none o)) ≡ 1
+    by None h = cc
+    by (Some j) h = refl
+
+-- Reports
+
+abbrev is_end : Report → ℕ
+is_end (Of s name) = 1
+is_end r = 0
+
+-- what a poll leaves of the listener's report, and what it gives
+reports_weigh : (m : Many) (p : ℕ) (rs : List Report) → are_queued m p rs ≡ true → let was = (m.fronts p).reported in
+    (3 * one (was && not (list_any is_listener rs)) + total report_weight rs) + length rs ≤ (3 * one was + total is_end rs) + 2 * total is_waker rs
+reports_weigh m p [] h = by (m.fronts p).reported
+  where
+    by : (b : Bool) → (3 * one (b && true) + 0) + 0 ≤ (3 * one b + 0) + 0
+    by true = omega arith
+    by false = omega arith
+reports_weigh m p (Listener ∷ rs) h =
+    let f = m.fronts p in
+    let parts = and_parts (f.reported && not (list_any is_listener rs)) (are_queued m p rs) h in
+    let was : f.reported ≡ true = (and_parts f.reported _ parts.0).0 in
+    let rest = rw (parts.0, was) at (reports_weigh m p rs parts.1) in
+    rw was (omega arith)
+reports_weigh m p (Waker ∷ rs) h = let rest = reports_weigh m p rs h in omega arith
+reports_weigh m p (Of s name ∷ rs) h =
+    let others = second_so (not (has name (names_at s rs))) _ (second_so (has name (m.places s).kernel.queue) _ (second_so (nat_lt s m.server.limits.slots && m.server.owner s == p) _ h)) in
+    let rest = reports_weigh m p rs others in
+    omega arith
+
+-- the names that slots of the poller p get
+abbrev given : Many → ℕ → List Report → ℕ → ℕ
+given m p rs s = if m.server.owner s == p then length (names_at s rs) else 0
+
+ends_given : (m : Many) (p : ℕ) (rs : List Report) → are_queued m p rs ≡ true → total is_end rs ≤ total (given m p rs) (numbers_below m.server.limits.slots)
+ends_given m p [] h = omega arith
+ends_given m p (Listener ∷ rs) h = let rest = ends_given m p rs (second_so ((m.fronts p).reported && not (list_any is_listener rs)) _ h) in omega arith
+ends_given m p (Waker ∷ rs) h = let rest = ends_given m p rs h in omega arith
+ends_given m p (Of t name ∷ rs) h =
+    let parts = and_parts (nat_lt t m.server.limits.slots && m.server.owner t == p) _ h in
+    let within = and_parts (nat_lt t m.server.limits.slots) _ parts.0 in
+    let others = second_so (not (has name (names_at t rs))) _ (second_so (has name (m.places t).kernel.queue) _ parts.1) in
+    let rest = ends_given m p rs others in
+    let apart = differs_at m.server.limits.slots t (given m p (Of t name ∷ rs)) (given m p rs) (ltb-true t m.server.limits.slots within.0)
+    (λ i other. rw (ne_eqb t i (λ e. other (sym e))) refl) in
+    let this : given m p (Of t name ∷ rs) t ≡ suc (given m p rs t) = rw (within.1, eq-eqb t t refl) refl in
+    omega arith
+
+-- One slot
+
+poll_weighs : (st : System) (names : List Name) → length (without_names names st.kernel.queue) + length names ≤ length st.kernel.queue
+    → slot.weight (record st { batch = names; kernel = record st.kernel { queue = without_names names st.kernel.queue } }) + length names ≤ slot.weight st
+poll_weighs st names less = omega arith
+
+one_reported : (queue : List Name) (b : Bool) → length (reported queue listener_name b) ≤ length queue + 1
+one_reported queue false = omega arith
+one_reported queue true = by (has listener_name queue)
+  where
+    by : (b : Bool) → length (if b then queue else queue ++ listener_name ∷ []) ≤ length queue + 1
+    by true = omega arith
+    by false = omega (arith, length-append {A = Name})
+
+-- a client that connects at the slot
+connects_weigh : (st : System) → Kept (λ (q : System). slot.weight q ≤ slot.weight st + ((1 + client_weight st.limits) + 17)) (alone.step st alone.Connect)
+connects_weigh st = kept_over _ (kernel.connect_in st.kernel) (kept_guard _ _ (λ few. sums _ _ _ _ _ _ (one_reported st.kernel.queue st.kernel.armed)))
+  where
+    sums : (e q q' c b r : ℕ) → q' ≤ q + 1 → (e + (17 * q' + (1 + c) * (b + 1))) + r ≤ ((e + (17 * q + (1 + c) * b)) + r) + ((1 + c) + 17)
+    sums e q q' c b r more = omega arith
+
+-- One step
+
+module _ (law : EveryInterleavingIsARun) (ends : LeftAloneItEnds) (server : Server) (inside : (s : ℕ) → server.owner s < server.limits.workers) where
+  module _ (m : Many) (r : Reached server m) where
+    abbrev A : ℕ
+    A = accepted_weight m.server.limits
+
+    abbrev slots_of : Many → ℕ
+    slots_of n = total (λ s. slot.weight (slot_of n s)) (numbers_below m.server.limits.slots)
+
+    abbrev fronts_of : (ℕ → Front) → ℕ
+    fronts_of f = total (λ p. front_weight m.server.limits (f p)) (numbers_below m.server.limits.workers)
+
+    abbrev Lighter : Step → Many → Type 0
+    Lighter x n = Next m x n → weight n + 1 ≤ weight m + 2 * wakes x
+
+    front_changed : (p : ℕ) (new : Front) → p < m.server.limits.workers
+        → fronts_of (set m.fronts p new) + front_weight m.server.limits (m.fronts p) ≡ fronts_of m.fronts + front_weight m.server.limits new
+    front_changed p new below =
+        differs_at m.server.limits.workers p (λ i. front_weight m.server.limits (set m.fronts p new i)) (λ i. front_weight m.server.limits (m.fronts i)) below
+        (λ i other. ap (front_weight m.server.limits) (set_there m.fronts p i new other))
+        ∙ ap (λ (f : Front). fronts_of m.fronts + front_weight m.server.limits f) (set_here m.fronts p new)
+
+    is_thread : (i : ℕ) → rests m i ≡ true → i < m.server.limits.workers
+    is_thread i rested = ltb-true i m.server.limits.workers (and_parts (nat_lt i m.server.limits.workers) _ rested).0
+
+    -- a step at no slot
+    slots_same : (x : Step) (n : Many) → Next m x n → ((s : ℕ) (own : List alone.Step) → Sees m s x own → own ≡ []) → slots_of n ≡ slots_of m
+    slots_same x n it none = same_below m.server.limits.slots _ _ (λ s below. ap slot.weight (sym (stays s)))
+      where
+        stays : (s : ℕ) → slot_of m s ≡ slot_of n s
+        stays s = let at = none s (it.each s).own (it.each s).sees in same_Some _ _ (rw at at (it.each s).leads)
+
+    -- a step with a deed, by which its slot gives up a and gets b
+    slots_lighter : (x : Step) (n : Many) (d : Deed) → Next m x n → ((s : ℕ) (own : List alone.Step) → Sees m s x own → own ≡ steps_at s (Some d))
+        → d.slot < m.server.limits.slots → (a b : ℕ) → slot.weight (slot_of n d.slot) + a ≤ slot.weight (slot_of m d.slot) + b → slots_of n + a ≤ slots_of m + b
+    slots_lighter x n d it is below a b less =
+        let apart = differs_at m.server.limits.slots d.slot (λ s. slot.weight (slot_of n s)) (λ s. slot.weight (slot_of m s)) below (λ s other. ap slot.weight (sym (stays s other))) in
+        omega (arith, apart, less)
+      where
+        stays : (s : ℕ) → s ≢ d.slot → slot_of m s ≡ slot_of n s
+        stays s other =
+            let at : (it.each s).own ≡ [] = is s (it.each s).own (it.each s).sees ∙ rw (ne_eqb d.slot s (λ e. other (sym e))) refl in
+            same_Some _ _ (rw at at (it.each s).leads)
+
+    -- what the slot of a deed has become
+    become : (x : Step) (n : Many) (d : Deed) (q : System) → Next m x n → ((s : ℕ) (own : List alone.Step) → Sees m s x own → own ≡ steps_at s (Some d))
+        → alone.run (slot_of m d.slot) d.own ≡ Some q → q ≡ slot_of n d.slot
+    become x n d q it is ran =
+        let at : (it.each d.slot).own ≡ d.own = is d.slot (it.each d.slot).own (it.each d.slot).sees ∙ rw (eq-eqb d.slot d.slot refl) refl in
+        same_Some _ _ (sym ran ∙ rw at at (it.each d.slot).leads)
+
+    -- own steps of the slot alone
+    own_lighter : (s : ℕ) (own : List alone.Step) (q : System) → slot.are_own own ≡ true → alone.run (slot_of m s) own ≡ Some q → length own + slot.weight q ≤ slot.weight (slot_of m s)
+    own_lighter s own q are ran = ends (one_slot server.limits) (r.own s) own (slot_of m s) q refl (r.leads s) are ran
+
+    -- a deed makes at most one ticket
+    made_few : (x : Step) (n : Many) (d : Deed) (q : System) → Next m x n → q ≡ slot_of n d.slot → total hand_weight (written m d q).tickets ≤ total hand_weight m.tickets + 1
+    made_few x n d q it is =
+        let few : length (tickets_at d.slot n.tickets) ≤ 1 = (between law server inside n (reach law server inside m x n r it)).one_ticket d.slot in
+        let same : length q.tickets ≡ length (tickets_at d.slot n.tickets) = ap (λ (st : System). length st.tickets) is in
+        let k = length (tickets_at d.slot m.tickets) in
+        omega (arith, hands_more d.slot d.thread m.tickets (drop k q.tickets), length-drop k q.tickets)
+
+    -- the next act or call of a thread
+    threads : (x : Step) (i : ℕ) (own : List alone.Step) → let d : Deed = record { slot = m.busy_at i; thread = i; own = own } in
+        wakes x ≡ 0 → ((s : ℕ) (own : List alone.Step) → Sees m s x own → own ≡ steps_at s (Some d)) → slot.are_own own ≡ true → length own ≡ 1 → m.busy_at i < m.server.limits.slots
+        → (q : System) → alone.run (slot_of m (m.busy_at i)) own ≡ Some q → Lighter x (written m d q)
+    threads x i own none is are one_step below q ran it =
+        let d : Deed = record { slot = m.busy_at i; thread = i; own = own } in
+        let n = written m d q in
+        let now = become x n d q it is ran in
+        let less = own_lighter d.slot own q are ran in
+        let same = ap slot.weight now in
+        let slots = slots_lighter x n d it is below 1 0 (omega (arith, less, same, one_step)) in
+        let hands = made_few x n d q it now in
+        sums _ _ _ _ _ _ _ slots hands
+      where
+        sums : (s' s b h' h f w : ℕ) → s' + 1 ≤ s + 0 → h' ≤ h + 1 → (2 * s' + (b + (h' + f))) + 1 ≤ (2 * s + (b + (h + f))) + w
+        sums s' s b h' h f w slots hands = omega arith
+
+    -- one front and the backlog
+    fronts_only : (x : Step) (p : ℕ) (new : Front) (b : ℕ) → p < m.server.limits.workers → ((s : ℕ) (own : List alone.Step) → Sees m s x own → own ≡ [])
+        → ((1 + A) * b + front_weight m.server.limits new) + 1 ≤ (1 + A) * m.backlog + front_weight m.server.limits (m.fronts p)
+        → Lighter x (record (with_front m p new) { backlog = b })
+    fronts_only x p new b below none less it =
+        sums _ _ _ _ _ _ _ _ _ _ (slots_same x (record (with_front m p new) { backlog = b }) it none) (front_changed p new below) less
+      where
+        sums : (s' s b' b h f' f new old w : ℕ) → s' ≡ s → f' + old ≡ f + new → (b' + new) + 1 ≤ b + old → (2 * s' + (b' + (h + f'))) + 1 ≤ (2 * s + (b + (h + f))) + w
+        sums s' s b' b h f' f new old w same fronts less = omega arith
+
+    opens : (p s : ℕ) → may m (Open p s) ≡ true → Kept (Lighter (Open p s)) (makes m (Open p s) (deed m (Open p s)))
+    opens p s allowed = kept_when _ _ (λ within. kept_map _ (alone.run (slot_of m s) opening) (λ q ran it.
+        let d : Deed = record { slot = s; thread = p; own = opening } in
+        let n = besides m (Open p s) (written m d q) in
+        let now = become (Open p s) n d q it (λ t own e. e) ran in
+        let slots = slots_lighter (Open p s) n d it (λ t own e. e) (ltb-true s m.server.limits.slots within)
+        3 ((1 + client_weight m.server.limits) + 17) (omega (arith, opened q ran, ap slot.weight now)) in
+        let hands = made_few (Open p s) n d q it now in
+        let fronts = front_changed p (record (m.fronts p) { accepted = false; opened = (m.fronts p).opened + 1 }) (is_thread p (and_parts (rests m p) _ allowed).0) in
+        let had = second_so (m.server.owner s == p) (m.fronts p).accepted (second_so (rests m p) _ allowed) in
+        sums _ _ _ _ _ _ _ _ _ _ _ had slots hands fronts))
+      where
+        opened : (q : System) → alone.run (slot_of m s) opening ≡ Some q → slot.weight q + 3 ≤ slot.weight (slot_of m s) + ((1 + client_weight m.server.limits) + 17)
+        opened q ran = option_and_then_some (λ (st : System). alone.run st (drop 1 opening)) (alone.step (slot_of m s) alone.Connect) q ran (λ st is rest.
+            let before = alone_append (r.own s) (alone.Connect ∷ []) (alone.start (one_slot server.limits)) (slot_of m s) (r.leads s) ∙ rw is refl in
+            let less = ends (one_slot server.limits) (r.own s ++ alone.Connect ∷ []) (drop 1 opening) st q refl before refl rest in
+            let more = kept_at (alone.step (slot_of m s) alone.Connect) st is (connects_weigh (slot_of m s)) in
+            omega (arith, less, more))
+
+        sums : (s' s b h' h f' f l g c w : ℕ) {had : Bool} → had ≡ true → s' + 3 ≤ s + ((1 + c) + 17) → h' ≤ h + 1
+            → f' + (l + (3 * g + (w + (2 * (c + 17)) * one had))) ≡ f + (l + (3 * g + (w + (2 * (c + 17)) * 0)))
+            → (2 * s' + (b + (h' + f'))) + 1 ≤ (2 * s + (b + (h + f))) + 2 * 0
+        sums s' s b h' h f' f l g c w had slots hands fronts = let now = rw had at fronts in omega arith
+
+    -- a report of the batch
+    delivers : (p : ℕ) → p < m.server.limits.workers → (batch : List Report) → (m.fronts p).batch ≡ batch → Kept (Lighter (Deliver p)) (makes m (Deliver p) (delivering p batch))
+    delivers p below [] is = rw is kept_none
+    delivers p below (Listener ∷ rest) is = rw is (kept_some (fronts_only (Deliver p) p (record (m.fronts p) { flag = true; batch = rest }) m.backlog below
+        (λ s own e. rw is at e) (rw is (omega arith))))
+    delivers p below (Waker ∷ rest) is = rw is (kept_some (fronts_only (Deliver p) p (record (m.fronts p) { batch = rest }) m.backlog below (λ s own e. rw is at e) (rw is (omega arith))))
+    delivers p below (Of s name ∷ rest) is = kept_when _ _ (λ within. kept_map _ (alone.run (slot_of m s) (alone.Deliver ∷ [])) (λ q ran it.
+        let d : Deed = record { slot = s; thread = p; own = alone.Deliver ∷ [] } in
+        let n = besides m (Deliver p) (written m d q) in
+        let sees : (t : ℕ) (own : List alone.Step) → Sees m t (Deliver p) own → own ≡ steps_at t (Some d) = λ t own e. e ∙ ap (λ (rs : List Report). steps_at t (delivering p rs)) is in
+        let now = become (Deliver p) n d q it sees ran in
+        let less = own_lighter s (alone.Deliver ∷ []) q refl ran in
+        let same = ap slot.weight now in
+        let slots = slots_lighter (Deliver p) n d it sees (ltb-true s m.server.limits.slots within) 1 0 (omega (arith, less, same)) in
+        let hands = made_few (Deliver p) n d q it now in
+        let new : Front = record (m.fronts p) { batch = drop 1 (m.fronts p).batch } in
+        let weighs : front_weight m.server.limits new ≡ front_weight m.server.limits (m.fronts p) = rw is (omega arith) in
+        sums _ _ _ _ _ _ _ _ _ slots hands (front_changed p new below) weighs))
+      where
+        sums : (s' s b h' h f' f old : ℕ) (new : ℕ) → s' + 1 ≤ s + 0 → h' ≤ h + 1 → f' + old ≡ f + new → new ≡ old → (2 * s' + (b + (h' + f'))) + 1 ≤ (2 * s + (b + (h + f))) + 2 * 0
+        sums s' s b h' h f' f old new slots hands fronts same = omega arith
+
+    -- a turn, with the ticket c
+    begins : (i : ℕ) (from : Option ℕ) (most : ℕ) → nat_le 4 most ≡ true → (o : Option Taken) → first_of (suits i from) m.tickets ≡ o
+        → Kept (Lighter (Begin i from most)) (makes m (Begin i from most)
+        (option_map (λ (c : Taken). record { slot = c.ticket.slot; thread = i; own = alone.Begin (rank_at m c.ticket.slot i) most ∷ [] }) o))
+    begins i from most four None is = kept_none
+    begins i from most four (Some c) is = kept_when _ _ (λ within. kept_map _ (alone.run (slot_of m c.ticket.slot) (alone.Begin (rank_at m c.ticket.slot i) most ∷ [])) (λ q ran it.
+        let own : List alone.Step = alone.Begin (rank_at m c.ticket.slot i) most ∷ [] in
+        let d : Deed = record { slot = c.ticket.slot; thread = i; own = own } in
+        let n = besides m (Begin i from most) (written m d q) in
+        let sees : (t : ℕ) (own : List alone.Step) → Sees m t (Begin i from most) own → own ≡ steps_at t (Some d) = λ t own e. e
+        ∙ ap (λ (o : Option Taken). steps_at t (option_map (λ (c : Taken). record { slot = c.ticket.slot; thread = i; own = alone.Begin (rank_at m c.ticket.slot i) most ∷ [] }) o)) is in
+        let now = become (Begin i from most) n d q it sees ran in
+        let less = own_lighter c.ticket.slot own q (rw four refl) ran in
+        let slots = slots_lighter (Begin i from most) n d it sees (ltb-true c.ticket.slot m.server.limits.slots within) 1 0 (omega (arith, less, ap slot.weight now)) in
+        let hands = (taken_weighs (suits i from) m.tickets c is).1 in
+        rw is (sums _ _ _ _ _ _ _ (rw is at slots) hands)))
+      where
+        sums : (s' s b h' h f g : ℕ) → s' + 1 ≤ s + 0 → h' + g ≡ h → (2 * s' + (b + (h' + f))) + 1 ≤ (2 * s + (b + (h + f))) + 2 * 0
+        sums s' s b h' h f g slots hands = omega arith
+
+    puts : (i s : ℕ) → Kept (Lighter (Put i s)) (shared m (Put i s))
+    puts i s = kept_map _ (first_of (suits i (Some s)) m.tickets) (λ c is it.
+        let taken = taken_weighs (suits i (Some s)) m.tickets c is in
+        let one_less = in_a_hand i s c.ticket taken.0 in
+        let pushed = total_push hand_weight c.rest (record c.ticket { hand = None }) in
+        sums _ _ _ _ _ _ _ _ (slots_same (Put i s) (record m { tickets = c.rest ++ record c.ticket { hand = None } ∷ [] }) it (λ t own e. e)) pushed taken.1 one_less)
+      where
+        sums : (s' s b h' h f r g : ℕ) → s' ≡ s → h' ≡ r + 0 → r + g ≡ h → g ≡ 1 → (2 * s' + (b + (h' + f))) + 1 ≤ (2 * s + (b + (h + f))) + 2 * 0
+        sums s' s b h' h f r g same pushed taken less = omega arith
+
+    accepts : (p : ℕ) (reply : Accepting) → slot.is_settled reply ≡ true → p < m.server.limits.workers
+        → may_accept m.server p (m.fronts p) ≡ true → Kept (Lighter (Accept p reply)) (answered m p reply)
+    accepts p Accepted own below can =
+        let f = m.fronts p in
+        let none : f.accepted ≡ false = not_so f.accepted (and_parts (not f.accepted) _ (second_so (f.listens && f.flag) _ can)).0 in
+        kept_guard _ _ (λ some. fronts_only (Accept p Accepted) p (record f { accepted = true }) (m.backlog - 1) below (λ s own e. e)
+        (sums _ _ _ _ m.backlog none (ltb-true 0 m.backlog some)))
+      where
+        sums : (a g r t : ℕ) {had : Bool} (b : ℕ) → had ≡ false → 0 < b
+            → ((1 + a) * (b - 1) + (g + (3 * r + (t + a * 1)))) + 1 ≤ (1 + a) * b + (g + (3 * r + (t + a * one had)))
+        sums a g r t zero none some = omega arith
+        sums a g r t (suc b) none some = let less : suc b - 1 ≡ b = omega arith in rw (less, none) (omega arith)
+    accepts p Blocked own below can =
+        let f = m.fronts p in
+        let up = second_so f.listens f.flag (and_parts (f.listens && f.flag) _ can).0 in
+        kept_guard _ _ (λ none. fronts_only (Accept p Blocked) p (record f { flag = false; armed = true }) m.backlog below (λ s own e. e) (rw up (omega arith)))
+    accepts p Again own below can = cc
+    accepts p Starved own below can = cc
+
+    polls : (p : ℕ) (reports : List Report) → 0 < length reports → p < m.server.limits.workers → Kept (Lighter (Poll p reports)) (shared m (Poll p reports))
+    polls p reports some below = kept_guard _ _ (λ h it.
+        let queued_ok : are_queued m p reports ≡ true = second_so (length (m.fronts p).batch == 0) _ (second_so (nat_le (length reports) 256) _ h) in
+        let each = total_le (λ s. slot.weight (slot_of (polled m p reports) s) + given m p reports s) (λ s. slot.weight (slot_of m s)) (numbers_below m.server.limits.slots) (weighs queued_ok) in
+        let both = total_both m.server.limits.slots (λ s. slot.weight (slot_of (polled m p reports) s)) (given m p reports) in
+        let ends = ends_given m p reports queued_ok in
+        let new : Front = record (m.fronts p) { batch = reports; reported = (m.fronts p).reported && not (list_any is_listener reports) } in
+        sums _ _ _ _ _ _ _ _ _ _ _ _ _ _ _ _ _ _ each both ends (front_changed p new below) (reports_weigh m p reports queued_ok) some)
+      where
+        weighs : are_queued m p reports ≡ true → (s : ℕ) → slot.weight (slot_of (polled m p reports) s) + given m p reports s ≤ slot.weight (slot_of m s)
+        weighs h s = by (m.server.owner s == p) refl
+          where
+            by : (b : Bool) → (m.server.owner s == p) ≡ b → slot.weight (slot_of (polled m p reports) s) + given m p reports s ≤ slot.weight (slot_of m s)
+            by true own =
+                let q = queued m p s reports h in
+                let less = poll_weighs (slot_of m s) (names_at s reports) (left_queue (names_at s reports) (m.places s).kernel.queue q.among q.once) in
+                rw own less
+            by false other = rw other (omega arith)
+
+        sums : (sg s' s g e b h f' f k c a r r' t t' n w : ℕ) → sg ≤ s → sg ≡ s' + g → e ≤ g
+            → f' + (k + (3 * r + (t + c * a))) ≡ f + (k + (3 * r' + (t' + c * a))) → (3 * r' + t') + n ≤ (3 * r + e) + 2 * w → 0 < n
+            → (2 * s' + (b + (h + f'))) + 1 ≤ (2 * s + (b + (h + f))) + 2 * w
+        sums sg s' s g e b h f' f k c a r r' t t' n w each both ends fronts reports some = omega arith
+
+    lighter : (x : Step) → is_own x ≡ true → Kept (Lighter x) (step m x)
+    lighter (Poll p reports) own = kept_when (rests m p) _ (λ rested. polls p reports (ltb-true 0 (length reports) own) (is_thread p rested))
+    lighter (Deliver p) own = kept_when (rests m p) _ (λ rested. delivers p (is_thread p rested) (m.fronts p).batch refl)
+    lighter (Accept p reply) own = kept_when (rests m p) _ (λ rested. kept_when _ _ (λ may. accepts p reply own (is_thread p rested) may))
+    lighter (Drop p) own = kept_when (rests m p) _ (λ rested. kept_guard _ _ (λ had.
+        fronts_only (Drop p) p (record (m.fronts p) { accepted = false }) m.backlog (is_thread p rested) (λ s own e. e) (rw had (omega arith))))
+    lighter (Open p s) own = kept_when _ _ (λ may. opens p s may)
+    lighter (Begin i from most) own = kept_when (rests m i) _ (λ rested. begins i from most own (first_of (suits i from) m.tickets) refl)
+    lighter (Put i s) own = puts i s
+    lighter (Acts i) own = kept_when _ _ (λ within. kept_map _ (alone.run (slot_of m (m.busy_at i)) (alone.Acts (rank_at m (m.busy_at i) i) ∷ [])) (λ q ran.
+        threads (Acts i) i _ refl (λ t own e. e) refl refl (ltb-true (m.busy_at i) m.server.limits.slots within) q ran))
+    lighter (Calls i reply) own = kept_when _ _ (λ within. kept_map _ (alone.run (slot_of m (m.busy_at i)) (alone.Calls (rank_at m (m.busy_at i) i) reply ∷ [])) (λ q ran.
+        threads (Calls i reply) i _ refl (λ t own e. e) (rw own refl) refl (ltb-true (m.busy_at i) m.server.limits.slots within) q ran))
+    lighter x own = absurd (cc)
+
+  -- A list of steps
+
+  rests_on : (own : List Step) (m next : Many) → Reached server m → are_own own ≡ true → run m own ≡ Some next → length own + weight next ≤ weight m + 2 * total wakes own
+  rests_on [] m next_ r are ran = rw (← same_Some m next_ ran) (omega arith)
+  rests_on (x ∷ xs) m to r are ran = option_and_then_some (λ (n : Many). run n xs) (step m x) to ran (λ n is rest.
+      let parts = and_parts (is_own x) (are_own xs) are in
+      let it : Next m x n = kept_at {P = Next m x} (step m x) n is (next m (between law server inside m r) x) in
+      let less = kept_at {P = Lighter m r x} (step m x) n is (lighter m r x parts.0) it in
+      let more = rests_on xs n to (reach law server inside m x n r it) parts.1 rest in
+      omega arith)
+
+pub every_server : EveryInterleavingIsARun → LeftAloneItEnds → ServersComeToRest
+every_server law ends server before own m to inside ran are led =
+    rests_on law ends server inside own m to (goes law server inside before (start server) m (first law server inside) ran).reached are led
