@@ -6,17 +6,17 @@ pub mod Acts
 pub mod Needs
 pub mod Stops
 pub mod Still
-use Rattle.std.{proofs.{Common.{Bool, List, None, Option, Some, [], ap, arith, false, if◌then◌else◌, inl, inr, is_some, length, not, refl, replicate, slice_get, subst, suc, sym, true, zero, ℕ, ◌&&◌, ◌++◌, ◌+◌, ◌-◌, ◌*◌, ◌==◌, ◌∙◌, ◌∷◌, ◌≡◌, ◌≤◌, ◌<◌, eqb-true, leb-true, ltb-true, nat_le, nat_lt, append_assoc, option_and_then}, lemmas.{Grind.common_steps, Bool.{and_parts, cases_eq, Decides.nat_tests}, Option.{option_and_then_some}, List.{length-replicate}}}, specs.{Cmp.second_so}}
+use Rattle.std.{proofs.{Common.{Bool, List, None, Option, Some, [], ap, arith, false, if◌then◌else◌, length, not, refl, slice_get, suc, true, zero, ℕ, ◌&&◌, ◌++◌, ◌+◌, ◌-◌, ◌*◌, ◌==◌, ◌∙◌, ◌∷◌, ◌≡◌, ◌≤◌, ◌<◌, leb-true, ltb-true, nat_le, nat_lt}, lemmas.{Grind.common_steps, Bool.{and_parts, Decides.nat_tests}, Option.{option_and_then_some}, List.{length-replicate}}}, specs.{Cmp.second_so}}
 use Rattle.claims.specs.Words.{one}
-use Rattle.kernel_model.specs.{Kernel.{KernelState}, Names.{are_among, are_distinct, without_names}, declared.{accepting.Accepting.TheVariants.{Accepted, Blocked, Again, Starved}}}
-use Rattle.token.specs.{Names.EndName, declared.{name.Name.Name}}
-use Rattle.world.{proofs.Headline.Ends.Pairs.Holders.Events.Lists.{Kept, kept_at, kept_bind, kept_guard, kept_map, kept_none, kept_over, kept_some, kept_when}, specs.{CoreLaws.CoreLaws, Due.{due, movable}, States.{State, IsWithinLimits}, declared.limits.Limits.Limits}}
+use Rattle.kernel_model.specs.{Names.{are_among, are_distinct, without_names}, declared.{accepting.Accepting.TheVariants.{Accepted, Blocked}}}
+use Rattle.token.specs.{Names.{last_generation}, declared.{name.Name.Name}}
+use Rattle.world.{proofs.Headline.Ends.Pairs.Holders.Events.Lists.{Kept, kept_at, kept_bind, kept_guard, kept_none, kept_over, kept_some, kept_when}, specs.{CoreLaws.CoreLaws, Due.{due, movable}, declared.limits.Limits.Limits}}
 use Rattle.world.proofs.Headline.Ends.Pairs.Holders.{Events.Lists.{get-replicate}, Turns, turns_after}
-use Rattle.interleaving.specs.{Likeness.{EveryInterleavingIsARun, Like, NoActInVain}, Threads.{Act, open_slot, turn, Accept, Acts as DoesAct, Begin, Calls, Connect, Deliver, Drop, Network, Open, Poll, Spurious, Step, Sweep, System, Thread, Tick, Vanish, begun, begins, delivered, delivers, goes_on, is_over, poller_rests, posted, resting, rests, run, start, step, with_thread}, Rest.{HasStopped, LeftAloneItEnds, LeftAloneItRests, are_own, client_weight, is_own, spent_weight, weight}}
-use Acts.{Lighter, acts_lighter, calls_lighter, goes_lighter, known, posted_weighs}
+use Rattle.interleaving.specs.{Likeness.{EveryInterleavingIsARun, IsARun, NoActInVain}, Threads.{Act, open_slot, turn, Accept, Acts as DoesAct, Begin, Calls, Deliver, Drop, Open, Poll, Step, System, Thread, begun, delivers, goes_on, is_over, poller_rests, posted, resting, rests, run, start, step}, Rest.{LeftAloneItEnds, LeftAloneItRests, are_own, is_own, spent_weight, weight}}
+use Acts.{Known, Lighter, acts_lighter, calls_lighter, goes_lighter, known, posted_weighs}
 use Kernels.{polled, not_so}
 use Needs.{Sound, soundly}
-use Stops.{knows, no_program, open_out}
+use Stops.{no_program}
 use Still.{counted_after, counted_so, listener_so, no_batch, no_client, no_clients, no_queue, no_tickets, still}
 use Rattle.kernel_model.specs.Kernel as kernel
 use Rattle.token.specs.declared.name.Name.TheVariants as name
@@ -73,7 +73,7 @@ module _ (st : System) where
 
   -- each step of the relay's own
 
-  module _ (w : State) (like : Like st w) (nothing : NoActInVain st) where
+  module _ (each : (i : ℕ) (t : Thread) → slice_get st.threads i ≡ Some t → Known st i t t.todo) (nothing : NoActInVain st) where
     lighter : (s : Step) → is_own s ≡ true → Kept (Lighter st) (step st s)
     lighter (Accept Accepted) own = kept_when may_accept _ (λ may. kept_over _ (kernel.accept st.kernel Accepted) (kept_guard _ _ (λ some.
         let parts = and_parts st.flag (not st.accepted && nat_lt 0 st.free) (second_so (poller_rests st) _ may) in
@@ -91,8 +91,8 @@ module _ (st : System) where
         goes_lighter st 0 t there st (goes_on t open_slot) refl (rw rest (omega arith))))
     lighter (Begin i most) own = kept_bind _ (slice_get st.threads i) (λ t there. kept_when _ _ (λ may.
         begins_lighter i most t there (over_is t.todo (and_parts (rests t) _ may).0) (leb-true 4 most own) st.tickets refl))
-    lighter (DoesAct i) own = kept_bind _ (slice_get st.threads i) (λ t there. acts_lighter st i t there (known st w like i t there) refl (nothing.finds i t there))
-    lighter (Calls i r) own = kept_bind _ (slice_get st.threads i) (λ t there. calls_lighter st i t there r own (known st w like i t there) refl)
+    lighter (DoesAct i) own = kept_bind _ (slice_get st.threads i) (λ t there. acts_lighter st i t there (each i t there) refl (nothing.finds i t there))
+    lighter (Calls i r) own = kept_bind _ (slice_get st.threads i) (λ t there. calls_lighter st i t there r own (each i t there) refl)
     lighter s own = absurd (cc)
 
 -- A list of steps
@@ -101,61 +101,58 @@ run_on : (st : System) (steps more : List Step) (mid : System) → run st steps 
 run_on st [] more mid ran = let same : st ≡ mid = cc in rw same refl
 run_on st (s ∷ steps) more mid ran = option_and_then_some (λ (q : System). run q steps) (step st s) mid ran (λ q is rest. rw is (run_on q steps more mid rest))
 
-pub comes_to_rest : EveryInterleavingIsARun → LeftAloneItEnds
-comes_to_rest laws l before [] st next alone ran own led = let same : st ≡ next = cc in rw same (omega arith)
-comes_to_rest laws l before (s ∷ steps) st next alone ran own led = option_and_then_some (λ (q : System). run q steps) (step st s) next led (λ q is rest.
-    let first = laws l before st alone ran in
-    let parts = and_parts (is_own s) (are_own steps) own in
-    let less = kept_at (step st s) q is (lighter st first.world first.like first.nothing s parts.0) in
-    let more = comes_to_rest laws l (before ++ s ∷ []) steps q next alone (run_on (start l) before (s ∷ []) st ran ∙ rw is refl) parts.1 rest in
-    omega arith)
-
--- Where it stops
-
-start_sound : (l : Limits) → IsWithinLimits l → 4 ≤ l.budget → Sound (start l)
-start_sound l within four = record {
+start_sound : (l : Limits) → 1 ≤ l.workers → l.generation < last_generation → 4 ≤ l.budget → Sound (start l)
+start_sound l some below four = record {
   apart = λ e is. absurd (cc);
   some_free = λ yes. absurd (cc);
   begun = λ t at opens. absurd (let same : resting ≡ t = get-replicate l.workers 0 resting t at in none (ap (λ (u : Thread). u.todo) same ∙ opens));
-  unworn = λ some. within.generation;
-  poller = some_thread l.workers within.workers.0;
+  unworn = λ some. below;
   budget = four;
+  workers = some;
   count = length-replicate {A = Thread} l.workers resting;
 }
   where
     none : [] ≡ open_slot → ⊥
     none same = cc
 
-    some_thread : (n : ℕ) → 1 ≤ n → is_some (slice_get (replicate n resting) 0) ≡ true
-    some_thread zero some = absurd (omega arith)
-    some_thread (suc n) some = refl
-
 module _ (core : CoreLaws) (laws : EveryInterleavingIsARun) (l : Limits) (alone : l.slots ≡ 1) where
-  turns_at : (steps : List Step) (st : System) (ran : run (start l) steps ≡ Some st) → Turns (laws l steps st alone ran).world
-  turns_at steps st ran = let r = laws l steps st alone ran in turns_after core l r.made r.world r.allowed
+  turns_in : (steps : List Step) (st : System) (r : IsARun l steps st) → Turns r.world
+  turns_in steps st r = turns_after core l r.made r.world r.allowed
+
+  known_in : (steps : List Step) (st : System) → IsARun l steps st → (i : ℕ) (t : Thread) → slice_get st.threads i ≡ Some t → Known st i t t.todo
+  known_in steps st r i t there = known st i t r.world r.like (turns_in steps st r) (λ c lies. (r.holds.bytes 0 c lies).open_ends) there
+
+  pub ends_on : (before steps : List Step) (st next : System) → run (start l) before ≡ Some st → are_own steps ≡ true → run st steps ≡ Some next → length steps + weight next ≤ weight st
+  ends_on before [] st next ran own led = let same : st ≡ next = cc in rw same (omega arith)
+  ends_on before (s ∷ steps) st next ran own led = option_and_then_some (λ (q : System). run q steps) (step st s) next led (λ q is rest.
+      let r = laws l before st alone ran in
+      let parts = and_parts (is_own s) (are_own steps) own in
+      let less = kept_at (step st s) q is (lighter st (known_in before st r) r.nothing s parts.0) in
+      let more = ends_on (before ++ s ∷ []) steps q next (run_on (start l) before (s ∷ []) st ran ∙ rw is refl) parts.1 rest in
+      omega arith)
+
+  -- Where it stops
 
   sound_on : (before steps : List Step) (st next : System) → run (start l) before ≡ Some st → Sound st → run st steps ≡ Some next → Sound next
   sound_on before [] st next ran sound led = let same : st ≡ next = cc in rw (← same) sound
   sound_on before (s ∷ steps) st next ran sound led = option_and_then_some (λ (q : System). run q steps) (step st s) next led (λ q is rest.
-      let r = laws l before st alone ran in
-      let turns = turns_at before st ran in
-      let knowing = knows st r.world r.like turns in
-      let sound_q = kept_at (step st s) q is (soundly st sound (known st r.world r.like) (λ i t at. (knowing i t at).opens)
-      (λ i t at. (knowing i t at).enters) (λ i t at. (knowing i t at).gives) s) in
+      let sound_q = kept_at (step st s) q is (soundly st sound (known_in before st (laws l before st alone ran)) s) in
       sound_on (before ++ s ∷ []) steps q next (run_on (start l) before (s ∷ []) st ran ∙ rw is refl) sound_q rest)
+
+pub comes_to_rest : CoreLaws → EveryInterleavingIsARun → LeftAloneItEnds
+comes_to_rest core laws l before own st next alone ran are led = ends_on core laws l alone before own st next ran are led
 
 not_movable : (b : Bool) (d : Bool) → (b ≡ true → d ≡ true) → d ≡ false → b ≡ false
 not_movable true d so none = cc (so refl)
 not_movable false d so none = refl
 
 pub at_rest : CoreLaws → EveryInterleavingIsARun → LeftAloneItRests
-at_rest core laws l steps st alone within four ran stopped =
+at_rest core laws l steps st alone some below four ran stopped =
     let r = laws l steps st alone ran in
-    let turns = turns_at core laws l alone steps st ran in
-    let sound = sound_on core laws l alone [] steps (start l) st refl (start_sound l within four) ran in
+    let turns = turns_in core laws l alone steps st r in
+    let sound = sound_on core laws l alone [] steps (start l) st refl (start_sound l some below four) ran in
     let over : (i : ℕ) (t : Thread) → slice_get st.threads i ≡ Some t → t.todo ≡ [] = λ i t at.
-    no_program st sound stopped i t at (known st r.world r.like i t at) refl (knows st r.world r.like turns i t at).opens
-    (open_out st r.world r.like (λ c lies. (r.holds.bytes 0 c lies).open_ends) i t at) in
+    no_program st sound stopped i t at (known_in core laws l alone steps st r i t at) refl in
     let batch = no_batch st sound stopped over st.batch refl in
     let queue = no_queue st sound stopped over batch st.kernel.queue refl in
     let accepted = no_client st sound stopped over st.accepted refl in

@@ -1,13 +1,13 @@
 -- Left alone, the threads come to rest. Part of the promises. A state has a weight, a number that each step of the
 -- relay's own makes smaller. What a step uses up weighs more than all that it may bring about: so each weight is 1, for
 -- the step, and the weight of what may come of it.
-use Rattle.std.specs.Prelude.{◌≡◌, ℕ, ◌+◌, ◌*◌, ◌≤◌, Bool, true, false, not, ◌&&◌, nat_lt, nat_le, if◌then◌else◌, List, [], ◌∷◌, length, slice_get, Option, Some, None, ◌⊎◌}
-use Rattle.token.specs.{declared.direction.Direction.Direction, Sides.{destination, opposite}}
+use Rattle.std.specs.Prelude.{◌≡◌, ℕ, ◌+◌, ◌*◌, ◌<◌, ◌≤◌, Bool, true, false, not, ◌&&◌, nat_lt, nat_le, if◌then◌else◌, List, [], ◌∷◌, length, slice_get, Option, Some, None, ◌⊎◌}
+use Rattle.token.specs.{declared.direction.Direction.Direction, Names.last_generation, Sides.{destination, opposite}}
 use Rattle.flow.specs.Stream.{Stream, waiting}
 use Rattle.kernel_model.specs.{declared.{reply.Reply.Reply, accepting.Accepting.{Accepting, TheVariants.{Accepted, Blocked, Again, Starved}}}, Kernel.{KernelState, Registered}}
 use Rattle.relay_core.specs.{declared.flags.Flags.Flags, Pairs.{PairState, stream_of, is_joined, fresh}, Order.is_drained}
 use Rattle.claims.specs.Words.{some_wait, one}
-use Rattle.world.specs.{declared.{connection.Connection.Connection, limits.Limits.Limits}, States.IsWithinLimits, Due.{due, movable}, Support.total}
+use Rattle.world.specs.{declared.{connection.Connection.Connection, limits.Limits.Limits}, Due.{due, movable}, Support.total}
 use Rattle.interleaving.specs.Likeness.{IsARun}
 use Rattle.interleaving.specs.Threads.{Act, TakeNotes, Call, Post, Release, Register, open_slot, System, Thread, Step, Accept, Drop, Poll, Deliver, Open, Begin, Acts, Calls, start, step, run}
 use Rattle.kernel_model.specs.declared.reply.Reply.TheVariants as reply
@@ -183,7 +183,8 @@ pub record AtRest (l : Limits) (steps : List Step) (st : System) : Type 0 where
   pub due : (s : ℕ) → due run.world s ≡ false
   pub movable : (s : ℕ) → movable run.world s ≡ false
 
--- Wherever the relay has made all of its own steps, by whichever threads in whichever order, it is at rest
+-- Wherever the relay has made all of its own steps, by whichever threads in whichever order, it is at rest. The limits
+-- must have a thread, leave a generation to open, and allow a turn four calls
 abbrev pub LeftAloneItRests : Type 0
-LeftAloneItRests = (l : Limits) (steps : List Step) (st : System) → l.slots ≡ 1 → IsWithinLimits l → 4 ≤ l.budget
-    → run (start l) steps ≡ Some st → HasStopped st → AtRest l steps st
+LeftAloneItRests = (l : Limits) (steps : List Step) (st : System) → l.slots ≡ 1 → 1 ≤ l.workers → l.generation < last_generation
+    → 4 ≤ l.budget → run (start l) steps ≡ Some st → HasStopped st → AtRest l steps st

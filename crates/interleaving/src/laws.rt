@@ -42,6 +42,10 @@ pub fn programs_are_these()
 pub fn left_alone_it_ends()
     ensures { LeftAloneItEnds }
 {
+    laws::answers_keep_place();
+    laws::failures_are_told();
+    laws::live_pairs_rest();
+    laws::only_overdue_pairs_expire();
     every_interleaving_is_a_run();
 }
 

@@ -1,72 +1,104 @@
 -- What a thread does makes the state lighter: each act of its program, and each call.
-use Rattle.interleaving.proofs.Runs.Programs.{by_plan}
-use Rattle.std.{proofs.{Common.{Bool, List, None, Option, Some, [], ap, arith, drop, false, if◌then◌else◌, inl, inr, length, refl, slice_get, subst, suc, sym, true, zero, ℕ, ◌&&◌, ◌++◌, ◌+◌, ◌-◌, ◌*◌, ◌==◌, ◌∷◌, ◌≡◌, ◌≢◌, ◌≤◌, ◌⊎◌, eq-eqb, eqb-true, length-append}, lemmas.{Bool.{and_parts, cases_eq, Decides.nat_tests}}}, specs.{Option.is_none}}
+use Rattle.std.{proofs.{Common.{Bool, List, None, Option, Some, [], ap, arith, drop, false, if◌then◌else◌, inl, inr, length, refl, replicate, slice_get, subst, suc, sym, true, zero, ℕ, ◌&&◌, ◌++◌, ◌+◌, ◌-◌, ◌*◌, ◌==◌, ◌∙◌, ◌∷◌, ◌≡◌, ◌≢◌, ◌≤◌, ◌⊎◌, eq-eqb, eqb-true, length-append}, lemmas.{Bool.{and_parts, cases_eq, Decides.nat_tests}}}, specs.{Option.is_none, Prelude.{IsSome}}}
 use Rattle.claims.specs.Words.{WordState, some_wait, wakes, word_after, one}
-use Rattle.kernel_model.specs.{Kernel.{KernelState, Registered}, declared.{reply.Reply.Reply}}
+use Rattle.kernel_model.specs.{Kernel.{KernelState, end_at}, declared.{reply.Reply.Reply}}
 use Rattle.relay_core.specs.{Order.next_call, Pairs.{PairState, is_live, verdict, fresh, noted}, Idle.{is_overdue, is_past, expired, timed_out}}
-use Rattle.token.specs.{declared.{side.Side.{TheVariants.{Client, Target}}}}
-use Rattle.world.{proofs.Headline.Ends.Pairs.Holders.Events.Lists.{Kept, kept_at, kept_bind, kept_map, kept_none, kept_some, kept_when, total-set}, specs.{Calls.{OpenConnection, called}, Slots.{SlotState, WorkerState}, States.State, Steps.{is_worn, token_of}, Support.total, declared.{connection.Connection.Connection, limits.Limits.Limits}}}
-use Rattle.interleaving.specs.{Likeness.{Adopted, Emptied, Entered, Goes, HalfOpen, HasClosed, HasOut, HasRetired, HolderLike, Holds, IsHalfOpen, IsHolder, IsSettled, Leaves, Like, Opens, Placed, Posted, Registered as IsRegistered, Rests, Stage, Stays, ThreadLike, Tries, Finds}, Threads.{Act, Call, PutIn, Release, again, ended, open_slot, plan, quiet, turn, System, Thread, acts, calls, goes_on, heard, planned, posted, registering, released, taken_out, taking, with_thread}, Rest.{calls_left, calls_to_come, client_weight, connection_weight, end_weight, is_answered, kernel_weight, move_weight, notes_weight, pair_weight, poller_weight, post_weight, program_weight, slot_weight, socket_weight, spent_weight, thread_weight, ticket_weight, weight}}
+use Rattle.token.specs.{declared.{side.Side.{Side, TheVariants.{Client, Target}}}}
+use Rattle.world.{proofs.Headline.Ends.Pairs.Holders.{Events.Lists.{Kept, kept_at, kept_bind, kept_map, kept_none, kept_some, kept_when, total-set}, Turns, is_number}, specs.{Calls.{OpenConnection, called, descriptor}, Headline.{end_of}, Slots.{SlotState, WorkerState}, States.State, Steps.{connection_at, is_worn, token_of}, Support.total, declared.{connection.Connection.Connection, limits.Limits.Limits}}}
+use Rattle.interleaving.specs.{Likeness.{Adopted, Emptied, Entered, Goes, HalfOpen, HasClosed, HasOut, HasRetired, HolderLike, Holds, IsHalfOpen, IsHolder, IsSettled, Leaves, Like, Opens, Placed, Posted, Registered as IsRegistered, Rests, Stage, Stays, ThreadLike, Tries, Finds, ends_of, machine_of, opened_slot}, Threads.{Act, Call, PutIn, Release, again, ended, open_slot, plan, quiet, turn, System, Thread, acts, calls, goes_on, heard, planned, posted, registering, released, taken_out, taking, with_thread}, Rest.{calls_left, calls_to_come, client_weight, connection_weight, end_weight, is_answered, kernel_weight, move_weight, notes_weight, pair_weight, poller_weight, post_weight, program_weight, slot_weight, socket_weight, spent_weight, thread_weight, ticket_weight, weight}}
 use Rattle.claims.specs.Words as word
 use Rattle.kernel_model.specs.Kernel as kernel
 use Rattle.interleaving.proofs.Rest.{Pairs.{four_left, some_left, either}, Replies.{Called, Outcome, Moved, Waited, Over, calls_answered}, Kernels.{LighterKernel, both_opened, both_closed}}
 
--- The programs that are half way, and no others
+-- its connection is out, and both ends of that are open
+pub record IsOut (st : System) (t : Thread) (c : Connection) : Type 0 where
+  pub out : t.out ≡ Some c
+  pub ends : st.ends ≡ Some c.ends
+  pub open_ends : (side : Side) → IsSome (end_at st.kernel.ends (descriptor c.ends side))
 
-pub data Known : List Act → Type 0 where
-  Nothing : Known []
-  Opening : Known open_slot
-  Adopting : Known (drop 1 open_slot)
-  Entering : Known (drop 2 open_slot)
-  Discarding : Known (drop 3 open_slot)
-  Posting : Known (drop 1 again)
-  Releasing : Known (drop 1 quiet)
-  Claiming : Known turn
-  TakingOut : Known (drop 1 turn)
-  Taking : Known (drop 2 turn)
-  Calling : Known (Call ∷ [])
-  Resting : Known quiet
-  Spending : Known again
-  Ending : Known ended
-  Retiring : Known (drop 1 ended)
-  Giving : Known (drop 2 ended)
+-- The programs of the thread i, which is t, that are half way, and no others, with what each needs: the poller opens; no
+-- slot is free while one is entered; a call is left; and the slot that is given has its entry in the table
+pub data Known (st : System) (i : ℕ) (t : Thread) : List Act → Type 0 where
+  Nothing : Known st i t []
+  Opening : i ≡ 0 → Known st i t open_slot
+  Adopting : Known st i t (drop 1 open_slot)
+  Entering : st.free ≡ 0 → Known st i t (drop 2 open_slot)
+  Discarding : Known st i t (drop 3 open_slot)
+  Posting : Known st i t (drop 1 again)
+  Releasing : Known st i t (drop 1 quiet)
+  Claiming : Known st i t turn
+  TakingOut : Known st i t (drop 1 turn)
+  Taking : Known st i t (drop 2 turn)
+  Calling : (c : Connection) → IsOut st t c → is_none (next_call c.pair) ≡ false → Known st i t (Call ∷ [])
+  Resting : Known st i t quiet
+  Spending : Known st i t again
+  Ending : (c : Connection) → IsOut st t c → Known st i t ended
+  Retiring : Known st i t (drop 1 ended)
+  Giving : t.generation ≡ st.entry → Known st i t (drop 2 ended)
 
-known_plan : (left : ℕ) (p : PairState) → Known (plan left p)
-known_plan left p = by_plan Known left p (λ live none. Resting) (λ live. Spending) (λ some. Calling) (λ over. Ending)
+count_free : (n : ℕ) → total (is_number 0) (replicate {A = ℕ} n zero) ≡ n
+count_free zero = refl
+count_free (suc n) = let rest = count_free n in omega arith
 
-known_holder : {budget : ℕ} {place : Option Connection} {p : SlotState} {t : Thread} {c : Connection} {more : ℕ} {todo : List Act} → HolderLike budget place p t c more todo → Known todo
-known_holder (Holds at least all some) = TakingOut
-known_holder (HasOut at out least all some) = Taking
-known_holder {t = t} {c} (Goes at out least) = known_plan t.left c.pair
-known_holder (Stays at live) = Posting
-known_holder (Leaves at may) = Releasing
+ends_at : (p : SlotState) (c : Connection) → p.connection ≡ Some c → ends_of p ≡ Some c.ends
+ends_at p c lies = rw lies refl
 
-known_thread : {budget : ℕ} {place : Option Connection} {p : SlotState} {i : ℕ} {t : Thread} {k : WorkerState} {todo : List Act} → ThreadLike budget place p i t k todo → Known todo
-known_thread (Rests is) = Nothing
-known_thread (Opens first is) = Opening
-known_thread (Tries least is) = Claiming
-known_thread (IsHolder c more held is at) = known_holder at
-known_thread (HasClosed held at is) = Retiring
-known_thread (HasRetired own is) = Giving
+module _ (st : System) (i : ℕ) (t : Thread) where
+  known_plan : (c : Connection) → IsOut st t c → Known st i t (plan t.left c.pair)
+  known_plan c out = go (is_live (verdict c.pair)) (is_none (next_call c.pair)) (t.left == 0) refl
+    where
+      go : (live none spent : Bool) → is_none (next_call c.pair) ≡ none → Known st i t (if live then (if none then quiet else (if spent then again else Call ∷ [])) else ended)
+      go true true spent is = Resting
+      go true false true is = Spending
+      go true false false is = Calling c out is
+      go false none spent is = Ending c out
 
-known_stage : {word : WordState} {place : Option Connection} {entry : ℕ} {t : Thread} {c : Connection} {todo : List Act} → Stage word place entry t c todo → Known todo
-known_stage (IsRegistered notes is at out) = Adopting
-known_stage (Adopted notes is at out) = Entering
-known_stage (Entered notes is at out own) = Discarding
-known_stage (Emptied is at out own) = Spending
-known_stage (Placed is at own) = Posting
-known_stage (Posted is at own) = Releasing
+  known_holder : {budget : ℕ} {place : Option Connection} {p : SlotState} {c : Connection} {more : ℕ} {todo : List Act} → (t.out ≡ Some c → IsOut st t c)
+      → HolderLike budget place p t c more todo → Known st i t todo
+  known_holder out (Holds at least all some) = TakingOut
+  known_holder out (HasOut at is least all some) = Taking
+  known_holder {c = c} out (Goes at is least) = known_plan c (out is)
+  known_holder out (Stays at live) = Posting
+  known_holder out (Leaves at may) = Releasing
 
-known_half : (st : System) (t : Thread) (c : Connection) (workers : List WorkerState) → HalfOpen st t c workers → (i : ℕ) (u : Thread) → slice_get st.threads i ≡ Some u
-    → (i ≡ 0) ⊎ (i ≢ 0) → Known u.todo
-known_half st t c workers half i u there (inl first) =
-    let same : u ≡ t = cc half.first in
-    rw same (known_stage half.stage)
-known_half st t c workers half i u there (inr other) = rw (half.others i u other there).0 Nothing
+  known_thread : {budget : ℕ} {place : Option Connection} {p : SlotState} {k : WorkerState} {todo : List Act} → p.generation ≡ st.entry
+      → ((c : Connection) → p.connection ≡ Some c → t.out ≡ Some c → IsOut st t c) → ThreadLike budget place p i t k todo → Known st i t todo
+  known_thread entry out (Rests is) = Nothing
+  known_thread entry out (Opens first is) = Opening first
+  known_thread entry out (Tries least is) = Claiming
+  known_thread entry out (IsHolder c more held is at) = known_holder (out c held.there) at
+  known_thread entry out (HasClosed held at is) = Retiring
+  known_thread entry out (HasRetired own is) = Giving (sym own ∙ entry)
 
-pub known : (st : System) (w : State) → Like st w → (i : ℕ) (t : Thread) → slice_get st.threads i ≡ Some t → Known t.todo
-known st w (IsSettled p workers is set) i t there = known_thread (set.threads i t there).like
-known st w (IsHalfOpen t c workers is half) i u there = known_half st t c workers half i u there (cases_eq i 0)
+  known_stage : {word : WordState} {place : Option Connection} {entry : ℕ} {u : Thread} {c : Connection} {todo : List Act} → st.free ≡ 0 → Stage word place entry u c todo
+      → Known st i t todo
+  known_stage free (IsRegistered notes is at out) = Adopting
+  known_stage free (Adopted notes is at out) = Entering free
+  known_stage free (Entered notes is at out own) = Discarding
+  known_stage free (Emptied is at out own) = Spending
+  known_stage free (Placed is at own) = Posting
+  known_stage free (Posted is at own) = Releasing
+
+  known_half : (first : Thread) (c : Connection) (workers : List WorkerState) → HalfOpen st first c workers → st.free ≡ 0 → slice_get st.threads i ≡ Some t
+      → (i ≡ 0) ⊎ (i ≢ 0) → Known st i t t.todo
+  known_half first c workers half free there (inl this) =
+      let same : t ≡ first = cc half.first in
+      let stage : Stage st.word st.place st.entry first c t.todo = rw same half.stage in
+      known_stage free stage
+  known_half first c workers half free there (inr other) = rw (half.others i t other there).0 Nothing
+
+  pub known : (w : State) → Like st w → Turns w → ((c : Connection) → connection_at w 0 ≡ Some c → (side : Side) → IsSome (end_of w c side)) → slice_get st.threads i ≡ Some t
+      → Known st i t t.todo
+  known w (IsSettled p workers is set) turns opens there =
+      let now : Turns (machine_of st p st.entry st.tickets workers) = rw is at turns in
+      let entry : Some st.entry ≡ Some p.generation = (now.each 0 p refl).entry in
+      let at = rw is at opens in
+      known_thread (cc entry) (λ c lies has. record { out = has; ends = set.ends ∙ ends_at p c lies; open_ends = at c lies }) (set.threads i t there).like
+  known w (IsHalfOpen first c workers is half) turns opens there =
+      let now : Turns (machine_of st (opened_slot first.generation c) first.generation (first.generation ∷ []) workers) = rw is at turns in
+      let gone = (now.each 0 (opened_slot first.generation c) refl).gone in
+      let count = count_free st.free in
+      known_half first c workers half (omega arith) there (cases_eq i 0)
 
 -- A step of one thread
 
@@ -258,23 +290,23 @@ module _ (st : System) (i : ℕ) (t : Thread) (there : slice_get st.threads i �
   discards : OneAct (drop 3 open_slot)
   discards is find = kept_some (on_lighter (record st { word = word_after word.take st.word }) (drop 4 open_slot) refl (omega arith) (rw is (omega arith)))
 
-  pub acts_lighter : {todo : List Act} → Known todo → OneAct todo
+  pub acts_lighter : {todo : List Act} → Known st i t todo → OneAct todo
   acts_lighter Nothing is find = kept_none
-  acts_lighter Opening is find = registers st.free is
+  acts_lighter (Opening own) is find = registers st.free is
   acts_lighter Adopting is find = adopts is find
-  acts_lighter Entering is find = enters is find
+  acts_lighter (Entering own) is find = enters is find
   acts_lighter Discarding is find = discards is find
   acts_lighter Posting is find = posts is find
   acts_lighter Releasing is find = releases is find
   acts_lighter Claiming is find = claims is find
   acts_lighter TakingOut is find = takes_out is find
   acts_lighter Taking is find = takes is find
-  acts_lighter Calling is find = kept_none
+  acts_lighter (Calling c out next) is find = kept_none
   acts_lighter Resting is find = puts (drop 1 quiet) refl refl refl is
   acts_lighter Spending is find = puts (drop 1 again) refl refl refl is
-  acts_lighter Ending is find = closes is find
+  acts_lighter (Ending c out) is find = closes is find
   acts_lighter Retiring is find = retires is find
-  acts_lighter Giving is find = gives is find
+  acts_lighter (Giving own) is find = gives is find
 
   -- a call
 
@@ -300,9 +332,9 @@ module _ (st : System) (i : ℕ) (t : Thread) (there : slice_get st.threads i �
           (spent_less t.left (calls_left line.connection.pair) (calls_left c.pair) fewer)
       by (Over same pair ends) = over _ _ _ _ _ _ _ _ same pair (planned_over st t (t.left - 1) line.connection ends)
 
-  pub calls_lighter : {todo : List Act} (r : Reply) → is_answered r ≡ true → Known todo → t.todo ≡ todo → Kept (Lighter st) (calls st i t r todo)
-  calls_lighter r settled Calling is = kept_bind _ t.out (λ c has. kept_map _ (called st.second (record { kernel = st.kernel; connection = c }) r) (λ line replied.
+  pub calls_lighter : {todo : List Act} (r : Reply) → is_answered r ≡ true → Known st i t todo → t.todo ≡ todo → Kept (Lighter st) (calls st i t r todo)
+  calls_lighter r settled (Calling _ out next) is = kept_bind _ t.out (λ c has. kept_map _ (called st.second (record { kernel = st.kernel; connection = c }) r) (λ line replied.
       calls_on r c line (kept_at (called st.second (record { kernel = st.kernel; connection = c }) r) line replied
       (calls_answered st.second (record { kernel = st.kernel; connection = c }) r settled)) is has))
   calls_lighter r settled Nothing is = kept_none
-  calls_lighter r settled known is = kept_none
+  calls_lighter r settled _ is = kept_none

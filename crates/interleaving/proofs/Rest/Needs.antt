@@ -1,15 +1,15 @@
 -- What a program needs so that it never stands still: an opening has an accepted client and a free slot whose
 -- generations are not used up, and a connection has two descriptors.
-use Rattle.std.{proofs.{Common.{Bool, List, None, Option, Some, [], ap, arith, drop, false, if◌then◌else◌, is_some, inl, inr, length, not, refl, slice_get, slice_set, subst, suc, sym, true, zero, ℕ, ◌&&◌, ◌++◌, ◌+◌, ◌-◌, ◌==◌, ◌∙◌, ◌∷◌, ◌≡◌, ◌≢◌, ◌≤◌, ◌<◌, ◌⊎◌, leb-false, ltb-true, nat_lt}, lemmas.{List.length-set, Grind.common_steps, Bool.{cases_eq}}}, specs.Cmp.{first_so, second_so}}
+use Rattle.std.{proofs.{Common.{Bool, List, None, Option, Some, [], ap, arith, drop, false, if◌then◌else◌, inl, inr, length, not, refl, slice_get, slice_set, subst, suc, sym, true, zero, ℕ, ◌&&◌, ◌++◌, ◌+◌, ◌-◌, ◌==◌, ◌∙◌, ◌∷◌, ◌≡◌, ◌≢◌, ◌≤◌, ◌<◌, ◌⊎◌, leb-false, ltb-true, nat_lt}, lemmas.{List.length-set, Grind.common_steps, Bool.{cases_eq}}}, specs.Cmp.{first_so, second_so}}
 use Rattle.token.specs.{Names.{EndName, last_generation}, declared.{name.Name.Name, side.Side.{Side, TheVariants.{Client, Target}}}}
-use Rattle.kernel_model.specs.{Ends.opened, Kernel.{KernelState, Registered, end_at, lowest_free, with_end}, declared.{accepting.Accepting.TheVariants.{Accepted, Blocked, Again, Starved}, both.Descriptors.Descriptors, reply.Reply.Reply}}
+use Rattle.kernel_model.specs.{Ends.opened, Kernel.{KernelState, Registered, end_at, lowest_free}, declared.{accepting.Accepting.TheVariants.{Accepted, Blocked, Again, Starved}, both.Descriptors.Descriptors, reply.Reply.Reply}}
 use Rattle.claims.specs.Words.{word_after}
 use Rattle.relay_core.specs.{Idle.expired, Pairs.{PairState, fresh, verdict}}
 use Rattle.world.{proofs.Headline.Ends.Pairs.Holders.{Events.Lists.{Kept, kept_bind, kept_guard, kept_map, kept_none, kept_some, kept_when, get-set_same, get-set_other, opened_here, opened_other}}, specs.{Calls.{called, descriptor}, Steps.{change_at, is_worn, token_of}, declared.{connection.Connection.Connection}}}
 use Rattle.interleaving.specs.{Threads.{Act, again, ended, open_slot, plan, quiet, turn, Accept, Acts as DoesAct, Begin, Calls, Connect, Deliver, Drop, Network, Open, Poll, Spurious, Step, Sweep, System, Thread, Tick, Vanish, acts, begun, calls, delivers, goes_on, gone, heard, is_over, planned, poller_rests, resting, taken_out, taking, posted, registering, released, rests, step, watched_of, with_thread}}
 use Rattle.interleaving.proofs.Runs.Programs.{by_plan}
 use Rattle.claims.specs.Words as word
-use Rattle.interleaving.proofs.Rest.Acts.{Known, Nothing, Opening, Adopting, Entering, Discarding, Posting, Releasing, Claiming, TakingOut, Taking, Calling, Resting, Spending, Ending, Retiring, Giving, known}
+use Rattle.interleaving.proofs.Rest.Acts.{Known, Nothing, Opening, Adopting, Entering, Discarding, Posting, Releasing, Claiming, TakingOut, Taking, Calling, Resting, Spending, Ending, Retiring, Giving}
 use Rattle.kernel_model.specs.Kernel as kernel
 use Rattle.token.specs.declared.name.Name.TheVariants as name
 
@@ -18,13 +18,9 @@ pub record Sound (st : System) : Type 0 where
   pub some_free : st.accepted ≡ true → 1 ≤ st.free
   pub begun : (t : Thread) → slice_get st.threads 0 ≡ Some t → t.todo ≡ open_slot → st.accepted ≡ true
   pub unworn : 1 ≤ st.free → st.entry < last_generation
-  pub poller : is_some (slice_get st.threads 0) ≡ true
   pub budget : 4 ≤ st.limits.budget
+  pub workers : 1 ≤ st.limits.workers
   pub count : length st.threads ≡ st.limits.workers
-
-still_there : {i : ℕ} {t : Thread} → (i ≡ 0) ⊎ (i ≢ 0) → (threads : List Thread) (u : Thread) → slice_get threads i ≡ Some t → is_some (slice_get threads 0) ≡ true
-    → is_some (slice_get (slice_set threads i u) 0) ≡ true
-still_there at threads u there some = grind (arith, get-set_same, get-set_other)
 
 -- a thread has gone on, and has not begun an opening
 stays : {st : System} (i : ℕ) {t : Thread} (u : Thread) → slice_get st.threads i ≡ Some t → (u.todo ≡ open_slot → ⊥) → Sound st → Sound (with_thread st i u)
@@ -33,8 +29,8 @@ stays {st} i {t} u there other s = record {
   some_free = s.some_free;
   begun = λ v at opens. by (cases_eq i 0) v at opens;
   unworn = s.unworn;
-  poller = still_there (cases_eq i 0) st.threads u there s.poller;
   budget = s.budget;
+  workers = s.workers;
   count = length-set st.threads i u ∙ s.count;
 }
   where
@@ -138,46 +134,42 @@ module _ (st : System) (s : Sound st) (i : ℕ) (t : Thread) (there : slice_get 
         some_free = λ yes. absurd (cc);
         begun = λ v at opens. absurd (later (rw (put_first first v u at) at opens));
         unworn = λ some. s.unworn (omega arith);
-        poller = still_there (cases_eq i 0) st.threads u there s.poller;
         budget = s.budget;
+        workers = s.workers;
         count = length-set st.threads i u ∙ s.count;
       })))
 
-  acts_soundly : {todo : List Act} → Known todo → (todo ≡ open_slot → i ≡ 0) → (todo ≡ drop 2 open_slot → st.free ≡ 0) → (todo ≡ drop 2 ended → t.generation ≡ st.entry)
-      → Kept Sound (acts st i t todo)
-  acts_soundly Nothing first none own = kept_none
-  acts_soundly Opening first none own = registers_soundly (first refl) st.free refl
-  acts_soundly Adopting first none own = adopts_soundly
-  acts_soundly Entering first none own = kept_some (on (record st { entry = t.generation }) (goes_on t (drop 3 open_slot)) refl
-      (let never : 1 ≤ st.free → t.generation < last_generation = λ some. absurd (let zero = none refl in omega arith) in assumption (s, never)) (λ e. cc))
-  acts_soundly Discarding first none own = kept_some (on (record st { word = word_after word.take st.word }) (goes_on t (drop 4 open_slot)) refl (assumption s) (λ e. cc))
-  acts_soundly Posting first none own = kept_some (on (posted st t.generation) (goes_on t (drop 2 again)) refl (assumption s) (λ e. cc))
-  acts_soundly Releasing first none own = kept_some (on (released st t.generation) (goes_on t []) refl (assumption s) (λ e. cc))
-  acts_soundly Claiming first none own = claims_soundly
-  acts_soundly TakingOut first none own = kept_some (takes_out_soundly st.place)
-  acts_soundly Taking first none own = kept_some (takes_soundly t.out)
-  acts_soundly Calling first none own = kept_none
-  acts_soundly Resting first none own = kept_some (on (record st { place = t.out }) (record t { out = None; todo = drop 1 quiet }) refl (assumption s) (λ e. cc))
-  acts_soundly Spending first none own = kept_some (on (record st { place = t.out }) (record t { out = None; todo = drop 1 again }) refl (assumption s) (λ e. cc))
-  acts_soundly Ending first none own = closes_soundly
-  acts_soundly Retiring first none own = kept_some (on (record st { word = word_after word.retire st.word }) (goes_on t (drop 2 ended)) refl (assumption s) (λ e. cc))
-  acts_soundly Giving first none own = gives_soundly (own refl)
+  acts_soundly : {todo : List Act} → Known st i t todo → Kept Sound (acts st i t todo)
+  acts_soundly Nothing = kept_none
+  acts_soundly (Opening first) = registers_soundly first st.free refl
+  acts_soundly Adopting = adopts_soundly
+  acts_soundly (Entering none) = kept_some (on (record st { entry = t.generation }) (goes_on t (drop 3 open_slot)) refl
+      (let never : 1 ≤ st.free → t.generation < last_generation = λ some. absurd (omega (arith, none)) in assumption (s, never)) (λ e. cc))
+  acts_soundly Discarding = kept_some (on (record st { word = word_after word.take st.word }) (goes_on t (drop 4 open_slot)) refl (assumption s) (λ e. cc))
+  acts_soundly Posting = kept_some (on (posted st t.generation) (goes_on t (drop 2 again)) refl (assumption s) (λ e. cc))
+  acts_soundly Releasing = kept_some (on (released st t.generation) (goes_on t []) refl (assumption s) (λ e. cc))
+  acts_soundly Claiming = claims_soundly
+  acts_soundly TakingOut = kept_some (takes_out_soundly st.place)
+  acts_soundly Taking = kept_some (takes_soundly t.out)
+  acts_soundly (Calling c out next) = kept_none
+  acts_soundly Resting = kept_some (on (record st { place = t.out }) (record t { out = None; todo = drop 1 quiet }) refl (assumption s) (λ e. cc))
+  acts_soundly Spending = kept_some (on (record st { place = t.out }) (record t { out = None; todo = drop 1 again }) refl (assumption s) (λ e. cc))
+  acts_soundly (Ending c out) = closes_soundly
+  acts_soundly Retiring = kept_some (on (record st { word = word_after word.retire st.word }) (goes_on t (drop 2 ended)) refl (assumption s) (λ e. cc))
+  acts_soundly (Giving own) = gives_soundly own
 
-  calls_soundly : {todo : List Act} (r : Reply) → Known todo → Kept Sound (calls st i t r todo)
-  calls_soundly r Calling = kept_bind _ t.out (λ c has. kept_map _ (called st.second (record { kernel = st.kernel; connection = c }) r) (λ line replied.
+  calls_soundly : {todo : List Act} (r : Reply) → Known st i t todo → Kept Sound (calls st i t r todo)
+  calls_soundly r (Calling _ out next) = kept_bind _ t.out (λ c has. kept_map _ (called st.second (record { kernel = st.kernel; connection = c }) r) (λ line replied.
       on (record st { kernel = line.kernel }) (planned st t (t.left - 1) line.connection) refl (assumption s) (not_opening (t.left - 1) (expired st.second st.limits.idle line.connection.pair))))
   calls_soundly r Nothing = kept_none
-  calls_soundly r known = kept_none
+  calls_soundly r _ = kept_none
 
   begins_soundly : (most : ℕ) (tickets : List ℕ) → Kept Sound (begun st i most tickets)
   begins_soundly most [] = kept_none
   begins_soundly most (g ∷ rest) = kept_some (on (record st { tickets = rest }) (record { generation = g; out = None; left = most; todo = turn }) refl (assumption s) (λ e. cc))
 
--- what is known of its threads: their programs, and whether one registers, enters a generation or gives the slot back
-module _ (st : System) (s : Sound st) (each : (i : ℕ) (t : Thread) → slice_get st.threads i ≡ Some t → Known t.todo)
-    (first : (i : ℕ) (t : Thread) → slice_get st.threads i ≡ Some t → t.todo ≡ open_slot → i ≡ 0)
-    (none : (i : ℕ) (t : Thread) → slice_get st.threads i ≡ Some t → t.todo ≡ drop 2 open_slot → st.free ≡ 0)
-    (own : (i : ℕ) (t : Thread) → slice_get st.threads i ≡ Some t → t.todo ≡ drop 2 ended → t.generation ≡ st.entry) where
+-- where the programs of its threads are known
+module _ (st : System) (s : Sound st) (each : (i : ℕ) (t : Thread) → slice_get st.threads i ≡ Some t → Known st i t t.todo) where
   delivers_soundly : (batch : List Name) → Kept Sound (delivers st batch)
   delivers_soundly [] = kept_none
   delivers_soundly (name.Listener ∷ rest) = kept_some (assumption s)
@@ -208,12 +200,12 @@ module _ (st : System) (s : Sound st) (each : (i : ℕ) (t : Thread) → slice_g
         some_free = λ yes. ltb-true 0 st.free some;
         begun = λ t at opens. refl;
         unworn = s.unworn;
-        poller = s.poller;
         budget = s.budget;
+        workers = s.workers;
         count = s.count;
       }))
   soundly (Accept Blocked) = kept_when may_accept _ (λ may. kept_map _ (kernel.accept st.kernel Blocked) (λ q can.
-      record { apart = s.apart; some_free = s.some_free; begun = s.begun; unworn = s.unworn; poller = s.poller; budget = s.budget; count = s.count }))
+      record { apart = s.apart; some_free = s.some_free; begun = s.begun; unworn = s.unworn; budget = s.budget; workers = s.workers; count = s.count }))
   soundly (Accept Again) = kept_when _ _ (λ may. kept_some s)
   soundly (Accept Starved) = kept_when _ _ (λ may. kept_some s)
   soundly Drop = kept_guard _ _ (λ may.
@@ -222,12 +214,12 @@ module _ (st : System) (s : Sound st) (each : (i : ℕ) (t : Thread) → slice_g
         some_free = λ yes. absurd (cc);
         begun = λ t at opens. rested (first_so (poller_rests st) _ may) t at opens;
         unworn = s.unworn;
-        poller = s.poller;
         budget = s.budget;
+        workers = s.workers;
         count = s.count;
       })
   soundly (Poll names) = kept_when (poller_rests st && (length st.batch == 0)) _ (λ may. kept_map _ (kernel.poll st.kernel names.items) (λ q can.
-      record { apart = s.apart; some_free = s.some_free; begun = s.begun; unworn = s.unworn; poller = s.poller; budget = s.budget; count = s.count }))
+      record { apart = s.apart; some_free = s.some_free; begun = s.begun; unworn = s.unworn; budget = s.budget; workers = s.workers; count = s.count }))
   soundly Deliver = kept_when (poller_rests st) _ (λ may. delivers_soundly st.batch)
   soundly Sweep = kept_guard _ _ (λ may. assumption s)
   soundly Open = kept_bind _ (slice_get st.threads 0) (λ t there. kept_guard _ _ (λ may.
@@ -236,10 +228,10 @@ module _ (st : System) (s : Sound st) (each : (i : ℕ) (t : Thread) → slice_g
         some_free = s.some_free;
         begun = λ v at opens. second_so (rests t) st.accepted may;
         unworn = s.unworn;
-        poller = still_there (inl refl) st.threads (goes_on t open_slot) there s.poller;
         budget = s.budget;
+        workers = s.workers;
         count = length-set st.threads 0 (goes_on t open_slot) ∙ s.count;
       }))
   soundly (Begin i most) = kept_bind _ (slice_get st.threads i) (λ t there. kept_when _ _ (λ may. begins_soundly st s i t there most st.tickets))
-  soundly (DoesAct i) = kept_bind _ (slice_get st.threads i) (λ t there. acts_soundly st s i t there (each i t there) (first i t there) (none i t there) (own i t there))
+  soundly (DoesAct i) = kept_bind _ (slice_get st.threads i) (λ t there. acts_soundly st s i t there (each i t there))
   soundly (Calls i r) = kept_bind _ (slice_get st.threads i) (λ t there. calls_soundly st s i t there r (each i t there))

@@ -1,5 +1,5 @@
 -- What is left where no step of the relay's own can be made and no thread has a program.
-use Rattle.std.{proofs.{Common.{Bool, List, None, Option, Some, [], ap, arith, false, is_some, inl, inr, length, not, refl, slice_get, suc, sym, true, zero, ℕ, ◌&&◌, ◌||◌, ◌+◌, ◌==◌, ◌∙◌, ◌∷◌, ◌≡◌, ◌⊎◌, le-leb, lt-ltb, nat_lt, option_map}, lemmas.{List.{length-set, length-replicate}, Bool.{Decides.nat_tests}}}, specs.{List.list_any}}
+use Rattle.std.{proofs.{Common.{Bool, List, None, Option, Some, [], ap, arith, false, is_some, inl, inr, length, not, refl, slice_get, suc, sym, true, zero, ℕ, ◌&&◌, ◌||◌, ◌+◌, ◌==◌, ◌∙◌, ◌∷◌, ◌≡◌, ◌≤◌, ◌⊎◌, le-leb, lt-ltb, nat_lt, option_map}, lemmas.{List.{length-set, length-replicate}, Bool.{Decides.nat_tests}}}, specs.{List.list_any}}
 use Rattle.token.specs.declared.name.Name.{Name}
 use Rattle.kernel_model.specs.{Ends.is_nonempty, Names.{has, same}, declared.accepting.Accepting.TheVariants.{Accepted}}
 use Rattle.world.{proofs.Headline.Ends.Pairs.Holders.{Events.{Happens, Ticks, holds_after}, SlotOk, Turns, facts, worker_closes, worker_holds}, specs.{Due.{due, due_place, has_ticket}, Headline.{ListenerHolds}, Slots.{SlotState, WorkerState, is_by_worker, is_held}, States.{State, opening, resting as idle_worker}, Support.{one, total, worker_tickets}, declared.{actors.Holder.{Holder, TheVariants.{By, Free, Nobody}}, connection.Connection.Connection, event.Event.Event, limits.Limits.Limits}}}
@@ -13,13 +13,13 @@ use Rattle.world.specs.Runs as machine_runs
 same_self : (n : Name) → same n n ≡ true
 same_self n = grind arith
 
-module _ (st : System) (sound : Sound st) (stopped : HasStopped st) (over : (i : ℕ) (t : Thread) → slice_get st.threads i ≡ Some t → t.todo ≡ []) where
-  first : (o : Option Thread) → slice_get st.threads 0 ≡ o → is_some o ≡ true → (t : Thread) × (slice_get st.threads 0 ≡ Some t)
-  first None at some = cc
-  first (Some t) at some = (t, at)
+some_thread : (ts : List Thread) → 1 ≤ length ts → (t : Thread) × (slice_get ts 0 ≡ Some t)
+some_thread [] some = absurd (omega arith)
+some_thread (t ∷ ts) some = (t, refl)
 
+module _ (st : System) (sound : Sound st) (stopped : HasStopped st) (over : (i : ℕ) (t : Thread) → slice_get st.threads i ≡ Some t → t.todo ≡ []) where
   poller : (t : Thread) × (slice_get st.threads 0 ≡ Some t)
-  poller = first (slice_get st.threads 0) refl sound.poller
+  poller = some_thread st.threads (omega (arith, sound.count, sound.workers))
 
   rests_now : poller_rests st ≡ true
   rests_now = rw (poller.1, over 0 poller.0 poller.1) refl
@@ -146,7 +146,7 @@ module _ (st : System) (p : SlotState) (workers : List WorkerState) (set : Settl
 -- an opening that is half way has a program
 half_over : (st : System) (t : Thread) (c : Connection) (workers : List WorkerState) → HalfOpen st t c workers → t.todo ≡ [] → ⊥
 half_over st t c workers half over =
-    let some = (stage_in half.stage).1 in
+    let some = stage_in half.stage in
     let none = ap is_over over in
     cc
 
