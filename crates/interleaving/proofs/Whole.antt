@@ -312,7 +312,7 @@ module _ (law : EveryInterleavingIsARun) (ends : LeftAloneItEnds) (server : Serv
     accepts p Blocked own below can =
         let f = m.fronts p in
         let up = second_so f.listens f.flag (and_parts (f.listens && f.flag) _ can).0 in
-        kept_guard _ _ (λ none. fronts_only (Accept p Blocked) p (record f { flag = false; armed = true }) m.backlog below (λ s own e. e) (rw up (omega arith)))
+        kept_guard (m.backlog == 0) _ (λ none. fronts_only (Accept p Blocked) p (record f { flag = false; armed = true }) m.backlog below (λ s own e. e) (rw up (omega arith)))
     accepts p Again own below can = cc
     accepts p Starved own below can = cc
 

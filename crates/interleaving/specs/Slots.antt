@@ -1,9 +1,9 @@
 -- A server of many slots and pollers, and the law that each of its slots can be looked at alone. Part of the promises.
 -- What is done at a slot is a step of `System`, which has one slot (`Threads.antt`). Here is only what slots share.
-use Rattle.std.specs.{Prelude.{◌≡◌, ◌≢◌, ℕ, ◌+◌, ◌-◌, ◌<◌, ◌≤◌, ◌==◌, Bool, true, false, not, ◌&&◌, ◌||◌, nat_lt, nat_le, if◌then◌else◌, List, [], ◌∷◌, ◌++◌, length, map, drop, slice_get, Option, Some, None, option_map, option_and_then, IfSome, Vec}, Global.Global, Option.is_none, List.{list_all, list_any}}
+use Rattle.std.specs.{Prelude.{◌≡◌, ◌≢◌, ℕ, ◌+◌, ◌-◌, ◌<◌, ◌≤◌, ◌==◌, Bool, true, false, not, ◌&&◌, ◌||◌, nat_lt, nat_le, if◌then◌else◌, List, [], ◌∷◌, ◌++◌, length, map, drop, slice_get, Option, Some, None, option_map, option_and_then, IfSome, Vec}, Global.Global, Option.is_none, List.list_any}
 use Rattle.token.specs.declared.{side.Side.Side, name.Name.Name}
 use Rattle.kernel_model.specs.{declared.{reply.Reply.Reply, accepting.Accepting.{Accepting, TheVariants.{Accepted, Blocked, Again, Starved}}}, Outcome.guard, Names.{has, without_names}}
-use Rattle.world.specs.{declared.{limits.Limits.Limits, event.Change.Change}, Calls.when, States.numbers_below}
+use Rattle.world.specs.{declared.{limits.Limits.Limits, event.Change.Change}, Calls.when}
 use Rattle.interleaving.specs.{Threads.{System, rests_at}, Likeness.IsARun}
 use Rattle.world.specs.declared.event.Reported.TheVariants as reported
 use Rattle.interleaving.specs.Threads as alone
@@ -100,7 +100,7 @@ start server = record {
 
 -- What may happen: seconds pass for a slot; the network does something at a slot; a report of an end comes without cause or is
 -- taken back; a client connects; a report of the listener comes to a poller without cause, or is taken back (`Rumour`,
--- `Retract`); once nobody listens, those that wait are refused. A poller polls, delivers the first report of its batch, posts
+-- `Retract`); all that wait are refused, as when nobody listens. A poller polls, delivers the first report of its batch, posts
 -- for time at a slot, calls accept(2), drops its client, opens a slot for it, or stops to listen. A thread begins a turn, with
 -- the oldest ticket of the queue (None) or with its ticket of a slot, and a number of calls; puts its ticket of a slot into
 -- the queue; makes its program's next act or call
@@ -256,17 +256,13 @@ told f = record f { armed = false; reported = f.reported || f.armed }
 abbrev pub may_accept : Server → ℕ → Front → Bool
 may_accept server p f = (f.listens && f.flag) && (not f.accepted && nat_lt f.opened (server.share p))
 
-abbrev pub is_stopped : Many → ℕ → Bool
-is_stopped m p = not (m.fronts p).listens
-
 abbrev pub shared : Many → Step → Option Many
 shared m Connect = Some (record m { backlog = m.backlog + 1; fronts = λ p. told (m.fronts p) })
-shared m (Rumour p) = guard (m.fronts p).listens (with_front m p (record (m.fronts p) { reported = true }))
+shared m (Rumour p) = Some (with_front m p (record (m.fronts p) { reported = true }))
 shared m (Retract p) = guard ((m.fronts p).reported && m.backlog == 0)
     (with_front m p (record (m.fronts p) { reported = false; armed = true }))
-shared m Refuse = guard (list_all (is_stopped m) (numbers_below m.server.limits.workers)) (record m { backlog = 0 })
-shared m (Stop p) = guard (m.fronts p).listens
-    (with_front m p (record (m.fronts p) { listens = false; armed = false; reported = false }))
+shared m Refuse = Some (record m { backlog = 0 })
+shared m (Stop p) = Some (with_front m p (record (m.fronts p) { listens = false; armed = false; reported = false }))
 shared m (Poll p reports) =
     guard (nat_le (length reports) 256 && (length (m.fronts p).batch == 0 && are_queued m p reports)) (polled m p reports)
 shared m (Deliver p) = heard m p (m.fronts p).batch

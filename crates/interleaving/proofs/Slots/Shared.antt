@@ -110,7 +110,7 @@ module _ (m : Many) (between : Between m) where
 
   rumours : (p : ℕ) → Kept (Next m (Rumour p)) (shared m (Rumour p))
   rumours p = let f = m.fronts p in
-      kept_guard _ _ (λ may. front_next (Rumour p) p (record f { reported = true }) m.backlog (λ s. refl) (λ s. refl) between.fronts
+      kept_some (front_next (Rumour p) p (record f { reported = true }) m.backlog (λ s. refl) (λ s. refl) between.fronts
       (record {
         listener = or_flag (not f.listens || f.flag) true _ (λ h. or_right (f.armed && m.backlog == 0) true refl) (up (not f.listens || f.flag));
         share = (between.fronts p).share;
@@ -133,11 +133,11 @@ module _ (m : Many) (between : Between m) where
 
   stops : (p : ℕ) → Kept (Next m (Stop p)) (shared m (Stop p))
   stops p = let f = m.fronts p in
-      kept_guard _ _ (λ may. front_next (Stop p) p (record f { listens = false; armed = false; reported = false }) m.backlog (λ s. refl) (λ s. refl) between.fronts
+      kept_some (front_next (Stop p) p (record f { listens = false; armed = false; reported = false }) m.backlog (λ s. refl) (λ s. refl) between.fronts
       (record { listener = refl; share = (between.fronts p).share; own = (between.fronts p).own }))
 
   refuses : Kept (Next m Refuse) (shared m Refuse)
-  refuses = kept_guard _ _ (λ none. record {
+  refuses = kept_some (record {
     server = refl;
     each = λ s. record { own = []; sees = refl; leads = refl };
     apart = between.apart;

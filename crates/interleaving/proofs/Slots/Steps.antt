@@ -76,11 +76,10 @@ module _ (m : Many) (x : Step) (d : Deed) (n : Many) (q : System) where
     pub tickets : (s : ℕ) → s ≢ d.slot → tickets_at s n.tickets ≡ tickets_at s m.tickets
     pub tickets_here : tickets_at d.slot n.tickets ≡ q.tickets
     pub common : common q ≡ common (slot_of m d.slot)
-    pub accepted : q.accepted ≡ false
 
   done_here : Done → slot_of n d.slot ≡ q
-  done_here done = viewed n d.slot q (done.places d.slot ∙ set_here m.places d.slot q) (ap (λ (s : Server). one_slot s.limits) done.server ∙ sym (ap (λ (c : Limits × Bool). c.0) done.common))
-      (sym (ap (λ (c : Limits × Bool). c.1) done.common)) (sym done.accepted)
+  done_here done = viewed n d.slot q (done.places d.slot ∙ set_here m.places d.slot q) (ap (λ (s : Server). one_slot s.limits) done.server ∙ sym (ap (λ (c : Limits × (Bool × Bool)). c.0) done.common))
+      (sym (ap (λ (c : Limits × (Bool × Bool)). c.1.0) done.common)) (sym (ap (λ (c : Limits × (Bool × Bool)). c.1.1) done.common))
       (ap (λ (s : Server). names_at d.slot (n.fronts (s.owner d.slot)).batch) done.server ∙ done.names_here) done.tickets_here
 
   done_there : Done → (s : ℕ) → s ≢ d.slot → slot_of n s ≡ slot_of m s
@@ -144,26 +143,25 @@ module _ (m : Many) (x : Step) (d : Deed) (n : Many) (q : System) where
       by (inr still) (inr there-it) busy = there there-it (apart i s inside (λ e. other (e ∙ sym (moves.busy i still))))
 
 -- a deed with nothing besides
-pub written_done : (m : Many) (x : Step) (d : Deed) (q : System) {moves : ℕ → Type 0} → Leaves moves (slot_of m d.slot) q → Done m x d (written m d q) q
+pub written_done : (m : Many) (x : Step) (d : Deed) (q : System) {moves : ℕ → Type 0} → Leaves moves [] (slot_of m d.slot) q → Done m x d (written m d q) q
 written_done m x d q left = record {
   server = refl;
   places = λ s. refl;
   names = λ s other. refl;
-  names_here = sym left.batch;
+  names_here = left.batch;
   tickets = λ s other. brought_there d.slot s d.thread m.tickets _ other;
   tickets_here = brought_here d.slot d.thread m.tickets q.tickets left.made left.tickets;
   common = left.common;
-  accepted = left.accepted;
 }
 
 -- Steps with a deed
 
 module _ (m : Many) (between : Between m) where
   pub by_still : (x : Step) (d : Deed) → ((s : ℕ) (own : List alone.Step) → own ≡ steps_at s (Some d) → Sees m s x own)
-      → Kept (Leaves nobody (slot_of m d.slot)) (alone.run (slot_of m d.slot) d.own)
+      → Kept (Leaves nobody [] (slot_of m d.slot)) (alone.run (slot_of m d.slot) d.own)
       → Kept (Next m x) (when (nat_lt d.slot m.server.limits.slots) (option_map (λ (q : System). written m d q) (alone.run (slot_of m d.slot) d.own)))
   by_still x d is kept = kept_when _ _ (λ within. kept_map (λ (q : System). written m d q) (alone.run (slot_of m d.slot) d.own) (λ q ran.
-      let left : Leaves nobody (slot_of m d.slot) q = kept_at {P = Leaves nobody (slot_of m d.slot)} _ q ran kept in
+      let left : Leaves nobody [] (slot_of m d.slot) q = kept_at {P = Leaves nobody [] (slot_of m d.slot)} _ q ran kept in
       let done = written_done m x d q left in
       record {
         server = refl;
@@ -175,11 +173,11 @@ module _ (m : Many) (between : Between m) where
   -- the next act or call of the thread i
   pub by_thread : (x : Step) (i : ℕ) (own : List alone.Step) → let d : Deed = record { slot = m.busy_at i; thread = i; own = own } in
       ((s : ℕ) (own : List alone.Step) → own ≡ steps_at s (Some d) → Sees m s x own)
-      → Kept (Leaves (only (rank_at m (m.busy_at i) i)) (slot_of m (m.busy_at i))) (alone.run (slot_of m (m.busy_at i)) own)
+      → Kept (Leaves (only (rank_at m (m.busy_at i) i)) [] (slot_of m (m.busy_at i))) (alone.run (slot_of m (m.busy_at i)) own)
       → Kept (Next m x) (when (nat_lt d.slot m.server.limits.slots) (option_map (λ (q : System). written m d q) (alone.run (slot_of m (m.busy_at i)) own)))
   by_thread x i own is kept = kept_when _ _ (λ within. kept_map _ (alone.run (slot_of m (m.busy_at i)) own) (λ q ran.
       let d : Deed = record { slot = m.busy_at i; thread = i; own = own } in
-      let left : Leaves (only (rank_at m (m.busy_at i) i)) (slot_of m (m.busy_at i)) q = kept_at {P = Leaves (only (rank_at m (m.busy_at i) i)) (slot_of m (m.busy_at i))} _ q ran kept in
+      let left : Leaves (only (rank_at m (m.busy_at i) i)) [] (slot_of m (m.busy_at i)) q = kept_at {P = Leaves (only (rank_at m (m.busy_at i) i)) [] (slot_of m (m.busy_at i))} _ q ran kept in
       let done = written_done m x d q left in
       record {
         server = refl;
@@ -190,7 +188,7 @@ module _ (m : Many) (between : Between m) where
 
   pub opens : (p s : ℕ) → (rests m p && (m.server.owner s == p && (m.fronts p).accepted)) ≡ true → Kept (Next m (Open p s)) (makes m (Open p s) (deed m (Open p s)))
   opens p s allowed = kept_when _ _ (λ within. kept_map _ (alone.run (slot_of m s) opening) (λ q ran.
-      let left : Leaves (only 0) (slot_of m s) q = kept_at {P = Leaves (only 0) (slot_of m s)} _ q ran (leaves_opening (slot_of m s) refl) in
+      let left : Leaves (only 0) [] (slot_of m s) q = kept_at {P = Leaves (only 0) [] (slot_of m s)} _ q ran (leaves_opening (slot_of m s) refl) in
       opened q ran left))
     where
       d : Deed
@@ -220,18 +218,17 @@ module _ (m : Many) (between : Between m) where
       front : FrontHolds m.server m.backlog p new
       front = record { listener = (between.fronts p).listener; share = omega (arith, within); own = (between.fronts p).own }
 
-      opened : (q : System) → alone.run (slot_of m s) opening ≡ Some q → Leaves (only 0) (slot_of m s) q → Next m (Open p s) (besides m (Open p s) (written m d q))
+      opened : (q : System) → alone.run (slot_of m s) opening ≡ Some q → Leaves (only 0) [] (slot_of m s) q → Next m (Open p s) (besides m (Open p s) (written m d q))
       opened q ran left =
           let n : Many = besides m (Open p s) (written m d q) in
           let done : Done m (Open p s) d n q = record {
             server = refl;
             places = λ t. refl;
             names = λ t other. same_names m.fronts p new t (m.server.owner t) (λ e. refl);
-            names_here = same_names m.fronts p new s (m.server.owner s) (λ e. refl) ∙ sym left.batch;
+            names_here = same_names m.fronts p new s (m.server.owner s) (λ e. refl) ∙ left.batch;
             tickets = λ t other. brought_there s t p m.tickets _ other;
             tickets_here = brought_here s p m.tickets q.tickets left.made left.tickets;
             common = left.common;
-            accepted = left.accepted;
           } in
           record {
             server = refl;
@@ -268,8 +265,8 @@ module _ (m : Many) (between : Between m) where
 
       here : (q : System) → Delivers (slot_of m s) q → names_at s (set m.fronts p new (m.server.owner s)).batch ≡ q.batch
       here q left =
-          let was : names_at s (m.fronts p).batch ≡ left.first ∷ q.batch = rw own at left.batch in
-          let now : name ∷ names_at s rest ≡ left.first ∷ q.batch = rw (is, eq-eqb s s refl) at was in
+          let was : names_at s (m.fronts p).batch ≡ left.0 ∷ q.batch = rw own at left.1.batch in
+          let now : name ∷ names_at s rest ≡ left.0 ∷ q.batch = rw (is, eq-eqb s s refl) at was in
           let tail : names_at s rest ≡ q.batch = cc in
           rw (own, set_here m.fronts p new, is) tail
 
@@ -288,14 +285,13 @@ module _ (m : Many) (between : Between m) where
             names = λ t other. same_names m.fronts p new t (m.server.owner t) (λ e. lost t other);
             names_here = here q left;
             tickets = λ t other. brought_there s t p m.tickets _ other;
-            tickets_here = brought_here s p m.tickets q.tickets left.made left.tickets;
-            common = left.common;
-            accepted = left.accepted;
+            tickets_here = brought_here s p m.tickets q.tickets left.1.made left.1.tickets;
+            common = left.1.common;
           } in
           record {
             server = refl;
             each = each_slot m (Deliver p) d n q (λ t own e. e ∙ ap (λ (rs : List Report). steps_at t (delivering p rs)) (sym is)) ran done;
-            apart = apart_still m (Deliver p) d n q done (λ i. refl) (λ j. ap (λ (ts : List Thread). slice_get ts j) left.threads) between.apart;
+            apart = apart_still m (Deliver p) d n q done (λ i. refl) (λ j. left.1.others j (λ no. no)) between.apart;
             fronts = at_each (λ i f. FrontHolds m.server m.backlog i f) m.fronts p new between.fronts front;
           }
 
@@ -346,9 +342,8 @@ module _ (m : Many) (between : Between m) where
             server = refl;
             places = λ t. refl;
             names = λ t other. refl;
-            names_here = sym left.batch;
+            names_here = left.batch;
             tickets = λ t other. taken_there (suits i from) m.tickets c is t other;
             tickets_here = only_one.rest ∙ sym none;
             common = left.common;
-            accepted = left.accepted;
           }
