@@ -156,63 +156,60 @@ module _ (law : EveryInterleavingIsARun) (ends : LeftAloneItEnds) (server : Serv
     is_thread : (i : ℕ) → rests m i ≡ true → i < m.server.limits.workers
     is_thread i rested = ltb-true i m.server.limits.workers (and_parts (nat_lt i m.server.limits.workers) _ rested).0
 
+    -- a step that each slot sees as these steps
+    abbrev IsAt : Step → (ℕ → List alone.Step) → Type 0
+    IsAt x at = (s : ℕ) (own : List alone.Step) → Sees m s x own → own ≡ at s
+
+    same_at : (x : Step) (n : Many) → Next m x n → (at : ℕ → List alone.Step) → IsAt x at → (s : ℕ) → alone.run (slot_of m s) (at s) ≡ Some (slot_of n s)
+    same_at x n it at is s = let own = is s (it.each s).own (it.each s).sees in rw own at (it.each s).leads
+
     -- a step at no slot
-    slots_same : (x : Step) (n : Many) → Next m x n → ((s : ℕ) (own : List alone.Step) → Sees m s x own → own ≡ []) → slots_of n ≡ slots_of m
-    slots_same x n it none = same_below m.server.limits.slots _ _ (λ s below. ap slot.weight (sym (stays s)))
-      where
-        stays : (s : ℕ) → slot_of m s ≡ slot_of n s
-        stays s = let at = none s (it.each s).own (it.each s).sees in same_Some _ _ (rw at at (it.each s).leads)
+    slots_same : (x : Step) (n : Many) → Next m x n → IsAt x (λ s. []) → slots_of n ≡ slots_of m
+    slots_same x n it none = same_below m.server.limits.slots _ _ (λ s below. ap slot.weight (sym (same_Some _ _ (same_at x n it (λ s. []) none s))))
 
-    -- a step with a deed, by which its slot gives up a and gets b
-    slots_lighter : (x : Step) (n : Many) (d : Deed) → Next m x n → ((s : ℕ) (own : List alone.Step) → Sees m s x own → own ≡ steps_at s (Some d))
-        → d.slot < m.server.limits.slots → (a b : ℕ) → slot.weight (slot_of n d.slot) + a ≤ slot.weight (slot_of m d.slot) + b → slots_of n + a ≤ slots_of m + b
-    slots_lighter x n d it is below a b less =
-        let apart = differs_at m.server.limits.slots d.slot (λ s. slot.weight (slot_of n s)) (λ s. slot.weight (slot_of m s)) below (λ s other. ap slot.weight (sym (stays s other))) in
-        omega (arith, apart, less)
-      where
-        stays : (s : ℕ) → s ≢ d.slot → slot_of m s ≡ slot_of n s
-        stays s other =
-            let at : (it.each s).own ≡ [] = is s (it.each s).own (it.each s).sees ∙ rw (ne_eqb d.slot s (λ e. other (sym e))) refl in
-            same_Some _ _ (rw at at (it.each s).leads)
+    module _ (x : Step) (n : Many) (d : Deed) (q : System) (it : Next m x n) (is : IsAt x (λ s. steps_at s (Some d))) (ran : alone.run (slot_of m d.slot) d.own ≡ Some q)
+        (within : nat_lt d.slot m.server.limits.slots ≡ true) where
+      become : q ≡ slot_of n d.slot
+      become = same_Some _ _ (sym ran ∙ rw (eq-eqb d.slot d.slot refl) at (same_at x n it (λ s. steps_at s (Some d)) is d.slot))
 
-    -- what the slot of a deed has become
-    become : (x : Step) (n : Many) (d : Deed) (q : System) → Next m x n → ((s : ℕ) (own : List alone.Step) → Sees m s x own → own ≡ steps_at s (Some d))
-        → alone.run (slot_of m d.slot) d.own ≡ Some q → q ≡ slot_of n d.slot
-    become x n d q it is ran =
-        let at : (it.each d.slot).own ≡ d.own = is d.slot (it.each d.slot).own (it.each d.slot).sees ∙ rw (eq-eqb d.slot d.slot refl) refl in
-        same_Some _ _ (sym ran ∙ rw at at (it.each d.slot).leads)
+      -- its slot gives up a and gets b, and no other changes
+      slots_lighter : (a b : ℕ) → slot.weight q + a ≤ slot.weight (slot_of m d.slot) + b → slots_of n + a ≤ slots_of m + b
+      slots_lighter a b less =
+          let apart = differs_at m.server.limits.slots d.slot (λ s. slot.weight (slot_of n s)) (λ s. slot.weight (slot_of m s)) (ltb-true d.slot m.server.limits.slots within)
+          (λ s other. ap slot.weight (sym (stays s other))) in
+          omega (arith, apart, less, ap slot.weight become)
+        where
+          stays : (s : ℕ) → s ≢ d.slot → slot_of m s ≡ slot_of n s
+          stays s other = same_Some _ _ (rw (ne_eqb d.slot s (λ e. other (sym e))) at (same_at x n it (λ s. steps_at s (Some d)) is s))
 
-    -- own steps of the slot alone
-    own_lighter : (s : ℕ) (own : List alone.Step) (q : System) → slot.are_own own ≡ true → alone.run (slot_of m s) own ≡ Some q → length own + slot.weight q ≤ slot.weight (slot_of m s)
-    own_lighter s own q are ran = ends (one_slot server.limits) (r.own s) own (slot_of m s) q refl (r.leads s) are ran
+      -- by one own step of the slot
+      one_lighter : slot.are_own d.own ≡ true → length d.own ≡ 1 → slots_of n + 1 ≤ slots_of m + 0
+      one_lighter are one_step =
+          let less = ends (one_slot server.limits) (r.own d.slot) d.own (slot_of m d.slot) q refl (r.leads d.slot) are ran in
+          slots_lighter 1 0 (omega (arith, less, one_step))
 
-    -- a deed makes at most one ticket
-    made_few : (x : Step) (n : Many) (d : Deed) (q : System) → Next m x n → q ≡ slot_of n d.slot → total hand_weight (written m d q).tickets ≤ total hand_weight m.tickets + 1
-    made_few x n d q it is =
-        let few : length (tickets_at d.slot n.tickets) ≤ 1 = (between law server inside n (reach law server inside m x n r it)).one_ticket d.slot in
-        let same : length q.tickets ≡ length (tickets_at d.slot n.tickets) = ap (λ (st : System). length st.tickets) is in
-        let k = length (tickets_at d.slot m.tickets) in
-        omega (arith, hands_more d.slot d.thread m.tickets (drop k q.tickets), length-drop k q.tickets)
+      -- it makes at most one ticket
+      made_few : total hand_weight (written m d q).tickets ≤ total hand_weight m.tickets + 1
+      made_few =
+          let few : length (tickets_at d.slot n.tickets) ≤ 1 = (between law server inside n (reach law server inside m x n r it)).one_ticket d.slot in
+          let same : length q.tickets ≡ length (tickets_at d.slot n.tickets) = ap (λ (st : System). length st.tickets) become in
+          let k = length (tickets_at d.slot m.tickets) in
+          omega (arith, hands_more d.slot d.thread m.tickets (drop k q.tickets), length-drop k q.tickets)
 
     -- the next act or call of a thread
     threads : (x : Step) (i : ℕ) (own : List alone.Step) → let d : Deed = record { slot = m.busy_at i; thread = i; own = own } in
-        wakes x ≡ 0 → ((s : ℕ) (own : List alone.Step) → Sees m s x own → own ≡ steps_at s (Some d)) → slot.are_own own ≡ true → length own ≡ 1 → m.busy_at i < m.server.limits.slots
+        IsAt x (λ s. steps_at s (Some d)) → slot.are_own own ≡ true → length own ≡ 1 → nat_lt (m.busy_at i) m.server.limits.slots ≡ true
         → (q : System) → alone.run (slot_of m (m.busy_at i)) own ≡ Some q → Lighter x (written m d q)
-    threads x i own none is are one_step below q ran it =
+    threads x i own is are one_step within q ran it =
         let d : Deed = record { slot = m.busy_at i; thread = i; own = own } in
         let n = written m d q in
-        let now = become x n d q it is ran in
-        let less = own_lighter d.slot own q are ran in
-        let same = ap slot.weight now in
-        let slots = slots_lighter x n d it is below 1 0 (omega (arith, less, same, one_step)) in
-        let hands = made_few x n d q it now in
-        sums _ _ _ _ _ _ _ slots hands
+        sums _ _ _ _ _ _ _ (one_lighter x n d q it is ran within are one_step) (made_few x n d q it is ran within)
       where
         sums : (s' s b h' h f w : ℕ) → s' + 1 ≤ s + 0 → h' ≤ h + 1 → (2 * s' + (b + (h' + f))) + 1 ≤ (2 * s + (b + (h + f))) + w
         sums s' s b h' h f w slots hands = omega arith
 
     -- one front and the backlog
-    fronts_only : (x : Step) (p : ℕ) (new : Front) (b : ℕ) → p < m.server.limits.workers → ((s : ℕ) (own : List alone.Step) → Sees m s x own → own ≡ [])
+    fronts_only : (x : Step) (p : ℕ) (new : Front) (b : ℕ) → p < m.server.limits.workers → IsAt x (λ s. [])
         → ((1 + A) * b + front_weight m.server.limits new) + 1 ≤ (1 + A) * m.backlog + front_weight m.server.limits (m.fronts p)
         → Lighter x (record (with_front m p new) { backlog = b })
     fronts_only x p new b below none less it =
@@ -225,10 +222,8 @@ module _ (law : EveryInterleavingIsARun) (ends : LeftAloneItEnds) (server : Serv
     opens p s allowed = kept_when _ _ (λ within. kept_map _ (alone.run (slot_of m s) opening) (λ q ran it.
         let d : Deed = record { slot = s; thread = p; own = opening } in
         let n = besides m (Open p s) (written m d q) in
-        let now = become (Open p s) n d q it (λ t own e. e) ran in
-        let slots = slots_lighter (Open p s) n d it (λ t own e. e) (ltb-true s m.server.limits.slots within)
-        3 ((1 + client_weight m.server.limits) + 17) (omega (arith, opened q ran, ap slot.weight now)) in
-        let hands = made_few (Open p s) n d q it now in
+        let slots = slots_lighter (Open p s) n d q it (λ t own e. e) ran within 3 ((1 + client_weight m.server.limits) + 17) (opened q ran) in
+        let hands = made_few (Open p s) n d q it (λ t own e. e) ran within in
         let fronts = front_changed p (record (m.fronts p) { accepted = false; opened = (m.fronts p).opened + 1 }) (is_thread p (and_parts (rests m p) _ allowed).0) in
         let had = second_so (m.server.owner s == p) (m.fronts p).accepted (second_so (rests m p) _ allowed) in
         sums _ _ _ _ _ _ _ _ _ _ _ had slots hands fronts))
@@ -254,12 +249,9 @@ module _ (law : EveryInterleavingIsARun) (ends : LeftAloneItEnds) (server : Serv
     delivers p below (Of s name ∷ rest) is = kept_when _ _ (λ within. kept_map _ (alone.run (slot_of m s) (alone.Deliver ∷ [])) (λ q ran it.
         let d : Deed = record { slot = s; thread = p; own = alone.Deliver ∷ [] } in
         let n = besides m (Deliver p) (written m d q) in
-        let sees : (t : ℕ) (own : List alone.Step) → Sees m t (Deliver p) own → own ≡ steps_at t (Some d) = λ t own e. e ∙ ap (λ (rs : List Report). steps_at t (delivering p rs)) is in
-        let now = become (Deliver p) n d q it sees ran in
-        let less = own_lighter s (alone.Deliver ∷ []) q refl ran in
-        let same = ap slot.weight now in
-        let slots = slots_lighter (Deliver p) n d it sees (ltb-true s m.server.limits.slots within) 1 0 (omega (arith, less, same)) in
-        let hands = made_few (Deliver p) n d q it now in
+        let sees : IsAt (Deliver p) (λ t. steps_at t (Some d)) = λ t own e. e ∙ ap (λ (rs : List Report). steps_at t (delivering p rs)) is in
+        let slots = one_lighter (Deliver p) n d q it sees ran within refl refl in
+        let hands = made_few (Deliver p) n d q it sees ran within in
         let new : Front = record (m.fronts p) { batch = drop 1 (m.fronts p).batch } in
         let weighs : front_weight m.server.limits new ≡ front_weight m.server.limits (m.fronts p) = rw is (omega arith) in
         sums _ _ _ _ _ _ _ _ _ slots hands (front_changed p new below) weighs))
@@ -276,11 +268,9 @@ module _ (law : EveryInterleavingIsARun) (ends : LeftAloneItEnds) (server : Serv
         let own : List alone.Step = alone.Begin (rank_at m c.ticket.slot i) most ∷ [] in
         let d : Deed = record { slot = c.ticket.slot; thread = i; own = own } in
         let n = besides m (Begin i from most) (written m d q) in
-        let sees : (t : ℕ) (own : List alone.Step) → Sees m t (Begin i from most) own → own ≡ steps_at t (Some d) = λ t own e. e
+        let sees : IsAt (Begin i from most) (λ t. steps_at t (Some d)) = λ t own e. e
         ∙ ap (λ (o : Option Taken). steps_at t (option_map (λ (c : Taken). record { slot = c.ticket.slot; thread = i; own = alone.Begin (rank_at m c.ticket.slot i) most ∷ [] }) o)) is in
-        let now = become (Begin i from most) n d q it sees ran in
-        let less = own_lighter c.ticket.slot own q (rw four refl) ran in
-        let slots = slots_lighter (Begin i from most) n d it sees (ltb-true c.ticket.slot m.server.limits.slots within) 1 0 (omega (arith, less, ap slot.weight now)) in
+        let slots = one_lighter (Begin i from most) n d q it sees ran within (rw four refl) refl in
         let hands = (taken_weighs (suits i from) m.tickets c is).1 in
         rw is (sums _ _ _ _ _ _ _ (rw is at slots) hands)))
       where
@@ -350,9 +340,9 @@ module _ (law : EveryInterleavingIsARun) (ends : LeftAloneItEnds) (server : Serv
     lighter (Begin i from most) own = kept_when (rests m i) _ (λ rested. begins i from most own (first_of (suits i from) m.tickets) refl)
     lighter (Put i s) own = puts i s
     lighter (Acts i) own = kept_when _ _ (λ within. kept_map _ (alone.run (slot_of m (m.busy_at i)) (alone.Acts (rank_at m (m.busy_at i) i) ∷ [])) (λ q ran.
-        threads (Acts i) i _ refl (λ t own e. e) refl refl (ltb-true (m.busy_at i) m.server.limits.slots within) q ran))
+        threads (Acts i) i _ (λ t own e. e) refl refl within q ran))
     lighter (Calls i reply) own = kept_when _ _ (λ within. kept_map _ (alone.run (slot_of m (m.busy_at i)) (alone.Calls (rank_at m (m.busy_at i) i) reply ∷ [])) (λ q ran.
-        threads (Calls i reply) i _ refl (λ t own e. e) (rw own refl) refl (ltb-true (m.busy_at i) m.server.limits.slots within) q ran))
+        threads (Calls i reply) i _ (λ t own e. e) (rw own refl) refl within q ran))
     lighter x own = absurd (cc)
 
   -- A list of steps

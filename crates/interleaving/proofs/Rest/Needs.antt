@@ -40,6 +40,10 @@ stays {st} i {t} u there other s = record {
         absurd (other (rw same at opens))
     by (inr later) v at opens = s.begun v (sym (get-set_other st.threads i 0 u later) ∙ at) opens
 
+chosen : (b : Bool) (x y : System) → Sound x → Sound y → Sound (if b then x else y)
+chosen true x y p q = p
+chosen false x y p q = q
+
 side_is : (side : Side) (g : ℕ) (n : EndName) → token_of 0 side g ≡ Some n → n.side ≡ side
 side_is side g n is = grind (arith, common_steps)
 
@@ -71,19 +75,13 @@ module _ (st : System) (s : Sound st) (i : ℕ) (t : Thread) (there : slice_get 
   on next u same sound other = stays i u (ap (λ (ts : List Thread). slice_get ts i) same ∙ there) other sound
 
   claims_soundly : Kept Sound (acts st i t turn)
-  claims_soundly = kept_some (by st.word.held)
-    where
-      by : (b : Bool) → Sound (if b then with_thread st i resting else with_thread (record st { word = word_after word.claim st.word }) i (goes_on t (drop 1 turn)))
-      by true = on st resting refl s (λ e. cc)
-      by false = on (record st { word = word_after word.claim st.word }) (goes_on t (drop 1 turn)) refl (assumption s) (λ e. cc)
+  claims_soundly = kept_some (chosen st.word.held _ _ (on st resting refl s (λ e. cc))
+      (on (record st { word = word_after word.claim st.word }) (goes_on t (drop 1 turn)) refl (assumption s) (λ e. cc)))
 
   takes_out_soundly : (o : Option Connection) → Sound (taken_out st i t (drop 2 turn) o)
   takes_out_soundly None = on st (goes_on t gone) refl s (λ e. cc)
-  takes_out_soundly (Some c) = by (c.pair.generation == t.generation)
-    where
-      by : (b : Bool) → Sound (if b then with_thread (record st { place = None }) i (record t { out = Some c; todo = drop 2 turn }) else with_thread st i (goes_on t gone))
-      by true = on (record st { place = None }) (record t { out = Some c; todo = drop 2 turn }) refl (assumption s) (λ e. cc)
-      by false = on st (goes_on t gone) refl s (λ e. cc)
+  takes_out_soundly (Some c) = chosen (c.pair.generation == t.generation) _ _
+      (on (record st { place = None }) (record t { out = Some c; todo = drop 2 turn }) refl (assumption s) (λ e. cc)) (on st (goes_on t gone) refl s (λ e. cc))
 
   takes_soundly : (o : Option Connection) → Sound (taking st i t [] o)
   takes_soundly None = on (record st { word = word_after word.take st.word }) (goes_on t []) refl (assumption s) (λ e. cc)
@@ -91,11 +89,8 @@ module _ (st : System) (s : Sound st) (i : ℕ) (t : Thread) (there : slice_get 
       (not_opening t.left (expired st.second st.limits.idle (heard st.word.pending c).pair))
 
   adopts_soundly : Kept Sound (acts st i t (drop 1 open_slot))
-  adopts_soundly = kept_some (by st.word.free)
-    where
-      by : (b : Bool) → Sound (if b then with_thread (record st { word = word_after word.adopt st.word }) i (goes_on t (drop 2 open_slot)) else with_thread st i resting)
-      by true = on (record st { word = word_after word.adopt st.word }) (goes_on t (drop 2 open_slot)) refl (assumption s) (λ e. cc)
-      by false = on st resting refl s (λ e. cc)
+  adopts_soundly = kept_some (chosen st.word.free _ _
+      (on (record st { word = word_after word.adopt st.word }) (goes_on t (drop 2 open_slot)) refl (assumption s) (λ e. cc)) (on st resting refl s (λ e. cc)))
 
   nothing : (e : Descriptors) → None ≡ Some e → e.client ≢ e.target
   nothing e is = absurd (cc)

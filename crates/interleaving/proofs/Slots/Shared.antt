@@ -1,5 +1,5 @@
 -- The steps of a server that are at no slot alone, and then any step.
-use Rattle.std.{proofs.{Common.{Bool, List, None, Some, Vec, [], ap, append-nil, arith, false, if◌then◌else◌, inl, inr, length, not, refl, slice_get, sym, true, ℕ, nat_le, nat_lt, ◌&&◌, ◌||◌, ◌++◌, ◌+◌, ◌-◌, ◌==◌, ◌∙◌, ◌∷◌, ◌≡◌, ◌≢◌, ◌≤◌, ◌<◌, ◌⊎◌, eq-eqb, eqb-true, ne_eqb, le-leb, leb-true}, lemmas.{Bool.{and_parts, cases_eq, ltb-true, or_right}, List.nil_from_length}}, specs.{Cmp.second_so, Global.Global, List.list_any}}
+use Rattle.std.{proofs.{Common.{Bool, List, None, Some, Vec, [], ap, append-nil, arith, false, if◌then◌else◌, inl, inr, length, not, refl, slice_get, sym, true, ℕ, nat_le, nat_lt, ◌&&◌, ◌||◌, ◌++◌, ◌+◌, ◌-◌, ◌==◌, ◌∙◌, ◌∷◌, ◌≡◌, ◌≢◌, ◌≤◌, ◌<◌, ◌⊎◌, eq-eqb, eqb-true, ne_eqb, le-leb, leb-true}, lemmas.{Bool.{and_parts, cases_eq, ltb-true}, List.nil_from_length}}, specs.{Cmp.second_so, Global.Global, List.list_any}}
 use denote.RawPtr.{null_ptr}
 use Rattle.interleaving.specs.{Threads.{System, rests_at}, Slots.{Front, Many, Report, Of, Listener, Waker, Taken, Step, Tick, Network, Spurious, Vanish, Connect, Rumour, Retract, Refuse, Poll, Deliver, Sweep, Accept, Drop, Stop, Open, Begin, Put, Acts, Calls, Sees, Server, may_accept, are_queued, answered, delivering, first_of, is_listener, makes, may, names_at, polled, rank, rank_at, rests, shared, slot_of, step, suits, tickets_at, unqueued, with_front}}
 use Rattle.world.proofs.Headline.Ends.Pairs.Holders.Events.Lists.{Kept, kept_guard, kept_map, kept_none, kept_some, kept_when}
@@ -9,41 +9,29 @@ use Rattle.world.specs.declared.event.Reported.TheVariants as reported
 use Rattle.interleaving.proofs.Slots.{Leaves.{leaves_acting, leaves_calling, leaves_network, leaves_spurious, leaves_sweep, leaves_tick, leaves_vanish}, Views.{Alone, AreOwn, fewer_names, framed, own_reports, queued, rank_first, taken_here, taken_there, tickets_append}, Steps.{AtSlot, Between, FrontHolds, Next, at_each, begins, by_still, by_thread, count, delivers_end, opens, same_names}}
 use Rattle.interleaving.specs.Threads as alone
 
--- Flags
+-- Flags. Each front holds by some of what it held by: whether it listens, its flag, its arm, whether nobody waits, whether
+-- a report is queued, and whether one is in its batch
 
--- whatever the flag is
-or_flag : (flag x y : Bool) → (x ≡ true → y ≡ true) → (flag || x) ≡ true → (flag || y) ≡ true
-or_flag true x y next h = refl
-or_flag false x y next h = next h
+some_wait : (listens flag armed now reported batch : Bool) → ((not listens || flag) || ((armed && false) || (reported || batch))) ≡ true → ((not listens || flag) || ((armed && now) || (reported || batch))) ≡ true
+some_wait listens flag armed now reported batch h = grind arith
+
+none_wait : (listens flag armed none reported batch : Bool) → ((not listens || flag) || ((armed && none) || (reported || batch))) ≡ true → ((not listens || flag) || ((armed && true) || (reported || batch))) ≡ true
+none_wait listens flag armed none reported batch h = grind arith
+
+told_holds : (listens flag armed none now reported batch : Bool) → ((not listens || flag) || ((armed && none) || (reported || batch))) ≡ true → ((not listens || flag) || ((false && now) || ((reported || armed) || batch))) ≡ true
+told_holds listens flag armed none now reported batch h = grind arith
+
+polled_holds : (x y reported batch : Bool) → (x || (y || (reported || false))) ≡ true → (x || (y || ((reported && not batch) || batch))) ≡ true
+polled_holds x y reported batch h = grind arith
+
+reported_holds : (x y batch : Bool) → (x || (y || (true || batch))) ≡ true
+reported_holds x y batch = grind arith
+
+armed_holds : (x rest : Bool) → (x || ((true && true) || rest)) ≡ true
+armed_holds x rest = grind arith
 
 raised : (listens rest : Bool) → ((not listens || true) || rest) ≡ true
-raised true rest = refl
-raised false rest = refl
-
-up : (flag : Bool) → (flag || true) ≡ true
-up true = refl
-up false = refl
-
-nobody : (armed none rest : Bool) → ((armed && none) || rest) ≡ true → ((armed && true) || rest) ≡ true
-nobody true none rest h = refl
-nobody false none rest h = h
-
-some_wait : (armed now rest : Bool) → ((armed && false) || rest) ≡ true → ((armed && now) || rest) ≡ true
-some_wait false now rest h = h
-some_wait true true rest h = refl
-some_wait true false rest h = h
-
-told_holds : (armed none reported batch : Bool) → ((armed && none) || (reported || batch)) ≡ true → ((reported || armed) || batch) ≡ true
-told_holds armed none true batch h = refl
-told_holds true none false batch h = refl
-told_holds false none false batch h = h
-
-polled_holds : (x reported batch : Bool) → (x || (reported || false)) ≡ true → (x || ((reported && not batch) || batch)) ≡ true
-polled_holds true reported batch h = refl
-polled_holds false true true h = refl
-polled_holds false true false h = refl
-polled_holds false false true h = refl
-polled_holds false false false h = h
+raised listens rest = grind arith
 
 -- once a client waits, a front holds by what is on its way; the backlog may have any size then
 with_backlog : (server : Server) (b c p : ℕ) (f : Front) → nat_lt 0 b ≡ true → FrontHolds server b p f → FrontHolds server c p f
@@ -51,7 +39,7 @@ with_backlog server b c p f some h =
     let more : 0 < b = ltb-true 0 b some in
     let none : (b == 0) ≡ false = ne_eqb b 0 (λ e. absurd (omega arith)) in
     let was : ((not f.listens || f.flag) || ((f.armed && false) || (f.reported || list_any is_listener f.batch))) ≡ true = rw none at h.listener in
-    record { listener = or_flag (not f.listens || f.flag) _ _ (some_wait f.armed (c == 0) (f.reported || list_any is_listener f.batch)) was; share = h.share; own = h.own }
+    record { listener = some_wait f.listens f.flag f.armed (c == 0) f.reported (list_any is_listener f.batch) was; share = h.share; own = h.own }
 
 -- names as a poll gives them
 vec_of : (names : List Name) → length names ≤ 256 → (v : Vec Name Global) × (v.items ≡ names)
@@ -101,8 +89,7 @@ module _ (m : Many) (between : Between m) where
     apart = between.apart;
     fronts = λ p. let f = m.fronts p in
         record {
-          listener = or_flag (not f.listens || f.flag) _ _ (told_holds f.armed (m.backlog == 0) f.reported (list_any is_listener f.batch))
-              (between.fronts p).listener;
+          listener = told_holds f.listens f.flag f.armed (m.backlog == 0) (m.backlog + 1 == 0) f.reported (list_any is_listener f.batch) (between.fronts p).listener;
           share = (between.fronts p).share;
           own = (between.fronts p).own;
         };
@@ -112,7 +99,7 @@ module _ (m : Many) (between : Between m) where
   rumours p = let f = m.fronts p in
       kept_some (front_next (Rumour p) p (record f { reported = true }) m.backlog (λ s. refl) (λ s. refl) between.fronts
       (record {
-        listener = or_flag (not f.listens || f.flag) true _ (λ h. or_right (f.armed && m.backlog == 0) true refl) (up (not f.listens || f.flag));
+        listener = reported_holds (not f.listens || f.flag) (f.armed && m.backlog == 0) (list_any is_listener f.batch);
         share = (between.fronts p).share;
         own = (between.fronts p).own;
       }))
@@ -122,7 +109,7 @@ module _ (m : Many) (between : Between m) where
       kept_guard _ _ (λ h.
       let none : (m.backlog == 0) ≡ true = second_so f.reported _ h in
       front_next (Retract p) p (record f { reported = false; armed = true }) m.backlog (λ s. refl) (λ s. refl) between.fronts
-      (record { listener = rw none (up (not f.listens || f.flag)); share = (between.fronts p).share; own = (between.fronts p).own }))
+      (record { listener = rw none (armed_holds (not f.listens || f.flag) (false || list_any is_listener f.batch)); share = (between.fronts p).share; own = (between.fronts p).own }))
 
   drops : (p : ℕ) → Kept (Next m (Drop p)) (shared m (Drop p))
   drops p = let f = m.fronts p in
@@ -143,7 +130,7 @@ module _ (m : Many) (between : Between m) where
     apart = between.apart;
     fronts = λ p. let f = m.fronts p in
         let h = between.fronts p in
-        record { listener = or_flag (not f.listens || f.flag) _ _ (nobody f.armed (m.backlog == 0) (f.reported || list_any is_listener f.batch)) h.listener; share = h.share; own = h.own };
+        record { listener = none_wait f.listens f.flag f.armed (m.backlog == 0) f.reported (list_any is_listener f.batch) h.listener; share = h.share; own = h.own };
   })
 
   -- a report of the listener or of the waker
@@ -175,7 +162,7 @@ module _ (m : Many) (between : Between m) where
       (record { listener = rw flag_up (raised f.listens _); share = omega arith; own = (between.fronts p).own }))
   answers p Blocked may = let f = m.fronts p in
       kept_guard _ _ (λ none. front_next (Accept p Blocked) p (record f { flag = false; armed = true }) m.backlog (λ s. refl) (λ s. refl) between.fronts
-      (record { listener = rw none (up (not f.listens || false)); share = (between.fronts p).share; own = (between.fronts p).own }))
+      (record { listener = rw none (armed_holds (not f.listens || false) (f.reported || list_any is_listener f.batch)); share = (between.fronts p).share; own = (between.fronts p).own }))
   answers p Again may = kept_some (nothing_next (Accept p Again) (λ s. refl))
   answers p Starved may = kept_some (nothing_next (Accept p Starved) (λ s. refl))
 
@@ -262,7 +249,7 @@ module _ (m : Many) (between : Between m) where
             each = λ s. by s few empty given (cases_eq (m.server.owner s) p);
             apart = λ i s some other. rw (same_threads (m.server.owner s == p) (m.places s) (names_at s reports)) (between.apart i s some other);
             fronts = at_each (λ i f. FrontHolds m.server m.backlog i f) m.fronts p new between.fronts (record {
-              listener = or_flag (not f.listens || f.flag) _ _ (polled_holds (f.armed && m.backlog == 0) f.reported (list_any is_listener reports)) was;
+              listener = polled_holds (not f.listens || f.flag) (f.armed && m.backlog == 0) f.reported (list_any is_listener reports) was;
               share = (between.fronts p).share;
               own = own_reports m p reports given;
             });
