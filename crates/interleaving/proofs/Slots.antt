@@ -3,7 +3,7 @@ pub mod Leaves
 pub mod Views
 pub mod Steps
 pub mod Shared
-use Rattle.std.{proofs.{Common.{Bool, List, Some, [], ap, arith, false, replicate, slice_get, suc, zero, if◌then◌else◌, not, refl, true, ℕ, ◌&&◌, ◌||◌, ◌++◌, ◌+◌, ◌==◌, ◌∙◌, ◌∷◌, ◌≡◌, ◌<◌}, lemmas.Option.{option_and_then_some, same_Some}}, specs.List.list_any}
+use Rattle.std.{proofs.{Common.{Bool, List, Some, [], ap, arith, false, replicate, slice_get, suc, zero, if◌then◌else◌, not, refl, true, ℕ, ◌&&◌, ◌||◌, ◌++◌, ◌+◌, ◌==◌, ◌∙◌, ◌∷◌, ◌≡◌, ◌<◌}, lemmas.{Bool.Decides.nat_tests, Option.{option_and_then_some, same_Some}}}, specs.List.list_any}
 use Rattle.world.proofs.Headline.Ends.Pairs.Holders.Events.Lists.{kept_at}
 use Rattle.interleaving.specs.{Threads.{System, resting, rests_at}, Likeness.EveryInterleavingIsARun, Slots.{AllStandApart, Sees, SeesAll, Many, Server, SlotsStandApart, Step, is_listener, one_slot, rank, run, slot_of, start, step}}
 use Steps.{Apart, Between, FrontsHold, Next}
@@ -41,12 +41,7 @@ rests_first (suc n) zero some = refl
 rests_first (suc n) (suc i) some = rests_first n i (omega arith)
 
 rank_below : (n p i : ℕ) → p < n → i < n → rank p i < n
-rank_below n p i below some = by (i == p) (i == 0)
-  where
-    by : (a b : Bool) → (if a then 0 else (if b then p else i)) < n
-    by true b = omega arith
-    by false true = below
-    by false false = some
+rank_below n p i below some = grind (arith, nat_tests)
 
 module _ (law : EveryInterleavingIsARun) (server : Server) (inside : (s : ℕ) → server.owner s < server.limits.workers) where
   pub between : (m : Many) → Reached server m → Between m

@@ -74,11 +74,7 @@ is_end r = 0
 -- what a poll leaves of the listener's report, and what it gives
 reports_weigh : (m : Many) (p : ℕ) (rs : List Report) → are_queued m p rs ≡ true → let was = (m.fronts p).reported in
     (3 * one (was && not (list_any is_listener rs)) + total report_weight rs) + length rs ≤ (3 * one was + total is_end rs) + 2 * total is_waker rs
-reports_weigh m p [] h = by (m.fronts p).reported
-  where
-    by : (b : Bool) → (3 * one (b && true) + 0) + 0 ≤ (3 * one b + 0) + 0
-    by true = omega arith
-    by false = omega arith
+reports_weigh m p [] h = grind arith
 reports_weigh m p (Listener ∷ rs) h =
     let f = m.fronts p in
     let parts = and_parts (f.reported && not (list_any is_listener rs)) (are_queued m p rs) h in
@@ -116,12 +112,7 @@ poll_weighs : (st : System) (names : List Name) → length (without_names names 
 poll_weighs st names less = omega arith
 
 one_reported : (queue : List Name) (b : Bool) → length (reported queue listener_name b) ≤ length queue + 1
-one_reported queue false = omega arith
-one_reported queue true = by (has listener_name queue)
-  where
-    by : (b : Bool) → length (if b then queue else queue ++ listener_name ∷ []) ≤ length queue + 1
-    by true = omega arith
-    by false = omega (arith, length-append {A = Name})
+one_reported queue b = grind (arith, length-append {A = Name})
 
 -- a client that connects at the slot
 connects_weigh : (st : System) → Kept (λ (q : System). slot.weight q ≤ slot.weight st + ((1 + client_weight st.limits) + 17)) (alone.step st alone.Connect)

@@ -1,5 +1,5 @@
 -- What a slot of a server shows: its view before and after a step of the server, its tickets and its names.
-use Rattle.std.{proofs.{Common.{Bool, List, None, Option, Some, [], ap, append-nil, arith, drop, false, if◌then◌else◌, inl, inr, length, map, nat_lt, not, option_map, refl, sym, true, suc, ℕ, ◌&&◌, ◌++◌, ◌==◌, ◌∙◌, ◌∷◌, ◌≡◌, ◌≢◌, ◌≤◌, ◌⊎◌, eq-eqb, eqb-true, ne_eqb}, lemmas.{Bool.{and_parts, cases_eq}, List.nil_from_length, Option.same_Some}, Math.Seq.drop-append_seam}, specs.{Cmp.second_so, List.list_any}}
+use Rattle.std.{proofs.{Common.{Bool, List, None, Option, Some, [], ap, append-nil, arith, drop, false, if◌then◌else◌, inl, inr, length, map, nat_lt, not, option_map, refl, sym, true, ℕ, ◌&&◌, ◌++◌, ◌==◌, ◌∙◌, ◌∷◌, ◌≡◌, ◌≢◌, ◌≤◌, ◌⊎◌, eq-eqb, eqb-true, ne_eqb}, lemmas.{Bool.{and_parts, cases_eq, Decides.nat_tests}, List.nil_from_length, Option.same_Some}, Math.Seq.drop-append_seam}, specs.{Cmp.second_so, List.list_any}}
 use Rattle.interleaving.specs.{Threads.{System}, Slots.{Many, Report, Of, Listener, Waker, Taken, Ticket, are_queued, first_of, in_hand, is_listener, names_at, one_slot, rank, set, slot_of, tickets_at}}
 use Rattle.kernel_model.specs.Names.{are_among, are_distinct, has}
 use Rattle.token.specs.declared.name.Name.{Name}
@@ -97,11 +97,7 @@ pub record Alone (s : ℕ) (ts : List Ticket) (c : Taken) : Type 0 where
   pub rest : tickets_at s c.rest ≡ []
 
 more : (s : ℕ) (t : Ticket) (ts : List Ticket) → length (tickets_at s ts) ≤ length (tickets_at s (t ∷ ts))
-more s t ts = by (t.slot == s)
-  where
-    by : (b : Bool) → length (tickets_at s ts) ≤ length (if b then t.generation ∷ tickets_at s ts else tickets_at s ts)
-    by true = omega arith
-    by false = omega arith
+more s t ts = grind (arith, nat_tests)
 
 taken_some : (test : Ticket → Bool) (ts : List Ticket) (c : Taken) → first_of test ts ≡ Some c → (s : ℕ) → c.ticket.slot ≡ s → 1 ≤ length (tickets_at s ts)
 taken_some test [] c is s own = cc
@@ -146,11 +142,7 @@ pub fewer_names : (s : ℕ) (rs : List Report) → length (names_at s rs) ≤ le
 fewer_names s [] = omega arith
 fewer_names s (Listener ∷ rs) = let h = fewer_names s rs in omega arith
 fewer_names s (Waker ∷ rs) = let h = fewer_names s rs in omega arith
-fewer_names s (Of t n ∷ rs) = by (t == s) (fewer_names s rs)
-  where
-    by : (b : Bool) → length (names_at s rs) ≤ length rs → length (if b then n ∷ names_at s rs else names_at s rs) ≤ suc (length rs)
-    by true least = omega arith
-    by false least = omega arith
+fewer_names s (Of t n ∷ rs) = let h = fewer_names s rs in grind (arith, nat_tests)
 
 -- what a poll may give is queued at each slot, once
 pub record Queued (s : ℕ) (queue : List Name) (rs : List Report) : Type 0 where
@@ -198,20 +190,8 @@ own_reports m p (Of t n ∷ rs) h =
 rank_poller : (p : ℕ) → rank p p ≡ 0
 rank_poller p = rw (eq-eqb p p refl) refl
 
-rank_zero : (p : ℕ) → rank p 0 ≡ p
-rank_zero p = by (cases_eq 0 p)
-  where
-    by : (0 ≡ p) ⊎ (0 ≢ p) → rank p 0 ≡ p
-    by (inl e) = rw (eq-eqb 0 p e) e
-    by (inr other) = rw (ne_eqb 0 p other) refl
-
 rank_twice : (p i : ℕ) → rank p (rank p i) ≡ i
-rank_twice p i = by (cases_eq i p) (cases_eq i 0)
-  where
-    by : (i ≡ p) ⊎ (i ≢ p) → (i ≡ 0) ⊎ (i ≢ 0) → rank p (rank p i) ≡ i
-    by (inl e) first = rw (eq-eqb i p e) (rank_zero p ∙ sym e)
-    by (inr other) (inl e) = rw (ne_eqb i p other, eq-eqb i 0 e) (rank_poller p ∙ sym e)
-    by (inr other) (inr some) = rw (ne_eqb i p other, ne_eqb i 0 some, ne_eqb i p other, ne_eqb i 0 some) refl
+rank_twice p i = grind (arith, nat_tests)
 
 pub rank_first : (p : ℕ) → rank p p ≡ 0
 rank_first = rank_poller
