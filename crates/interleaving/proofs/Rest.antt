@@ -143,8 +143,7 @@ pub comes_to_rest : CoreLaws → EveryInterleavingIsARun → LeftAloneItEnds
 comes_to_rest core laws l before own st next alone ran are led = ends_on core laws l alone before own st next ran are led
 
 not_movable : (b : Bool) (d : Bool) → (b ≡ true → d ≡ true) → d ≡ false → b ≡ false
-not_movable true d so none = cc (so refl)
-not_movable false d so none = refl
+not_movable b d so none = grind arith
 
 pub at_rest : CoreLaws → EveryInterleavingIsARun → LeftAloneItRests
 at_rest core laws l steps st alone some below four ran stopped =

@@ -2,7 +2,7 @@
 use Rattle.std.{proofs.{Common.{Bool, List, None, Option, Some, [], ap, arith, drop, false, if◌then◌else◌, inl, inr, length, refl, replicate, slice_get, subst, suc, sym, true, zero, ℕ, ◌&&◌, ◌++◌, ◌+◌, ◌-◌, ◌*◌, ◌==◌, ◌∙◌, ◌∷◌, ◌≡◌, ◌≢◌, ◌≤◌, ◌⊎◌, eq-eqb, eqb-true, length-append}, lemmas.{Bool.{and_parts, cases_eq, Decides.nat_tests}}}, specs.{Option.is_none, Prelude.{IsSome}}}
 use Rattle.claims.specs.Words.{WordState, some_wait, wakes, word_after, one}
 use Rattle.kernel_model.specs.{Kernel.{KernelState, end_at}, declared.{reply.Reply.Reply}}
-use Rattle.relay_core.specs.{Order.next_call, Pairs.{PairState, is_live, verdict, fresh, noted}, Idle.{is_overdue, is_past, expired, timed_out}}
+use Rattle.relay_core.specs.{Order.next_call, Pairs.{PairState, is_live, verdict, fresh}, Idle.{is_overdue, is_past, expired, timed_out}}
 use Rattle.token.specs.{declared.{side.Side.{Side, TheVariants.{Client, Target}}}}
 use Rattle.world.{proofs.Headline.Ends.Pairs.Holders.{Events.Lists.{Kept, kept_at, kept_bind, kept_map, kept_none, kept_some, kept_when, total-set}, Turns, is_number}, specs.{Calls.{OpenConnection, called, descriptor}, Headline.{end_of}, Slots.{SlotState, WorkerState}, States.State, Steps.{connection_at, is_worn, token_of}, Support.total, declared.{connection.Connection.Connection, limits.Limits.Limits}}}
 use Rattle.interleaving.specs.{Likeness.{Adopted, Emptied, Entered, Goes, HalfOpen, HasClosed, HasOut, HasRetired, HolderLike, Holds, IsHalfOpen, IsHolder, IsSettled, Leaves, Like, Opens, Placed, Posted, Registered as IsRegistered, Rests, Stage, Stays, ThreadLike, Tries, Finds, ends_of, machine_of, opened_slot}, Threads.{Act, Call, PutIn, Release, again, ended, open_slot, plan, quiet, turn, System, Thread, acts, calls, goes_on, heard, planned, posted, registering, released, taken_out, taking, with_thread}, Rest.{calls_left, calls_to_come, client_weight, connection_weight, end_weight, is_answered, kernel_weight, move_weight, notes_weight, pair_weight, poller_weight, post_weight, program_weight, slot_weight, socket_weight, spent_weight, thread_weight, ticket_weight, weight}}
@@ -167,17 +167,12 @@ planned_over st t left c over = by (is_overdue st.second st.limits.idle c.pair) 
     by false late = rw (late, over) (omega (arith, spent_none left))
 
 heard_weighs : (notes : ℕ) (c : Connection) → pair_weight (heard notes c).pair ≤ pair_weight c.pair + 4
-heard_weighs notes c = by (some_wait notes)
-  where
-    by : (b : Bool) → pair_weight (if b then record c { pair = noted c.pair } else c).pair ≤ pair_weight c.pair + 4
-    by true = omega arith
-    by false = omega arith
+heard_weighs notes c = grind arith
 
 -- a note, a ticket
 
 one_more : (b : Bool) (tickets : List ℕ) (g : ℕ) → length (if b then tickets ++ g ∷ [] else tickets) ≤ length tickets + 1
-one_more true tickets g = omega (arith, length-append {A = ℕ})
-one_more false tickets g = omega arith
+one_more b tickets g = grind (arith, length-append {A = ℕ})
 
 pub posted_weighs : (st : System) (g : ℕ) → slot_weight (posted st g) ≤ slot_weight st + post_weight
 posted_weighs st g = let more = one_more (wakes st.word) st.tickets g in omega arith

@@ -9,11 +9,7 @@ use Rattle.token.specs.declared.name.Name.TheVariants as name
 
 fewer : {X : Type 0} (p : X → Bool) (xs : List X) → length (filter p xs) ≤ length xs
 fewer p [] = omega arith
-fewer p (x ∷ xs) = kept_or (p x) x (filter p xs) (length xs) (fewer p xs)
-  where
-    kept_or : {X : Type 0} (b : Bool) (x : X) (ys : List X) (n : ℕ) → length ys ≤ n → length (cond b (x ∷ ys) ys) ≤ suc n
-    kept_or true x ys n less = omega arith
-    kept_or false x ys n less = omega arith
+fewer p (x ∷ xs) = let rest = fewer p xs in grind arith
 
 pub not_so : (b : Bool) → not b ≡ true → b ≡ false
 not_so b h = grind arith
@@ -45,11 +41,12 @@ without_one n ns (x ∷ q) = rw (either_way x n) (by (same n x) (without_names (
 
 gone : (n : Name) (q : List Name) → has n q ≡ true → length (without_name n q) + 1 ≤ length q
 gone n [] h = absurd (cc)
-gone n (x ∷ q) h = by (same n x) (has n q) _ h (gone n q) (fewer _ q)
+gone n (x ∷ q) h =
+    let less = fewer (λ other. not (same n other)) q in
+    by (same n x) (has n q) _ h (gone n q) less
   where
     by : (here later : Bool) (ys : List Name) → (here || later) ≡ true → (later ≡ true → length ys + 1 ≤ length q) → length ys ≤ length q → length (cond (not here) (x ∷ ys) ys) + 1 ≤ suc (length q)
-    by true later ys h rest less = omega arith
-    by false later ys h rest less = let more = rest h in omega arith
+    by here later ys h rest less = grind arith
 
 among_others : (n : Name) (ns q : List Name) → has n ns ≡ false → are_among q ns ≡ true → are_among (without_name n q) ns ≡ true
 among_others n [] q other h = refl

@@ -9,20 +9,22 @@ use Rattle.world.specs.declared.event.Reported.TheVariants as reported
 use Rattle.interleaving.proofs.Slots.{Leaves.{leaves_acting, leaves_calling, leaves_network, leaves_spurious, leaves_sweep, leaves_tick, leaves_vanish}, Views.{Alone, AreOwn, fewer_names, framed, own_reports, queued, rank_first, taken_here, taken_there, tickets_append}, Steps.{AtSlot, Between, FrontHolds, Next, at_each, begins, by_still, by_thread, count, delivers_end, opens, same_names}}
 use Rattle.interleaving.specs.Threads as alone
 
--- Flags. Each front holds by some of what it held by: whether it listens, its flag, its arm, whether nobody waits, whether
--- a report is queued, and whether one is in its batch
+-- What a front holds by: whether it listens, its flag, its arm, whether nobody waits, and whether a report is queued or in its batch
 
-some_wait : (listens flag armed now reported batch : Bool) → ((not listens || flag) || ((armed && false) || (reported || batch))) ≡ true → ((not listens || flag) || ((armed && now) || (reported || batch))) ≡ true
-some_wait listens flag armed now reported batch h = grind arith
+abbrev Holds : Bool → Bool → Bool → Bool → Bool → Bool → Type 0
+Holds listens flag armed none queued batch = ((not listens || flag) || ((armed && none) || (queued || batch))) ≡ true
 
-none_wait : (listens flag armed none reported batch : Bool) → ((not listens || flag) || ((armed && none) || (reported || batch))) ≡ true → ((not listens || flag) || ((armed && true) || (reported || batch))) ≡ true
-none_wait listens flag armed none reported batch h = grind arith
+some_wait : (listens flag armed now queued batch : Bool) → Holds listens flag armed false queued batch → Holds listens flag armed now queued batch
+some_wait listens flag armed now queued batch h = grind arith
 
-told_holds : (listens flag armed none now reported batch : Bool) → ((not listens || flag) || ((armed && none) || (reported || batch))) ≡ true → ((not listens || flag) || ((false && now) || ((reported || armed) || batch))) ≡ true
-told_holds listens flag armed none now reported batch h = grind arith
+none_wait : (listens flag armed none queued batch : Bool) → Holds listens flag armed none queued batch → Holds listens flag armed true queued batch
+none_wait listens flag armed none queued batch h = grind arith
 
-polled_holds : (x y reported batch : Bool) → (x || (y || (reported || false))) ≡ true → (x || (y || ((reported && not batch) || batch))) ≡ true
-polled_holds x y reported batch h = grind arith
+told_holds : (listens flag armed none now queued batch : Bool) → Holds listens flag armed none queued batch → Holds listens flag false now (queued || armed) batch
+told_holds listens flag armed none now queued batch h = grind arith
+
+polled_holds : (x y queued batch : Bool) → (x || (y || (queued || false))) ≡ true → (x || (y || ((queued && not batch) || batch))) ≡ true
+polled_holds x y queued batch h = grind arith
 
 reported_holds : (x y batch : Bool) → (x || (y || (true || batch))) ≡ true
 reported_holds x y batch = grind arith

@@ -32,12 +32,7 @@ framed m n s server places names tickets = rw (server, places, names, tickets) r
 
 pub tickets_append : (s : ℕ) (xs ys : List Ticket) → tickets_at s (xs ++ ys) ≡ tickets_at s xs ++ tickets_at s ys
 tickets_append s [] ys = refl
-tickets_append s (t ∷ ts) ys = by (t.slot == s) (tickets_append s ts ys)
-  where
-    by : (b : Bool) → tickets_at s (ts ++ ys) ≡ tickets_at s ts ++ tickets_at s ys
-        → (if b then t.generation ∷ tickets_at s (ts ++ ys) else tickets_at s (ts ++ ys)) ≡ (if b then t.generation ∷ tickets_at s ts else tickets_at s ts) ++ tickets_at s ys
-    by true rest = ap (λ (gs : List ℕ). t.generation ∷ gs) rest
-    by false rest = rest
+tickets_append s (t ∷ ts) ys = let rest = tickets_append s ts ys in grind (arith, rest)
 
 made_here : (s i : ℕ) (gs : List ℕ) → tickets_at s (map (in_hand s i) gs) ≡ gs
 made_here s i [] = refl
