@@ -1,5 +1,5 @@
 -- What a slot of a server shows: its view before and after a step of the server, its tickets and its names.
-use Rattle.std.{proofs.{Common.{Bool, List, None, Option, Some, [], ap, append-nil, arith, drop, false, if◌then◌else◌, inl, inr, length, map, nat_lt, not, option_map, refl, sym, true, ℕ, ◌&&◌, ◌++◌, ◌==◌, ◌∙◌, ◌∷◌, ◌≡◌, ◌≢◌, ◌≤◌, ◌⊎◌, eq-eqb, eqb-true, ne_eqb}, lemmas.{Bool.{and_parts, cases_eq, Decides.nat_tests}, List.nil_from_length, Option.same_Some}, Math.Seq.drop-append_seam}, specs.{Cmp.second_so, List.list_any}}
+use Rattle.std.{proofs.{Common.{Bool, List, None, Option, Some, [], ap, append-nil, arith, drop, false, if◌then◌else◌, inl, inr, length, length-append, map, nat_lt, not, option_map, refl, sym, true, ℕ, ◌&&◌, ◌++◌, ◌==◌, ◌∙◌, ◌∷◌, ◌≡◌, ◌≢◌, ◌≤◌, ◌⊎◌, eq-eqb, eqb-true, ne_eqb}, lemmas.{Bool.{and_parts, cases_eq, Decides.nat_tests}, List.nil_from_length, Option.same_Some}, Math.Seq.drop-append_seam}, specs.{Cmp.second_so, List.list_any}}
 use Rattle.interleaving.specs.{Threads.{System}, Slots.{Many, Report, Of, Listener, Waker, Taken, Ticket, are_queued, first_of, in_hand, is_listener, names_at, one_slot, rank, set, slot_of, tickets_at}}
 use Rattle.kernel_model.specs.Names.{are_among, are_distinct, has}
 use Rattle.token.specs.declared.name.Name.{Name}
@@ -70,66 +70,43 @@ found test t ts c is = by (test t) refl is
     by true passes is = inl (sym (same_Some _ _ is), passes)
     by false passes is = behind (first_of test ts) refl is
 
+-- the tickets of a slot, with the one that is taken, if it is of the slot, and without it
+record Split (s : ℕ) (ts : List Ticket) (c : Taken) : Type 0 where
+  pub before : List ℕ
+  pub after : List ℕ
+  pub whole : tickets_at s ts ≡ before ++ (if c.ticket.slot == s then c.ticket.generation ∷ after else after)
+  pub rest : tickets_at s c.rest ≡ before ++ after
+
+split : (s : ℕ) (test : Ticket → Bool) (ts : List Ticket) (c : Taken) → first_of test ts ≡ Some c → Split s ts c
+split s test [] c is = cc
+split s test (t ∷ ts) c is = by (found test t ts c is) (λ d there. split s test ts d there)
+  where
+    by : Found test t ts c → ((d : Taken) → first_of test ts ≡ Some d → Split s ts d) → Split s (t ∷ ts) c
+    by (inl it) lower = rw it.0 (record { before = []; after = tickets_at s ts; whole = refl; rest = refl })
+    by (inr it) lower =
+        let d = lower it.0 it.1 in
+        rw it.2 (record { before = if t.slot == s then t.generation ∷ d.before else d.before; after = d.after; whole = grind (arith, d.whole); rest = grind (arith, d.rest) })
+
 -- of another slot
 pub taken_there : (test : Ticket → Bool) (ts : List Ticket) (c : Taken) → first_of test ts ≡ Some c → (s : ℕ) → s ≢ c.ticket.slot → tickets_at s c.rest ≡ tickets_at s ts
-taken_there test [] c is s other = cc
-taken_there test (t ∷ ts) c is s other = by (found test t ts c is) (λ d there apart. taken_there test ts d there s apart)
-  where
-    by : Found test t ts c
-        → ((d : Taken) → first_of test ts ≡ Some d → s ≢ d.ticket.slot → tickets_at s d.rest ≡ tickets_at s ts)
-        → tickets_at s c.rest ≡ tickets_at s (t ∷ ts)
-    by (inl (same, passes)) rest =
-        let apart : t.slot ≢ s = λ e. other (sym e ∙ sym (ap (λ (c : Taken). c.ticket.slot) same)) in
-        rw (same, ne_eqb t.slot s apart) refl
-    by (inr it) rest =
-        let apart : s ≢ it.0.ticket.slot = λ e. other (e ∙ sym (ap (λ (c : Taken). c.ticket.slot) it.2)) in
-        let tail = rest it.0 it.1 apart in
-        rw (it.2, tail) refl
+taken_there test ts c is s other =
+    let parts = split s test ts c is in
+    let whole = rw (ne_eqb c.ticket.slot s (λ e. other (sym e))) at parts.whole in
+    parts.rest ∙ sym whole
 
 -- of this slot, which has no other
 pub record Alone (s : ℕ) (ts : List Ticket) (c : Taken) : Type 0 where
   pub whole : tickets_at s ts ≡ c.ticket.generation ∷ []
   pub rest : tickets_at s c.rest ≡ []
 
-more : (s : ℕ) (t : Ticket) (ts : List Ticket) → length (tickets_at s ts) ≤ length (tickets_at s (t ∷ ts))
-more s t ts = grind (arith, nat_tests)
-
-taken_some : (test : Ticket → Bool) (ts : List Ticket) (c : Taken) → first_of test ts ≡ Some c → (s : ℕ) → c.ticket.slot ≡ s → 1 ≤ length (tickets_at s ts)
-taken_some test [] c is s own = cc
-taken_some test (t ∷ ts) c is s own = by (found test t ts c is) (λ d there own. taken_some test ts d there s own)
-  where
-    by : Found test t ts c
-        → ((d : Taken) → first_of test ts ≡ Some d → d.ticket.slot ≡ s → 1 ≤ length (tickets_at s ts)) → 1 ≤ length (tickets_at s (t ∷ ts))
-    by (inl (same, passes)) rest =
-        let own : t.slot ≡ s = sym (ap (λ (c : Taken). c.ticket.slot) same) ∙ own in
-        rw (eq-eqb t.slot s own) (omega arith)
-    by (inr it) rest =
-        let some = rest it.0 it.1 (sym (ap (λ (c : Taken). c.ticket.slot) it.2) ∙ own) in
-        let least = more s t ts in
-        omega arith
-
 pub taken_here : (test : Ticket → Bool) (ts : List Ticket) (c : Taken) → first_of test ts ≡ Some c → (s : ℕ) → c.ticket.slot ≡ s → length (tickets_at s ts) ≤ 1 → Alone s ts c
-taken_here test [] c is s own most = cc
-taken_here test (t ∷ ts) c is s own most = by (found test t ts c is) (λ d there own most. taken_here test ts d there s own most)
-  where
-    -- t is passed over, so it is of another slot
-    over : (d : Taken) → 1 ≤ length (tickets_at s ts) → (length (tickets_at s ts) ≤ 1 → Alone s ts d) → (b : Bool)
-        → length (if b then t.generation ∷ tickets_at s ts else tickets_at s ts) ≤ 1
-        → ((if b then t.generation ∷ tickets_at s ts else tickets_at s ts) ≡ d.ticket.generation ∷ []) × ((if b then t.generation ∷ tickets_at s d.rest else tickets_at s d.rest) ≡ [])
-    over d some rest true least = absurd (omega arith)
-    over d some rest false least = let r = rest least in (r.whole, r.rest)
-
-    by : Found test t ts c
-        → ((d : Taken) → first_of test ts ≡ Some d → d.ticket.slot ≡ s → length (tickets_at s ts) ≤ 1 → Alone s ts d) → Alone s (t ∷ ts) c
-    by (inl (same, passes)) rest =
-        let here : t.slot ≡ s = sym (ap (λ (c : Taken). c.ticket.slot) same) ∙ own in
-        let fewer : length (t.generation ∷ tickets_at s ts) ≤ 1 = rw (eq-eqb t.slot s here) at most in
-        let none : tickets_at s ts ≡ [] = nil_from_length (tickets_at s ts) (omega arith) in
-        record { whole = rw (same, eq-eqb t.slot s here, none) refl; rest = rw (same, none) refl }
-    by (inr it) rest =
-        let here : it.0.ticket.slot ≡ s = sym (ap (λ (c : Taken). c.ticket.slot) it.2) ∙ own in
-        let r = over it.0 (taken_some test ts it.0 it.1 s here) (rest it.0 it.1 here) (t.slot == s) most in
-        record { whole = rw it.2 r.0; rest = rw it.2 r.1 }
+taken_here test ts c is s own most =
+    let parts = split s test ts c is in
+    let whole : tickets_at s ts ≡ parts.before ++ c.ticket.generation ∷ parts.after = rw (eq-eqb c.ticket.slot s own) at parts.whole in
+    let count = ap (λ (gs : List ℕ). length gs) whole in
+    let first = nil_from_length parts.before (omega (arith, length-append parts.before (c.ticket.generation ∷ parts.after))) in
+    let last = nil_from_length parts.after (omega (arith, length-append parts.before (c.ticket.generation ∷ parts.after))) in
+    record { whole = whole ∙ rw (first, last) refl; rest = parts.rest ∙ rw (first, last) refl }
 
 -- The names of a poll
 
