@@ -142,17 +142,23 @@ module _ (m : Many) (x : Step) (d : Deed) (n : Many) (q : System) where
           rw (done.server, done.places s, here, set_here m.places d.slot q, same) (rw here at before)
       by (inr still) (inr there-it) busy = there there-it (apart i s inside (λ e. other (e ∙ sym (moves.busy i still))))
 
--- a deed with nothing besides
-pub written_done : (m : Many) (x : Step) (d : Deed) (q : System) {moves : ℕ → Type 0} → Leaves moves [] (slot_of m d.slot) q → Done m x d (written m d q) q
-written_done m x d q left = record {
+-- a deed, with other fronts and threads elsewhere besides
+front_done : (m : Many) (x : Step) (d : Deed) (q : System) (fronts : ℕ → Front) (busy : ℕ → ℕ) {moves : ℕ → Type 0} {names : List Name} → Leaves moves names (slot_of m d.slot) q
+    → ((s : ℕ) → s ≢ d.slot → names_at s (fronts (m.server.owner s)).batch ≡ names_at s (m.fronts (m.server.owner s)).batch)
+    → names_at d.slot (fronts (m.server.owner d.slot)).batch ≡ q.batch → Done m x d (record (written m d q) { fronts = fronts; busy_at = busy }) q
+front_done m x d q fronts busy left names here = record {
   server = refl;
   places = λ s. refl;
-  names = λ s other. refl;
-  names_here = left.batch;
+  names = names;
+  names_here = here;
   tickets = λ s other. brought_there d.slot s d.thread m.tickets _ other;
   tickets_here = brought_here d.slot d.thread m.tickets q.tickets left.made left.tickets;
   common = left.common;
 }
+
+-- with nothing besides
+pub written_done : (m : Many) (x : Step) (d : Deed) (q : System) {moves : ℕ → Type 0} → Leaves moves [] (slot_of m d.slot) q → Done m x d (written m d q) q
+written_done m x d q left = front_done m x d q m.fronts m.busy_at left (λ s other. refl) left.batch
 
 -- Steps with a deed
 
@@ -221,15 +227,8 @@ module _ (m : Many) (between : Between m) where
       opened : (q : System) → alone.run (slot_of m s) opening ≡ Some q → Leaves (only 0) [] (slot_of m s) q → Next m (Open p s) (besides m (Open p s) (written m d q))
       opened q ran left =
           let n : Many = besides m (Open p s) (written m d q) in
-          let done : Done m (Open p s) d n q = record {
-            server = refl;
-            places = λ t. refl;
-            names = λ t other. same_names m.fronts p new t (m.server.owner t) (λ e. refl);
-            names_here = same_names m.fronts p new s (m.server.owner s) (λ e. refl) ∙ left.batch;
-            tickets = λ t other. brought_there s t p m.tickets _ other;
-            tickets_here = brought_here s p m.tickets q.tickets left.made left.tickets;
-            common = left.common;
-          } in
+          let done = front_done m (Open p s) d q (set m.fronts p new) (set m.busy_at p s) left (λ t other. same_names m.fronts p new t (m.server.owner t) (λ e. refl))
+          (same_names m.fronts p new s (m.server.owner s) (λ e. refl) ∙ left.batch) in
           record {
             server = refl;
             each = each_slot m (Open p s) d n q (λ t own e. e) ran done;
@@ -279,15 +278,7 @@ module _ (m : Many) (between : Between m) where
       delivered : (q : System) → alone.run (slot_of m s) (alone.Deliver ∷ []) ≡ Some q → Delivers (slot_of m s) q → Next m (Deliver p) (besides m (Deliver p) (written m d q))
       delivered q ran left =
           let n : Many = besides m (Deliver p) (written m d q) in
-          let done : Done m (Deliver p) d n q = record {
-            server = refl;
-            places = λ t. refl;
-            names = λ t other. same_names m.fronts p new t (m.server.owner t) (λ e. lost t other);
-            names_here = here q left;
-            tickets = λ t other. brought_there s t p m.tickets _ other;
-            tickets_here = brought_here s p m.tickets q.tickets left.1.made left.1.tickets;
-            common = left.1.common;
-          } in
+          let done = front_done m (Deliver p) d q (set m.fronts p new) m.busy_at left.1 (λ t other. same_names m.fronts p new t (m.server.owner t) (λ e. lost t other)) (here q left) in
           record {
             server = refl;
             each = each_slot m (Deliver p) d n q (λ t own e. e ∙ ap (λ (rs : List Report). steps_at t (delivering p rs)) (sym is)) ran done;
