@@ -14,34 +14,40 @@ use std::sync::atomic::{AtomicBool, AtomicU64};
 /// A word of bits that threads share. Each method is one step, and there are no others. So no thread reads the bits in
 /// one step and writes them in another, which could lose a step in between. The trait leaves open what a step does.
 pub(crate) trait Bits {
-    // This step, with its answer, was made on this word.
-    ghost did: { BitStep → Self → Type 0 };
+    // This step, with its answer, was made on this word: one act, between the first and the second.
+    ghost did: { BitStep → Self → Self.Acts → Self.Acts → Type 0 };
+
+    /// What has been done so far. A clause that has one act between what was done before a call and after it leaves room
+    /// for no other.
+    type Acts;
 
     /// Returns the bits.
-    fn read(&self) -> u64
-        ensures { did (ReadBits result) self.now };
+    fn read(&self, acts: &mut Self::Acts) -> u64
+        ensures { did (ReadBits result) self.now acts.old acts.new };
 
     /// Sets these bits. Returns the bits before.
-    fn set(&self, bits: u64) -> u64
-        ensures { did (SetBits bits result) self.now };
+    fn set(&self, acts: &mut Self::Acts, bits: u64) -> u64
+        ensures { did (SetBits bits result) self.now acts.old acts.new };
 
     /// Clears these bits. Returns the bits before.
-    fn clear(&self, bits: u64) -> u64
-        ensures { did (ClearedBits bits result) self.now };
+    fn clear(&self, acts: &mut Self::Acts, bits: u64) -> u64
+        ensures { did (ClearedBits bits result) self.now acts.old acts.new };
 }
 
 impl Bits for AtomicU64 {
-    ghost did = { λ _ _. Unit {0} };
+    ghost did = { λ _ _ _ _. Unit {0} };
 
-    fn read(&self) -> u64 {
+    type Acts = ();
+
+    fn read(&self, _acts: &mut ()) -> u64 {
         self.load(SeqCst)
     }
 
-    fn set(&self, bits: u64) -> u64 {
+    fn set(&self, _acts: &mut (), bits: u64) -> u64 {
         self.fetch_or(bits, SeqCst)
     }
 
-    fn clear(&self, bits: u64) -> u64 {
+    fn clear(&self, _acts: &mut (), bits: u64) -> u64 {
         self.fetch_and(!bits, SeqCst)
     }
 }
@@ -166,42 +172,42 @@ impl IdleBits {
 
 impl<W: Bits> IdleBits<W> {
     /// Sets the bit of an end that found the queue open before it looked.
-    pub(crate) fn announce(&self, end: usize, seen: MarkSeen) -> Announced
+    pub(crate) fn announce(&self, acts: &mut W::Acts, end: usize, seen: MarkSeen) -> Announced
         requires few { end < 32 }
         requires open { seen.closed ≢ true }
         ensures same { result.end ≡ end }
-        ensures set { (before : ℕ) × W.did (SetBits (bit_of end) before) self.now.0 }
+        ensures set { (before : ℕ) × W.did (SetBits (bit_of end) before) self.now.0 acts.old acts.new }
     {
         // Pairs with `look_for`. A put pushes and then reads the bits; an end sets its bit and then looks. So one of
         // the two sees the other's step. If the end looked first, it could park although a put came in between.
-        self.0.set(1u64 << end);
+        self.0.set(acts, 1u64 << end);
         Announced { end }
     }
 
     /// Clears the bit of an end that has announced itself. If another thread had cleared the bit before, returns the
     /// wake that it spent on this end.
-    pub(crate) fn withdraw(&self, announced: Announced) -> Option<Wake>
-        ensures cleared { (before : ℕ) × W.did (ClearedBits (bit_of announced.end) before) self.now.0
+    pub(crate) fn withdraw(&self, acts: &mut W::Acts, announced: Announced) -> Option<Wake>
+        ensures cleared { (before : ℕ) × W.did (ClearedBits (bit_of announced.end) before) self.now.0 acts.old acts.new
             × (IsSome result ↔ IsTrue (not (has_bit announced.end before))) }
     {
         // Pairs with `wake`: only one of the two finds the bit set. If both could, nobody would pass that wake on, and
         // the other put's ticket would wait until this end comes back, while a third end sleeps.
         let Announced { end } = announced;
         let bit = 1u64 << end;
-        let was_woken = self.0.clear(bit) & bit == 0;
+        let was_woken = self.0.clear(acts, bit) & bit == 0;
         if was_woken { Some(Wake(())) } else { None }
     }
 
     /// Clears the bit of an end that must be woken. None: the bit was clear already.
-    pub(crate) fn wake(&self, end: usize) -> Option<Woken>
+    pub(crate) fn wake(&self, acts: &mut W::Acts, end: usize) -> Option<Woken>
         requires { end < 32 }
-        ensures cleared { (before : ℕ) × W.did (ClearedBits (bit_of end) before) self.now.0
+        ensures cleared { (before : ℕ) × W.did (ClearedBits (bit_of end) before) self.now.0 acts.old acts.new
             × (IsSome result ↔ IsTrue (has_bit end before)) }
         ensures end { IfSome result (λ woken. woken.end ≡ end) }
     {
         // Pairs with `withdraw`, and with itself: if two puts woke one end, one of their tickets would be left.
         let bit = 1u64 << end;
-        if self.0.clear(bit) & bit != 0 {
+        if self.0.clear(acts, bit) & bit != 0 {
             Some(Woken { end })
         } else {
             None
@@ -209,13 +215,13 @@ impl<W: Bits> IdleBits<W> {
     }
 
     /// Looks once. Returns the bits and the wake if a bit is set. Otherwise the wake ends here: no end is idle.
-    pub(crate) fn look_for(&self, wake: Wake) -> Option<(u64, Wake)>
-        ensures looked { (bits : ℕ) × W.did (ReadBits bits) self.now.0 × (IsNone result ↔ bits ≡ 0)
+    pub(crate) fn look_for(&self, acts: &mut W::Acts, wake: Wake) -> Option<(u64, Wake)>
+        ensures looked { (bits : ℕ) × W.did (ReadBits bits) self.now.0 acts.old acts.new × (IsNone result ↔ bits ≡ 0)
             × IfSome result (λ found. found.0 ≡ bits) }
     {
         // Pairs with `announce`. An end that sets its bit after this looks at the queue later, and finds what was
         // pushed.
-        let bits = self.0.read();
+        let bits = self.0.read(acts);
         if bits != 0 {
             return Some((bits, wake));
         }
@@ -224,11 +230,11 @@ impl<W: Bits> IdleBits<W> {
     }
 
     /// Looks once. Some: no bit is set.
-    pub(crate) fn all_busy(&self) -> Option<AllBusy>
-        ensures looked { (bits : ℕ) × W.did (ReadBits bits) self.now.0 × (IsSome result ↔ bits ≡ 0) }
+    pub(crate) fn all_busy(&self, acts: &mut W::Acts) -> Option<AllBusy>
+        ensures looked { (bits : ℕ) × W.did (ReadBits bits) self.now.0 acts.old acts.new × (IsSome result ↔ bits ≡ 0) }
     {
         // Pairs with nothing: an end may announce itself right after. So who keeps a ticket has to come back to it.
-        let bits = self.0.read();
+        let bits = self.0.read(acts);
         if bits == 0 {
             Some(AllBusy { bits })
         } else {

@@ -16,6 +16,13 @@ pub(crate) struct IdleEnds<U = Unparker> {
     ghost few: { vec_len unparkers ≤ 32 },
 }
 
+/// Shows that a queue of tickets was closed: it was marked so, and then every end was woken. Only a close makes one.
+#[derive(Drop)]
+pub struct Closed {
+    seen: MarkSeen,
+    ghost closed: { seen.closed ≡ true },
+}
+
 impl IdleEnds {
     pub(crate) fn new(unparkers: Vec<Unparker>) -> IdleEnds
         requires { vec_len unparkers ≤ 32 }
@@ -60,14 +67,14 @@ impl<U: Unpark> IdleEnds<U> {
     }
 
     pub(crate) fn all_busy(&self) -> Option<AllBusy> {
-        self.idle.all_busy()
+        self.idle.all_busy(&mut ())
     }
 
     /// Wakes the idle end with the lowest number, if any is idle.
     pub(crate) fn wake_one(&self, rt: &impl Wait, owed: Wake) {
         let mut wake = owed;
         for _look in rt.forever() {
-            let Some((idle, same)) = self.idle.look_for(wake) else {
+            let Some((idle, same)) = self.idle.look_for(&mut (), wake) else {
                 return;
             };
             if let Some(woken) = self.woken_of(idle) {
@@ -85,7 +92,7 @@ impl<U: Unpark> IdleEnds<U> {
     {
         for end in 0..self.unparkers.len() {
             if idle & 1u64 << end != 0 {
-                if let Some(woken) = self.idle.wake(end) {
+                if let Some(woken) = self.idle.wake(&mut (), end) {
                     return Some(woken);
                 }
             }
@@ -94,20 +101,20 @@ impl<U: Unpark> IdleEnds<U> {
     }
 
     /// Sets the mark, and then wakes every end.
-    pub(crate) fn close(&self)
+    pub(crate) fn close(&self) -> Closed
         ensures { All U.unparked self.now.unparkers.items }
     {
-        let seen = self.mark.set();
-        self.wake_all(&seen);
+        self.wake_all(self.mark.set())
     }
 
     // Wakes every end, once the mark is set.
-    fn wake_all(&self, _seen: &MarkSeen)
-        requires { _seen.now.closed ≡ true }
+    fn wake_all(&self, seen: MarkSeen) -> Closed
+        requires { seen.closed ≡ true }
         ensures { All U.unparked self.now.unparkers.items }
     {
         for unparker in &self.unparkers {
             unparker.give();
         }
+        Closed { seen }
     }
 }

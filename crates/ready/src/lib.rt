@@ -41,8 +41,8 @@
 //! announcement, only after it found the queue empty again (`look_again`; `park`: `empty`, `mine`). Its next put counts
 //! on it to come back exactly if its last `take` gave a ticket and it has put nothing since (`End`: `same`,
 //! `comes_back`, `stays`). The word has no step but a read, and to set or clear bits at once (`Bits`): `withdraw` and
-//! `wake` say what one such step found (`cleared`), and `all_busy` returns Some exactly if its one look found no bit
-//! (`looked`). An end that withdraws gets back a wake that was spent on it: an end that found nothing takes the wake,
+//! `wake` make one such step, and say what it found (`cleared`), and `all_busy` returns Some exactly if its one look
+//! found no bit (`looked`). A close gives a value that only the mark and a wake of every end make ([`Closed`]). An end that withdraws gets back a wake that was spent on it: an end that found nothing takes the wake,
 //! and an end that found a ticket passes it on.
 #![tactic(auto)]
 
@@ -59,5 +59,6 @@ mod ticket;
 
 pub use flags::AllBusy;
 pub use free::FreeQueue;
+pub use idle::Closed;
 pub use queue::ReadyQueue;
 pub use ticket::{Full, Ticket};

@@ -5,7 +5,7 @@ ghost use Rattle.ready.specs.Steps.{unused, HeldOnce, PutOne, TookOne};
 
 use crate::end::{End, Shared};
 use crate::flags::AllBusy;
-use crate::idle::IdleEnds;
+use crate::idle::{Closed, IdleEnds};
 use crate::rule::{Line, another};
 use crate::sleeper::Sleeper;
 use crate::ticket::{Full, Ticket};
@@ -104,10 +104,10 @@ impl ReadyQueue {
     }
 
     /// From now on, `take` returns None at every end once the queue is empty. Wakes all ends that sleep.
-    pub fn close(&mut self)
+    pub fn close(&mut self) -> Closed
         ensures { self.new ≡ self.old }
     {
-        self.end.shared.ends.close();
+        self.end.shared.ends.close()
     }
 }
 

@@ -87,7 +87,7 @@ impl Sleeper {
         requires open { empty.0.closed ≢ true }
         ensures { result.end ≡ self.now.number }
     {
-        idle.announce(self.number, empty.0)
+        idle.announce(&mut (), self.number, empty.0)
     }
 
     /// Sleeps until this end is woken.
@@ -104,6 +104,6 @@ impl Awake {
     /// Withdraws the announcement. Returns the wake that another thread spent on this end, if one did.
     pub(crate) fn withdraw(self, idle: &IdleBits) -> Option<Wake> {
         let Awake(announced) = self;
-        idle.withdraw(announced)
+        idle.withdraw(&mut (), announced)
     }
 }
