@@ -1,5 +1,5 @@
 -- What every step keeps of the ends of a queue, and so what holds after any list of steps.
-use Rattle.std.{proofs.{Common.{◌≡◌, ◌≢◌, ◌⊎◌, ◌<◌, ◌≤◌, ◌+◌, ℕ, zero, suc, Bool, true, false, true≢false, not, List, [], ◌∷◌, length, get_or, set, replicate, Some, None, refl, sym, ap, ◌∙◌, inl, inr, arith}, lemmas.{Bool.{cases_lt, not-true, lt-ltb, le-leb, ltb-true, leb-true}, Bool.Decides.eqb_tells, List.{get_or-set_same, get_or-set_other, get_or_past, get_or-replicate, set_past, length-replicate, length-set}, List.Sums.{sum_by-set, sum_by-cons}, Option.option_and_then_some}}, specs.{Prelude.{if◌then◌else◌, nat_lt, nat_le, sum_by}, Cmp.{first_so, second_so}}}
+use Rattle.std.{proofs.{Common.{◌≡◌, ◌≢◌, ◌⊎◌, ◌<◌, ◌≤◌, ◌+◌, ◌&&◌, ◌||◌, ℕ, zero, suc, Bool, true, false, true≢false, not, List, [], ◌∷◌, length, get_or, set, replicate, Some, None, refl, sym, ap, ◌∙◌, inl, inr, arith}, lemmas.{Bool.{cases_lt, not-true, or_right, lt-ltb, le-leb, ltb-true, leb-true}, Bool.Decides.eqb_tells, List.{get_or-set_same, get_or-set_other, get_or_past, get_or-replicate, set_past, length-replicate, length-set}, List.Sums.{sum_by-set, sum_by-cons}, Option.option_and_then_some}}, specs.{Prelude.{if◌then◌else◌, nat_lt, nat_le, sum_by}, Cmp.{first_so, second_so}}}
 use Rattle.ready.specs.Sleep.{Act, Rest, Push, Wake, Unpark, ReadMark, Look, SetBit, LookAgain, Park, Withdraw, SetMark, Standing, Plain, ComesBack, End, Queue, Step, Puts, Takes, Closes, Makes, Clears, Stirs, Taken, resting, start, end_at, with_end, goes_on, pushed, withdrawn, after_look, after_unpark, looked, are_clear, with_permit, after_act, begins, cleared, stirred, fewer, step, run, IsAsleep, unparks, WillBeUnparked, owes, has_wake, was_woken, one, duties, IsOnItsWay, ToLook, ToWake, WasWoken, ToUnpark, NobodySleepsBesideWork, NobodySleeps}
 
 some_is : {X : Type 0} {x y : X} → Some x ≡ Some y → y ≡ x
@@ -30,6 +30,10 @@ is_open LookAgain = true
 is_open Park = true
 is_open act = false
 
+-- it may sleep although its bit is clear, or the queue closed
+abbrev must_hear : Bool → Act → Bool → Bool
+must_hear closed act bit = is_open act && ((is_drowsy act && not bit) || closed)
+
 -- it has looked in vain, and has not begun anew
 abbrev has_looked : Act → Bool
 has_looked SetBit = true
@@ -49,25 +53,20 @@ Hears q k = ((end_at q k).permit ≡ true) ⊎ WillBeUnparked q k
 -- `extra` duties are in nobody's hands
 record Kept (extra : ℕ) (q : Queue) : Type 0 where
   sound : (k : ℕ) → Sound (end_at q k)
-  awaits : (k : ℕ) → is_drowsy (end_at q k).next ≡ true → ((end_at q k).bit ≡ true) ⊎ Hears q k
-  closed : q.closed ≡ true → (k : ℕ) → is_open (end_at q k).next ≡ true → Hears q k
+  hears : (k : ℕ) → must_hear q.closed (end_at q k).next (end_at q k).bit ≡ true → Hears q k
   counted : (k : ℕ) → (end_at q k).next ≡ Park → (end_at q k).bit ≡ true → q.items ≤ sum_by duties q.ends + extra
 
-drowsy_busy : (act : Act) → is_drowsy act ≡ true → act ≢ Rest
-drowsy_busy act h rest = let no : is_drowsy Rest ≡ true = rw rest at h in cc
+must_busy : (closed : Bool) (act : Act) (bit : Bool) → must_hear closed act bit ≡ true → act ≢ Rest
+must_busy closed act bit h rest = let no : is_open Rest ≡ true = rw rest at (first_so (is_open act) _ h) in cc
 
-drowsy_open : (act : Act) → is_drowsy act ≡ true → is_open act ≡ true
-drowsy_open LookAgain h = refl
-drowsy_open Park h = refl
-drowsy_open act h = cc
+-- an end that has not found the queue open need not hear
+need_not : (closed : Bool) (act : Act) (bit : Bool) {X : Type 0} → is_open act ≡ false → must_hear closed act bit ≡ true → X
+need_not closed act bit shut h = absurd (true≢false (sym (first_so (is_open act) _ h) ∙ shut))
 
 each_clear : (ends : List End) (k : ℕ) → are_clear ends ≡ true → (get_or ends k resting).bit ≡ false
 each_clear [] k h = refl
 each_clear (e ∷ ends) zero h = not-true e.bit (first_so (not e.bit) _ h)
 each_clear (e ∷ ends) (suc k) h = each_clear ends k (second_so (not e.bit) _ h)
-
-open_busy : (act : Act) → is_open act ≡ true → act ≢ Rest
-open_busy act h rest = let no : is_open Rest ≡ true = rw rest at h in cc
 
 within : (q : Queue) (i : ℕ) → (end_at q i).next ≢ Rest → i < length q.ends
 within q i busy = elim (cases_lt i (length q.ends)) [
@@ -126,25 +125,22 @@ module _ {extra : ℕ} (q : Queue) (kept : Kept extra q) (i : ℕ) (inside : i <
     hears still k busy keeps (inl permit) = inl (keeps permit)
     hears still k busy keeps (inr (t, is)) = elim (eqb_tells t i) [ inl y ↦ still k busy (rw y.1 at is) | inr n ↦ inr (t, rw (there t n.1) is) ]
 
-    hears_there : Still → (k : ℕ) → k ≢ i → (end_at q k).next ≢ Rest → Hears q k → Hears now k
-    hears_there still k other busy h = hears still k busy (λ permit. rw (there k other) permit) h
+    -- the others that must hear are those that had to before
+    others_hear : Still → (k : ℕ) → k ≢ i → must_hear q.closed (end_at q k).next (end_at q k).bit ≡ true → Hears now k
+    others_hear still k other must = hears still k (must_busy _ _ _ must) (λ permit. rw (there k other) permit) (kept.hears k must)
 
     record Changes : Type 0 where
       sound : Sound e
       still : Still
-      awaits : is_drowsy e.next ≡ true → (e.bit ≡ true) ⊎ Hears now i
-      closes : closed ≡ true → (k : ℕ) → k ≢ i → is_open (end_at q k).next ≡ true → Hears now k
-      own_closed : closed ≡ true → is_open e.next ≡ true → Hears now i
+      own : must_hear closed e.next e.bit ≡ true → Hears now i
+      others : (k : ℕ) → k ≢ i → must_hear closed (end_at q k).next (end_at q k).bit ≡ true → Hears now k
       counts : (k : ℕ) → (end_at q k).next ≡ Park → (end_at q k).bit ≡ true → items ≤ sum_by duties now.ends + more
       own_counts : e.next ≡ Park → e.bit ≡ true → items ≤ sum_by duties now.ends + more
 
     changes : Changes → Kept more now
     changes c = record {
       sound = λ k. at_each Sound k (λ same. c.sound) (λ other. kept.sound k);
-      awaits = λ k. at_each (λ x. is_drowsy x.next ≡ true → (x.bit ≡ true) ⊎ Hears now k) k
-          (λ same drowsy. rw same (c.awaits drowsy))
-          (λ other drowsy. elim (kept.awaits k drowsy) [ inl b ↦ inl b | inr h ↦ inr (hears_there c.still k other (drowsy_busy _ drowsy) h) ]);
-      closed = λ shut k. at_each (λ x. is_open x.next ≡ true → Hears now k) k (λ same may. rw same (c.own_closed shut may)) (λ other may. c.closes shut k other may);
+      hears = λ k. at_each (λ x. must_hear closed x.next x.bit ≡ true → Hears now k) k (λ same must. rw same (c.own must)) (c.others k);
       counted = λ k. at_each (λ x. x.next ≡ Park → x.bit ≡ true → items ≤ sum_by duties now.ends + more) k (λ same. c.own_counts) (λ other. c.counts k);
     }
 
@@ -161,26 +157,22 @@ module _ {extra : ℕ} (q : Queue) (kept : Kept extra q) (i : ℕ) (inside : i <
     still : Still more e items q.closed
     still k busy h = let no = sym (quiet k) ∙ rw is at h in cc
 
-    own : act ≢ Rest → was.permit ≡ e.permit → Hears q i → Hears next i
-    own busy same h = hears more e items q.closed still i (λ rest. busy (sym is ∙ rest)) (λ permit. rw (here more e items q.closed) (sym same ∙ permit)) h
+    -- the end must hear only if it had to before
+    own : was.permit ≡ e.permit → must_hear q.closed act was.bit ≡ true → Hears next i
+    own same must =
+        let h : must_hear q.closed was.next was.bit ≡ true = rw is must in
+        hears more e items q.closed still i (must_busy _ _ _ h) (λ permit. rw (here more e items q.closed) (sym same ∙ permit)) (kept.hears i h)
 
-    moves : Sound e → (is_drowsy e.next ≡ true → (e.bit ≡ true) ⊎ Hears next i) → (q.closed ≡ true → is_open e.next ≡ true → Hears next i)
+    moves : Sound e → (must_hear q.closed e.next e.bit ≡ true → Hears next i)
         → ((k : ℕ) → (end_at q k).next ≡ Park → (end_at q k).bit ≡ true → items ≤ sum_by duties next.ends + more)
         → (e.next ≡ Park → e.bit ≡ true → items ≤ sum_by duties next.ends + more) → Kept more next
-    moves sound awaits own_closed counts own_counts = changes more e items q.closed (record {
-      sound = sound;
-      still = still;
-      awaits = awaits;
-      closes = λ shut k other may. hears_there more e items q.closed still k other (open_busy _ may) (kept.closed shut k may);
-      own_closed = own_closed;
-      counts = counts;
-      own_counts = own_counts;
-    })
+    moves sound own counts own_counts = changes more e items q.closed
+        (record { sound = sound; still = still; own = own; others = others_hear more e items q.closed still; counts = counts; own_counts = own_counts })
 
     -- and then the end is not on its way to sleep
     awake : Sound e → is_open e.next ≡ false
         → ((k : ℕ) → (end_at q k).next ≡ Park → (end_at q k).bit ≡ true → items ≤ sum_by duties next.ends + more) → Kept more next
-    awake sound shut counts = moves sound (λ h. let o = drowsy_open _ h in cc) (λ c h. cc) counts (λ parks b. let o : is_open Park ≡ false = rw parks at shut in cc)
+    awake sound shut counts = moves sound (need_not _ _ _ shut) counts (λ parks b. let o : is_open Park ≡ false = rw parks at shut in cc)
 
     acts : Sound e → is_open e.next ≡ false → items + (duties was + extra) ≤ q.items + (duties e + more) → Kept more next
     acts sound shut h = awake sound shut (alike more e items q.closed h)
@@ -199,29 +191,23 @@ module _ {extra : ℕ} (q : Queue) (kept : Kept extra q) (i : ℕ) (inside : i <
   wakes is false some = kept
 
   reads_mark : was.next ≡ ReadMark → (c : Bool) → q.closed ≡ c → Kept extra (goes_on q i (Look c))
-  reads_mark is c mark = moves extra _ q.items is (λ k. refl) (as_clear _ is refl refl refl) (λ h. cc)
-      (λ shut h. let now_shut : is_open (Look true) ≡ true = rw (sym mark ∙ shut) at h in cc)
+  reads_mark is true mark = acts extra _ q.items is (λ k. refl) (as_clear _ is refl refl refl) refl (rw is (omega arith))
+  reads_mark is false mark = moves extra _ q.items is (λ k. refl) (as_clear _ is refl refl refl) (λ shut. absurd (true≢false (sym shut ∙ mark)))
       (alike extra _ q.items q.closed (rw is (omega arith))) (λ h. cc)
 
   looks : (c : Bool) (n : ℕ) → was.next ≡ Look c → q.items ≡ n → Kept extra (looked q i Rest (after_look c) n)
   looks true zero is none = awake extra _ q.items is (λ k. refl) (record { bit = λ b. absurd (unset is refl b); looked = λ h. refl }) refl (λ k parked b. rw none (omega arith))
-  looks false zero is none = moves extra _ q.items is (λ k. refl) (record { bit = λ b. absurd (unset is refl b); looked = λ h. refl }) (λ h. cc)
-      (λ shut h. own extra _ q.items is (λ k. refl) (λ e. cc) refl (kept.closed shut i (rw is refl)))
-      (λ k parked b. rw none (omega arith)) (λ h. cc)
+  looks false zero is none = moves extra _ q.items is (λ k. refl) (record { bit = λ b. absurd (unset is refl b); looked = λ h. refl })
+      (own extra _ q.items is (λ k. refl) refl) (λ k parked b. rw none (omega arith)) (λ h. cc)
   looks c (suc n) is some = acts extra _ n is (λ k. refl) (as_clear _ is refl refl refl) refl (let owed = one_le (owes was.standing) in rw (is, some) (omega arith))
 
   sets_bit : was.next ≡ SetBit → Kept extra (with_end q i (record was { next = LookAgain; bit = true }))
-  sets_bit is = moves extra _ q.items is (λ k. refl) (record { bit = λ b. refl; looked = λ h. settled is refl }) (λ h. inl refl)
-      (λ shut h. own extra _ q.items is (λ k. refl) (λ e. cc) refl (kept.closed shut i (rw is refl)))
-      (alike extra _ q.items q.closed (rw is (omega arith))) (λ h. cc)
+  sets_bit is = moves extra _ q.items is (λ k. refl) (record { bit = λ b. refl; looked = λ h. settled is refl })
+      (own extra _ q.items is (λ k. refl) refl) (alike extra _ q.items q.closed (rw is (omega arith))) (λ h. cc)
 
   looks_again : (n : ℕ) → was.next ≡ LookAgain → q.items ≡ n → Kept extra (looked q i (Withdraw true) Park n)
-  looks_again zero is none =
-      let hears_on = own extra (record was { next = Park; standing = Plain }) q.items is (λ k. refl) (λ e. cc) refl in
-      moves extra _ q.items is (λ k. refl) (record { bit = λ b. refl; looked = λ h. refl })
-      (λ h. elim (kept.awaits i (rw is refl)) [ inl b ↦ inl b | inr heard ↦ inr (hears_on heard) ])
-      (λ shut h. hears_on (kept.closed shut i (rw is refl)))
-      (λ k parked b. rw none (omega arith)) (λ h b. rw none (omega arith))
+  looks_again zero is none = moves extra _ q.items is (λ k. refl) (record { bit = λ b. refl; looked = λ h. refl })
+      (own extra _ q.items is (λ k. refl) refl) (λ k parked b. rw none (omega arith)) (λ h b. rw none (omega arith))
   looks_again (suc n) is some = acts extra _ n is (λ k. refl) (record { bit = λ b. refl; looked = λ h. refl }) refl (let owed = one_le (owes was.standing) in rw (is, some) (omega arith))
 
   -- an end that had announced itself, and is awake, has to withdraw
@@ -245,9 +231,8 @@ module _ {extra : ℕ} (q : Queue) (kept : Kept extra q) (i : ℕ) (inside : i <
       rw some (changes extra e q.items true (record {
         sound = as_clear e is refl refl refl;
         still = λ k busy h. let none = rw is at h in cc;
-        awaits = λ h. cc;
-        closes = λ shut k other may. inr (i, rw (its, le-leb 0 k (omega arith), lt-ltb k (length q.ends) (within q k (open_busy _ may))) refl);
-        own_closed = λ shut h. cc;
+        own = λ h. cc;
+        others = λ k other must. inr (i, rw (its, le-leb 0 k (omega arith), lt-ltb k (length q.ends) (within q k (must_busy _ _ _ must))) refl);
         counts = alike extra e q.items true (rw is (omega arith));
         own_counts = λ h. cc;
       }))
@@ -269,9 +254,8 @@ module _ {extra : ℕ} (q : Queue) (kept : Kept extra q) (i : ℕ) (inside : i <
       changes extra e q.items q.closed (record {
         sound = record { bit = (kept.sound i).bit; looked = (kept.sound i).looked };
         still = still;
-        awaits = λ h. inr permit;
-        closes = λ shut k other may. hears_there extra e q.items q.closed still k other (open_busy _ may) (kept.closed shut k may);
-        own_closed = λ shut h. permit;
+        own = λ h. permit;
+        others = others_hear extra e q.items q.closed still;
         counts = alike extra e q.items q.closed (omega arith);
         own_counts = alike extra e q.items q.closed (omega arith) i;
       })
@@ -288,16 +272,14 @@ module _ {extra : ℕ} (q : Queue) (kept : Kept extra q) (i : ℕ) (inside : i <
         | inr n ↦ inr (i, rw (here extra e q.items q.closed) (unparks_rest k from below n.1 (rw is at h)))
       ] in
       let shut = either_way is_open (suc from) below false refl refl in
-      let calm = either_way is_drowsy (suc from) below false refl refl in
       let fresh = either_way has_looked (suc from) below false refl refl in
       let wakeless = either_way has_wake (suc from) below false refl refl in
       let unwoken = either_way (was_woken was.bit) (suc from) below false refl refl in
       changes extra e q.items q.closed (record {
         sound = as_clear e is refl refl fresh;
         still = still;
-        awaits = λ h. absurd (true≢false (sym h ∙ calm));
-        closes = λ c k other may. hears_there extra e q.items q.closed still k other (open_busy _ may) (kept.closed c k may);
-        own_closed = λ c h. absurd (true≢false (sym h ∙ shut));
+        own = need_not _ _ _ shut;
+        others = others_hear extra e q.items q.closed still;
         counts = alike extra e q.items q.closed (rw (is, wakeless, unwoken) (omega arith));
         own_counts = λ parks b. let no : is_open Park ≡ false = rw parks at shut in cc;
       })
@@ -349,9 +331,8 @@ clears q i k kept is busy true bit =
     changes gone first k inside 0 e q.items q.closed (record {
       sound = record { bit = λ b. cc; looked = (kept.sound k).looked };
       still = still;
-      awaits = λ h. inr (inr waker);
-      closes = λ c j other may. hears_there gone first k inside 0 e q.items q.closed still j other (open_busy _ may) (first.closed c j may);
-      own_closed = λ c h. inr waker;
+      own = λ h. inr waker;
+      others = others_hear gone first k inside 0 e q.items q.closed still;
       counts = alike gone first k inside 0 e q.items q.closed (rw (same, bit, w.0, w.1) (omega arith));
       own_counts = λ parked b. cc;
     })
@@ -360,8 +341,7 @@ taken : (q r : Queue) (n : ℕ) → q.items ≡ n → Kept 0 q → fewer q n ≡
 taken q r zero is kept h = cc
 taken q r (suc n) is kept h = rw (some_is h) (record {
   sound = kept.sound;
-  awaits = kept.awaits;
-  closed = kept.closed;
+  hears = kept.hears;
   counted = λ k parked b. let m = kept.counted k parked b in omega arith;
 })
 
@@ -425,8 +405,7 @@ start_each n k = elim (cases_lt k n) [
 starts : (n : ℕ) → Kept 0 (start n)
 starts n = record {
   sound = λ k. rw (start_each n k) (record { bit = λ h. cc; looked = λ h. cc });
-  awaits = λ k. rw (start_each n k) (λ h. cc);
-  closed = λ h. cc;
+  hears = λ k. rw (start_each n k) (λ h. cc);
   counted = λ k parked set. omega arith;
 }
 
@@ -449,8 +428,8 @@ module _ (q : Queue) (kept : Kept 0 q) where
   unheard k asleep (inr will) = will
 
   woken_or_shut : (k : ℕ) → IsAsleep (end_at q k) → ((end_at q k).bit ≡ false) ⊎ (q.closed ≡ true) → WillBeUnparked q k
-  woken_or_shut k asleep (inl clear) = elim (kept.awaits k (rw asleep.0 refl)) [ inl b ↦ absurd (true≢false (sym b ∙ clear)) | inr heard ↦ unheard k asleep heard ]
-  woken_or_shut k asleep (inr shut) = unheard k asleep (kept.closed shut k (rw asleep.0 refl))
+  woken_or_shut k asleep (inl clear) = unheard k asleep (kept.hears k (rw (asleep.0, clear) refl))
+  woken_or_shut k asleep (inr shut) = unheard k asleep (kept.hears k (rw (asleep.0, shut) (or_right _ _ refl)))
 
   abbrev SomeIsAwake : Type 0
   SomeIsAwake = (i : ℕ) × (¬ (IsAsleep (end_at q i))) × IsOnItsWay (end_at q i)
