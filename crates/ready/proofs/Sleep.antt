@@ -1,6 +1,6 @@
 -- What every step keeps of the ends of a queue, and so what holds after any list of steps.
 use Rattle.std.{proofs.{Common.{◌≡◌, ◌≢◌, ◌⊎◌, ◌<◌, ◌≤◌, ◌+◌, ◌&&◌, ◌||◌, ℕ, zero, suc, Bool, true, false, true≢false, not, List, [], ◌∷◌, length, get_or, set, replicate, Some, None, refl, sym, ap, ◌∙◌, inl, inr, arith}, lemmas.{Bool.{cases_lt, not-true, or_right, lt-ltb, le-leb, ltb-true, leb-true}, Bool.Decides.eqb_tells, List.{get_or-set_same, get_or-set_other, get_or_past, get_or-replicate, set_past, length-replicate, length-set}, List.Sums.{sum_by-set, sum_by-cons}, Option.option_and_then_some}}, specs.{Prelude.{if◌then◌else◌, nat_lt, nat_le, sum_by}, Cmp.{first_so, second_so}}}
-use Rattle.ready.specs.Sleep.{Act, Rest, Push, Wake, Unpark, ReadMark, Look, SetBit, LookAgain, Park, Withdraw, SetMark, Standing, Plain, ComesBack, End, Queue, Step, Puts, Takes, Closes, Makes, Clears, Stirs, Taken, resting, start, end_at, with_end, goes_on, pushed, withdrawn, after_look, after_unpark, looked, are_clear, with_permit, after_act, begins, cleared, stirred, fewer, step, run, IsAsleep, unparks, WillBeUnparked, owes, has_wake, was_woken, one, duties, IsOnItsWay, ToLook, ToWake, WasWoken, ToUnpark, NobodySleepsBesideWork, NobodySleeps}
+use Rattle.ready.specs.Sleep.{Act, Rest, Push, Wake, Unpark, ReadMark, Look, SetBit, LookAgain, Park, Withdraw, SetMark, Standing, ComesBack, End, Queue, Step, Puts, Takes, Closes, Makes, Clears, Stirs, Taken, resting, start, end_at, with_end, goes_on, pushed, withdrawn, after_look, after_unpark, looked, are_clear, with_permit, after_act, begins, cleared, stirred, fewer, step, run, IsAsleep, unparks, WillBeUnparked, owes, has_wake, was_woken, one, duties, IsOnItsWay, ToLook, ToWake, WasWoken, ToUnpark, NobodySleepsBesideWork, NobodySleeps}
 
 some_is : {X : Type 0} {x y : X} → Some x ≡ Some y → y ≡ x
 some_is h = cc

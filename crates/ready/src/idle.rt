@@ -104,7 +104,8 @@ impl<U: Unpark> IdleEnds<U> {
     pub(crate) fn close(&self) -> Closed
         ensures { All U.unparked self.now.unparkers.items }
     {
-        self.wake_all(self.mark.set())
+        let seen = self.mark.set();
+        self.wake_all(seen)
     }
 
     // Wakes every end, once the mark is set.
