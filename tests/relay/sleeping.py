@@ -6,7 +6,6 @@ import contextlib
 import errno
 import os
 import random
-import resource
 import select
 import time
 
@@ -112,33 +111,67 @@ def woken_of(threads):
     raise AssertionError("nobody wakes")
 
 
+def put_twice(both, number, first, second, readers):
+    """The worker sleeps, and gets the last of what these clients send; and then of what the others send, while it wakes or falls
+    asleep. Each byte arrives."""
+    poller, worker = both.putter, both.sleeper
+    both.sleep(poller, worker)
+    send(first)
+    poller.run_to(EPOLL_WAIT, lambda answer: answer == len(first))
+    poller.go()
+    both.number = number // 2
+    # Once it has been woken, or once it has run its ticket.
+    if number % 2:
+        worker.run_to(FUTEX, lambda answer: answer > RESTARTS)
+        both.step(worker, "wakes", RECVFROM)
+    else:
+        worker.run_to(SENDTO, lambda answer: answer > 0)
+        both.step(worker, "falls asleep")
+    poller.halt()
+    both.sleep(poller)
+    send(second)
+    poller.run_to(EPOLL_WAIT, lambda answer: answer == len(second))
+    both.go_on("puts", RECVFROM)
+    assert all([gives(reader) for reader in readers]), (number, both.places)
+    poller.halt()
+    worker.halt()
+
+
 def a_worker_beside_a_poller():
-    # Of 17 clients whose bytes the poller finds at once the worker has the last: it sleeps before, and after.
+    # Of 17 clients whose bytes the poller finds at once the worker has the last, if it sleeps.
     relay = Relay(target(echo), recorded=False, slots=64, workers=1, log="off")
     clients = served(relay, 34)
     with pair(relay, relay.process.pid, *relay.named("worker")) as both:
         for number in range(TRIES if both else 0):
-            poller, worker = both.putter, both.sleeper
-            both.sleep(poller, worker)
-            send(clients[:17])
-            poller.run_to(EPOLL_WAIT, lambda answer: answer == 17)
-            poller.go()
-            both.number = number // 2
-            # Once it has been woken, or once it has run its ticket.
-            if number % 2:
-                worker.run_to(FUTEX, lambda answer: answer > RESTARTS)
-                both.step(worker, "wakes", RECVFROM)
-            else:
-                worker.run_to(SENDTO, lambda answer: answer > 0)
-                both.step(worker, "falls asleep")
-            poller.halt()
-            both.sleep(poller)
-            send(clients[17:])
-            poller.run_to(EPOLL_WAIT, lambda answer: answer == 17)
-            both.go_on("puts", RECVFROM)
-            assert all([gives(client) for client in clients]), (number, both.places)
-            poller.halt()
-            worker.halt()
+            put_twice(both, number, clients[:17], clients[17:], clients)
+
+
+def much_moved(both):
+    """A client and its end, once so much has gone that the worker gets the next 16 tickets of the connection."""
+    threads = [both.putter, both.sleeper]
+    for thread in threads:
+        thread.go()
+    client, end = both.relay.pair()
+    for thread in threads:
+        thread.halt()
+    client.sendall(bytes(MUCH))
+    for thread in threads:
+        thread.go()
+    read_all_of(end, MUCH)
+    time.sleep(0.1)
+    for thread in threads:
+        thread.halt()
+    return client, end
+
+
+# refuses worker_sleeps_without_its_second_look: a worker announces that it sleeps, and sleeps without another look
+def a_worker_beside_a_poller_that_puts_in_any_case():
+    relay = Relay(recorded=False, slots=64, workers=1, log="off")
+    with pair(relay, relay.process.pid, *relay.named("worker")) as both:
+        for number in range(TRIES if both else 0):
+            if number % 6 == 0:
+                clients, ends = zip(much_moved(both), much_moved(both))
+            put_twice(both, number, clients[:1], clients[1:], ends)
 
 
 # refuses writer_sleeps_without_its_last_look: the writer of the log announces that it sleeps behind its last look
@@ -207,41 +240,17 @@ def a_poller_beside_a_worker_that_gives_its_slot():
         assert relay.process.wait(WAIT) == 0
 
 
-def waits_of(relay, many, longest=200):
-    """For how many milliseconds the first poller may wait in its next calls, once so many clients have come. The last two are
-    the longest waits. All other pollers stand still."""
-    times = []
-    with halted(relay.process.pid, *relay.named("poller", relay.pollers - 1)) as found:
-        _clients = [relay.connect() for _ in range(many)]
-        while found and times[-2:] != [longest] * 2 and len(times) < 50:
-            assert found[0].begins(EPOLL_WAIT)
-            times.append(found[0].longest())
-            found[0].ends()
-    return times
-
-
-def polling(pollers=1, target="127.255.255.255:1"):
-    relay = Relay(target=target, recorded=False, workers=pollers, slots=64 * pollers, log="off")
-    relay.pollers = pollers
-    return relay
-
-
-# refuses long_waits_of_a_millisecond: a poller with nothing to do waits for a millisecond
-# refuses single_poller_waits_as_sixteen: a single poller waits for 1.6 seconds
-# refuses brief_waits_of_20_milliseconds: a poller that has left a client to others waits for 20 ms
-# refuses starved_accept_is_tried_at_once: a poller that lacks descriptors for a client does not wait
-# refuses starved_accept_waits_without_end: such a poller waits until there is a report
-# refuses hasty_waits_of_a_millisecond: a poller that may accept more clients waits for a millisecond
-def of_a_poller_as_long_as_it_may():
-    if not waits_of(polling(), 0):
-        return left_out("ptrace")
-    # A poller that begins tries to accept, and then waits.
-    for pollers, longest in (1, 200), (2, 200), (4, 400), (16, 1600):
-        assert set(waits_of(polling(pollers), 0, longest)) - {0} == {longest}, pollers
-    # Of nine clients four are accepted in a round. None waits for a target.
-    assert set(waits_of(polling(), 9)) == {0, 200}
-    # A poller leaves clients to another with fewer, and looks again after a millisecond.
-    assert set(waits_of(polling(2, f"127.0.0.1:{target(echo)}"), 9)) - {0} == {1, 200}
-    relay = polling()
-    relay.limit(resource.RLIMIT_NOFILE, max(relay.descriptors()) + 1)
-    assert set(waits_of(relay, 1)) - {0} == {200}
+# refuses waits_of_microseconds: a poller that is to wait for milliseconds waits for so many microseconds
+# refuses waits_without_end: a poller waits until there is a report
+def of_a_poller_as_long_as_it_asks():
+    for pollers, longest in (1, 200), (16, 1600):
+        relay, times = Relay(recorded=False, workers=pollers, slots=64 * pollers, log="off"), []
+        with halted(relay.process.pid) as found:
+            if not found:
+                return left_out("ptrace")
+            # A poller that begins tries to accept, and then waits.
+            while times[-2:] != [longest] * 2 and len(times) < 50:
+                assert found[0].begins(EPOLL_WAIT)
+                times.append(found[0].longest())
+                found[0].ends()
+        assert set(times) - {0} == {longest}, pollers
