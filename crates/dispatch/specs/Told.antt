@@ -1,11 +1,11 @@
 -- What a front shows, what the statistics count of a connection, what is logged of one that could not be opened, and
 -- what the errors of accept(2) mean to the relay. Part of the promises.
-use Rattle.std.specs.Prelude.{ℕ, Bool, List}
+use Rattle.std.specs.Prelude.{◌≡◌, ℕ, Bool, List}
 use Rattle.std.specs.declared.io.ErrorKind.{ErrorKind, TheVariants.{Interrupted, ConnectionAborted, NetworkDown, NetworkUnreachable, HostUnreachable, WouldBlock}}
 use Rattle.relay_core.specs.Pairs.{PairState, verdict}
 use Rattle.statistics.specs.declared.event.Event.{Event, TheVariants.{Moved, Ended}}
 use Rattle.relay_log.specs.declared.cause.Cause.{Cause}
-use Rattle.dispatch.specs.declared.front.{Unaccepted.{Unaccepted, TheVariants.{Again, Blocked, Starved}}, Unopened.{Unopened, TheVariants.{Connect, Register}}}
+use Rattle.dispatch.specs.declared.front.{Waiting.{Waiting, TheVariants.{No, Brief, Long}}, Unaccepted.{Unaccepted, TheVariants.{Again, Blocked, Starved}}, Unopened.{Unopened, TheVariants.{Connect, Register}}}
 use Rattle.relay_log.specs.declared.cause.Cause.TheVariants as cause
 
 pub record Seen : Type 0 where
@@ -13,10 +13,23 @@ pub record Seen : Type 0 where
   pub reported : List ℕ
   -- whether that wait failed, and not by a signal
   pub failed : Bool
-  -- how many milliseconds it could take at most: 0 if it had to return at once, or if the front does not say so
+  -- for how many milliseconds it waited, if nothing ended it before
   pub waited : ℕ
+  -- for how many milliseconds the front waits where it waits longest
+  pub longest : ℕ
   -- whether the front still has a share of the listening socket
   pub listens : Bool
+
+-- for how many milliseconds a front waits that never waits longer than this
+abbrev pub millis_of : Waiting → ℕ → ℕ
+millis_of No longest = 0
+millis_of Brief longest = 1
+millis_of Long longest = longest
+
+-- a wait for reports was as long as was asked for, and changed no more than it shows
+abbrev pub Waited : Waiting → Seen → Seen → Type 0
+Waited wait old new =
+    new ≡ record old { reported = new.reported; failed = new.failed; waited = millis_of wait old.longest }
 
 -- a turn has left a connection open: the bytes that writes took, each way
 abbrev pub moved_by : PairState → Event

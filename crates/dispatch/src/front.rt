@@ -1,5 +1,5 @@
 ghost use Rattle.std.specs.{Prelude.{◌≡◌, ◌≢◌, ◌≤◌, ℕ, true, false, [], IfOk, IfErr, OnErr, vec_len, vec_capacity}, IoError.error_kind, declared.io.ErrorKind.TheVariants.Interrupted};
-ghost use Rattle.dispatch.specs.Told.{unaccepted_of};
+ghost use Rattle.dispatch.specs.Told.{millis_of, unaccepted_of, Waited};
 
 use crate::limits::MAX_BATCH;
 use engine::Wire;
@@ -109,15 +109,28 @@ pub struct Opened<T> {
     pub route: Route,
 }
 
-/// How long a poller may wait.
+/// How long a poller waits, if there is no report.
 #[derive(Clone, Copy, PartialEq, Eq)]
 pub enum Waiting {
     /// Not at all.
     No,
-    /// A millisecond at most.
+    /// A millisecond.
     Brief,
     /// For as long as the front ever waits.
     Long,
+}
+
+impl Waiting {
+    /// For how many milliseconds a front waits that never waits longer than `longest`.
+    pub fn millis(self, longest: u64) -> u64
+        ensures { result ≡ millis_of self longest }
+    {
+        match self {
+            Waiting::No => 0,
+            Waiting::Brief => 1,
+            Waiting::Long => longest,
+        }
+    }
 }
 
 /// Where connections and reports come from: the system's sockets, or an in-memory fake.
@@ -158,9 +171,7 @@ pub trait Front {
         ensures most { vec_len batch.new ≤ MAX_BATCH }
         ensures capacity { vec_capacity batch.new ≡ vec_capacity batch.old }
         ensures reported { batch.new.items ≡ (seen self.new).reported }
-        ensures listens { (seen self.new).listens ≡ (seen self.old).listens }
-        ensures waited { wait ≡ Waiting.No → (seen self.new).waited ≡ 0 }
-        ensures brief { wait ≡ Waiting.Brief → (seen self.new).waited ≤ 1 }
+        ensures waited { Waited wait (seen self.old) (seen self.new) }
         ensures failed { OnErr result (batch.new.items ≡ []) }
         ensures fault { IfErr result (λ error. error_kind error ≢ Interrupted → (seen self.new).failed ≡ true) };
 

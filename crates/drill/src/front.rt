@@ -17,6 +17,8 @@ pub struct KernelFront {
     poller: usize,
     /// The numbers that the last poll gave.
     reported: Vec<u64>,
+    /// For how many milliseconds the last poll would have waited.
+    waited: u64,
     listening: bool,
     pub ghost few: { vec_len reported ≤ 256 },
     pub ghost room: { 256 ≤ vec_capacity reported },
@@ -33,6 +35,7 @@ impl KernelFront {
             outside,
             poller,
             reported: Vec::with_capacity(alloc, MAX_BATCH)?,
+            waited: 0,
             listening: true,
         })
     }
@@ -56,7 +59,7 @@ fn fill(batch: &mut Vec<u64>, reported: &mut Vec<u64>, names: &[Name])
 }
 
 impl Front for KernelFront {
-    ghost seen = { λ f. record { reported = f.reported.items; failed = true; waited = 0; listens = f.listening } };
+    ghost seen = { λ f. record { reported = f.reported.items; failed = true; waited = f.waited; longest = 0; listens = f.listening } };
 
     type Client = EndWire;
 
@@ -65,7 +68,8 @@ impl Front for KernelFront {
     type Waker = OutsideCell;
 
     /// Never waits: no report could come while the only thread waits.
-    fn poll(&mut self, batch: &mut Vec<u64>, _wait: Waiting) -> io::Result<()> {
+    fn poll(&mut self, batch: &mut Vec<u64>, wait: Waiting) -> io::Result<()> {
+        self.waited = wait.millis(0);
         batch.clear();
         self.reported.clear();
         let (in_use, poller) = (Err(io::Error::from(ErrorKind::Other)), self.poller);

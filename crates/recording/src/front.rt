@@ -1,7 +1,7 @@
 // A front that records its waits, accepts and openings.
 ghost use Rattle.std.specs.{Prelude.{◌≡◌, ◌≢◌, ◌≤◌, Some, None, true, [], ◌∷◌, IfOk, IfErr, OnErr, vec_len, vec_capacity}, IoError.error_kind, declared.io.ErrorKind.TheVariants.Interrupted};
 ghost use Rattle.recording.specs.Records.{accepted, not_accepted, not_waited, opened as opened_of, polled, Records};
-ghost use Rattle.dispatch.specs.Told.{unaccepted_of};
+ghost use Rattle.dispatch.specs.Told.{unaccepted_of, Waited};
 ghost use Rattle.records.specs.declared.act.Act.TheVariants as act;
 ghost use Rattle.records.specs.declared.act.Polling.TheVariants as polling;
 
@@ -120,9 +120,7 @@ impl<F: Front + Drop, S: Sink> Front for RecordedFront<F, S> {
         ensures most { vec_len batch.new ≤ MAX_BATCH }
         ensures capacity { vec_capacity batch.new ≡ vec_capacity batch.old }
         ensures reported { batch.new.items ≡ (F.seen self.new.inner).reported }
-        ensures listens { (F.seen self.new.inner).listens ≡ (F.seen self.old.inner).listens }
-        ensures waited { wait ≡ Waiting.No → (F.seen self.new.inner).waited ≡ 0 }
-        ensures brief { wait ≡ Waiting.Brief → (F.seen self.new.inner).waited ≤ 1 }
+        ensures waited { Waited wait (F.seen self.old.inner) (F.seen self.new.inner) }
         ensures failed { OnErr result (batch.new.items ≡ []) }
         ensures fault { IfErr result (λ error. error_kind error ≢ Interrupted → (F.seen self.new.inner).failed ≡ true) }
         ensures recorded { Records S.did (polled self.old.poller result batch.new.items) self.old.recorder.sink self.new.recorder.sink }

@@ -2,10 +2,10 @@
 use Rattle.std.proofs.{Common.{◌≡◌, ◌⊎◌, ℕ, ◌+◌, ◌<◌, ◌≤◌, List, [], ◌∷◌, ◌++◌, length, drop, slice_get, slice_set, min, cond, Bool, true, refl, sym, ◌∙◌, arith, inl, inr, append_assoc, length-append, Option, Some, None, ◌==◌, Result, Ok, Err, IfErr, IsErrAnd, slice_index, ap, ◌↔◌, IsTrue, IsNone, false, Contains}, lemmas.{Bool.{cases_lt, false≢true}, List.{append-nil, length-set, get_or-set_other, get_or_past, Sums.sum_by-append}, Grind.get_or-set_at, Option.{none-some, same_Some}}}
 use Rattle.std.specs.Option.{ok_or}
 use Rattle.claims.{specs.{declared.answers.Posted.Posted, Calls.PostChange, Seats.{SeatState, TableId, Adds, account_at}, declared.view.{Account.Account, Exchange.Exchange}, Views.after_all}, proofs.Seats.{account_after, adds_both}}
-use Rattle.dispatch.{specs.{Posts.{HoldsOnly, IsWorn}, declared.{shared.Own.Own, front.{Unaccepted.{Unaccepted, TheVariants.{Blocked, Starved}}, Unopened.Unopened, Route.Route, Waiting.{Waiting, TheVariants.{No, Brief, Long}}}}, Hands.{HandState, ticket_room}, Acts.{Act, AreMade, Register, Adopt, placing}, Told.cause_of}, proofs.Holding.{holds_still, released_all, woke_behind_post, worn_still}}
+use Rattle.dispatch.{specs.{Posts.{HoldsOnly, IsWorn}, declared.{shared.Own.Own, front.{Unaccepted.{Unaccepted, TheVariants.{Blocked, Starved}}, Unopened.Unopened, Route.Route, Waiting.{Waiting, TheVariants.{No, Brief, Long}}}}, Hands.{HandState, ticket_room}, Acts.{Act, AreMade, Register, Adopt, placing}, Told.{cause_of, Seen, Waited}}, proofs.Holding.{holds_still, released_all, woke_behind_post, worn_still}}
 use Rattle.ready.specs.declared.ticket.Ticket.{Ticket}
 use Rattle.token.specs.Names.{last_generation}
-use Rattle.rounds.{specs.{Acts.{SeatAct, opening, ActsMade, AreTries, all_reported, ArePosted, Delivered, swept_after, sweep_of}, Openings.{times, slots_in, AreIn, AreOpened, OnlyTook, Between, LetGo, Started, Connected, AcceptDone, OneAccepted, IsOpened, IsLost, IsSpent, AreLost, IsNext, SameQueues, Fate, next_in, Opened, NotFree, DropsFor, Placed, lacks, lead_of}, Pollers.{PollerState, Counted, counted_up, HasOpenedAll}, Rounds.{AcceptEnded, FlagIsDown, HasLeft, IsOver, RoundDone, RoundKeeps, ListenerKept, ListensNoMore, ListensToOpen, Looked, OnlyAnswered, OnlyListens, RoundRefused, MayWait, MayWaitBriefly, WaitLasted, WaitedAsMay}}, proofs.Acts.{at_slot-append, acts_none, acts_one, acts_both, none_at, try_opened, tries_none, tries_both, posted_none, posts_still, no_sweep}}
+use Rattle.rounds.{specs.{Acts.{SeatAct, opening, ActsMade, AreTries, all_reported, ArePosted, Delivered, swept_after, sweep_of}, Openings.{times, slots_in, AreIn, AreOpened, OnlyTook, Between, LetGo, Started, Connected, AcceptDone, OneAccepted, IsOpened, IsLost, IsSpent, AreLost, IsNext, SameQueues, Fate, next_in, Opened, NotFree, DropsFor, Placed, lacks, lead_of}, Pollers.{PollerState, Counted, counted_up, HasOpenedAll}, Rounds.{AcceptEnded, FlagIsDown, HasLeft, IsOver, RoundDone, RoundKeeps, ListenerKept, ListensNoMore, ListensToOpen, Looked, OnlyAnswered, OnlyListens, RoundRefused, MayNotWait, MayWait, MayWaitBriefly, WaitedAsMay}}, proofs.Acts.{at_slot-append, acts_none, acts_one, acts_both, none_at, try_opened, tries_none, tries_both, posted_none, posts_still, no_sweep}}
 use Rattle.relay_log.specs.declared.{cause.Cause.{Cause}, faults.ServerFault.{ServerFault, TheVariants.Worn}}
 use Rattle.claims.specs.declared.view.Exchange.TheVariants as exchange
 use Rattle.claims.specs.declared.answers.Posted.TheVariants as posted
@@ -451,15 +451,23 @@ ended_still {p} {q} {a} {b} ended is left = by_count (cases_lt p.opened p.most) 
 kept : (p q : PollerState) → ListensNoMore p q → ListenerKept p q
 kept p q listens = grind arith
 
+-- a wait leaves it to the look before it whether the front listens, and the longest wait as it was
+pub listens_after : (waiting : Waiting) (p q r : PollerState) → ListensNoMore p q → Waited waiting q.seen r.seen → ListensNoMore p r
+listens_after waiting p q r listens waited = rw (ap (λ (s : Seen). s.listens) waited) listens
+
+pub longest_kept : (waiting : Waiting) (p q r : PollerState) → OnlyListens p q → Waited waiting q.seen r.seen
+    → r.seen.longest ≡ p.seen.longest
+longest_kept waiting p q r same waited = ap (λ (s : Seen). s.longest) waited ∙ ap (λ (s : PollerState). s.seen.longest) same
+
 -- the poller waits only where it may, and for as long
 pub waits_if : (waiting : Waiting) (limit : ℕ) (p q r : PollerState) (a b : Own) → OnlyListens p q
-    → (waiting ≡ Long → MayWait limit q b × (b ≡ a)) → (waiting ≡ Brief → MayWaitBriefly limit q b) → OnlyTook a b
-    → WaitLasted waiting r.seen.waited → WaitedAsMay limit p r a
-waits_if Long limit p q r a b same may brief took lasted some = inl (rw (same, (may refl).1) at (may refl).0)
-waits_if Brief limit p q r a b same may brief took lasted some =
+    → (waiting ≡ Long → MayWait limit q b × (b ≡ a)) → (waiting ≡ Brief → MayWaitBriefly limit q b)
+    → (waiting ≡ No → MayNotWait limit q b) → OnlyTook a b → Waited waiting q.seen r.seen → WaitedAsMay limit p r a
+waits_if Long limit p q r a b same may brief haste took waited = inl (ap (λ (s : Seen). s.waited) waited ∙ ap (λ (s : PollerState). s.seen.longest) same, rw (same, (may refl).1) at (may refl).0)
+waits_if Brief limit p q r a b same may brief haste took waited =
     let left = rw same at (brief refl) in
-    inr (lasted.brief refl, (left.0, sym took.tickets ∙ left.1, left.2))
-waits_if No limit p q r a b same may brief took lasted some = absurd (some (lasted.none refl))
+    inr (inl (ap (λ (s : Seen). s.waited) waited, (left.0, sym took.tickets ∙ left.1, left.2)))
+waits_if No limit p q r a b same may brief haste took waited = inr (inr (ap (λ (s : Seen). s.waited) waited, b, took, rw same at (haste refl)))
 
 -- what the steps of a round leave as it is, but that a front may listen no longer; the end of a round may change the
 -- last two
@@ -469,13 +477,16 @@ Lasting limit had old new = record {
   most : new.most ≡ old.most;
   heavy : new.heavy ≡ old.heavy;
   waits : WaitedAsMay limit old new had;
+  longest : new.seen.longest ≡ old.seen.longest;
   over : new.over ≡ old.over;
   listening : ListensNoMore old new;
 }
 
 pub looked_lasts : (limit : ℕ) (had : Own) (p : PollerState) {q r : PollerState} → q ≡ record p { batch = [] }
-    → Looked q r → ListensNoMore q r → WaitedAsMay limit q r had → Lasting limit had p r
-looked_lasts limit had p begun looked listens waits = search (looked, begun, rw begun at waits, rw begun at listens)
+    → Looked q r → ListensNoMore q r → r.seen.longest ≡ q.seen.longest → WaitedAsMay limit q r had → Lasting limit had p r
+looked_lasts limit had p {r = r} begun looked listens longest waits =
+    let waited : WaitedAsMay limit p r had = rw begun at waits in
+    search (looked, begun, waited, rw begun at longest, rw begun at listens)
 
 -- the hand had room for a round
 pub begun_not_early : {X : Type 0} (needed room : ℕ) → needed ≤ room → room < needed → X

@@ -82,11 +82,6 @@ HasLeft p = (p.left ≡ true) × (p.accepting ≡ true)
 abbrev pub MayWaitBriefly : ℕ → PollerState → Own → Type 0
 MayWaitBriefly limit p own = (is_due limit p ≡ false) × (own.hand.tickets ≡ []) × HasLeft p
 
--- a round waited for reports only if it might, and no longer than it might
-abbrev pub WaitedAsMay : ℕ → PollerState → PollerState → Own → Type 0
-WaitedAsMay limit old new had =
-    new.seen.waited ≢ 0 → MayWait limit old had ⊎ ((new.seen.waited ≤ 1) × MayWaitBriefly limit old had)
-
 -- What the answers of accept(2) made of the poller: the accept flag is down only if it was, or no client waited; it is
 -- starved only if it was, or the system lacked what accept(2) needs
 pub record OnlyAnswered (gave_none : Unaccepted → Type 0) (old new : PollerState) : Type 0 where
@@ -112,10 +107,8 @@ pub record NotBegun (old new : PollerState) (had has : Own) : Type 0 where
   pub poller : new ≡ record old { batch = [] }
 
 -- a connection may be waiting, the poller may open more, and a free slot is in hand
-pub record MayAccept (p : PollerState) (own : Own) : Type 0 where
-  pub flag : p.accepting ≡ true
-  pub left : HasOpenedAll p → ⊥
-  pub slot : 1 ≤ length own.hand.slots
+abbrev pub MayAccept : PollerState → Own → Type 0
+MayAccept p own = (p.accepting ≡ true) × (HasOpenedAll p → ⊥) × (1 ≤ length own.hand.slots)
 
 -- why the poller does not wait: a sweep is due, or a ticket is in hand, or a connection may be accepted now, accept(2)
 -- was not starved, and no client was left to other pollers
@@ -128,10 +121,13 @@ pub record WaitsAsMay (wait : Waiting) (limit : ℕ) (p : PollerState) (own : Ow
   pub brief : wait ≡ waiting.Brief → MayWaitBriefly limit p own
   pub haste : wait ≡ waiting.No → MayNotWait limit p own
 
--- how many milliseconds a wait can have taken
-pub record WaitLasted (wait : Waiting) (millis : ℕ) : Type 0 where
-  pub none : wait ≡ waiting.No → millis ≡ 0
-  pub brief : wait ≡ waiting.Brief → millis ≤ 1
+-- For how many milliseconds a round waited for reports, and why: for as long as its front ever waits, for one, or not at
+-- all
+abbrev pub WaitedAsMay : ℕ → PollerState → PollerState → Own → Type 0
+WaitedAsMay limit old new had =
+    ((new.seen.waited ≡ old.seen.longest) × MayWait limit old had)
+    ⊎ (((new.seen.waited ≡ 1) × MayWaitBriefly limit old had)
+    ⊎ ((new.seen.waited ≡ 0) × (has : Own) × OnlyTook had has × MayNotWait limit old has))
 
 -- a client waits for a slot: the listener was reported, and the poller may open more, but no slot is free
 pub record IsFull (p : PollerState) (own : Own) : Type 0 where
@@ -184,6 +180,7 @@ pub record RoundKeeps (limit : ℕ) (old new : PollerState) (had has : Own) : Ty
   pub most : new.most ≡ old.most
   pub heavy : new.heavy ≡ old.heavy
   pub swept : (new.swept ≡ old.swept) ⊎ (new.swept ≡ swept_after limit old.second old.swept)
+  pub longest : new.seen.longest ≡ old.seen.longest
   pub listens : ListenerKept old new
   pub over : new.over ≡ true → (old.over ≡ true) ⊎ IsOver new has
   pub took : has.ready.history.taken ≡ had.ready.history.taken

@@ -1,8 +1,8 @@
 //! A round of the poller.
 ghost use Rattle.std.specs.{Prelude.{◌≡◌, ◌⊎◌, ◌+◌, ◌-◌, ◌<◌, ◌≤◌, ◌↔◌, [], length, Err, IsNone, IsOk, IfErr, IsTrue, MatchResult, Contains, true, false}, IoError.error_kind, declared.io.ErrorKind.TheVariants.Interrupted};
 ghost use Rattle.ready.specs.Steps.{HeldOnce};
-ghost use Rattle.rounds.specs.{Acts.{Delivered, all_reported}, Episodes.{episodes_after, flag_after, starved_after}, Openings.{AreIn, Between, OnlyTook, AcceptDone, OneAccepted, OnlyAccepted}, Pollers.{HasOpenedAll, max_accepts, spare_room}, Rounds.{AcceptEnded, EndedEarly, HasLeft, IsFull, IsOver, ListensNoMore, ListensToOpen, Looked, LooksForAll, MayAccept, MayNotWait, MayWait, MayWaitBriefly, NoSlot, NoneToAccept, NotBegun, OnlyAnswered, OnlyListens, RoundDone, RoundEnded, RoundKeeps, RoundRefused, TookAll, WaitLasted, WaitedAsMay, WaitsAsMay}};
-ghost use Rattle.dispatch.specs.{Hands.ticket_room, Posts.IsWorn, Told.unaccepted_of};
+ghost use Rattle.rounds.specs.{Acts.{Delivered, all_reported}, Episodes.{episodes_after, flag_after, starved_after}, Openings.{AreIn, Between, OnlyTook, AcceptDone, OneAccepted, OnlyAccepted}, Pollers.{HasOpenedAll, max_accepts, spare_room}, Rounds.{AcceptEnded, EndedEarly, HasLeft, IsFull, IsOver, ListensNoMore, ListensToOpen, Looked, LooksForAll, MayAccept, MayNotWait, MayWait, MayWaitBriefly, NoSlot, NoneToAccept, NotBegun, OnlyAnswered, OnlyListens, RoundDone, RoundEnded, RoundKeeps, RoundRefused, TookAll, WaitedAsMay, WaitsAsMay}};
+ghost use Rattle.dispatch.specs.{Hands.ticket_room, Posts.IsWorn, Told.{unaccepted_of, Waited}};
 
 use crate::delivering::deliver;
 use crate::limits::SPARE_ROOM;
@@ -101,6 +101,7 @@ fn look<F: Front, R: Wait + Log>(rt: &R, own: &mut Own, poller: &mut Poller<F>, 
     ensures poller { Looked poller.old poller.new }
     ensures waits { WaitedAsMay limit poller.old poller.new own.old }
     ensures listens { ListensNoMore poller.old poller.new }
+    ensures longest { poller.new.seen.longest ≡ poller.old.seen.longest }
     ensures batch { poller.new.batch ≡ poller.new.seen.reported }
     ensures failed { result ≡ false → (poller.new.seen.failed ≡ true) × (poller.new.batch ≡ []) }
     ensures few { length poller.new.batch ≤ MAX_BATCH }
@@ -150,8 +151,7 @@ fn poll<F: Front, R: Log>(
     requires wait { WaitsAsMay wait _limit poller.old _own.now }
     requires closed { ListensToOpen poller.old }
     ensures same { Looked poller.old poller.new }
-    ensures listens { poller.new.seen.listens ≡ poller.old.seen.listens }
-    ensures waited { WaitLasted wait poller.new.seen.waited }
+    ensures waited { Waited wait poller.old.seen poller.new.seen }
     ensures batch { poller.new.batch ≡ poller.new.seen.reported }
     ensures failed { result ≡ false → (poller.new.seen.failed ≡ true) × (poller.new.batch ≡ []) }
     ensures few { length poller.new.batch ≤ MAX_BATCH }

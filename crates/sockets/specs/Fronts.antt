@@ -38,26 +38,24 @@ abbrev pub Fails : Result (Unit {0}) Error → Type 0
 Fails (Ok done) = ⊥
 Fails (Err error) = error_kind error ≢ Interrupted
 
--- A front: how its connections are forwarded, the most milliseconds that it waits for reports, what it shows, how many times
--- in a row it has left a client to other pollers, and how many more times it answers as if accept(2) lacked memory
+-- A front: how its connections are forwarded, what it shows, how many times in a row it has left a client to other pollers, and
+-- how many more times it answers as if accept(2) lacked memory
 pub record Watched : Type 0 where
   pub forwarding : Forwarding
-  pub wait : ℕ
   pub seen : Seen
   pub left : ℕ
   pub lacking : ℕ
 
 -- the longest wait for reports of each of this many pollers, in milliseconds: together they wake at most 10 times a
 -- second by themselves
-abbrev pub wait_of : ℕ → ℕ
-wait_of pollers = 100 * max (min pollers 16) 2
+abbrev pub longest_of : ℕ → ℕ
+longest_of pollers = 100 * max (min pollers 16) 2
 
 -- a front as it begins, one of this many
 abbrev pub fresh_front : Forwarding → ℕ → Watched
 fresh_front forwarding pollers = record {
   forwarding = forwarding;
-  wait = wait_of pollers;
-  seen = record { reported = []; failed = false; waited = 0; listens = true };
+  seen = record { reported = []; failed = false; waited = 0; longest = longest_of pollers; listens = true };
   left = 0;
   lacking = 0;
 }
@@ -85,7 +83,6 @@ OnlyLacked old new =
 -- leaves no client, and after a long one it no longer lacks memory
 pub record WaitEnded (wait : Waiting) (answer : Result (Unit {0}) Error) (old new : Watched) : Type 0 where
   pub fails : IsTrue new.seen.failed ↔ Fails answer
-  pub asked : wait ≡ waiting.Long → new.seen.waited ≡ old.wait
   pub quiet : OnOk answer (wait ≡ waiting.Brief → new.seen.reported ≡ [] → new.left ≡ most_left)
   pub kept : wait ≢ waiting.Brief → new.left ≡ old.left
   pub eased : OnOk answer (wait ≡ waiting.Long → new.seen.reported ≡ [] → new.lacking ≡ 0)

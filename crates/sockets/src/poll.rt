@@ -2,8 +2,8 @@
 ghost use Rattle.std.specs.{Prelude.{◌≡◌, ◌≢◌, ◌↔◌, ◌⊎◌, IsTrue, if◌then◌else◌, ◌+◌, ◌-◌, ◌<◌, ◌≤◌, ◌++◌, [], length, replicate, true, false, Some, None, IfOk, OnOk, IfErr, OnErr, IsErrAnd, vec_len, vec_capacity}, Arc.arc_value, IoError.error_kind, declared.io.ErrorKind.TheVariants.Interrupted};
 ghost use Rattle.mio.specs.{Event.event_token, Events.items};
 ghost use Rattle.token.specs.Numbers.{name_of};
-ghost use Rattle.sockets.specs.{Fronts.{Fails, end_in, fresh_front, heard_of, most_lacking, most_left, names_reading, numbers, v4_of, wait_of, LacksMemory, IsLocal, IsRoute, MayTell, OnlyLacked, WaitEnded}, Wires.{SameButWatched, fresh_wire, patient, under, unlimited}};
-ghost use Rattle.dispatch.specs.{Splits.parts_of, Told.unaccepted_of, declared.front.{Unaccepted.TheVariants.Starved, Unopened.TheVariants.{Connect, Register}}};
+ghost use Rattle.sockets.specs.{Fronts.{end_in, fresh_front, heard_of, longest_of, most_lacking, most_left, names_reading, numbers, v4_of, LacksMemory, IsLocal, IsRoute, MayTell, OnlyLacked, WaitEnded}, Wires.{SameButWatched, fresh_wire, patient, under, unlimited}};
+ghost use Rattle.dispatch.specs.{Splits.parts_of, Told.{unaccepted_of, Waited}, declared.front.{Unaccepted.TheVariants.Starved, Unopened.TheVariants.{Connect, Register}}};
 
 use crate::bound::Bound;
 use crate::failure::{log_failure, log_failure_at};
@@ -15,6 +15,7 @@ use crate::loads::Loads;
 use crate::socket::Socket;
 use crate::stop::Stop;
 use crate::stream::Stream;
+use crate::waiting::Waiter;
 use crate::wire::SocketWire;
 use dispatch::{
     Front, LISTENER, MAX_BATCH, Opened, Route, ServerFault, Settle, Split, Unopened, WAKER, Waiting,
@@ -33,7 +34,6 @@ use std::net::{Net, SocketAddr, SocketAddrV4};
 use std::os::fd::AsRawFd;
 use std::sync::Arc;
 use std::thread::yield_now;
-use std::time::Duration;
 use token::{Name, Token, unpack};
 
 /// The front of one poller over the system's sockets: the listening socket, which all pollers share, one target, and an
@@ -46,13 +46,7 @@ pub struct Sockets<'r, R> {
     forwarding: Forwarding,
     // The words by which wires hear of their sockets' reports.
     told: Arc<Reports>,
-    poll: Poll,
-    events: Events,
-    // The longest wait for reports, in milliseconds.
-    wait: u64,
-    // Whether the last wait failed, and not by a signal, and how many milliseconds it could take.
-    failed: bool,
-    waited: u64,
+    waiter: Waiter,
     // How many clients each poller has, and this poller's number.
     loads: Arc<Loads>,
     poller: usize,
@@ -73,14 +67,19 @@ impl<'r, R> Model for Sockets<'r, R> {
 
     ghost view = { λ s. record {
       forwarding = s.forwarding;
-      wait = s.wait;
-      seen = record { reported = numbers (items s.events); failed = s.failed; waited = s.waited; listens = is_some s.listener };
+      seen = record {
+        reported = numbers (items s.waiter.events);
+        failed = s.waiter.failed;
+        waited = s.waiter.waited;
+        longest = s.waiter.longest;
+        listens = is_some s.listener;
+      };
       left = s.left;
       lacking = s.lacking;
     } };
 
     // The most reports that one wait gives, MAX_BATCH.
-    ghost invariant = { λ s. events_capacity s.events ≡ 256 };
+    ghost invariant = { λ s. events_capacity s.waiter.events ≡ 256 };
 }
 
 /// The wakers of all pollers, each for its poller's slots.
@@ -160,7 +159,7 @@ fn fronts_of<'r, R>(
 {
     let listener = Arc::new(alloc, listener)?;
     let count = polls.len();
-    let wait = wait_of(count);
+    let longest = longest_of(count);
     let mut fronts = Vec::with_capacity(alloc, count)?;
     polls.reverse();
     for poller in 0..count {
@@ -170,11 +169,7 @@ fn fronts_of<'r, R>(
                 listener: Some(Arc::try_clone(&listener)?),
                 forwarding,
                 told: Arc::try_clone(told)?,
-                poll,
-                events: Events::with_capacity(alloc, MAX_BATCH)?,
-                wait,
-                failed: false,
-                waited: 0,
+                waiter: Waiter::new(alloc, poll, longest)?,
                 loads: Arc::try_clone(loads)?,
                 poller,
                 left: 0,
@@ -185,18 +180,6 @@ fn fronts_of<'r, R>(
         }
     }
     Ok(fronts)
-}
-
-fn millis_of(wait: Waiting, longest: u64) -> u64
-    ensures longest { wait ≡ Waiting.Long → result ≡ longest }
-    ensures brief { wait ≡ Waiting.Brief → result ≡ 1 }
-    ensures none { wait ≡ Waiting.No → result ≡ 0 }
-{
-    match wait {
-        Waiting::No => 0,
-        Waiting::Brief => 1,
-        Waiting::Long => longest,
-    }
 }
 
 /// Lets other threads run after enough busy polls (sched_yield(2)). Returns the new count. A poller under load never
@@ -218,8 +201,8 @@ fn busy_after(busy: u8, reports: usize) -> u8 {
     busy.saturating_add(1)
 }
 
-fn wait_of(pollers: usize) -> u64
-    ensures { result ≡ wait_of pollers }
+fn longest_of(pollers: usize) -> u64
+    ensures { result ≡ longest_of pollers }
 {
     pollers.min(MAX_POLLERS).max(2) as u64 * WAIT_MILLIS
 }
@@ -271,7 +254,7 @@ impl<R: Dial> Sockets<'_, R> {
     {
         // A wire without a word for its reports always reads.
         let told = Told::new(&self.told, token.slot(), token.side());
-        match wire.watch(self.poll.registry(), token, told.unwrap_or(None)) {
+        match wire.watch(self.waiter.registry(), token, told.unwrap_or(None)) {
             Ok(()) => Ok(()),
             Err(error) => {
                 log_failure(rt, Level::Debug, "register", &error);
@@ -384,16 +367,6 @@ fn tell(told: &Reports, event: &Event) -> Reported
     Reported { number, heard }
 }
 
-/// Whether a wait failed. A signal that ends a wait is no failure.
-fn has_failed(answer: &io::Result<()>) -> bool
-    ensures { IsTrue result ↔ Fails answer.now }
-{
-    match answer {
-        Ok(()) => false,
-        Err(error) => error.kind() != io::ErrorKind::Interrupted,
-    }
-}
-
 fn end_of(number: u64) -> Option<Token>
     ensures { result ≡ end_in (name_of number) }
 {
@@ -429,21 +402,15 @@ impl<R: Dial> Front for Sockets<'_, R> {
         ensures capacity { vec_capacity batch.new ≡ vec_capacity batch.old }
         ensures failed { OnErr result (batch.new.items ≡ []) }
         ensures reported { batch.new.items ≡ self.new.seen.reported }
-        ensures listens { self.new.seen.listens ≡ self.old.seen.listens }
         ensures fault { IfErr result (λ error. error_kind error ≢ Interrupted → self.new.seen.failed ≡ true) }
-        ensures waited { wait ≡ Waiting.No → self.new.seen.waited ≡ 0 }
-        ensures brief { wait ≡ Waiting.Brief → self.new.seen.waited ≤ 1 }
+        ensures waited { Waited wait self.old.seen self.new.seen }
         ensures here { WaitEnded wait result self.old self.new }
         ensures same { self.new ≡ record self.old { seen = self.new.seen; left = self.new.left; lacking = self.new.lacking } }
     {
         batch.clear();
         self.busy = let_others_run(self.busy);
-        self.waited = millis_of(wait, self.wait);
-        let most = Duration::from_millis(self.waited);
-        let answer = self.poll.poll(&mut self.events, Some(most));
-        self.failed = has_failed(&answer);
-        answer?;
-        put_numbers(batch, &self.events, &self.told);
+        self.waiter.wait(wait)?;
+        put_numbers(batch, self.waiter.events(), &self.told);
         self.busy = busy_after(self.busy, batch.len());
         if batch.is_empty() {
             match wait {
@@ -485,7 +452,7 @@ impl<R: Dial> Front for Sockets<'_, R> {
             return Err(io::Error::from(io::ErrorKind::WouldBlock));
         };
         if self.loads.is_short() {
-            look_for_two(self.poll.registry())?;
+            look_for_two(self.waiter.registry())?;
             self.loads.set_short(false);
         }
         let (stream, peer) = listener.accept()?;
@@ -505,7 +472,7 @@ impl<R: Dial> Front for Sockets<'_, R> {
         if let Some(listener) = self.listener.take() {
             // The socket stays open if other fronts listen.
             let socket = listener.as_raw_fd();
-            let _ = self.poll.registry().deregister(&mut SourceFd(&socket));
+            let _ = self.waiter.registry().deregister(&mut SourceFd(&socket));
             self.loads.close(self.poller);
         }
     }

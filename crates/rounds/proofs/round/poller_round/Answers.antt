@@ -13,14 +13,14 @@ returns-then-not-begin g c =
       waits = inl early;
       round = round_ended (rw begun) (rw begun) (took_none c.args.own.now);
       ended = inl early;
-      keeps = rw begun (record { opening = refl; most = refl; heavy = refl; swept = inl refl; listens = inl refl; over = λ over. inl over; took = refl });
+      keeps = rw begun (record { opening = refl; most = refl; heavy = refl; swept = inl refl; longest = refl; listens = inl refl; over = λ over. inl over; took = refl });
       refused = tt;
     }
 
 pub returns-then-not-look : goal.returns-then-not-look
 returns-then-not-look g c =
     let looked = c.look.ensures in
-    let same = looked_lasts c.args.timing.now.limit c.args.own.now c.args.poller.now c.begin.ensures.poller looked.poller looked.listens looked.waits in
+    let same = looked_lasts c.args.timing.now.limit c.args.own.now c.args.poller.now c.begin.ensures.poller looked.poller looked.listens looked.longest looked.waits in
     let failed = looked.failed c.if-not-look.true in
     record {
       between = between_took {p = c.args.poller.now} c.requires.between looked.took (rw (looked.poller, c.begin.ensures.poller));
@@ -80,7 +80,7 @@ returns g c =
     let told = c.log_counted.ensures.logged in
     let begun : Looked c.args.poller.now c.look.new.poller = rw (looked.poller, c.begin.ensures.poller) in
     let same : Lasting c.args.timing.now.limit c.args.own.now c.args.poller.now c.log_counted.new.self =
-    rw (told, accepted.poller, timed.poller, delivered.poller) (looked_lasts _ _ c.args.poller.now c.begin.ensures.poller looked.poller looked.listens looked.waits) in
+    rw (told, accepted.poller, timed.poller, delivered.poller) (looked_lasts _ _ c.args.poller.now c.begin.ensures.poller looked.poller looked.listens looked.longest looked.waits) in
     let end = back.poller in
     let swept = rw (delivered.poller, looked.poller, c.begin.ensures.poller) at c.keep_time.ensures.swept.swept in
     let still_then = worn_on accepted.still back.took.seat (λ worn. refl) in
@@ -112,6 +112,7 @@ returns g c =
         opening = rw end same.opening;
         most = rw end same.most;
         heavy = rw end same.heavy;
+        longest = rw end same.longest;
         swept = inr (rw (end, told, accepted.poller) swept);
         listens = listens_still c.args.poller.now same.listening end back.unlimited back.closed;
         over = λ over. over_before same.over (back.over over);
