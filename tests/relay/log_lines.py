@@ -60,11 +60,13 @@ def target_out_of_reach():
         assert [line for line in lines if line not in dropped] == told
 
 
+# refuses address_of_the_wrong_socket: with --log-clients `via` is not the address that the target sees
 # refuses clients_always_at_debug: the level of what is logged of clients is debug, though it is to be info
 # refuses done_without_its_client: with --log-clients a connection that is done has no line with its client's address
 @by_time
 def logs_each_client_as_it_comes_and_goes():
-    server = target(echo)
+    seen = []
+    server = target(lambda connection: (seen.append("%s:%d" % connection.getpeername()), echo(connection)))
     for end, cause, last in (
         (socket.socket.close, "done", "[INFO  relayd] done s=0 g=1 up=3 down=3"),
         (reset, "Connection reset by peer (os error 104)", "[WARN  relayd] fail s=0 g=1 side=client call=read kind=reset"),
@@ -76,7 +78,7 @@ def logs_each_client_as_it_comes_and_goes():
         end(client)
         gone = f"[INFO  relayd] gone s=0 g=1 from={own} connected=yes up=3 down=3 seconds=N cause={cause}"
         lines = [re.sub("seconds=[01] ", "seconds=N ", line) for line in relay.end()]
-        assert lines == [f"[INFO  relayd] peer s=0 g=1 from={own}", "[INFO  relayd] open s=0 g=1", gone, last]
+        assert lines == [f"[INFO  relayd] peer s=0 g=1 from={own} via={seen.pop()}", "[INFO  relayd] open s=0 g=1", gone, last]
 
 
 def shows_whose_it_was(port, sent, end, idle, failed):

@@ -71,6 +71,6 @@ impl fmt::Display for Noting {
 fn no_text_is_made_for_a_level_that_is_off(rt: HostRuntime) -> Result<(), Fail> {
     let from = Noting(Cell::new(false));
     let log = Logged::new(&rt, Level::Info, Discard);
-    log_peer(&log, ClientsAt::Debug, 0, 1, &from);
+    log_peer(&log, ClientsAt::Debug, 0, 1, &from, &None);
     all_well(Ok(!from.0.get()))
 }

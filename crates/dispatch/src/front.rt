@@ -29,6 +29,11 @@ pub trait Settle: Wire {
     fn is_connected(&self) -> Option<bool> {
         None
     }
+
+    /// The socket's own address (getsockname(2)), if it is known. Only the log uses it.
+    fn local(&self) -> Option<SocketAddr> {
+        None
+    }
 }
 
 /// Why accept(2) gave no connection.

@@ -10,6 +10,7 @@ use engine::{Wire, kind_of};
 use records::{Act, Answer, Made};
 use relay_core::{Kind, Side};
 use std::io;
+use std::net::SocketAddr;
 use token::Token;
 
 /// Does and promises what the wire in it does and promises. Once it has a name, it records each call, its drop and, at
@@ -212,5 +213,9 @@ impl<W: Settle + Drop, S: Sink> Settle for RecordedWire<W, S> {
 
     fn is_connected(&self) -> Option<bool> {
         self.inner.wire().is_connected()
+    }
+
+    fn local(&self) -> Option<SocketAddr> {
+        self.inner.wire().local()
     }
 }

@@ -1,5 +1,5 @@
 -- The exact bytes of the log messages. Part of the promises.
-use Rattle.std.specs.{Prelude.{ℕ, Bool, true, false, List, ◌++◌, codes, Option, Some, None}, Fmt.{decimal, ◌++?◌}}
+use Rattle.std.specs.{Prelude.{ℕ, Bool, true, false, List, [], ◌++◌, codes, Option, Some, None}, Fmt.{decimal, ◌++?◌}}
 use Rattle.log.specs.declared.level.Level.{Level}
 use Rattle.token.specs.{Sides.side_name, Kinds.kind_name}
 use Rattle.relay_core.specs.{Calls.call_name, Pairs.PairState, declared.verdict.{Fault.{Fault, TheVariants.{Broken, Idle}}, Verdict.{Verdict, TheVariants.{Live, Done, Failed}}}}
@@ -14,6 +14,11 @@ open_message slot generation = codes "open s=" ++ (decimal slot ++ (codes " g=" 
 abbrev pub peer_message : ℕ → ℕ → List ℕ → List ℕ
 peer_message slot generation address =
     codes "peer s=" ++ (decimal slot ++ (codes " g=" ++ (decimal generation ++ (codes " from=" ++ address))))
+
+-- the whole of `peer`, with the client's address as it prints, and that from which the relay connects to the target, if it is given
+abbrev pub peer_text : ℕ → ℕ → Option (List ℕ) → Option (Option (List ℕ)) → Option (List ℕ)
+peer_text slot generation from None = Some (peer_message slot generation []) ++? from
+peer_text slot generation from (Some via) = Some (peer_message slot generation []) ++? from ++? Some (codes " via=") ++? via
 
 abbrev pub done_message : ℕ → ℕ → ℕ → ℕ → List ℕ
 done_message slot generation up down =

@@ -1,7 +1,7 @@
 // A log prints a message itself, so no call here takes memory.
-ghost use Rattle.std.specs.{Prelude.{Some, [], ◌≡◌}, Fmt.◌++?◌};
+ghost use Rattle.std.specs.Prelude.{Some, option_map, ◌≡◌};
 ghost use Rattle.relay_core.specs.Pairs.{verdict};
-ghost use Rattle.relay_log.specs.Messages.{client_level, done_message, drop_message, drops_message, fail_message, full_message, gone_text, open_message, peer_message, EndLogged};
+ghost use Rattle.relay_log.specs.Messages.{client_level, done_message, drop_message, drops_message, fail_message, full_message, gone_text, open_message, peer_text, EndLogged};
 ghost use Rattle.log.specs.declared.level.Level.TheVariants as level;
 
 use crate::{Cause, ClientsAt, Gone, ServerFault};
@@ -46,18 +46,29 @@ pub fn log_open<L: Logs>(rt: &L, slot: usize, generation: u64)
     rt.message(Level::Info, &format_args!("open s={slot} g={generation}"));
 }
 
-/// `peer s=3 g=1 from=192.0.2.7:50000`, at the level that `clients` gives: the address of this connection's client.
+/// `peer s=3 g=1 from=192.0.2.7:50000`, at the level that `clients` gives: the address of this connection's client. If
+/// it is given, the address from which the relay connects to the target follows, as `via=198.51.100.2:41000`.
 pub fn log_peer<L: Logs, D: Display>(
     rt: &L,
     clients: ClientsAt,
     slot: usize,
     generation: u64,
     from: &D,
+    via: &Option<D>,
 )
-    ensures { L.logged rt.now (client_level clients) (Some (peer_message slot generation []) ++? D.output from.now) }
+    ensures { L.logged rt.now (client_level clients) (peer_text slot generation (D.output from.now) (option_map D.output via.now)) }
 {
-    let peer = format_args!("peer s={slot} g={generation} from={from}");
-    rt.message(clients.level(), &peer);
+    let level = clients.level();
+    match via {
+        Some(via) => {
+            let peer = format_args!("peer s={slot} g={generation} from={from} via={via}");
+            rt.message(level, &peer);
+        }
+        None => rt.message(
+            level,
+            &format_args!("peer s={slot} g={generation} from={from}"),
+        ),
+    }
 }
 
 /// A connection is done: both ends of input were passed on. `up` bytes went to the target, `down` to the client.

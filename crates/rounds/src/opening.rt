@@ -333,7 +333,15 @@ fn place<F: Front + Counting, A: Moves<F>, R: Wait + Logs>(
     ensures ready { own.new.ready ≡ own.old.ready }
 {
     if let Some(from) = F::peer(&berth.client) {
-        log_peer(rt, shared.clients, ticket.slot, ticket.generation, &from);
+        let via = find_via(rt, shared.clients, &berth.target);
+        log_peer(
+            rt,
+            shared.clients,
+            ticket.slot,
+            ticket.generation,
+            &from,
+            &via,
+        );
     }
     match acts.adopt(&shared.claims, &mut own.seat, ticket.slot) {
         Adopted::NotFree => poller.count_lost(uncounted),
@@ -343,6 +351,16 @@ fn place<F: Front + Counting, A: Moves<F>, R: Wait + Logs>(
             poller.end_episodes(rt);
             log_open(rt, ticket.slot, ticket.generation);
         }
+    }
+}
+
+/// The relay's own address towards a target. The system is asked only if the log has all clients.
+fn find_via<W: Settle>(rt: &impl Log, clients: ClientsAt, target: &W) -> Option<SocketAddr>
+    ensures { clients ≡ ClientsAt.Debug → result ≡ None }
+{
+    match clients {
+        ClientsAt::Info if logs_gone(rt, clients) => target.local(),
+        ClientsAt::Info | ClientsAt::Debug => None,
     }
 }
 

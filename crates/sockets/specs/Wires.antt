@@ -1,6 +1,6 @@
 -- What a wire over a socket knows of it, when it sends at once, what each call on it changes, and the system calls that
 -- it makes. Part of the promises.
-use Rattle.std.specs.{Prelude.{◌≡◌, ◌≢◌, ℕ, ◌*◌, ◌==◌, Bool, true, false, if◌then◌else◌, length, Option, Some, None, Result, Ok, Err, ◌↔◌, ◌+◌, ◌<◌, ◌≤◌, min, IsTrue}, declared.{io.{Error.Error, ErrorKind.TheVariants.WouldBlock}, net.SocketAddr.SocketAddr}, IoError.error_kind}
+use Rattle.std.specs.{Prelude.{◌≡◌, ◌≢◌, ℕ, ◌*◌, ◌==◌, Bool, true, false, if◌then◌else◌, length, Option, Some, None, Result, Ok, Err, ◌↔◌, ◌+◌, ◌<◌, ◌≤◌, min, IsTrue}, declared.{io.{Error.Error, ErrorKind.TheVariants.WouldBlock}, net.SocketAddr.SocketAddr}, IoError.error_kind, Result.result_ok}
 use Rattle.token.specs.Names.{EndName}
 use Rattle.readiness.specs.Words.{WordName}
 use Rattle.relay_core.specs.declared.call.CallKind.{CallKind}
@@ -168,6 +168,10 @@ module _ {S : Type 0} (did : Made → S → S → Type 0) where
   JoinGives (Err error) given socket = given ≡ Refused (error_kind error)
   JoinGives (Ok (Some error)) given socket = given ≡ Refused (pending_kind (error_kind error))
   JoinGives (Ok None) given socket = (named : Result SocketAddr Error) × did (Named named) socket socket × (given ≡ call_gave named)
+
+  -- the socket's own address, as the system says it
+  abbrev pub HasAddress : S → Option SocketAddr → Type 0
+  HasAddress socket address = (named : Result SocketAddr Error) × did (NamedHere named) socket socket × (address ≡ result_ok named)
 
   -- If the wire reads, a read is one system call, and gives its answer. Else the wire looks first: if there was a
   -- report of something to read, it reads from then on, and if not, it answers "would block" by itself

@@ -2,7 +2,7 @@
 ghost use Rattle.std.specs.{Prelude.{◌≡◌, true, false, Some, None, IfSome, OnOk, OnErr}, IoError.error_kind};
 ghost use Rattle.token.specs.Names.{end_number};
 ghost use Rattle.engine.specs.{Classes.{class_by, pending_kind, connected, counted}, Wires.call_gave};
-ghost use Rattle.sockets.specs.Wires.{IsOffered, Registered, Switches, Joins, Lifts, Limits, Probing, Waits, fresh_wire, patient, promptly, took, under, goes_on, goes_on_after, Looked};
+ghost use Rattle.sockets.specs.Wires.{HasAddress, IsOffered, Registered, Switches, Joins, Lifts, Limits, Probing, Waits, fresh_wire, patient, promptly, took, under, goes_on, goes_on_after, Looked};
 
 use crate::delay::Delay;
 use crate::failure::log_failure;
@@ -357,5 +357,11 @@ impl<S: Stream> Settle for SocketWire<S> {
             Err(error) if error.kind() == io::ErrorKind::NotConnected => Some(false),
             Err(_) => None,
         }
+    }
+
+    fn local(&self) -> Option<SocketAddr>
+        ensures { HasAddress S.did self.now.stream result }
+    {
+        self.stream.local().ok()
     }
 }
