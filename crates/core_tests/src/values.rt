@@ -3,7 +3,7 @@ use crate::all_well;
 use kernel_model::{End, Reply};
 use readiness::{Attention, Reports, Told};
 use relay_core::Verdict;
-use statistics::{Count, Counts, Event, Memory, Statistics};
+use statistics::{AtomicGauge, Count, Counts, Event, Memory, Statistics};
 use std::alloc::{AllocError, Global};
 use std::cell::Cell;
 use std::test::Fail;
@@ -40,18 +40,20 @@ static EVENTS: [Event; 5] = [
     Event::Moved { up: 1, down: 2 },
 ];
 
-/// Whether the sums over two slots are twice these events' counts.
+/// Whether the sums over two slots are twice these events' counts, and both slots were taken at one of two looks.
 fn are_summed(alloc: Global) -> Result<bool, AllocError> {
     let statistics = Statistics::new(alloc, 2)?;
     for slot in 0..2 {
         for event in EVENTS {
             statistics.count(slot, event);
         }
+        statistics.look();
     }
     let sums = statistics.totals();
     Ok(
         (sums.slots, sums.live, sums.sums.at(Count::Done)) == (2, 2, 2)
             && (sums.sums.at(Count::Up), sums.sums.at(Count::Down)) == (8_589_934_594, 18)
+            && (sums.levels.most, sums.levels.full_seconds) == (2, 1)
             && are_settled(alloc)?,
     )
 }
@@ -67,7 +69,7 @@ impl Memory for Changing {
         let times = self.0.get().saturating_add(1).min(3);
         self.0.set(times);
         let mut counts = Counts::NONE;
-        counts.numbers[Count::Done as usize] = times;
+        counts.numbers[Count::Done.place()] = times;
         counts
     }
 
@@ -78,12 +80,15 @@ impl Memory for Changing {
 fn are_settled(alloc: Global) -> Result<bool, AllocError> {
     let mut places = Vec::new(alloc);
     places.push(Changing(Cell::new(0)))?;
-    Ok(Statistics::over(places).totals().sums.at(Count::Done) == 3)
+    let statistics = Statistics::over(places, AtomicGauge::zero());
+    Ok(statistics.totals().sums.at(Count::Done) == 3)
 }
 
 // refuses counts_of_32_bits: a count goes round at 2^32
 // refuses last_slot_is_not_summed: the last slot's counts are not in the sums
 // refuses two_slots_in_one_place: two slots are counted in one place
+// refuses most_falls_with_what_is_open: the most that were open falls when one ends
+// refuses second_without_all_slots: a second is added though a slot is free
 // refuses changing_place_is_read_once: a place that changes meanwhile is not read again
 #[test]
 fn statistics_of_each_slot(rt: HostRuntime) -> Result<(), Fail> {

@@ -1,13 +1,25 @@
--- What is counted at a slot. Part of the promises.
-use Rattle.std.specs.{Prelude.{ℕ, ◌+◌, ◌-◌, min, List, map, ◌++◌, codes, ◌≡◌, [], ◌∷◌, slice_index, slice_set, flat_map}, List.zip, Fmt.decimal}
-use Rattle.token.specs.declared.{kind.Kind.{Kind, TheVariants.{Refused, Reset, TimedOut}}, side.Side.{Side, TheVariants.{Client, Target}}}
+-- What is counted at a slot, and the sums. Part of the promises.
+use Rattle.std.specs.{Prelude.{ℕ, ◌+◌, ◌*◌, ◌-◌, ◌≤◌, ◌↔◌, min, Bool, IsTrue, List, map, ◌++◌, codes, ◌≡◌, [], ◌∷◌, length, slice_index, slice_set, sum_by, flat_map}, List.zip, Fmt.decimal}
+use Rattle.token.specs.{Kinds.all_kinds, Sides.side_number, declared.{kind.Kind.{Kind, TheVariants.{Refused, Reset, TimedOut}}, side.Side.{Side, TheVariants.{Client, Target}}}}
 use Rattle.relay_core.specs.declared.verdict.{Fault.TheVariants.{Broken, Idle}, Verdict.{Verdict, TheVariants.{Live, Done, Failed}}}
-use Rattle.statistics.specs.declared.{counts.{Count.Count, Counts.Counts}, event.Event.{Event, TheVariants.{Dropped, Opened, Moved, Ended}}, totals.Totals.Totals}
+use Rattle.statistics.specs.declared.{counts.{Count.Count, Counts.Counts}, event.Event.{Event, TheVariants.{Dropped, Opened, Moved, Ended}}, gauge.Levels.Levels, totals.{Figure.Figure, Totals.Totals}}
+use Rattle.token.specs.declared.kind.Kind.TheVariants as kind
 use Rattle.statistics.specs.declared.counts.Count.TheVariants as is
+use Rattle.statistics.specs.declared.totals.Figure.TheVariants as figure
 
 -- a count of 64 bits after this many more. It stays at its greatest value
 abbrev pub sum : ℕ → ℕ → ℕ
 sum count count_more = min (count + count_more) 18446744073709551615
+
+abbrev pub kind_number : Kind → ℕ
+kind_number kind.Reset = 0
+kind_number kind.Pipe = 1
+kind_number kind.Aborted = 2
+kind_number kind.Refused = 3
+kind_number kind.NotConnected = 4
+kind_number kind.TimedOut = 5
+kind_number kind.Zero = 6
+kind_number kind.Other = 7
 
 -- Where a count stands among a slot's numbers, which are read in this order.
 abbrev pub place_of : Count → ℕ
@@ -17,20 +29,15 @@ place_of is.Down = 1
 -- of these, bytes of connections that have ended
 place_of is.UpEnded = 2
 place_of is.DownEnded = 3
--- connections that are done
+-- connections that are done, and that failed by the idle limit
 place_of is.Done = 4
--- connections that failed by a call on the client's socket, on the target's, and by the idle limit
-place_of is.Client = 5
-place_of is.Target = 6
-place_of is.Idle = 7
--- of those that failed by a call: nobody listened, the peer reset it, the peer did not answer in time
-place_of is.Refused = 8
-place_of is.Reset = 9
-place_of is.TimedOut = 10
+place_of is.Idle = 5
+-- connections that failed by a call on this side's socket, in this way
+place_of (is.Broken side kind) = 6 + (8 * side_number side + kind_number kind)
 -- accepted connections that were closed unopened
-place_of is.Dropped = 11
+place_of is.Dropped = 22
 -- connections that were opened
-place_of is.Opened = 12
+place_of is.Opened = 23
 
 -- the number of a count
 abbrev pub at : Count → Counts → ℕ
@@ -43,18 +50,6 @@ set count number c = record { numbers = slice_set c.numbers (place_of count) num
 abbrev pub raised : Count → Counts → Counts
 raised count c = set count (sum (at count c) 1) c
 
--- a failed call is counted by the side of its socket
-abbrev pub blamed : Side → Count
-blamed Client = is.Client
-blamed Target = is.Target
-
--- some of these are also counted by how the call failed
-abbrev pub by_kind : Kind → Counts → Counts
-by_kind Refused c = raised is.Refused c
-by_kind Reset c = raised is.Reset c
-by_kind TimedOut c = raised is.TimedOut c
-by_kind _ c = c
-
 -- the bytes are those of the connections that have ended, plus these of the open connection
 abbrev pub moved : ℕ → ℕ → Counts → Counts
 moved up down c = set is.Down (sum (at is.DownEnded c) down) (set is.Up (sum (at is.UpEnded c) up) c)
@@ -63,11 +58,12 @@ moved up down c = set is.Down (sum (at is.DownEnded c) down) (set is.Up (sum (at
 abbrev pub closed : Counts → Counts
 closed c = set is.DownEnded (at is.Down c) (set is.UpEnded (at is.Up c) c)
 
+-- a failed call is counted by the side of its socket, and by how it failed
 abbrev pub verdict_counted : Verdict → Counts → Counts
 verdict_counted Live c = c
 verdict_counted Done c = raised is.Done c
 verdict_counted (Failed Idle) c = raised is.Idle c
-verdict_counted (Failed (Broken side call kind)) c = by_kind kind (raised (blamed side) c)
+verdict_counted (Failed (Broken side call kind)) c = raised (is.Broken side kind) c
 
 -- the counts after this event
 abbrev pub after : Event → Counts → Counts
@@ -80,52 +76,65 @@ after (Ended verdict up down) c = verdict_counted verdict (closed (moved up down
 abbrev pub plus : Counts → Counts → Counts
 plus c d = record { numbers = map (λ pair. sum pair.0 pair.1) (zip c.numbers d.numbers) }
 
--- how many of one slot's connections are open: those that were opened and have not ended, one at most
-abbrev pub live_at : Counts → ℕ
-live_at c = min (at is.Opened c - at is.Done c - at is.Client c - at is.Target c - at is.Idle c) 1
+-- connections that failed by a call on this side's socket, and in this way on either
+abbrev pub failed_at : Side → Counts → ℕ
+failed_at side c = sum_by (λ kind. at (is.Broken side kind) c) all_kinds
 
--- The line of the statistics.
+abbrev pub failed_as : Kind → Counts → ℕ
+failed_as kind c = at (is.Broken Client kind) c + at (is.Broken Target kind) c
 
 -- connections that failed: by a call on either side, or by the idle limit
 abbrev pub failed_of : Counts → ℕ
-failed_of c = at is.Client c + (at is.Target c + at is.Idle c)
+failed_of c = failed_at Client c + (failed_at Target c + at is.Idle c)
 
--- connections that were opened: those that are open, are done or have failed
-abbrev pub opened_of : Totals → ℕ
-opened_of t = t.live + (at is.Done t.sums + failed_of t.sums)
+-- how many of one slot's connections are open: those that were opened and have not ended, one at most
+abbrev pub live_at : Counts → ℕ
+live_at c = min (at is.Opened c - (at is.Done c + failed_of c)) 1
 
--- the sums of this many slots, before any was added
-abbrev pub no_sums : ℕ → Counts → Totals
-no_sums slots counts = record { slots = slots; live = 0; sums = counts }
+-- The sums, and the numbers that are made of them.
+
+-- the sums of this many slots, before any was added, with these levels
+abbrev pub no_sums : ℕ → Levels → Counts → Totals
+no_sums slots levels counts = record { slots = slots; live = 0; levels = levels; sums = counts }
 
 -- the sums with the counts of another slot
 abbrev pub added : Counts → Totals → Totals
-added c t = record { slots = t.slots; live = sum t.live (live_at c); sums = plus t.sums c }
+added c t = record t { live = sum t.live (live_at c); sums = plus t.sums c }
 
-abbrev pub value : List ℕ → ℕ → List ℕ
-value name number = name ++ decimal number
+abbrev pub number_of : Figure → Totals → ℕ
+number_of figure.Open t = t.live
+number_of figure.Slots t = t.slots
+-- those that are open, are done or have failed
+number_of figure.Opened t = t.live + (at is.Done t.sums + failed_of t.sums)
+number_of figure.Failed t = failed_of t.sums
+number_of (figure.At side) t = failed_at side t.sums
+number_of (figure.As kind) t = failed_as kind t.sums
+number_of (figure.Of count) t = at count t.sums
+number_of figure.MostOpen t = t.levels.most
+number_of figure.FullSeconds t = t.levels.full_seconds
 
--- what the line begins with, of all connections
-abbrev pub head_of : Totals → List ℕ
-head_of t =
-    value (codes "stats open=") t.live ++ (value (codes " slots=") t.slots
-    ++ (value (codes " opened=") (opened_of t) ++ (value (codes " done=") (at is.Done t.sums)
-    ++ value (codes " failed=") (failed_of t.sums))))
+-- The line of the statistics.
 
--- the counts after that, in order, as they are written
-abbrev pub columns : List (List ℕ × Count)
+-- its numbers in order, as they are written
+abbrev pub columns : List (List ℕ × Figure)
 columns =
-    (codes "dropped", is.Dropped) ∷ (codes "client", is.Client) ∷ (codes "target", is.Target)
-    ∷ (codes "refused", is.Refused) ∷ (codes "reset", is.Reset) ∷ (codes "timedout", is.TimedOut)
-    ∷ (codes "idle", is.Idle) ∷ (codes "up", is.Up) ∷ (codes "down", is.Down) ∷ []
+    (codes "open", figure.Open) ∷ (codes "slots", figure.Slots) ∷ (codes "opened", figure.Opened)
+    ∷ (codes "done", figure.Of is.Done) ∷ (codes "failed", figure.Failed) ∷ (codes "dropped", figure.Of is.Dropped)
+    ∷ (codes "client", figure.At Client) ∷ (codes "target", figure.At Target)
+    ∷ (codes "refused", figure.As Refused) ∷ (codes "reset", figure.As Reset) ∷ (codes "timedout", figure.As TimedOut)
+    ∷ (codes "idle", figure.Of is.Idle) ∷ (codes "up", figure.Of is.Up) ∷ (codes "down", figure.Of is.Down) ∷ []
 
-abbrev pub column : Counts → List ℕ × Count → List ℕ
-column c (name, count) = codes " " ++ (name ++ value (codes "=") (at count c))
+abbrev pub column : Totals → List ℕ × Figure → List ℕ
+column t (name, figure) = codes " " ++ (name ++ (codes "=" ++ decimal (number_of figure t)))
 
 abbrev pub stats_message : Totals → List ℕ
-stats_message t = head_of t ++ flat_map (column t.sums) columns
+stats_message t = codes "stats" ++ flat_map (column t) columns
 
--- What is done to the places of the slots' counts.
+-- What is done to the places of the slots' counts, and to the gauge.
+
+pub record Counted (M G : Type 0) : Type 0 where
+  pub places : List M
+  pub gauge : G
 
 -- all counts of a place were read, or these were stored there
 pub data Step : Type 0 where
@@ -141,3 +150,29 @@ module _ {M : Type 0} (did : Step → M → Type 0) where
   abbrev pub AreSums : List M → Totals → Totals → Type 0
   AreSums [] before sums = sums ≡ before
   AreSums (place ∷ places) before sums = (counts : Counts) × did (Loaded counts) place × AreSums places (added counts before) sums
+
+-- one more connection is open, or one less; a second was added to those with all slots taken; this many are open; these are the
+-- levels
+pub data Turn : Type 0 where
+  Entered : Turn
+  Left : Turn
+  Passed : Turn
+  Shown : ℕ → Turn
+  Told : Levels → Turn
+
+module _ {G : Type 0} (did : Turn → G → Type 0) where
+  -- an opening and an end of a connection are kept by the gauge, and no other event is
+  abbrev pub IsGauged : Event → G → Type 0
+  IsGauged Opened gauge = did Entered gauge
+  IsGauged (Ended verdict up down) gauge = did Left gauge
+  IsGauged Dropped gauge = Unit {0}
+  IsGauged (Moved up down) gauge = Unit {0}
+
+  -- it was looked how many are open, and a second was added if that is all of these slots
+  abbrev pub IsLookedAt : ℕ → G → Type 0
+  IsLookedAt slots gauge = (taken : ℕ) × did (Shown taken) gauge × (slots ≤ taken → did Passed gauge)
+
+-- the sums of all places, with the levels that the gauge told
+abbrev pub AreTotals : {M G : Type 0} → (Step → M → Type 0) → (Turn → G → Type 0) → Counted M G → Totals → Totals → Type 0
+AreTotals did turned counted before totals = (sums : Totals) × (levels : Levels) × AreSums did counted.places before sums
+    × turned (Told levels) counted.gauge × (totals ≡ record sums { levels = levels })

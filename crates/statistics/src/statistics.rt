@@ -1,65 +1,88 @@
 //! The counts of all slots, and their sums.
-ghost use Rattle.std.specs.Prelude.{◌≡◌, ◌≤◌, IfOk, IfSome, length, slice_get};
-ghost use Rattle.statistics.specs.Counts.{AreSums, IsCounted, no_sums};
+ghost use Rattle.std.specs.Prelude.{◌≡◌, ◌<◌, ◌≤◌, IfOk, IfSome, length, slice_get};
+ghost use Rattle.statistics.specs.Counts.{AreSums, AreTotals, IsCounted, IsGauged, IsLookedAt, no_sums};
 
 use crate::counts::Counts;
 use crate::event::Event;
+use crate::gauge::{self, AtomicGauge, Gauge, Levels};
 use crate::place::{self, Atomics, Memory};
 use crate::totals::Totals;
 use std::alloc::{AllocError, Global};
 use std::marker::Model;
 
-/// A place for the counts of each slot, which threads share by `&`. In a clause it is the list of these places.
+/// A place for the counts of each slot, and a gauge of all slots, which threads share by `&`.
 #[derive(Drop)]
-pub struct Statistics<M = Atomics> {
+pub struct Statistics<M = Atomics, G = AtomicGauge> {
     places: Vec<M>,
+    gauge: G,
 }
 
-impl<M> Model for Statistics<M> {
-    ghost use Rattle.std.specs.Prelude.{List};
+impl<M, G> Model for Statistics<M, G> {
+    ghost use Rattle.statistics.specs.Counts.{Counted};
 
-    ghost Value = { List M };
+    ghost Value = { Counted M G };
 
-    ghost view = { λ s. s.places.items };
+    ghost view = { λ s. record { places = s.places.items; gauge = s.gauge } };
 }
 
 impl Statistics {
     /// A place for each slot. No later call allocates memory.
     pub fn new(alloc: Global, slots: usize) -> Result<Statistics, AllocError>
-        ensures { IfOk result (λ statistics. length statistics ≡ slots) }
+        ensures { IfOk result (λ statistics. length statistics.places ≡ slots) }
     {
         let mut places = Vec::with_capacity(alloc, slots)?;
         for _slot in 0..slots {
             places.push(Atomics::zero())?;
         }
-        Ok(Statistics { places })
+        let gauge = AtomicGauge::zero();
+        Ok(Statistics { places, gauge })
     }
 }
 
-impl<M: Memory> Statistics<M> {
+impl<M: Memory, G: Gauge> Statistics<M, G> {
     /// Statistics that count in these places, one for each slot.
-    pub fn over(places: Vec<M>) -> Statistics<M>
-        ensures { result ≡ places.items }
+    pub fn over(places: Vec<M>, gauge: G) -> Statistics<M, G>
+        ensures places { result.places ≡ places.items }
+        ensures gauge { result.gauge ≡ gauge }
     {
-        Statistics { places }
+        Statistics { places, gauge }
     }
 
     /// Counts an event at a slot. Only the thread that holds the slot, or has it in hand while it is free, may do that.
     /// If there is no such slot, nothing is counted.
     pub fn count(&self, slot: usize, event: Event)
-        ensures { IfSome (slice_get self.now slot) (λ place. IsCounted M.did event place) }
+        ensures counted { IfSome (slice_get self.now.places slot) (λ place. IsCounted M.did event place) }
+        ensures gauged { slot < length self.now.places → IsGauged G.did event self.now.gauge }
     {
         if let Some(place) = self.places.get(slot) {
             place::count(place, event);
+            gauge::keep(&self.gauge, event);
         }
     }
 
-    /// Sums what all places have. A place that changes meanwhile is read again, up to 8 times. The places are read one
-    /// after another, so the sums are not of one moment.
+    /// Adds a second to those with all slots taken, if they are now.
+    pub fn look(&self)
+        ensures { IsLookedAt G.did (length self.now.places) self.now.gauge }
+    {
+        gauge::look(&self.gauge, self.places.len());
+    }
+
+    /// Sums what all places have, and then reads the gauge. A place that changes meanwhile is read again, up to 8 times.
+    /// The places are read one after another, so the sums are not of one moment.
     pub fn totals(&self) -> Totals
-        ensures sums { AreSums M.did self.now (no_sums (length self.now) Counts.NONE) result }
-        ensures slots { result.slots ≡ length self.now }
-        ensures open { result.live ≤ length self.now }
+        ensures totals { AreTotals M.did G.did self.now (no_sums (length self.now.places) Levels.NONE Counts.NONE) result }
+        ensures slots { result.slots ≡ length self.now.places }
+        ensures open { result.live ≤ length self.now.places }
+    {
+        let mut totals = self.sums();
+        totals.levels = self.gauge.levels();
+        totals
+    }
+
+    fn sums(&self) -> Totals
+        ensures sums { AreSums M.did self.now.places (no_sums (length self.now.places) Levels.NONE Counts.NONE) result }
+        ensures slots { result.slots ≡ length self.now.places }
+        ensures open { result.live ≤ length self.now.places }
     {
         let mut totals = Totals::none(self.places.len());
         for place in &self.places {

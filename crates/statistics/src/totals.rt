@@ -1,41 +1,71 @@
 //! The sums of the counts, and their line of the log.
-ghost use Rattle.std.specs.Prelude.{◌≡◌, ◌*◌, ◌<◌, ◌^◌, Some};
-ghost use Rattle.statistics.specs.Counts.{added, at, failed_of, no_sums, opened_of, stats_message};
+ghost use Rattle.std.specs.Prelude.{◌≡◌, Some};
+ghost use Rattle.statistics.specs.Counts.{added, column, no_sums, number_of, stats_message};
 
 use crate::counts::{Count, Counts};
+use crate::gauge::Levels;
 use std::fmt::{self, Display};
+use token::{Kind, Side};
 
-/// The counts of the line after `failed`, in order, as they are written.
-const COLUMNS: [(&str, Count); 9] = [
-    ("dropped", Count::Dropped),
-    ("client", Count::Client),
-    ("target", Count::Target),
-    ("refused", Count::Refused),
-    ("reset", Count::Reset),
-    ("timedout", Count::TimedOut),
-    ("idle", Count::Idle),
-    ("up", Count::Up),
-    ("down", Count::Down),
+/// A number that the sums have, or that is made of them.
+#[derive(Clone, Copy)]
+pub enum Figure {
+    /// Connections that are open.
+    Open,
+    /// How many can be.
+    Slots,
+    /// Connections that are open, are done or have failed.
+    Opened,
+    /// Connections that failed, by a call or by the idle limit.
+    Failed,
+    /// Connections that failed by a call on this side's socket.
+    At(Side),
+    /// Connections that failed in this way by a call on either side's socket.
+    As(Kind),
+    Of(Count),
+    /// The most connections that were open at once.
+    MostOpen,
+    /// The seconds with all slots taken.
+    FullSeconds,
+}
+
+/// The numbers of the line, in order, as they are written.
+static COLUMNS: [(&str, Figure); 14] = [
+    ("open", Figure::Open),
+    ("slots", Figure::Slots),
+    ("opened", Figure::Opened),
+    ("done", Figure::Of(Count::Done)),
+    ("failed", Figure::Failed),
+    ("dropped", Figure::Of(Count::Dropped)),
+    ("client", Figure::At(Side::Client)),
+    ("target", Figure::At(Side::Target)),
+    ("refused", Figure::As(Kind::Refused)),
+    ("reset", Figure::As(Kind::Reset)),
+    ("timedout", Figure::As(Kind::TimedOut)),
+    ("idle", Figure::Of(Count::Idle)),
+    ("up", Figure::Of(Count::Up)),
+    ("down", Figure::Of(Count::Down)),
 ];
 
-/// The sums of what was counted at `slots` slots. It prints as the line of the statistics. There `opened` is how many
-/// are open, are done or have failed, and `failed` how many failed by a call or by the idle limit.
+/// The sums of what was counted at `slots` slots. It prints as the line of the statistics.
 #[derive(Clone, Copy)]
 pub struct Totals {
     pub slots: usize,
     /// Connections that are open.
     pub live: u64,
+    pub levels: Levels,
     pub sums: Counts,
 }
 
 impl Totals {
     /// Nothing was counted yet.
     pub(crate) fn none(slots: usize) -> Totals
-        ensures { result ≡ no_sums slots Counts.NONE }
+        ensures { result ≡ no_sums slots Levels.NONE Counts.NONE }
     {
         Totals {
             slots,
             live: 0,
+            levels: Levels::NONE,
             sums: Counts::NONE,
         }
     }
@@ -47,30 +77,28 @@ impl Totals {
         Totals {
             slots: self.slots,
             live: self.live.saturating_add(counts.live()),
+            levels: self.levels,
             sums: self.sums.plus(counts),
         }
     }
 
-    /// How many connections failed.
-    pub fn failed(&self) -> u128
-        ensures failed { result ≡ failed_of self.now.sums }
-        ensures fits { result < 3 * 2 ^ 64 }
+    /// The number of this kind.
+    pub fn number(&self, figure: Figure) -> u128
+        ensures { result ≡ number_of figure self.now }
     {
-        self.sum(Count::Client) + self.sum(Count::Target) + self.sum(Count::Idle)
-    }
-
-    /// How many connections are open, are done or have failed.
-    pub fn opened(&self) -> u128
-        ensures { result ≡ opened_of self.now }
-    {
-        u128::from(self.live) + self.sum(Count::Done) + self.failed()
-    }
-
-    fn sum(&self, count: Count) -> u128
-        ensures sum { result ≡ at count self.now.sums }
-        ensures fits { result < 2 ^ 64 }
-    {
-        u128::from(self.sums.at(count))
+        match figure {
+            Figure::Open => u128::from(self.live),
+            Figure::Slots => self.slots as u128,
+            Figure::Opened => {
+                u128::from(self.live) + (self.sums.wide(Count::Done) + self.sums.failed())
+            }
+            Figure::Failed => self.sums.failed(),
+            Figure::At(side) => self.sums.failed_at(side),
+            Figure::As(kind) => self.sums.failed_as(kind),
+            Figure::Of(count) => self.sums.wide(count),
+            Figure::MostOpen => u128::from(self.levels.most),
+            Figure::FullSeconds => u128::from(self.levels.full_seconds),
+        }
     }
 }
 
@@ -78,14 +106,9 @@ impl Display for Totals {
     ghost output = { λ totals. Some (stats_message totals) };
 
     fn fmt<W: fmt::Write>(&self, f: &mut fmt::Formatter<W>) -> fmt::Result {
-        let (live, slots) = (self.live, self.slots);
-        let (opened, done, failed) = (self.opened(), self.sums.at(Count::Done), self.failed());
-        write!(
-            f,
-            "stats open={live} slots={slots} opened={opened} done={done} failed={failed}"
-        )?;
-        for (name, count) in &COLUMNS {
-            let number = self.sums.at(*count);
+        write!(f, "stats")?;
+        for (name, figure) in &COLUMNS {
+            let number = self.number(*figure);
             write!(f, " {name}={number}")?;
         }
         Ok(())

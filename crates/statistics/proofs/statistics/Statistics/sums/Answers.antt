@@ -1,6 +1,6 @@
 use Rattle.std.proofs.{Common.{◌≡◌, ℕ, ◌+◌, ◌<◌, List, [], ◌∷◌, ◌++◌, length, take, get_or, ap, ◌∙◌, arith}, lemmas.List.take_more}
 use Rattle.statistics.specs.{Counts.{Step, Loaded, AreSums, added}, declared.{counts.Counts.Counts, totals.Totals.Totals}}
-use Rattle.statistics.proofs.statistics.Statistics.totals.Goals as goal
+use Rattle.statistics.proofs.statistics.Statistics.sums.Goals as goal
 
 -- the sums of places, one after the other
 module _ {M : Type 0} (did : Step → M → Type 0) where
@@ -16,8 +16,8 @@ module _ {M : Type 0} (did : Step → M → Type 0) where
       rw (next, ← same, take_more seen i place inside, ← is) (sums_more (take i seen) place before sums counts (rw same rest) read)
 
 pub loop-place-preserved : goal.loop-place-preserved
-loop-place-preserved g c = let same : c.deref-place-items.result.now ≡ c.args.self.now = cc in record {
-  sums = sums_next g.M.Memory.did c.args.self.now c.deref-place-items.result.now c.loop-place.place-index c.place-item.result c.none-totals.result c.loop-place.totals
+loop-place-preserved g c = let same : c.deref-place-items.result.now ≡ c.args.self.now.places = cc in record {
+  sums = sums_next g.M.Memory.did c.args.self.now.places c.deref-place-items.result.now c.loop-place.place-index c.place-item.result c.none-totals.result c.loop-place.totals
       c.with-totals.result c.read.result same c.loop-place-test.true c.place-item.is c.loop-place.invariant.sums c.read.ensures c.with-totals.ensures;
   slots = ap (λ (t : Totals). t.slots) c.with-totals.ensures ∙ c.loop-place.invariant.slots;
   live = (let now = ap (λ (t : Totals). t.live) c.with-totals.ensures in let before = c.loop-place.invariant.live in omega arith);
