@@ -4,9 +4,11 @@ import functools
 import pathlib
 import socket
 import subprocess
+import tempfile
 import time
 
 from loopback import WAIT, Relay, fill_backlog, port_of, read_all, send_and_shut, unheard, until
+from monitoring import as_line, read
 from shared import at_once, by_time, having, is_closed_soon, is_open, line_of, name_of, numbers_in, reset, waits_of
 
 
@@ -14,6 +16,8 @@ def has_all_options(is_typed):
     """A relay with all options, on the command line or from a file, does what each says."""
     most, seconds = (4, 1) if is_typed else (0, 2)
     options = ["--log-clients", "--stats", str(seconds), "--until-eof", "--connect-timeout", "1", "--keepalive", "7"]
+    file = tempfile.NamedTemporaryFile(suffix=".prom")
+    options += ["--stats-file", file.name]
     settings = {"ring": 100, "budget": 5, "workers": 2, "slots": 128, "idle": 4, "proxy": True, "stop_after": most}
     listener, pairs = unheard(), []
     listener.listen(0)
@@ -49,6 +53,7 @@ def has_all_options(is_typed):
     wanted = {"open": 0, "slots": 128, "opened": 4, "done": 1, "failed": 3, "dropped": 0, "client": 1, "target": 1, "refused": 0}
     assert counts[-1] == wanted | {"reset": 1, "timedout": 1, "idle": 1, "up": sum(sent) + 3, "down": 5}
     assert abs(len(counts) - 1 - taken / seconds) <= 1.5, (len(counts), taken)
+    assert as_line(read(file.name)) == counts[-1]
     assert len(having(lines, "[INFO  relayd] peer ")) == len(having(lines, "[INFO  relayd] gone ")) == 4
     for name, cause in zip(names, ("cause=done", "cause=idle", "cause=Connection timed out (os error 110)")):
         assert having(lines, "] peer ", name) and having(lines, "] gone ", name, cause)

@@ -11,6 +11,7 @@ use crate::logging::{direct_log, starting_filter};
 use crate::recording_file::{create, find_place};
 use crate::replaying_file::replay;
 use crate::starting::{foresee, look_at_addresses, prepare, warn_of_short_time, warn_of_silence};
+use crate::stats_file::find_file;
 use crate::streams::{LoggedCauses, Stream, log_error};
 use crate::usage::answer_usage;
 use input::{Outcome, Simulate};
@@ -252,22 +253,20 @@ where
     requires { S.IsAlwaysCallable serve.now }
     ensures { IfOk result (λ status. status ≡ 0) }
 {
-    let extras = extras_of(log, relay.extras)?;
+    let mut extras = extras_of(log, relay.extras)?;
     let settings = settings_of(rt, log, &relay.settings)?;
-    warn_of_silence(log, settings.log, &extras);
+    warn_of_silence(log, settings.log, &extras, relay.stats_file.is_some());
     let log = direct_log(rt, starting_filter(settings.log));
     warn_of_short_time(&log, settings.idle, extras.patience);
     look_at_addresses(&log, &settings)?;
     let place = find_place(rt, &log, relay.record)?;
+    extras.stats_file = find_file(rt, &log, relay.stats_file)?;
     let bound = match bind(&log, &settings) {
         Ok(bound) => bound,
         Err(fault) => return Err(ProgramFault::Server(fault)),
     };
-    let recordings = match relay.record {
-        Some(_) => 1,
-        None => 0,
-    };
-    let settings = prepare(rt, &log, settings, recordings)?;
+    let files = u64::from(relay.record.is_some()) + u64::from(relay.stats_file.is_some());
+    let settings = prepare(rt, &log, settings, files)?;
     let file = create(rt, &log, relay.record, place)?;
     match serve(settings, bound, extras, file) {
         Ok(true) => Ok(DONE),

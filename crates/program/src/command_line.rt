@@ -25,6 +25,8 @@ pub struct Relay<'a> {
     pub settings: Source<'a>,
     /// The file to record into, if one is named.
     pub record: Option<&'a str>,
+    /// The file into which statistics are written, if one is named.
+    pub stats_file: Option<&'a str>,
     pub extras: TypedExtras<'a>,
 }
 
@@ -74,6 +76,7 @@ fn relay_of<'a>(settings: Source<'a>, matches: &ArgMatches<'a>) -> Command<'a> {
     Command::Serve(Relay {
         settings,
         record: matches.get_str("record"),
+        stats_file: matches.get_str("stats-file"),
         extras: TypedExtras::of(matches),
     })
 }
@@ -200,6 +203,12 @@ const STATS: ArgumentRow = ArgumentRow {
     help: "Log a line of statistics every so many seconds, 1 to 86400, and one at the end, unless a signal ends it",
 };
 
+const STATS_FILE: ArgumentRow = ArgumentRow {
+    name: "stats-file",
+    form: Form::Value(&["FILE"]),
+    help: "Replace this file by the statistics for a monitor every so many seconds, 15 without --stats",
+};
+
 const UNTIL_EOF: ArgumentRow = ArgumentRow {
     name: "until-eof",
     form: Form::Flag,
@@ -285,6 +294,7 @@ static COMMANDS: [CommandRow; 5] = [
         arguments: &[
             RECORD,
             STATS,
+            STATS_FILE,
             UNTIL_EOF,
             LOG_CLIENTS,
             CONNECT_TIMEOUT,
@@ -301,6 +311,7 @@ static COMMANDS: [CommandRow; 5] = [
             LEVEL,
             RECORD,
             STATS,
+            STATS_FILE,
             UNTIL_EOF,
             LOG_CLIENTS,
             CONNECT_TIMEOUT,

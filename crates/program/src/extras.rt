@@ -4,6 +4,7 @@ ghost use Rattle.program.specs.{Starting.most, Faults.status_of};
 
 use crate::faults::ProgramFault;
 use crate::forwarding::whole_number;
+use crate::stats_file::StatsFile;
 use crate::streams::log_error;
 use clap::ArgMatches;
 use log::Log;
@@ -12,10 +13,12 @@ use sockets::Patience;
 use std::fmt;
 
 /// What a relay does beside what its settings say.
-#[derive(Clone, Copy)]
+#[derive(Drop)]
 pub struct Extras {
-    /// The seconds between two lines of statistics, 1 to 86,400. None: nothing is counted.
+    /// The seconds between two lines of statistics, 1 to 86,400. None: there is no line.
     pub stats: Option<u32>,
+    /// Where a monitor finds the statistics. None: nowhere. If there is no `stats` either, nothing is counted.
+    pub stats_file: Option<StatsFile>,
     /// The relay opens no more connections once standard input has ended.
     pub until_eof: bool,
     /// How long the relay waits for a peer that does not answer: up to 3,600 seconds to connect, and 32,767 of
@@ -81,7 +84,8 @@ impl fmt::Display for SecondsOption {
     }
 }
 
-/// Refuses, and logs the cause, if a value is no whole number, or one that is not in its option's range.
+/// The options without the statistics' file. Refuses, and logs the cause, if a value is no whole number, or one that is
+/// not in its option's range.
 pub(crate) fn extras_of(log: &impl Log, typed: TypedExtras<'_>) -> Result<Extras, ProgramFault>
     ensures stats { IfOk result (λ extras. IfSome extras.stats (λ n. (1 ≤ n) × (n ≤ 86400))) }
     ensures connect { IfOk result (λ extras. IfSome extras.patience.connect (λ n. (1 ≤ n) × (n ≤ 3600))) }
@@ -93,6 +97,7 @@ pub(crate) fn extras_of(log: &impl Log, typed: TypedExtras<'_>) -> Result<Extras
     let keepalive = seconds_of(log, SecondsOption::Keepalive, typed.keepalive)?;
     Ok(Extras {
         stats,
+        stats_file: None,
         until_eof: typed.until_eof,
         patience: Patience { connect, keepalive },
         log_clients: typed.log_clients,

@@ -51,6 +51,9 @@ pub enum ProgramFault {
     /// The file to record into could not be created.
     #[error("record: cannot be created")]
     Record,
+    /// No statistics can be written into the file.
+    #[error("stats-file: cannot be written")]
+    StatsFile,
     /// The process may have `limit` descriptors open, and needs more, `needed`, for one connection.
     #[error("descriptors: the limit is {limit}, and {needed} are needed for one connection (ulimit -n)")]
     Descriptors { limit: u64, needed: u64 },

@@ -4,8 +4,8 @@
 //! [`act`] does all of that: it gets the arguments ([`arguments`]), a reader, two writers and a closure that serves,
 //! and returns a status. `command_line` reads the command; `forwarding` the settings, and `extras` the other options,
 //! that arguments give; `usage` prints help, and why words are refused. Before a relay serves, [`config`] reads its
-//! settings, and `starting` looks at what they need. [`logging`] has the relay's log, [`telling`] its statistics, and
-//! [`until_eof`] the end of its standard input. `streams` logs what is wrong with an input, an output, a file or a
+//! settings, and `starting` looks at what they need. [`logging`] has the relay's log, [`telling`] its statistics, which
+//! `stats_file` writes for a monitor, and [`until_eof`] the end of its standard input. `streams` logs what is wrong with an input, an output, a file or a
 //! script.
 //!
 //! `report_fault` (`status_of` of `specs/Faults.antt`) and `answer_usage` give the statuses that `relayd(1)` names
@@ -24,6 +24,7 @@ mod recording_file;
 mod replaying_file;
 mod standard_streams;
 mod starting;
+mod stats_file;
 mod streams;
 pub mod telling;
 pub mod until_eof;
@@ -35,3 +36,4 @@ pub use faults::{ArgumentsFault, ConfigFault, ProgramFault, arguments};
 pub use logging::starting_filter;
 pub use standard_streams::{hold_closed, report_unheld};
 pub use starting::{foresee, log_start, prepare, print_listening};
+pub use stats_file::{Replacing, StatsFile};

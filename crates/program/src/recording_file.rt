@@ -22,11 +22,11 @@ pub(crate) const FIRST_WORDS: [u8; 17] = *b"relayd recording ";
 const MOST_KEPT: u32 = 9_999;
 
 /// The error of writing to a folder (errno(3)).
-const EISDIR: i32 = 21;
+pub(crate) const EISDIR: i32 = 21;
 
-/// Why a file cannot be recorded into.
+/// Why a file cannot be recorded into, or replaced.
 #[derive(Drop)]
-enum Unmade {
+pub(crate) enum Unmade {
     System(io::Error),
     /// This is there.
     Taken(&'static str),
@@ -73,7 +73,7 @@ where
     };
     match place_at(rt, path) {
         Ok(place) => Ok(place),
-        Err(why) => Err(refused(log, path, why)),
+        Err(why) => Err(refused(log, "record", path, why, ProgramFault::Record)),
     }
 }
 
@@ -92,20 +92,27 @@ pub(crate) fn create<R: AllocGlobal + Files>(
     };
     match open_new(rt, log, path, place) {
         Ok(file) => Ok(Some(file)),
-        Err(why) => Err(refused(log, path, why)),
+        Err(why) => Err(refused(log, "record", path, why, ProgramFault::Record)),
     }
 }
 
-/// Logs the cause, and returns the fault.
-fn refused(log: &impl Log, path: &str, why: Unmade) -> ProgramFault
+/// Logs the cause by the option's name, and returns the fault; `NoMemory` if memory ran out.
+pub(crate) fn refused(
+    log: &impl Log,
+    name: &'static str,
+    path: &str,
+    why: Unmade,
+    fault: ProgramFault,
+) -> ProgramFault
+    requires { status_of fault ≡ 1 }
     ensures { status_of result ≡ 1 }
 {
     match why {
         Unmade::NoMemory => return ProgramFault::from(AllocError),
-        Unmade::System(error) => log_error(log, &"record", &Unopened { path, error }),
-        Unmade::Taken(what) => log_error(log, &FileName("record", path), &what),
+        Unmade::System(error) => log_error(log, &name, &Unopened { path, error }),
+        Unmade::Taken(what) => log_error(log, &FileName(name, path), &what),
     }
-    ProgramFault::Record
+    fault
 }
 
 fn place_at<R: Files>(rt: &R, path: &str) -> Result<Place<R::File>, Unmade>

@@ -96,8 +96,9 @@ fn kind_of_many(address: Address) -> Option<&'static str>
     }
 }
 
-/// Warns of options whose lines are never logged at this level. The log itself lets the warning through.
-pub(crate) fn warn_of_silence(log: &impl Log, level: LogLevel, extras: &Extras) {
+/// Warns of options whose lines are never logged at this level. The log itself lets the warning through. If there is a
+/// file of statistics, the seconds of `stats` hold for it, too.
+pub(crate) fn warn_of_silence(log: &impl Log, level: LogLevel, extras: &Extras, has_file: bool) {
     let is_below_info = matches!(level, LogLevel::Off | LogLevel::Error | LogLevel::Warn);
     if extras.log_clients && is_below_info {
         let text = format_args!(
@@ -105,7 +106,7 @@ pub(crate) fn warn_of_silence(log: &impl Log, level: LogLevel, extras: &Extras) 
         );
         log_text(log, Level::Warn, &text);
     }
-    if extras.stats.is_some() && level == LogLevel::Off {
+    if extras.stats.is_some() && level == LogLevel::Off && !has_file {
         log_text(log, Level::Warn, &"stats: does nothing, since log is off");
     }
 }

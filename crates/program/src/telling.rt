@@ -1,66 +1,95 @@
-//! The statistics of a relay that serves, and a thread that logs the sums from time to time.
+//! The statistics of a relay that serves, and a thread that tells the sums from time to time: to the log, to a monitor by
+//! a file, or to both.
 ghost use Rattle.std.specs.Prelude.{◌≡◌, ◌⊎◌, IfErr};
 
-use crate::extras::Extras;
-use crate::streams::log_text;
-use log::Level;
+use crate::logging::level_filter;
+use crate::stats_file::{Replacing, StatsFile};
+use crate::streams::{FileName, log_text};
+use log::{Level, Logged};
 use log_queue::{Direct, LogQueue, Queued};
 use os::set_thread_name;
 use relay_log::{ServerFault, log_no_thread};
 use settings::{LogLevel, Settings};
-use statistics::Statistics;
+use statistics::{Monitored, Statistics, Totals};
 use std::alloc::{AllocError, AllocGlobal, Global};
-use std::io::Eprint;
-use std::sync::{Arc, Wait};
+use std::io::{self, Eprint};
+use std::sync::{Arc, Mutex, Wait};
 use std::thread::{self, Builder, Threads};
 use std::time::{Clock, Duration};
 
-/// If the options ask for statistics, returns those in which the threads of a relay count, and starts a thread that
-/// logs the sums at the interval of the options until the program ends. At level `off`, nothing is counted. Refuses
-/// with `NoMemory`. Refuses with `Threads`, and logs the cause, if the thread cannot be started.
+/// The seconds between two writings of the file, if the options do not say.
+const FILE_SECONDS: u32 = 15;
+
+/// The statistics of a relay, and where they are told.
+#[derive(Drop)]
+pub struct Teller {
+    alloc: Global,
+    /// Where the threads of the relay count.
+    pub statistics: Arc<Statistics>,
+    seconds: u32,
+    level: LogLevel,
+    logs_line: bool,
+    file: Option<StatsFile>,
+    state: Mutex<State>,
+}
+
+#[derive(Clone, Copy)]
+struct State {
+    /// That the file could not be written was logged.
+    has_warned: bool,
+    /// The last sums were told.
+    has_ended: bool,
+}
+
+/// If the options ask for statistics, by seconds or a file, returns a teller, and starts a thread that tells the sums at
+/// the interval of the options until the program ends. At level `off` no line is logged, and without a file nothing is
+/// counted. With a file, that is written at once. Refuses with `NoMemory`. Refuses with `Threads`, and logs the cause, if
+/// the thread cannot be started.
 pub fn start<R>(
     rt: R,
     settings: &Settings,
-    extras: Extras,
+    stats: Option<u32>,
+    file: Option<StatsFile>,
     queue: &Arc<LogQueue>,
-) -> Result<Option<Arc<Statistics>>, ServerFault>
+) -> Result<Option<Arc<Teller>>, ServerFault>
 where
-    R: AllocGlobal + Threads + Eprint + Wait + Clock + Send + Copy + Drop + 'static,
+    R: AllocGlobal + Threads + Eprint + Wait + Clock + Replacing + Send + Copy + Drop + 'static,
     ensures refused { IfErr result (λ fault. (fault ≡ ServerFault.NoMemory) ⊎ (fault ≡ ServerFault.Threads)) }
 {
-    let Some(seconds) = extras.stats else {
-        return Ok(None);
-    };
-    if settings.log == LogLevel::Off {
+    let logs_line = stats.is_some() && settings.log != LogLevel::Off;
+    if !logs_line && file.is_none() {
         return Ok(None);
     }
-    let statistics = made(rt.alloc(), settings.slots)?;
-    tell_from_now(
-        rt,
-        Duration::from_secs(u64::from(seconds)),
-        &statistics,
-        queue,
-    )?;
-    Ok(Some(statistics))
+    let alloc = rt.alloc();
+    let teller = Teller {
+        alloc,
+        statistics: made(alloc, settings.slots)?,
+        seconds: stats.unwrap_or(FILE_SECONDS),
+        level: settings.log,
+        logs_line,
+        file,
+        state: Mutex::new(State {
+            has_warned: false,
+            has_ended: false,
+        }),
+    };
+    let teller = Arc::new(alloc, teller)?;
+    tell_from_now(rt, &teller, queue)?;
+    Ok(Some(teller))
 }
 
 fn made(alloc: Global, slots: usize) -> Result<Arc<Statistics>, AllocError> {
     Ok(Arc::new(alloc, Statistics::new(alloc, slots)?)?)
 }
 
-fn tell_from_now<R>(
-    rt: R,
-    rhythm: Duration,
-    statistics: &Arc<Statistics>,
-    queue: &Arc<LogQueue>,
-) -> Result<(), ServerFault>
+fn tell_from_now<R>(rt: R, teller: &Arc<Teller>, queue: &Arc<LogQueue>) -> Result<(), ServerFault>
 where
-    R: Threads + Eprint + Wait + Clock + Send + Copy + Drop + 'static,
+    R: Threads + Eprint + Wait + Clock + Replacing + Send + Copy + Drop + 'static,
     ensures refused { IfErr result (λ fault. (fault ≡ ServerFault.NoMemory) ⊎ (fault ≡ ServerFault.Threads)) }
 {
-    let (counted, lines) = (statistics.clone()?, queue.clone()?);
+    let (teller, lines) = (teller.clone()?, queue.clone()?);
     if Builder::new()
-        .spawn(&rt, move || tell_every(&rt, rhythm, &counted, &lines))
+        .spawn(&rt, move || tell_every(&rt, &teller, &lines))
         .is_err()
     {
         let form = queue.form();
@@ -69,27 +98,97 @@ where
     Ok(())
 }
 
-fn tell_every<R: Wait + Clock + Copy + Drop>(
-    rt: &R,
-    rhythm: Duration,
-    statistics: &Statistics,
-    queue: &LogQueue,
-) {
+fn tell_every<R>(rt: &R, teller: &Teller, queue: &LogQueue)
+where
+    R: Eprint + Wait + Clock + Replacing + Copy + Drop,
+{
     set_thread_name(b"stats");
-    for _line in rt.forever() {
-        thread::sleep(rt, rhythm);
-        tell(*rt, statistics, queue);
+    teller.write(rt, queue, &teller.statistics.totals(), false);
+    for _time in rt.forever() {
+        teller.wait(rt);
+        teller.tell(rt, queue, false);
     }
 }
 
-/// Logs the sums of a relay that ends, if it counts.
-pub fn tell_last<R: Wait + Drop>(rt: R, statistics: Option<&Arc<Statistics>>, queue: &LogQueue) {
-    if let Some(statistics) = statistics {
-        tell(rt, statistics, queue);
+/// Tells the sums of a relay that ends, if it counts.
+pub fn tell_last<R>(rt: R, teller: Option<&Arc<Teller>>, queue: &LogQueue)
+where
+    R: Eprint + Wait + Replacing + Copy + Drop,
+{
+    if let Some(teller) = teller {
+        teller.tell(&rt, queue, true);
     }
 }
 
-/// Logs the sums, at level info, whatever level the settings have.
-fn tell<R: Wait + Drop>(rt: R, statistics: &Statistics, queue: &LogQueue) {
-    log_text(&Queued { rt, queue }, Level::Info, &statistics.totals());
+impl Teller {
+    /// Waits for the interval. With a file, it looks each second whether all slots are taken.
+    fn wait<R: Wait + Clock>(&self, rt: &R) {
+        if self.file.is_none() {
+            thread::sleep(rt, Duration::from_secs(u64::from(self.seconds)));
+            return;
+        }
+        for _second in 0..self.seconds {
+            thread::sleep(rt, Duration::from_secs(1));
+            self.statistics.look();
+        }
+    }
+
+    /// Logs the sums, at level info, whatever level the settings have, and writes them into the file.
+    fn tell<R>(&self, rt: &R, queue: &LogQueue, is_last: bool)
+    where
+        R: Eprint + Wait + Replacing + Copy + Drop,
+    {
+        let totals = self.statistics.totals();
+        if self.logs_line {
+            log_text(&Queued { rt: *rt, queue }, Level::Info, &totals);
+        }
+        self.write(rt, queue, &totals, is_last);
+    }
+
+    /// Writes the sums into the file, if there is one. That it could not be written is logged once, at level warn. After
+    /// the last sums no others are written.
+    fn write<R>(&self, rt: &R, queue: &LogQueue, totals: &Totals, is_last: bool)
+    where
+        R: Eprint + Wait + Replacing + Copy + Drop,
+    {
+        let Some(file) = &self.file else {
+            return;
+        };
+        let mut state = self.state.lock(rt);
+        if state.has_ended {
+            return;
+        }
+        state.has_ended = is_last;
+        let Err(error) = replace(rt, self.alloc, file, totals) else {
+            return;
+        };
+        if !state.has_warned {
+            state.has_warned = true;
+            self.warn(rt, queue, file, &error);
+        }
+    }
+
+    fn warn<R>(&self, rt: &R, queue: &LogQueue, file: &StatsFile, error: &io::Error)
+    where
+        R: Eprint + Wait + Copy + Drop,
+    {
+        let log = Logged::new(*rt, level_filter(self.level), Queued { rt: *rt, queue });
+        let name = FileName("stats-file", file.path());
+        log_text(
+            &log,
+            Level::Warn,
+            &format_args!("{name}: {error}; it is tried again each time"),
+        );
+    }
+}
+
+fn replace(
+    rt: &impl Replacing,
+    alloc: Global,
+    file: &StatsFile,
+    totals: &Totals,
+) -> io::Result<()> {
+    let monitored = Monitored(totals);
+    let text = format!(in alloc; "{monitored}")?;
+    rt.replace(file, text.as_str())
 }

@@ -2,7 +2,6 @@
 //! Nothing waits for the thread that reads: standard input may never end.
 ghost use Rattle.std.specs.Prelude.{◌≡◌, ◌⊎◌, IfErr};
 
-use crate::extras::Extras;
 use crate::logging::level_filter;
 use crate::streams::log_text;
 use log::{Level, LevelFilter, Logged};
@@ -16,14 +15,14 @@ use std::io::{self, Eprint, Stdin};
 use std::sync::{Arc, Wait};
 use std::thread::{Builder, Threads};
 
-/// Returns a stop. If the options ask for it, starts a thread that reads standard input to its end, throws that away,
+/// Returns a stop. If standard input `is_sign`, starts a thread that reads standard input to its end, throws that away,
 /// and sets the stop. A read that fails counts as the end. Logs the end at level info, a failed read at level warn.
 /// Refuses with `NoMemory`. Refuses with `Threads`, and logs the cause, if the thread cannot be started.
 pub fn watch<R>(
     rt: R,
     input: Stdin,
     level: LogLevel,
-    extras: Extras,
+    is_sign: bool,
     queue: &Arc<LogQueue>,
 ) -> Result<Arc<Stop>, ServerFault>
 where
@@ -31,7 +30,7 @@ where
     ensures refused { IfErr result (λ fault. (fault ≡ ServerFault.NoMemory) ⊎ (fault ≡ ServerFault.Threads)) }
 {
     let stop = Arc::new(rt.alloc(), Stop::new())?;
-    if !extras.until_eof {
+    if !is_sign {
         return Ok(stop);
     }
     let lines = queue.clone()?;

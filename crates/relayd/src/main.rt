@@ -46,9 +46,9 @@ fn main(rt: HostRuntime) -> ExitCode {
         };
         let logged = Logged::new(rt, program::starting_filter(settings.log), lines);
         program::log_start(&logged, bound.text(), &settings);
-        let stop = until_eof::watch(rt, rt.stdin(), settings.log, extras, &queue)?;
-        let statistics = telling::start(rt, &settings, extras, &queue)?;
-        let counted = statistics.as_ref();
+        let stop = until_eof::watch(rt, rt.stdin(), settings.log, extras.until_eof, &queue)?;
+        let teller = telling::start(rt, &settings, extras.stats, extras.stats_file, &queue)?;
+        let teller = teller.as_ref();
         let gate = Announcing {
             rt,
             address: bound.text(),
@@ -61,12 +61,12 @@ fn main(rt: HostRuntime) -> ExitCode {
             gate: &gate,
             clock: &MonotonicClock(rt),
             stop: &stop,
-            statistics: counted,
+            statistics: teller.map(|teller| &teller.statistics),
             patience: extras.patience,
             log_clients: extras.log_clients,
         };
         let served = server::serve_recorded(&logged, rt.alloc(), &settings, bound, lent, file);
-        telling::tell_last(rt, counted, &queue);
+        telling::tell_last(rt, teller, &queue);
         is_stuck.set(!logging::finish(&rt, &queue));
         served.into_result()?;
         Ok(!gate.is_unprinted.load(SeqCst))
