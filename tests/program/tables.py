@@ -328,7 +328,7 @@ def words(lines):
         row = Row(name, [bytes_of(word) for word in shlex.split(text)], status=2)
         told, _, cause = wanted.partition(" | ")
         topic = told.split(":")[0]
-        if topic in ("config", "listen", "options", "record", "recording", "settings", "target"):
+        if topic in ("config", "listen", "options", "record", "recording", "settings", "stats-file", "target"):
             row.status, row.errors = 2 if topic in ("options", "settings") else 1, fault(told, cause)
         else:
             row.errors = lines_as_bytes(f"error: {wanted} |  | For more information, try '--help'.")

@@ -85,7 +85,7 @@ def a_monitor_finds_the_counts_in_a_file():
 
     with folder() as (place, path):
         options = ["--stats", "1", "--stats-file", path]
-        relay = Relay(target(reset_once), slots=3, stop_after=6, options=options, log="warn")
+        relay = Relay(target(reset_once), slots=3, stop_after=6, options=options)
         watching = in_thread(watch)
         clients = served(relay, 3)
         time.sleep(3.5)

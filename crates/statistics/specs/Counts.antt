@@ -1,5 +1,5 @@
 -- What is counted at a slot, and the sums. Part of the promises.
-use Rattle.std.specs.{Prelude.{ℕ, ◌+◌, ◌*◌, ◌-◌, ◌≤◌, ◌↔◌, min, Bool, IsTrue, List, map, ◌++◌, codes, ◌≡◌, [], ◌∷◌, length, slice_index, slice_set, sum_by, flat_map}, List.zip, Fmt.decimal}
+use Rattle.std.specs.{Prelude.{ℕ, ◌+◌, ◌*◌, ◌-◌, ◌≤◌, min, List, map, ◌++◌, codes, ◌≡◌, [], ◌∷◌, slice_index, slice_set, sum_by, flat_map}, List.zip, Fmt.decimal}
 use Rattle.token.specs.{Kinds.all_kinds, Sides.side_number, declared.{kind.Kind.{Kind, TheVariants.{Refused, Reset, TimedOut}}, side.Side.{Side, TheVariants.{Client, Target}}}}
 use Rattle.relay_core.specs.declared.verdict.{Fault.TheVariants.{Broken, Idle}, Verdict.{Verdict, TheVariants.{Live, Done, Failed}}}
 use Rattle.statistics.specs.declared.{counts.{Count.Count, Counts.Counts}, event.Event.{Event, TheVariants.{Dropped, Opened, Moved, Ended}}, gauge.Levels.Levels, totals.{Figure.Figure, Totals.Totals}}
