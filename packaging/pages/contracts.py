@@ -95,7 +95,6 @@ class Node:
                 self.parts[name].pieces.append(whole)
             elif kind in ("requires", "ensures"):
                 path = f"{self.path}.{'requires.' * (kind == 'requires')}{name or kind}"
-                path += str(len(self.clauses)) if any(it.path == path for it in self.clauses) else ""
                 self.clauses.append(Node(self, "clause", path, comment, rest[1:-1].strip()))
                 self.clauses[-1].what = kind + star
             elif kind:
