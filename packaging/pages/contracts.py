@@ -17,15 +17,20 @@ BELOW = {crate: [it for it in used.split() if it in CRATES] for crate, used in C
 DEFINED, TYPES = ("definition", "record", "data"), ("struct", "enum", "trait", "type", "const", "static")
 PARTS = {"record": "field", "struct": "field", "data": "constructor", "enum": "variant"}
 INNER = {*PARTS.values(), "member"}
-# What stands in clauses and definitions and is built in, and the constructors of the toolchain's library.
+# All members of these are known, and of a type parameter those that traits of ours have.
+CLOSED = {"module", "enum", "data", "trait", "record"}
+# What stands in clauses and definitions and is built in; what a list, a lender and a file always have; and the
+# constructors of the toolchain's library.
 WORDS = set("record if then else let in where match with Type data pub abbrev unfoldable Unit _ Drop 𝓛 sem tt omega rw"
     " the_row".split())
+OPEN = {"items", "entry", "the_row"}
 BUILT = set("Some None Ok Err some none zero suc true false".split())
 ITEM = re.compile(r"((?:^(?://|--).*\n)*)(?:^#.*\n)*^(?!//|--|#)(\S.*(?:\n(?:[ )}\]>{].*|where.*)?)*)", re.MULTILINE)
 HEAD = re.compile(r"(pub(?:\(\w+\))? )?(?:abbrev |unfoldable |pub |const (?=fn))*(?:(fn|struct|enum|trait|impl|type"
     r"|const|static|module|mod|use|ghost use|ghost|record|data|requires|ensures)(?!\w| *[:(])(\*?) ?)?"
     r"([\w' ]*[\w'](?=\s*:)|[^\s:<({;,]*)")
 IMPL = re.compile(r"impl\s+(?:(?:\w+::)*(\w+) for )?&?\s*(?:mut )?(?:\w+::)*(\S+)")
+GROUP = r"\((?:[^()]|\([^()]*\))*\)"
 GENERIC = r"<(?:[^<>]|<(?:[^<>]|<[^<>]*>)*>)*>"
 BOUND = re.compile(r"(?<![\w.':])((?:[\w']+ +)*[\w']+)\s*:(?!:)\s+((?:[^(){},=\n]|\n(?! *(?:pub )?[\w']+ :))*)"
     r"|λ\s+((?:[\w']+\s+)*[\w']+)\.|\blet (\w+)\b")
@@ -152,8 +157,9 @@ class Node:
 
     def patterns(self, piece):
         """The names that the left side of an equation binds, each with the text of its type, if it is an argument."""
-        types = [it for it in re.split(r" → (?![^(]*\))", self.pieces[0].partition(" : ")[2]) if it[0] != "{"]
-        left = re.findall(r"\((?:[^()]|\([^()]*\))*\)|[^\s()]+", re.split(r"\s=\s", piece)[0])[1:]
+        types = re.findall(rf"(?:{GROUP}|[^→()])+", self.pieces[0].partition(" : ")[2])
+        types = [it.strip() for it in types if it.strip()[0] != "{"]
+        left = re.findall(rf"{GROUP}|[^\s()]+", re.split(r"\s=\s", piece)[0])[1:]
         for pattern, of in itertools.zip_longest(left, types, fillvalue=""):
             for name in re.findall(r"(?<![\w.])(?!λ)[^\W\d][\w']*(?![\w.])", pattern):
                 node = self.look_up(name)
@@ -190,10 +196,9 @@ class Node:
             expect(node is not None or self.kind in ("fn", *TYPES), fault)
             found.append((head, "name", node))
             for name in rest:
-                # All members are known of a file and an enum, and of a type parameter those that traits of ours have.
-                of = node if isinstance(node, tuple) and head[0].isupper() else [node]
-                kinds, node = {it.kind for it in of if isinstance(it, Node)}, member(node, name)
-                is_open = not kinds or name == "the_row" or not kinds <= {"module", "enum", "data", "trait"}
+                kinds = {it.kind for it in (node if isinstance(node, tuple) else [node]) if isinstance(it, Node)}
+                is_open = not kinds or not kinds <= CLOSED or name in OPEN or name.isdigit()
+                node = member(node, name)
                 expect(node is not None or is_open, fault)
                 found += [(".", "sign", None), (name, "name", node)]
         return found
