@@ -38,7 +38,7 @@ TOKEN = re.compile(r"(?P<comment>--.*|//.*)|(?P<text>\"[^\"\n]*\"|(?<=[)}\]])(?:
     r"|(?P<name>(?!λ)[^\W\d][\w']*(?:-\w+)*[?!]?(?:\.[\w?]+)*)|(?P<sign>\s+|\d+|\+\+|.)")
 
 # All files, items and impls; what a name may mean; and what the crates offer.
-MODULES, ALL, IMPLS, NAMED, EXPORTED = {}, [], [], collections.defaultdict(list), []
+MODULES, ALL, IMPLS, NAMED, EXPORTED = {}, [], [], collections.defaultdict(list), {}
 # Whether each thing that was expected is so.
 HOLDS = {}
 
@@ -312,7 +312,8 @@ def read_all():
         lib = MODULES[crate, "src", "lib"]
         for node in filter(None, map(lib.get, dict.fromkeys(lib.offers))):
             items = [it for it in node.parts.values() if it.public] if node.kind == "module" else [node]
-            EXPORTED.extend(part for it in items for part in (it, *it.calls) if it.crate == crate and part.public)
+            parts = [part for it in items for part in (it, *it.calls) if it.crate == crate and part.public]
+            EXPORTED.update(dict.fromkeys(parts))
             NAMED[node.name] += [node] if node.kind == "module" else []
     for it in EXPORTED:
         it.exported = True
