@@ -276,7 +276,8 @@ def compare(path, relay, totals):
         # Under load records may come faster than they are written. Then the log says more.
         log = relay.told if relay and not last.endswith(" full\n") else []
         logged = re.findall(r"^\[\w+ +relayd\] ((?:done|fail) s=.*)$", "\n".join(log), re.M)
-        ends = [line for line in replay(path, "--ends").splitlines() if not line.startswith("live ")] if logged else []
+        lines = replay(path, "--ends").splitlines() if logged else []
+        ends = [line.split(" opened_us=")[0] for line in lines if not line.startswith("live ")]
         assert sorted(ends) == sorted(logged), f"the log has {sorted(logged)[:9]}, and the machine {sorted(ends)[:9]}"
     except AssertionError as why:
         raise AssertionError(f"{why}; kept {shutil.move(path, tempfile.mkdtemp(prefix='relayd-'))}") from None

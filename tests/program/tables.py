@@ -29,9 +29,9 @@ in which nothing has happened: lists are empty, workers idle, directions have no
 `largest` has rows of both kinds, at the largest of everything. Of each world with a report each step is then shown, too.
 
 `recordings` has the acts of recordings. They get the counts from 0 up, but for one with counts before it, which has those;
-reports get those of their poll. A last one that ends with `\` has no line feed. After `rests:`, in place of `begins:`, all has
-come to rest when the relay is stopped; after `scripts:` the script of 0.1 is wanted, which WANTED `too long` says that it is
-for `sim`.
+times and reports get those of their poll. A last one that ends with `\` has no line feed. After `rests:`, in place of
+`begins:`, all has come to rest when the relay is stopped; after `scripts:` the script of 0.1 is wanted, which WANTED `too
+long` says that it is for `sim`.
 WANTED is `N connections; LINES`, lines of the output, or `WHOSE: ACT: WHY` of an act that can stand nowhere, or
 `malformed: CAUSE`, which has the act in place of its line.
 
@@ -257,7 +257,7 @@ def numbered(acts):
     count, poll = 0, ""
     lines = acts[:1]
     for act in acts[1:]:
-        if re.match(r"p\d+ report ", act):
+        if re.match(r"p\d+ (time|report) ", act):
             lines.append(f"{poll} {act}")
             continue
         own = re.match(r"(\d+ \d+) ", act)

@@ -3,9 +3,12 @@
 import contextlib
 import re
 import socket
+import time
 
 from loopback import Relay, read_all, replay, unanswered, until
-from shared import left_out
+from shared import by_time, left_out
+
+TIMES = r" opened_us=(\d+) connect_us=(\d+|-) first_us=(\d+|-),(\d+|-) silence_us=(\d+) moved_us=(\d+)"
 
 
 def fill(end):
@@ -21,7 +24,7 @@ def is_told(relay, *wanted):
 
     def says():
         lines = replay(relay.record, "--ends").splitlines()
-        return len(lines) == len(wanted) and all(map(re.fullmatch, wanted, lines))
+        return len(lines) == len(wanted) and all(re.fullmatch(it + TIMES, line) for it, line in zip(wanted, lines))
 
     return until(says)
 
@@ -46,8 +49,8 @@ def tells_whom_a_connection_waits_for():
     assert is_told(relay, *told), replay(relay.record, "--ends")
     for slot, line in enumerate(told):
         first, *_, before, last = replay(relay.record, "--timeline", f"{slot}.1").splitlines()
-        assert first.endswith(f" open {slot}.1 ok ring=0,0") and re.fullmatch(line, last)
-        assert before.endswith(re.search(" ring=[^ ]*", last)[0])
+        assert f" open {slot}.1 ok ring=0,0 at_us=" in first and re.fullmatch(line + TIMES, last)
+        assert re.search(" ring=[^ ]*", last)[0] + " at_us=" in before
     # Each goes on: what was sent arrives, and nobody is waited for longer than needed.
     silent_target[1].sendall(b"!")
     assert silent_target[0].recv(1) == b"!"
@@ -65,3 +68,26 @@ def tells_that_a_target_does_not_answer():
         with relay.connect() as client:
             client.sendall(b"?")
             assert is_told(relay, r"live s=0 g=1 connected=no up=0 down=0 ring=1,0 ended=-,- waits=target-answers")
+            assert " connect_us=- first_us=" in replay(relay.record, "--ends")
+
+
+def times(relay):
+    """The numbers of `TIMES` of the only connection."""
+    return [int(number) for number in re.search(TIMES, replay(relay.record, "--ends")).groups()]
+
+
+# refuses recorder_counts_milliseconds: times are recorded in another unit
+@by_time
+def tells_since_when():
+    if not Relay.records:
+        return left_out("recording")
+    relay = Relay(slots=8)
+    client, end = relay.pair()
+    for wait, sends, hears in (0.2, client, end), (0.5, end, client), (0.1, client, end):
+        time.sleep(wait)
+        sends.sendall(b"?")
+        assert hears.recv(1) == b"?"
+    assert until(lambda: " up=2 down=1 " in replay(relay.record, "--ends"))
+    opened, connected, up, down, silence, moved = times(relay)
+    assert connected < 100_000 and 180_000 < up < 300_000 and 480_000 < down - up < 600_000
+    assert 480_000 < silence < 600_000 and 780_000 < moved - opened < 1_000_000

@@ -5,11 +5,12 @@ use std::alloc::{AllocError, Global};
 use std::test::Fail;
 
 /// A line of each form.
-static LINES: [&str; 36] = [
+static LINES: [&str; 37] = [
     "0 1 p0 poll 0",
     "2 3 p15 poll 256",
     "4 5 p0 poll interrupted",
     "4 5 p0 poll failed",
+    "2 3 p15 time 18446744073709551615",
     "2 3 p0 report listener",
     "2 3 p0 report waker",
     "2 3 p1 report 32767.140737488355327.target",

@@ -13,7 +13,7 @@ or_or : {X : Type 0} (o p q : Option X) → option_or (option_or o p) q ≡ opti
 or_or None p q = refl
 or_or (Some x) p q = refl
 
-first_of_more : {X : Type 0} (f : Act → Option X) (acts : List Act) (a : Act) (o : Option X) → o ≡ first_of f acts
+pub first_of_more : {A X : Type 0} (f : A → Option X) (acts : List A) (a : A) (o : Option X) → o ≡ first_of f acts
     → option_or o (f a) ≡ first_of f (acts ++ a ∷ [])
 first_of_more f [] a o is = ap (λ p. option_or p (f a)) is ∙ sym (or_none (f a))
 first_of_more f (b ∷ acts) a o is =

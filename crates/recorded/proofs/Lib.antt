@@ -1,3 +1,4 @@
 -- The crate's lemmas.
 mod Accounts
+mod Moments
 mod Sequences

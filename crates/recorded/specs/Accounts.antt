@@ -79,7 +79,7 @@ settles a = false
 
 -- All acts
 
-abbrev pub first_of : {X : Type 0} → (Act → Option X) → List Act → Option X
+abbrev pub first_of : {A X : Type 0} → (A → Option X) → List A → Option X
 first_of f [] = None
 first_of f (a ∷ acts) = option_or (f a) (first_of f acts)
 

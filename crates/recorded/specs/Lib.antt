@@ -1,3 +1,4 @@
 -- The crate's definitions.
 pub mod Accounts
+pub mod Moments
 pub mod Sequences

@@ -4,13 +4,15 @@ use Rattle.records.specs.declared.act.{Record.Record, Act.{Act, TheVariants.Poll
 use Rattle.recorded.specs.declared.recording.{Numbered.Numbered, Recording.Recording}
 use Rattle.records.specs.declared.act.Polling.TheVariants as polling
 
-abbrev pub is_report : Act → Bool
-is_report (Poller number (polling.Reported name)) = true
-is_report act = false
+-- the time of a wait, or a report of it: it has the counts of the wait
+abbrev pub is_of_wait : Act → Bool
+is_of_wait (Poller number (polling.Time micros)) = true
+is_of_wait (Poller number (polling.Reported name)) = true
+is_of_wait act = false
 
--- one act has ended when the next one begins, or the next is a report, which has the counts of its wait
+-- one act has ended when the next one begins, or the next is of the same wait
 abbrev pub Follows : Record → Record → Type 0
-Follows last next = (last.after < next.before) ⊎ ((is_report next.act ≡ true) × (next.before ≡ last.before) × (next.after ≡ last.after))
+Follows last next = (last.after < next.before) ⊎ ((is_of_wait next.act ≡ true) × (next.before ≡ last.before) × (next.after ≡ last.after))
 
 -- the act at a place, counted from 0, follows the act before it
 abbrev pub FollowsAt : List Numbered → ℕ → Type 0

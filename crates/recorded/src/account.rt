@@ -201,7 +201,7 @@ fn is_sender(sender: Option<Side>, side: Side) -> bool
     }
 }
 
-fn same(a: Side, b: Side) -> bool
+pub(crate) fn same(a: Side, b: Side) -> bool
     ensures { result ≡ same a b }
 {
     match (a, b) {
@@ -219,7 +219,7 @@ fn moved(answer: Answer) -> u64
     }
 }
 
-fn read_at(side: Side, act: &Act) -> u64
+pub(crate) fn read_at(side: Side, act: &Act) -> u64
     ensures { result ≡ read_at side act.now }
 {
     match *act {

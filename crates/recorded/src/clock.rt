@@ -83,12 +83,49 @@ impl Clock {
         None
     }
 
+    /// When the count had this value, in nanoseconds, by a clock of microseconds (`times_of`). Between two readings the
+    /// values stand a microsecond apart, or closer if that is too long.
+    pub fn nanosecond(&self, count: u64) -> u64 {
+        let readings = self.after.as_slice();
+        let next = count_below(readings, count.saturating_add(1));
+        let (from, micros) = match next.checked_sub(1) {
+            Some(last) => readings.get(last).copied().unwrap_or((0, 0)),
+            None => (0, 0),
+        };
+        let (values, apart) = (count.saturating_sub(from), 1_000u64);
+        let most = match readings.get(next) {
+            Some((to, later)) => later
+                .saturating_sub(micros)
+                .saturating_mul(apart)
+                .saturating_mul(values)
+                / to.saturating_sub(from).max(1),
+            None => u64::MAX,
+        };
+        let since = values.saturating_mul(apart).min(most);
+        micros.saturating_mul(apart).saturating_add(since)
+    }
+
     /// The latest second that was read before the count had this value, if one was.
     fn last_read(&self, count: u64) -> Option<u64> {
         let readings = self.after.as_slice();
         let last = count_below(readings, count).checked_sub(1)?;
         Some(second_at(readings, last))
     }
+}
+
+/// The times of all waits, as readings of a clock.
+pub fn times_of(recording: &Recording) -> Result<Vec<Numbered>, AllocError> {
+    let mut times = Vec::new(recording.alloc);
+    for poller in 0..recording.header.pollers {
+        for numbered in recording.poller(poller) {
+            let mut reading = *numbered;
+            if let Act::Poller(_, Polling::Time(micros)) = reading.record.act {
+                reading.record.act = Act::Second(micros);
+                times.push(reading)?;
+            }
+        }
+    }
+    Ok(times)
 }
 
 /// The counts before or after the readings of these records, in order, with the latest second up to each.
@@ -151,7 +188,7 @@ fn add_windows(
             record.act,
             Act::Poller(
                 _,
-                Polling::Gave(_) | Polling::Interrupted | Polling::Reported(_)
+                Polling::Gave(_) | Polling::Interrupted | Polling::Time(_) | Polling::Reported(_)
             )
         );
     }
@@ -163,7 +200,7 @@ fn add_windows(
 fn is_read_before(is_first: bool, act: &Act) -> bool {
     match act {
         Act::Begin(_) => true,
-        Act::Poller(_, Polling::Reported(_) | Polling::Open(_, _, _)) => false,
+        Act::Poller(_, Polling::Time(_) | Polling::Reported(_) | Polling::Open(_, _, _)) => false,
         Act::Poller(_, _) => is_first,
         _ => false,
     }

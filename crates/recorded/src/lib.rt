@@ -5,7 +5,7 @@
 //! place in its round (`round`), more turns at once than threads (`threads`), a read of which nobody heard (`reads`).
 //! `rounds` finds what was posted when: for reports, and in sweeps.
 //!
-//! An [`Account`] is what a connection has come to, by its records alone, in a few numbers.
+//! An [`Account`] is what a connection has come to, by its records alone, in a few numbers, and [`Times`] is when.
 #![tactic(auto)]
 
 mod account;
@@ -17,9 +17,10 @@ mod recording;
 mod round;
 mod rounds;
 mod threads;
+mod times;
 
 pub use account::{Account, Half, Waits};
-pub use clock::Clock;
+pub use clock::{Clock, times_of};
 pub use dispatch::OWN_BUDGET;
 pub use order::put_in_order;
 pub use reading::{Sizes, Take, read, read_each};
@@ -28,3 +29,4 @@ pub use recording::{Last, Numbered, Recording, begun_before};
 pub use round::check_rounds;
 pub use rounds::{Post, find_posts};
 pub use threads::{check_threads, is_busy};
+pub use times::Times;

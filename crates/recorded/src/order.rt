@@ -1,6 +1,6 @@
 //! Looks at the order of the records, and finds out where a recording is no longer complete.
 ghost use Rattle.std.specs.Prelude.{◌≡◌, ◌≢◌, ◌-◌, ◌<◌, ◌≤◌, ◌↔◌, ℕ, IfNone, IfSome, IsTrue, length, slice_index};
-ghost use Rattle.recorded.specs.Sequences.{IsBegun, IsMissing, Follows, FollowsAt, is_report};
+ghost use Rattle.recorded.specs.Sequences.{IsBegun, IsMissing, Follows, FollowsAt, is_of_wait};
 
 use crate::reading::fault;
 use crate::recording::{Last, Numbered, Recording, begun_before, is_twice, sort};
@@ -76,13 +76,13 @@ fn check_counts(recording: &Recording, counts: &[u64]) -> Result<(), ReplayFault
     Ok(())
 }
 
-/// All counts, in order. Reports have those of their poll.
+/// All counts, in order. The time and the reports of a poll have those of the poll.
 fn counts_of(recording: &Recording) -> Result<Vec<u64>, AllocError> {
     let mut counts = Vec::new(recording.alloc);
     for at in 0..recording.lists.len() {
         for numbered in recording.list(at) {
             let record = &numbered.record;
-            if !is_twice(at < recording.header.slots, &record.act) && !is_report(&record.act) {
+            if !is_twice(at < recording.header.slots, &record.act) && !is_of_wait(&record.act) {
                 counts.extend_from_slice(&[record.before, record.after])?;
             }
         }
@@ -226,11 +226,11 @@ fn follows(last: &Numbered, next: &Numbered) -> bool
 {
     let (last, next) = (&last.record, &next.record);
     last.after < next.before
-        || is_report(&next.act) && last.before == next.before && last.after == next.after
+        || is_of_wait(&next.act) && last.before == next.before && last.after == next.after
 }
 
-fn is_report(act: &Act) -> bool
-    ensures { result ≡ is_report act.now }
+fn is_of_wait(act: &Act) -> bool
+    ensures { result ≡ is_of_wait act.now }
 {
-    matches!(act, Act::Poller(_, Polling::Reported(_)))
+    matches!(act, Act::Poller(_, Polling::Time(_) | Polling::Reported(_)))
 }

@@ -15,6 +15,8 @@ struct Round<'a> {
     /// The wait with which the round began, if it has begun, and what the wait has reported so far.
     poll: Option<Record>,
     reported: Vec<Name>,
+    /// Whether the time of the wait may come next.
+    may_time: bool,
     /// How many calls of accept(2) are left.
     accepts: usize,
     /// Whether an accepted connection is in hand.
@@ -29,6 +31,7 @@ pub fn check_rounds(recording: &Recording) -> Result<(), ReplayFault> {
             opened: vec![in recording.alloc; 0; recording.header.slots]?,
             poll: None,
             reported: Vec::new(recording.alloc),
+            may_time: false,
             accepts: 0,
             accepted: false,
         };
@@ -59,8 +62,12 @@ impl Round<'_> {
         let Act::Poller(_, did) = record.act else {
             return Ok(None);
         };
-        if let Polling::Reported(name) = did {
-            return self.report(name);
+        let may_time = mem::take(&mut self.may_time);
+        match did {
+            Polling::Reported(name) => return self.report(name),
+            Polling::Time(_) if may_time => return Ok(None),
+            Polling::Time(_) => return Ok(Some("a time follows a wait that gave reports")),
+            _ => {}
         }
         if let Some(
             Record {
@@ -83,6 +90,7 @@ impl Round<'_> {
             return Some("the accepted connection is opened before the next wait");
         }
         self.poll = Some(*poll);
+        self.may_time = matches!(poll.act, Act::Poller(_, Polling::Gave(count)) if count > 0);
         self.reported.clear();
         self.accepts = MAX_ACCEPTS;
         None

@@ -89,6 +89,7 @@ impl Rounds<'_> {
                 record.after,
                 name,
             ),
+            Act::Poller(_, Polling::Time(_)) => return Ok(None),
             _ if self.missing > 0 => return Err("reports of the poll before it are wanted"),
             Act::Poller(_, Polling::Gave(count)) => count,
             Act::Poller(_, Polling::Interrupted) => 0,

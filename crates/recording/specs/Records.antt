@@ -37,18 +37,17 @@ abbrev pub each_report : ℕ → List ℕ → List Act
 each_report poller [] = []
 each_report poller (number ∷ numbers) = report poller (name_of number) ++ each_report poller numbers
 
--- a wait that gave these numbers
-abbrev pub reports : ℕ → List ℕ → List Act
-reports poller numbers = Poller poller (polling.Gave (length numbers)) ∷ each_report poller numbers
+abbrev pub with_time : ℕ → Option ℕ → List Act → List Act
+with_time poller (Some micros) acts = Poller poller (polling.Time micros) ∷ acts
+with_time poller None acts = acts
+
+-- a wait that gave these numbers, and its time, if it was read
+abbrev pub reports : ℕ → Option ℕ → List ℕ → List Act
+reports poller time numbers = Poller poller (polling.Gave (length numbers)) ∷ with_time poller time (each_report poller numbers)
 
 abbrev pub not_waited : ErrorKind → Polling
 not_waited Interrupted = polling.Interrupted
 not_waited error = polling.Failed
-
--- a wait for reports, and what is in the batch after it
-abbrev pub polled : {T : Type 0} → ℕ → Result T Error → List ℕ → List Act
-polled poller (Ok done) numbers = reports poller numbers
-polled poller (Err error) numbers = Poller poller (not_waited (error_kind error)) ∷ []
 
 -- an error of a wire, by the count of the wire that has risen
 abbrev pub refused : WireView → WireView → ErrorKind → Answer
@@ -80,10 +79,11 @@ drops (Wire name made.Drop) = true
 drops act = false
 
 -- a step on a thread's handle `S` of the recording. Began: the count before an act, None if nothing is recorded any
--- more. Ended: the count after it. AtOnce: both, taken in one step. Put: a record was put. Another: a new handle.
--- `did` is what a step makes of `S`
+-- more. Timed: the microseconds since the recording began. Ended: the count after the act. AtOnce: both counts, taken in one
+-- step. Put: a record was put. Another: a new handle. `did` is what a step makes of `S`
 pub data Step : Type 0 where
   Began : Option ℕ → Step
+  Timed : ℕ → Step
   Ended : ℕ → Step
   AtOnce : Option (ℕ × ℕ) → Step
   Put : Record → Step
@@ -103,6 +103,27 @@ Ends did (Some before) acts old new = (after : ℕ) × (ended : _) × did (Ended
 -- a count was taken, and then these acts were put, if anything is recorded still
 abbrev pub Records : {S : Type 0} → (Step → S → S → Type 0) → List Act → S → S → Type 0
 Records did acts old new = (before : Option ℕ) × (begun : _) × did (Began before) old begun × Ends did before acts begun new
+
+-- the time was read if a wait gave anything
+abbrev pub ReadsTime : {S : Type 0} → (Step → S → S → Type 0) → List ℕ → Option ℕ → S → S → Type 0
+ReadsTime did [] time old new = (time ≡ None) × (new ≡ old)
+ReadsTime did (number ∷ numbers) time old new = (micros : ℕ) × (time ≡ Some micros) × did (Timed micros) old new
+
+-- a wait gave these numbers: its time was read, if it gave any, before the count after it, and then it was put, with its
+-- time and its reports; without the count before it nothing was done
+abbrev pub EndsWait : {S : Type 0} → (Step → S → S → Type 0) → Option ℕ → ℕ → List ℕ → S → S → Type 0
+EndsWait did None poller numbers old new = new ≡ old
+EndsWait did (Some before) poller numbers old new =
+    (time : Option ℕ) × (read : _) × ReadsTime did numbers time old read × Ends did (Some before) (reports poller time numbers) read new
+
+-- a wait for reports had this result, and left these numbers in the batch
+abbrev pub EndsPoll : {S T : Type 0} → (Step → S → S → Type 0) → Option ℕ → ℕ → Result T Error → List ℕ → S → S → Type 0
+EndsPoll did before poller (Ok done) numbers old new = EndsWait did before poller numbers old new
+EndsPoll did before poller (Err error) numbers old new = Ends did before (Poller poller (not_waited (error_kind error)) ∷ []) old new
+
+abbrev pub RecordsPoll : {S T : Type 0} → (Step → S → S → Type 0) → ℕ → Result T Error → List ℕ → S → S → Type 0
+RecordsPoll did poller result numbers old new =
+    (before : Option ℕ) × (begun : _) × did (Began before) old begun × EndsPoll did before poller result numbers begun new
 
 -- an act was put with two counts that were taken in one step
 abbrev pub PutsAtOnce : {S : Type 0} → (Step → S → S → Type 0) → Option (ℕ × ℕ) → Act → S → S → Type 0

@@ -1,6 +1,6 @@
 // A front that records its waits, accepts and openings.
 ghost use Rattle.std.specs.{Prelude.{◌≡◌, ◌≢◌, ◌≤◌, Some, None, true, [], ◌∷◌, IfOk, IfErr, OnErr, vec_len, vec_capacity}, IoError.error_kind, declared.io.ErrorKind.TheVariants.Interrupted};
-ghost use Rattle.recording.specs.Records.{accepted, not_accepted, not_waited, opened as opened_of, polled, Records};
+ghost use Rattle.recording.specs.Records.{accepted, not_accepted, not_waited, opened as opened_of, Records, RecordsPoll};
 ghost use Rattle.dispatch.specs.Told.{unaccepted_of, Waited};
 ghost use Rattle.records.specs.declared.act.Act.TheVariants as act;
 ghost use Rattle.records.specs.declared.act.Polling.TheVariants as polling;
@@ -123,7 +123,7 @@ impl<F: Front + Drop, S: Sink> Front for RecordedFront<F, S> {
         ensures waited { Waited wait (F.seen self.old.inner) (F.seen self.new.inner) }
         ensures failed { OnErr result (batch.new.items ≡ []) }
         ensures fault { IfErr result (λ error. error_kind error ≢ Interrupted → (F.seen self.new.inner).failed ≡ true) }
-        ensures recorded { Records S.did (polled self.old.poller result batch.new.items) self.old.recorder.sink self.new.recorder.sink }
+        ensures recorded { RecordsPoll S.did self.old.poller result batch.new.items self.old.recorder.sink self.new.recorder.sink }
     {
         let poller = self.poller;
         let begun = self.recorder.begin();

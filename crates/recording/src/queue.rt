@@ -11,7 +11,7 @@ use records::{Act, Record};
 use std::alloc::{AllocError, Global};
 use std::sync::Wait;
 use std::sync::atomic::{AtomicBool, AtomicU64, Ordering};
-use std::time::Duration;
+use std::time::{Clock, Duration, Instant};
 
 /// How many queues there are. Each poller uses one, with its slots, so that threads seldom meet at one.
 pub const QUEUES: usize = 4;
@@ -36,6 +36,8 @@ pub(crate) fn soon() -> Duration {
 pub struct RecordQueue {
     pub(crate) waiting: ParkedQueue<Record, QUEUES>,
     split: Split,
+    /// When the recording began. None if the clock could not be read.
+    began: Option<Instant>,
     /// Each act changes it, so it shares no cache line with what each act only looks at.
     count: CachePadded<AtomicU64>,
     /// A record found no room, or could not be written: nothing is recorded any more.
@@ -44,7 +46,7 @@ pub struct RecordQueue {
 
 impl RecordQueue {
     /// Empty queues for a relay whose pollers have these slots. No later call takes memory.
-    pub fn new(alloc: Global, split: Split) -> Result<RecordQueue, AllocError>
+    pub fn new(rt: &impl Clock, alloc: Global, split: Split) -> Result<RecordQueue, AllocError>
         ensures room { IfOk result (λ made. made.waiting ≡ replicate 4 131072) }
     {
         Ok(RecordQueue {
@@ -55,6 +57,7 @@ impl RecordQueue {
                 ArrayQueue::new(alloc, MAX_RECORDS)?,
             ]),
             split,
+            began: Instant::now(rt).ok(),
             count: CachePadded::new(AtomicU64::new(0)),
             is_over: AtomicBool::new(false),
         })
@@ -63,6 +66,17 @@ impl RecordQueue {
     /// Takes this many values of the count, and returns the first. None comes twice before the count has gone round.
     pub(crate) fn next(&self, count: u64) -> u64 {
         self.count.fetch_add(count, Ordering::SeqCst)
+    }
+
+    /// The microseconds since the recording began: 0 if the clock cannot be read.
+    fn time(&self, rt: &impl Clock) -> u64 {
+        let Some(began) = self.began else {
+            return 0;
+        };
+        match began.elapsed(rt) {
+            Ok(time) => u64::try_from(time.as_micros()).unwrap_or(u64::MAX),
+            Err(_) => 0,
+        }
     }
 
     pub(crate) fn is_over(&self) -> bool {
@@ -114,11 +128,15 @@ pub struct QueueSink<'r, R> {
     pub queue: &'r RecordQueue,
 }
 
-impl<R: Wait + Log> Sink for QueueSink<'_, R> {
+impl<R: Wait + Log + Clock> Sink for QueueSink<'_, R> {
     ghost did = { λ _ _ _. Unit {0} };
 
     fn begin(&mut self) -> Option<u64> {
         (!self.queue.is_over()).then(|| self.queue.next(1))
+    }
+
+    fn time(&mut self) -> u64 {
+        self.queue.time(self.rt)
     }
 
     fn end(&mut self) -> u64 {

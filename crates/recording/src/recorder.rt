@@ -1,6 +1,7 @@
 // What a thread records by. Only here is a record made, but for the last, and an `Inner` opened.
-ghost use Rattle.std.specs.{Prelude.{◌≡◌, None, false, [], ◌∷◌}, Borrow.sem};
-ghost use Rattle.recording.specs.{Lending.LendsInner, Records.{drops, dropped, reports, Step, Began, Ended, AtOnce, Put, Another, Ends, RecordsAtOnce}};
+ghost use Rattle.std.specs.{Prelude.{◌≡◌, List, None, false, [], ◌∷◌}, Borrow.sem};
+ghost use Rattle.records.specs.declared.act.Act.{Act};
+ghost use Rattle.recording.specs.{Lending.LendsInner, Records.{drops, dropped, Step, Began, Timed, Ended, AtOnce, Put, Another, Ends, EndsWait, Puts, ReadsTime, RecordsAtOnce, with_time}};
 
 use engine::Wire;
 use records::{Act, Made, Polling, Record};
@@ -17,6 +18,10 @@ pub trait Sink: Drop {
     /// Takes the count before an act. None: nothing is recorded any more.
     fn begin(&mut self) -> Option<u64>
         ensures { did (Began result) self.old self.new };
+
+    /// The microseconds since the recording began, by a clock that does not go back.
+    fn time(&mut self) -> u64
+        ensures { did (Timed result) self.old self.new };
 
     /// Takes the count after an act.
     fn end(&mut self) -> u64
@@ -109,17 +114,40 @@ impl<S: Sink> Recorder<S> {
         }
     }
 
-    /// Records that a wait gave these numbers, and each report among them, with the counts of the wait.
+    /// The time of a wait that gave these numbers. If it gave none, no clock is read.
+    fn time_of(&mut self, numbers: &[u64]) -> Option<u64>
+        ensures { ReadsTime S.did numbers.now result self.old.sink self.new.sink }
+    {
+        match numbers {
+            [] => None,
+            _ => Some(self.sink.time()),
+        }
+    }
+
+    /// Puts the time of a wait, if it was read.
+    fn put_time(&mut self, before: u64, after: u64, poller: usize, time: Option<u64>)
+        ensures { (acts : List Act) → (new : _) → Puts S.did before after acts self.new.sink new
+            → Puts S.did before after (with_time poller time acts) self.old.sink new }
+    {
+        if let Some(micros) = time {
+            let act = Act::Poller(poller, Polling::Time(micros));
+            self.sink.put(Record { before, after, act });
+        }
+    }
+
+    /// Records that a wait gave these numbers, when, and each report among them, with the counts of the wait.
     pub(crate) fn record_reports(&mut self, begun: Begun, poller: usize, numbers: &[u64])
-        ensures { Ends S.did begun.0 (reports poller numbers.now) self.old.sink self.new.sink }
+        ensures { EndsWait S.did begun.0 poller numbers.now self.old.sink self.new.sink }
     {
         let Begun(before) = begun;
         let Some(before) = before else {
             return;
         };
+        let time = self.time_of(numbers);
         let after = self.sink.end();
         let act = Act::Poller(poller, Polling::Gave(numbers.len()));
         self.sink.put(Record { before, after, act });
+        self.put_time(before, after, poller, time);
         for number in numbers {
             if let Some(name) = unpack(*number) {
                 let act = Act::Poller(poller, Polling::Reported(name));

@@ -51,6 +51,7 @@ abbrev pub polling_text : Polling → List ℕ
 polling_text (polling.Gave n) = codes "poll " ++ decimal n
 polling_text polling.Interrupted = codes "poll interrupted"
 polling_text polling.Failed = codes "poll failed"
+polling_text (polling.Time micros) = codes "time " ++ decimal micros
 polling_text (polling.Reported name) = codes "report " ++ name_text name
 polling_text (polling.Accept accepted) = codes "accept " ++ accepted_name accepted
 polling_text (polling.Open slot generation opening) =

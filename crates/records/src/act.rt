@@ -40,6 +40,8 @@ pub enum Polling {
     Interrupted,
     /// A wait for reports failed.
     Failed,
+    /// When the last wait gave reports, in microseconds since the recording began.
+    Time(u64),
     /// The last wait reported this.
     Reported(Name),
     /// What accept(2) answered.

@@ -46,6 +46,7 @@ impl Display for Polling {
             Polling::Gave(count) => write!(f, "poll {count}"),
             Polling::Interrupted => f.write_str("poll interrupted"),
             Polling::Failed => f.write_str("poll failed"),
+            Polling::Time(micros) => write!(f, "time {micros}"),
             Polling::Reported(Name::Listener) => f.write_str("report listener"),
             Polling::Reported(Name::Waker) => f.write_str("report waker"),
             Polling::Reported(Name::End(token)) => {

@@ -133,13 +133,15 @@ static CALLS: [(&str, Answers); 4] = [
 #[derive(Clone, Copy)]
 enum Task {
     Poll,
+    Time,
     Report,
     Accept,
     Open,
 }
 
-static TASKS: [(&str, Task); 4] = [
+static TASKS: [(&str, Task); 5] = [
     ("poll", Task::Poll),
+    ("time", Task::Time),
     ("report", Task::Report),
     ("accept", Task::Accept),
     ("open", Task::Open),
@@ -225,8 +227,15 @@ fn end_named(word: &[u8]) -> Option<Token> {
 }
 
 fn polling<'a>(words: &mut Pieces<'a>) -> Result<Polling, Wrong<'a>> {
-    match one_of(words, &TASKS, "poll, report, accept or open is wanted")? {
+    match one_of(
+        words,
+        &TASKS,
+        "poll, time, report, accept or open is wanted",
+    )? {
         Task::Poll => polled(words),
+        Task::Time => Ok(Polling::Time(
+            number(words, "a number of microseconds is wanted")? as u64,
+        )),
         Task::Report => reported(words),
         Task::Accept => {
             let wanted = "one of again, blocked, ok and starved is wanted";

@@ -1,8 +1,8 @@
--- The line of a connection that is open. Part of the promises.
-use Rattle.std.specs.{Prelude.{ℕ, Bool, ◌&&◌, if◌then◌else◌, List, ◌++◌, codes}, Fmt.decimal}
+-- The line of a connection that is open, and the times of any. Part of the promises.
+use Rattle.std.specs.{Prelude.{ℕ, ◌-◌, Bool, ◌&&◌, if◌then◌else◌, List, ◌++◌, Option, Some, None, codes}, Fmt.decimal}
 use Rattle.records.specs.Texts.{yes_or_no}
 use Rattle.recorded.specs.declared.account.{Half.Half, Account.Account, Waits.{Waits, TheVariants.{Nobody, Answers, Takes, Sends}}}
-use Rattle.recorded.specs.Accounts.{ring_down, ring_up, waits_of}
+use Rattle.recorded.specs.{Accounts.{ring_down, ring_up, waits_of}, declared.times.Times.Times}
 
 -- which of the two sides do this
 abbrev pub sides_text : Bool → Bool → List ℕ → List ℕ
@@ -34,3 +34,16 @@ live_text slot generation due connected a =
     codes "live s=" ++ (decimal slot ++ (codes " g=" ++ (decimal generation ++ (codes " connected=" ++ (yes_or_no connected
     ++ (codes " up=" ++ (decimal a.target.written ++ (codes " down=" ++ (decimal a.client.written
     ++ (codes " " ++ standing_text due connected a))))))))))
+
+-- the time from the first to the second, if that came
+abbrev pub span_text : ℕ → Option ℕ → List ℕ
+span_text from (Some at) = decimal (at - from)
+span_text from None = codes "-"
+
+-- when it was opened and when something moved last, since the recording began; and how long after its opening the target
+-- answered, the client sent first, and the target did; and the longest time in which nothing moved
+abbrev pub times_text : Times → List ℕ
+times_text t =
+    codes "opened_us=" ++ (decimal t.opened ++ (codes " connect_us=" ++ (span_text t.opened t.answered
+    ++ (codes " first_us=" ++ (span_text t.opened t.client ++ (codes "," ++ (span_text t.opened t.target
+    ++ (codes " silence_us=" ++ (decimal t.silence ++ (codes " moved_us=" ++ decimal t.moved))))))))))

@@ -1,6 +1,7 @@
 //! What became of each connection, by the records alone: no event of the machine is kept, and no record. So it is not
 //! asked whether the records are those of a run.
 use crate::entry::Entry;
+use crate::moments::Moments;
 use crate::writing::{flush, write_text};
 use recorded::{Sizes, Take, read_each};
 use records::{Act, Opening, Polling, Record, ReplayFault};
@@ -20,6 +21,7 @@ struct Ends {
     alloc: Global,
     places: Vec<Place>,
     has_lead: bool,
+    moments: Option<Moments>,
     /// The count after the first wait for reports that failed.
     failed: Option<u64>,
 }
@@ -35,12 +37,13 @@ pub(crate) fn write_ends<R: Read, W: Write>(
         alloc,
         places: Vec::new(alloc),
         has_lead: false,
+        moments: None,
         failed: None,
     };
     read_each(alloc, input, &mut ends)?;
-    let failed = ends.failed;
+    let (failed, now) = (ends.failed, ends.now());
     for place in ends.places.as_mut_slice().iter_mut() {
-        place.close(failed)?;
+        place.close(failed, now)?;
         write_text(output, place.past.as_str())?;
     }
     flush(output)
@@ -48,9 +51,9 @@ pub(crate) fn write_ends<R: Read, W: Write>(
 
 impl Place {
     /// Adds the line of the last connection.
-    fn close(&mut self, failed: Option<u64>) -> Result<(), AllocError> {
+    fn close(&mut self, failed: Option<u64>, now: Option<u64>) -> Result<(), AllocError> {
         match self.last.take() {
-            Some(last) => last.tell(failed, &mut self.past),
+            Some(last) => last.tell(failed, now, &mut self.past),
             None => Ok(()),
         }
     }
@@ -59,6 +62,7 @@ impl Place {
 impl Take for Ends {
     fn begin(&mut self, sizes: Sizes) -> Result<(), AllocError> {
         self.has_lead = sizes.header.proxy;
+        self.moments = Some(Moments::new(self.alloc, sizes)?);
         for _slot in 0..sizes.header.slots {
             self.places.push(Place {
                 past: String::new(self.alloc),
@@ -69,13 +73,17 @@ impl Take for Ends {
     }
 
     fn take(&mut self, _line: u64, record: Record) -> Result<(), AllocError> {
+        if let Some(moments) = &mut self.moments {
+            moments.take(&record);
+        }
         match &record.act {
             Act::Poller(_, Polling::Open(slot, generation, Opening::Opened)) => {
                 return self.open(*slot, *generation);
             }
             Act::Poller(_, Polling::Reported(Name::End(token))) => {
+                let at = self.at(token.slot());
                 if let Some(entry) = self.entry(token.slot(), Some(*token)) {
-                    entry.report(token.side(), record.after);
+                    entry.report(token.side(), &record, at);
                 }
             }
             Act::Poller(_, Polling::Failed) => {
@@ -83,13 +91,15 @@ impl Take for Ends {
                 self.failed = Some(first.min(record.after));
             }
             Act::Begin(slot) | Act::End(slot) => {
+                let at = self.at(*slot);
                 if let Some(entry) = self.entry(*slot, None) {
-                    entry.act(&record);
+                    entry.act(&record, at);
                 }
             }
             Act::Wire(token, _) => {
+                let at = self.at(token.slot());
                 if let Some(entry) = self.entry(token.slot(), Some(*token)) {
-                    entry.act(&record);
+                    entry.act(&record, at);
                 }
             }
             _ => {}
@@ -99,12 +109,26 @@ impl Take for Ends {
 }
 
 impl Ends {
+    /// The time of an act at this slot.
+    fn at(&self, slot: usize) -> u64 {
+        match &self.moments {
+            Some(moments) => moments.at(slot),
+            None => 0,
+        }
+    }
+
+    /// The last time in the recording, as far as it is read.
+    fn now(&self) -> Option<u64> {
+        self.moments.as_ref()?.last()
+    }
+
     fn open(&mut self, slot: usize, generation: u64) -> Result<(), AllocError> {
+        let (at, now) = (self.at(slot), self.now());
         let Some(place) = self.places.get_mut(slot) else {
             return Ok(());
         };
-        place.close(self.failed)?;
-        place.last = Some(Entry::new(slot, generation, self.has_lead));
+        place.close(self.failed, now)?;
+        place.last = Some(Entry::new(slot, generation, self.has_lead, at));
         Ok(())
     }
 

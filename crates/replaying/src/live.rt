@@ -1,9 +1,9 @@
 //! The line of a connection that is open.
 ghost use Rattle.std.specs.Prelude.{◌≡◌, Some};
 ghost use Rattle.records.specs.Texts.{yes_or_no};
-ghost use Rattle.replaying.specs.Lines.{end_text, live_text, sides_text, standing_text, waits_text};
+ghost use Rattle.replaying.specs.Lines.{end_text, live_text, sides_text, span_text, standing_text, times_text, waits_text};
 
-use recorded::{Account, Half, Waits};
+use recorded::{Account, Half, Times, Waits};
 use std::fmt::{self, Display};
 
 /// An open connection. It prints as its line of `relayd replay --ends`.
@@ -46,6 +46,50 @@ impl Display for Standing {
         let target = end_text(&account.target, &account.client);
         let waits = WaitsText(account.waits(due, connected));
         write!(f, "ring={up},{down} ended={client},{target} waits={waits}")
+    }
+}
+
+/// Prints when things happened to a connection.
+#[derive(Clone, Copy)]
+pub(crate) struct TimesText(pub Times);
+
+impl Display for TimesText {
+    ghost output = { λ text. Some (times_text text.0) };
+
+    fn fmt<W: fmt::Write>(&self, f: &mut fmt::Formatter<W>) -> fmt::Result {
+        let Times {
+            opened,
+            answered,
+            client,
+            target,
+            moved,
+            silence,
+        } = self.0;
+        let answered = Span(opened, answered);
+        let client = Span(opened, client);
+        let target = Span(opened, target);
+        write!(
+            f,
+            "opened_us={opened} connect_us={answered} first_us={client},{target} silence_us={silence} moved_us={moved}"
+        )
+    }
+}
+
+/// The time from the first to the second, if that came.
+#[derive(Clone, Copy)]
+struct Span(u64, Option<u64>);
+
+impl Display for Span {
+    ghost output = { λ span. Some (span_text span.0 span.1) };
+
+    fn fmt<W: fmt::Write>(&self, f: &mut fmt::Formatter<W>) -> fmt::Result {
+        match self.1 {
+            Some(at) => {
+                let span = at.saturating_sub(self.0);
+                write!(f, "{span}")
+            }
+            None => f.write_str("-"),
+        }
     }
 }
 

@@ -13,7 +13,7 @@ use crate::timeline::write_timeline;
 use crate::writing::{flush, write_flaw, write_results};
 use recorded::{
     Clock, Last, Recording, check_reads, check_rounds, check_threads, find_posts, put_in_order,
-    read,
+    read, times_of,
 };
 use records::{Header, Outcome, Replay, ReplayFault, Wanted};
 use std::alloc::Global;
@@ -111,7 +111,12 @@ fn read_clock(recording: &Recording) -> Result<Clock, ReplayFault> {
         return Err(recording.broken(back.line, "the clock does not go back"));
     }
     clock.check_readings(recording)?;
-    Ok(clock)
+    let times = times_of(recording)?;
+    let readings = Clock::new(recording.alloc, times.as_slice())?;
+    match readings.first_back(times.as_slice()) {
+        Some(back) => Err(recording.broken(back.line, "the clock does not go back")),
+        None => Ok(clock),
+    }
 }
 
 fn write_outcome<W: Write>(

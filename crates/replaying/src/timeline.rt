@@ -1,5 +1,6 @@
 //! What was done for one connection, record by record, and what its rings held.
 use crate::entry::Entry;
+use crate::moments::Moments;
 use crate::writing::{flush, not_there, write_text};
 use recorded::{Sizes, Take, read_each};
 use records::{Act, Opening, Polling, Record, ReplayFault};
@@ -13,13 +14,16 @@ const AT_ONCE: usize = 256;
 /// The records of one connection.
 #[derive(Drop)]
 struct Course {
+    alloc: Global,
     slot: usize,
     generation: u64,
     has_lead: bool,
     slots: usize,
     /// The generation of the last connection that was opened in the slot.
     last: Option<u64>,
-    records: Vec<Record>,
+    /// Each record, and its time.
+    records: Vec<(Record, u64)>,
+    moments: Option<Moments>,
     /// The count after the first wait for reports that failed.
     failed: Option<u64>,
 }
@@ -34,19 +38,23 @@ pub(crate) fn write_timeline<R: Read, W: Write>(
     output: &mut W,
 ) -> Result<(), ReplayFault> {
     let mut course = Course {
+        alloc,
         slot,
         generation,
         has_lead: false,
         slots: 0,
         last: None,
         records: Vec::new(alloc),
+        moments: None,
         failed: None,
     };
     read_each(alloc, input, &mut course)?;
     if course.records.is_empty() {
         return Err(not_there(alloc, course.slots, slot, generation, course.last));
     }
-    course.records.sort_by_key(|record: &Record| record.before)?;
+    course
+        .records
+        .sort_by_key(|timed: &(Record, u64)| timed.0.before)?;
     course.write(alloc, output)
 }
 
@@ -54,10 +62,12 @@ impl Take for Course {
     fn begin(&mut self, sizes: Sizes) -> Result<(), AllocError> {
         self.slots = sizes.header.slots;
         self.has_lead = sizes.header.proxy;
+        self.moments = Some(Moments::new(self.alloc, sizes)?);
         Ok(())
     }
 
     fn take(&mut self, _line: u64, record: Record) -> Result<(), AllocError> {
+        let at = self.time_of(&record);
         let is_its = match &record.act {
             Act::Poller(_, Polling::Open(slot, generation, Opening::Opened)) => {
                 self.open(*slot, *generation)
@@ -76,13 +86,22 @@ impl Take for Course {
             _ => false,
         };
         if is_its && (self.last == Some(self.generation) || !self.records.is_empty()) {
-            self.records.push(record)?;
+            self.records.push((record, at))?;
         }
         Ok(())
     }
 }
 
 impl Course {
+    /// The time of a record that follows those before it.
+    fn time_of(&mut self, record: &Record) -> u64 {
+        let Some(moments) = &mut self.moments else {
+            return 0;
+        };
+        moments.take(record);
+        moments.at(self.slot)
+    }
+
     /// Whether the connection itself is opened.
     fn open(&mut self, slot: usize, generation: u64) -> bool {
         if slot == self.slot {
@@ -92,30 +111,47 @@ impl Course {
     }
 
     fn write<W: Write>(&self, alloc: Global, output: &mut W) -> Result<(), ReplayFault> {
-        let mut entry = Entry::new(self.slot, self.generation, self.has_lead);
+        let now = match &self.moments {
+            Some(moments) => moments.last(),
+            None => None,
+        };
+        let opened = match self.records.as_slice() {
+            [(_, at), ..] => *at,
+            [] => 0,
+        };
+        let mut entry = Entry::new(self.slot, self.generation, self.has_lead, opened);
         for records in self.records.as_slice().chunks(AT_ONCE) {
             let mut text = String::new(alloc);
-            for record in records {
-                add_line(&mut text, &mut entry, record)?;
+            for (record, at) in records {
+                add_record(&mut text, &mut entry, record, *at)?;
+                match now {
+                    Some(_) => writeln!(text, " at_us={at}")?,
+                    None => writeln!(text)?,
+                }
             }
             write_text(output, text.as_str())?;
         }
         let mut text = String::new(alloc);
-        entry.tell(self.failed, &mut text)?;
+        entry.tell(self.failed, now, &mut text)?;
         write_text(output, text.as_str())?;
         flush(output)
     }
 }
 
-/// Adds the line of the next record of a connection.
-fn add_line(text: &mut String, entry: &mut Entry, record: &Record) -> Result<(), AllocError> {
+/// Adds the next record of a connection, and what its rings hold then.
+fn add_record(
+    text: &mut String,
+    entry: &mut Entry,
+    record: &Record,
+    at: u64,
+) -> Result<(), AllocError> {
     match record.act {
         Act::Poller(_, Polling::Reported(Name::End(token))) => {
-            entry.report(token.side(), record.after);
+            entry.report(token.side(), record, at);
         }
         Act::Poller(_, _) => {}
-        _ => entry.act(record),
+        _ => entry.act(record, at),
     }
     let (up, down) = (entry.account.ring_up(), entry.account.ring_down());
-    writeln!(text, "{record} ring={up},{down}")
+    write!(text, "{record} ring={up},{down}")
 }

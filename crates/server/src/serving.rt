@@ -19,6 +19,7 @@ use std::io::Write;
 use std::net::Net;
 use std::sync::{Arc, Mutex, Wait};
 use std::thread::{self, Threads};
+use std::time;
 use threads::{Outcome, Server, run_threads};
 
 /// What a server is lent while it serves.
@@ -57,13 +58,11 @@ impl<G, C> Copy for Lent<'_, G, C> {}
 /// The fault is `NoMemory` if there is not enough to begin with, `Poll` if the system cannot report on sockets,
 /// `Threads` if a thread cannot be started, and `Worn` if a thread has posted 2^56 notes. Of several it is the first
 /// poller's or `Threads`, whichever came first; or else the next thread's: pollers come before workers.
-pub fn serve<G: Gate + Sync, C: Clock + Sync, R: Net + Dial + Wait + Threads + Log + Sync>(
-    rt: &R,
-    alloc: Global,
-    settings: &Settings,
-    bound: Bound,
-    lent: Lent<'_, G, C>,
-) -> Outcome {
+pub fn serve<
+    G: Gate + Sync,
+    C: Clock + Sync,
+    R: Net + Dial + Wait + Threads + Log + time::Clock + Sync,
+>(rt: &R, alloc: Global, settings: &Settings, bound: Bound, lent: Lent<'_, G, C>) -> Outcome {
     serve_into(rt, alloc, settings, bound, lent, None)
 }
 
@@ -75,7 +74,7 @@ pub fn serve_recorded<
     G: Gate + Sync,
     C: Clock + Sync,
     W: Write + Send + Drop,
-    R: Net + Dial + Wait + Threads + Log + Sync,
+    R: Net + Dial + Wait + Threads + Log + time::Clock + Sync,
 >(
     rt: &R,
     alloc: Global,
@@ -88,7 +87,7 @@ pub fn serve_recorded<
         return serve(rt, alloc, settings, bound, lent);
     };
     let split = split_of(settings);
-    let queue = match RecordQueue::new(alloc, split) {
+    let queue = match RecordQueue::new(rt, alloc, split) {
         Ok(queue) => queue,
         Err(AllocError) => return Outcome::refused(ServerFault::NoMemory),
     };
@@ -150,7 +149,11 @@ where
     )
 }
 
-fn serve_into<G: Gate + Sync, C: Clock + Sync, R: Net + Dial + Wait + Threads + Log + Sync>(
+fn serve_into<
+    G: Gate + Sync,
+    C: Clock + Sync,
+    R: Net + Dial + Wait + Threads + Log + time::Clock + Sync,
+>(
     rt: &R,
     alloc: Global,
     settings: &Settings,
@@ -197,7 +200,7 @@ where
 }
 
 /// Runs a server with these fronts, one for each poller, and records what they, the gate and the clock do.
-fn run_recorded<F, G: Gate + Sync, C: Clock + Sync, R: Wait + Threads + Log + Sync>(
+fn run_recorded<F, G: Gate + Sync, C: Clock + Sync, R: Wait + Threads + Log + time::Clock + Sync>(
     rt: &R,
     alloc: Global,
     settings: &Settings,
