@@ -174,8 +174,8 @@ Putting moved made berth act slot from to = made act slot from to
 
 -- the acts of an opening, which put a fresh connection into its place
 abbrev pub OpensFresh : {S C T : Type 0} → (Berth C T → S → Type 0) → act.Made S → (Route → Type 0) → PollerState → Ticket → S → S → Type 0
-OpensFresh {C = C} {T = T} moved made may_tell p ticket from to =
-    (berth : Berth C T) × IsFresh may_tell p ticket berth × act.AreMade (Putting moved made berth) ticket.slot act.open_slot from to
+OpensFresh moved made may_tell p ticket from to =
+    (berth : Berth _ _) × IsFresh may_tell p ticket berth × act.AreMade (Putting moved made berth) ticket.slot act.open_slot from to
 
 -- Why an accepted connection is closed unopened: the front refused to open it; or the front opened it, but an address
 -- for the line is missing, or memory ran out

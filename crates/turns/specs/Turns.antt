@@ -143,8 +143,8 @@ Playing C T = Berth C T → Berth C T → Type 0
 -- as its terms allow, at a second that the clock may show, with so many calls at most and this idle limit. What holds bytes
 -- back may have sent them after it
 abbrev pub PlaysAt : {C T : Type 0} → Serves C → Serves T → (ℕ → Type 0) → ℕ → ℕ → Playing C T
-PlaysAt {C} {T} client target tells budget limit old new =
-    (second notes : ℕ) × (played : Berth C T) × tells second × (new.pair ≡ played.pair)
+PlaysAt client target tells budget limit old new =
+    (second : ℕ) × (notes : ℕ) × (played : Berth _ _) × tells second × (new.pair ≡ played.pair)
     × Plays client target (record { budget = budget; moment = record { second = second; limit = limit } }) notes old played
 
 -- by these terms
@@ -178,16 +178,16 @@ IsLeft result pair = outcome_of pair ≡ turn.Again
 abbrev pub Handles : {C T : Type 0} → Playing C T → Ticket → Result Worked ServerFault → Handled C T → Type 0
 Handles plays ticket (Ok worked.Busy) h = Unit {0}
 Handles plays ticket (Ok worked.Gone) h = IfSome h.found (λ berth. berth.pair.generation ≢ ticket.generation) × (h.left ≡ h.found)
-Handles {C} {T} plays ticket result h = (old new : Berth C T) × (h.found ≡ Some old) × (h.left ≡ Some new)
+Handles plays ticket result h = (old : Berth _ _) × (new : Berth _ _) × (h.found ≡ Some old) × (h.left ≡ Some new)
     × (old.pair.generation ≡ ticket.generation) × plays old new × IsLeft result new.pair
 
 -- `TurnMade`, with the acts of the turn but its calls, in order, and with what it did with the connection. If the claim
 -- words lack the slot, no act is made
 abbrev pub TurnInOrder : {S C T : Type 0} → (Handled C T → Made S) → Playing C T → ℕ → Ticket
     → Result Worked ServerFault → Own → Own → S → S → Type 0
-TurnInOrder {C = C} {T = T} made plays words ticket result old new from to =
+TurnInOrder made plays words ticket result old new from to =
     (turn : TurnMade words ticket result old new)
-    × (ticket.slot < words → (h : Handled C T) × Handles plays ticket result h
+    × (ticket.slot < words → (h : Handled _ _) × Handles plays ticket result h
     × ActsLeft (made h) ticket result 0 (is_some h.found) turn.are.woke from to)
     × (words ≤ ticket.slot → to ≡ from)
 
