@@ -11,7 +11,9 @@ use Rattle.statistics.proofs.monitor.FailuresDisplay.fmt.Goals as goal
 -- a sample more
 next : (t : Totals) (n : ℕ) (side : Side) (kind : Kind) (number : ℕ) (sides kinds : List ℕ) → n < length ways → (side, kind) ≡ get_or ways n (side, kind) → number ≡ at (is.Broken side kind) t.sums
     → sides ≡ side_name side → kinds ≡ kind_name kind
-    → (header metric.Failed ++ flat_map (failed t) (take n ways)) ++ (codes "relayd_connections_failed_total{side=\"" ++ (sides ++ (codes "\",kind=\"" ++ (kinds ++ (codes "\"} " ++ (decimal number ++ codes "\n")))))) ≡ header metric.Failed ++ flat_map (failed t) (take (n + 1) ways)
+    → (header metric.Failed ++ flat_map (failed t) (take n ways))
+    ++ (codes "relayd_connections_failed_total{side=\"" ++ (sides ++ (codes "\",kind=\"" ++ (kinds ++ (codes "\"} " ++ (decimal number ++ codes "\n"))))))
+    ≡ header metric.Failed ++ flat_map (failed t) (take (n + 1) ways)
 next t n side kind number sides kinds h is a b c = rw (a, b, c) (grown (failed t) (header metric.Failed) ways n (side, kind) h is)
 
 pub loop-side-init : goal.loop-side-init
@@ -21,7 +23,8 @@ loop-side-init g c = λ plain.
 pub loop-side-preserved : goal.loop-side-preserved
 loop-side-preserved g c = λ plain.
     let before = c.loop-side.invariant plain in
-    has_written_of_eq _ _ _ _ _ (next c.args.self.now.0.now c.loop-side.side-index _ _ _ _ _ c.loop-side-test.true (search (rules, c.loop-side-test.true)) c.number-number.ensures c.name-side.ensures c.name-kind.ensures)
+    has_written_of_eq _ _ _ _ _ (next c.args.self.now.0.now c.loop-side.side-index _ _ _ _ _ c.loop-side-test.true
+    (search (rules, c.loop-side-test.true)) c.number-number.ensures c.name-side.ensures c.name-kind.ensures)
     (has_written_append _ _ _ _ _ _ before (c.in_ok-write-2.ensures.writes before.plain (refl {a = true})))
 
 -- all samples
