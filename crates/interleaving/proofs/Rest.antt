@@ -6,7 +6,7 @@ pub mod Acts
 pub mod Needs
 pub mod Stops
 pub mod Still
-use Rattle.std.{proofs.{Common.{Bool, List, None, Option, Some, [], ap, arith, false, if◌then◌else◌, length, not, refl, slice_get, suc, true, zero, ℕ, ◌&&◌, ◌++◌, ◌+◌, ◌-◌, ◌*◌, ◌==◌, ◌∙◌, ◌∷◌, ◌≡◌, ◌≤◌, ◌<◌, leb-true, ltb-true, nat_le, nat_lt}, lemmas.{Grind.common_steps, Bool.{and_parts, Decides.nat_tests}, Option.{option_and_then_some}, List.{length-replicate}}}, specs.{Cmp.second_so}}
+use Rattle.std.{proofs.{Common.{Bool, List, None, Some, [], ap, arith, false, if◌then◌else◌, length, not, refl, slice_get, suc, true, zero, ℕ, ◌&&◌, ◌++◌, ◌+◌, ◌-◌, ◌*◌, ◌==◌, ◌∙◌, ◌∷◌, ◌≡◌, ◌≤◌, ◌<◌, leb-true, ltb-true, nat_le, nat_lt}, lemmas.{Grind.common_steps, Bool.{and_parts, Decides.nat_tests}, Option.{option_and_then_some}, List.{length-replicate}}}, specs.{Cmp.second_so}}
 use Rattle.claims.specs.Words.{one}
 use Rattle.kernel_model.specs.{Names.{are_among, are_distinct, without_names}, declared.{accepting.Accepting.TheVariants.{Accepted, Blocked}}}
 use Rattle.token.specs.{Names.{last_generation}, declared.{name.Name.Name}}

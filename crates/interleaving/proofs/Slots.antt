@@ -3,7 +3,7 @@ pub mod Leaves
 pub mod Views
 pub mod Steps
 pub mod Shared
-use Rattle.std.{proofs.{Common.{Bool, List, Some, [], ap, arith, false, replicate, slice_get, suc, zero, if◌then◌else◌, not, refl, true, ℕ, ◌&&◌, ◌||◌, ◌++◌, ◌+◌, ◌==◌, ◌∙◌, ◌∷◌, ◌≡◌, ◌<◌}, lemmas.{Bool.Decides.nat_tests, Option.{option_and_then_some, same_Some}}}, specs.List.list_any}
+use Rattle.std.{proofs.{Common.{Bool, List, Some, [], ap, arith, false, replicate, slice_get, suc, zero, not, refl, true, ℕ, ◌&&◌, ◌||◌, ◌++◌, ◌+◌, ◌==◌, ◌∙◌, ◌∷◌, ◌≡◌, ◌<◌}, lemmas.{Bool.Decides.nat_tests, Option.{option_and_then_some, same_Some}}}, specs.List.list_any}
 use Rattle.world.proofs.Headline.Ends.Pairs.Holders.Events.Lists.{kept_at}
 use Rattle.interleaving.specs.{Threads.{System, resting, rests_at}, Likeness.EveryInterleavingIsARun, Slots.{AllStandApart, Sees, SeesAll, Many, Server, SlotsStandApart, Step, is_listener, one_slot, rank, run, slot_of, start, step}}
 use Steps.{Apart, Between, FrontsHold, Next}

@@ -1,5 +1,5 @@
 -- What one act more adds.
-use Rattle.std.{proofs.{Common.{◌≡◌, ℕ, ◌+◌, Bool, true, false, ◌||◌, List, [], ◌∷◌, ◌++◌, Option, Some, None, refl, ◌∙◌, ap, sym, arith, min}, Math.Bool.{or-false}, lemmas.List.{Sums.{sum_by_push}, Folds.{list_any-append}}}, specs.{Prelude.sum_by, List.list_any, Option.{option_or, unwrap_or}}}
+use Rattle.std.{proofs.{Common.{◌≡◌, ℕ, ◌+◌, Bool, false, ◌||◌, List, [], ◌∷◌, ◌++◌, Option, Some, None, refl, ◌∙◌, ap, sym, arith, min}, Math.Bool.{or-false}, lemmas.List.{Sums.{sum_by_push}, Folds.{list_any-append}}}, specs.{Prelude.sum_by, List.list_any, Option.{option_or, unwrap_or}}}
 use Rattle.token.specs.declared.side.Side.{Side, TheVariants.{Client, Target}}
 use Rattle.records.specs.declared.act.Act.{Act}
 use Rattle.recorded.specs.declared.account.{Half.Half, Account.Account}

@@ -1,5 +1,5 @@
 -- What one moment more adds.
-use Rattle.std.{proofs.Common.{◌≡◌, ℕ, ◌-◌, Bool, if◌then◌else◌, List, [], ◌∷◌, ◌++◌, Option, Some, None, refl, ◌∙◌, ap, sym, arith, max}, specs.Option.option_or}
+use Rattle.std.{proofs.Common.{◌≡◌, ℕ, ◌-◌, if◌then◌else◌, List, [], ◌∷◌, ◌++◌, Some, None, refl, ◌∙◌, ap, arith, max}, specs.Option.option_or}
 use Rattle.token.specs.declared.side.Side.TheVariants.{Client, Target}
 use Rattle.records.specs.declared.act.Act.{Act}
 use Rattle.recorded.proofs.Accounts.{first_of_more}

@@ -1,5 +1,4 @@
 //! When an act was, by the last wait before it.
-ghost use Rattle.std.specs.Prelude.{◌≡◌};
 
 use recorded::Sizes;
 use records::{Act, Polling, Record};

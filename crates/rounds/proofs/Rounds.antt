@@ -2,7 +2,7 @@
 use Rattle.std.proofs.{Common.{◌≡◌, ◌⊎◌, ℕ, ◌+◌, ◌<◌, ◌≤◌, List, [], ◌∷◌, ◌++◌, length, drop, slice_get, slice_set, min, cond, Bool, true, refl, sym, ◌∙◌, arith, inl, inr, append_assoc, length-append, Option, Some, None, ◌==◌, Result, Ok, Err, IfErr, IsErrAnd, slice_index, ap, ◌↔◌, IsTrue, IsNone, false, Contains}, lemmas.{Bool.{cases_lt, false≢true}, List.{append-nil, length-set, get_or-set_other, get_or_past, Sums.sum_by-append}, Grind.get_or-set_at, Option.{none-some, same_Some}}}
 use Rattle.std.specs.Option.{ok_or}
 use Rattle.claims.{specs.{declared.answers.Posted.Posted, Calls.PostChange, Seats.{SeatState, TableId, Adds, account_at}, declared.view.{Account.Account, Exchange.Exchange}, Views.after_all}, proofs.Seats.{account_after, adds_both}}
-use Rattle.dispatch.{specs.{Posts.{HoldsOnly, IsWorn}, declared.{shared.Own.Own, front.{Unaccepted.{Unaccepted, TheVariants.{Blocked, Starved}}, Unopened.Unopened, Route.Route, Waiting.{Waiting, TheVariants.{No, Brief, Long}}}}, Hands.{HandState, ticket_room}, Acts.{Act, AreMade, Register, Adopt, placing}, Told.{cause_of, Seen, Waited}}, proofs.Holding.{holds_still, released_all, woke_behind_post, worn_still}}
+use Rattle.dispatch.{specs.{Posts.{HoldsOnly, IsWorn}, declared.{shared.Own.Own, front.{Unaccepted.{Unaccepted, TheVariants.{Blocked, Starved}}, Unopened.Unopened, Route.Route, Waiting.{Waiting, TheVariants.{No, Brief, Long}}}}, Hands.{HandState, ticket_room}, Acts.{Act, AreMade, Register, Adopt}, Told.{cause_of, Seen, Waited}}, proofs.Holding.{holds_still, released_all, woke_behind_post, worn_still}}
 use Rattle.ready.specs.declared.ticket.Ticket.{Ticket}
 use Rattle.token.specs.Names.{last_generation}
 use Rattle.rounds.{specs.{Acts.{SeatAct, opening, ActsMade, AreTries, all_reported, ArePosted, Delivered, swept_after, sweep_of}, Openings.{times, slots_in, AreIn, AreOpened, OnlyTook, Between, LetGo, Started, Connected, AcceptDone, OneAccepted, IsOpened, IsLost, IsSpent, AreLost, IsNext, SameQueues, Fate, next_in, Opened, NotFree, DropsFor, Placed, lacks, lead_of}, Pollers.{PollerState, Counted, counted_up, HasOpenedAll}, Rounds.{AcceptEnded, FlagIsDown, HasLeft, IsOver, RoundDone, RoundKeeps, ListenerKept, ListensNoMore, ListensToOpen, Looked, OnlyAnswered, OnlyListens, RoundRefused, MayNotWait, MayWait, MayWaitBriefly, WaitedAsMay}}, proofs.Acts.{at_slot-append, acts_none, acts_one, acts_both, none_at, try_opened, tries_none, tries_both, posted_none, posts_still, no_sweep}}

@@ -1,5 +1,5 @@
 //! How a poller waits for reports: nothing else calls epoll_wait(2).
-ghost use Rattle.std.specs.{Prelude.{◌≡◌, ◌≢◌, ◌↔◌, ◌≤◌, ℕ, IfOk, IsTrue, OnErr, [], length, false}, IoError.error_kind, declared.io.ErrorKind.TheVariants.Interrupted};
+ghost use Rattle.std.specs.Prelude.{◌≡◌, ◌↔◌, ◌≤◌, ℕ, IfOk, IsTrue, OnErr, [], length, false};
 ghost use Rattle.mio.specs.Events.{items, capacity as events_capacity};
 ghost use Rattle.dispatch.specs.Told.{millis_of};
 ghost use Rattle.sockets.specs.Fronts.{Fails};

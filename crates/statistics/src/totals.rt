@@ -1,6 +1,6 @@
 //! The sums of the counts, and their line of the log.
 ghost use Rattle.std.specs.Prelude.{◌≡◌, Some};
-ghost use Rattle.statistics.specs.Counts.{added, column, no_sums, number_of, stats_message};
+ghost use Rattle.statistics.specs.Counts.{added, no_sums, number_of, stats_message};
 
 use crate::counts::{Count, Counts};
 use crate::gauge::Levels;

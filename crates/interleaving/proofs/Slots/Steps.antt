@@ -1,6 +1,6 @@
 -- What a step of a server is at each slot, and what stays true by it.
 use Rattle.std.{proofs.{Common.{Bool, List, None, Option, Some, [], ap, arith, drop, false, if◌then◌else◌, inl, inr, length, nat_lt, not, option_map, refl, slice_get, sym, true, ℕ, ◌&&◌, ◌||◌, ◌+◌, ◌==◌, ◌∙◌, ◌∷◌, ◌≡◌, ◌≢◌, ◌≤◌, ◌<◌, ◌⊎◌, eq-eqb, eqb-true, ne_eqb}, lemmas.{Bool.{and_parts, cases_eq}}}, specs.{Cmp.second_so, List.list_any}}
-use Rattle.interleaving.specs.{Threads.{System, Thread, rests_at}, Slots.{Deed, Front, Many, Report, Of, Server, Taken, Step, Deliver, Open, Begin, Sees, besides, deed, delivering, first_of, is_listener, makes, names_at, one_slot, opening, rank, rank_at, rests, set, slot_of, steps_at, suits, tickets_at, written}}
+use Rattle.interleaving.specs.{Threads.{System, rests_at}, Slots.{Deed, Front, Many, Report, Of, Server, Taken, Step, Deliver, Open, Begin, Sees, besides, deed, delivering, first_of, is_listener, makes, names_at, one_slot, opening, rank, rank_at, rests, set, slot_of, steps_at, suits, tickets_at, written}}
 use Rattle.world.{proofs.Headline.Ends.Pairs.Holders.Events.Lists.{Kept, kept_at, kept_map, kept_none, kept_when}, specs.{Calls.when, declared.limits.Limits.Limits}}
 use Rattle.token.specs.declared.name.Name.{Name}
 use Rattle.interleaving.proofs.Slots.{Leaves.{Begins, Delivers, Leaves, common, leaves_begin, leaves_delivery, leaves_opening, nobody, only}, Views.{Alone, AreOwn, brought_here, brought_there, framed, rank_apart, rank_first, set_here, set_there, taken_here, taken_there, viewed}}

@@ -49,7 +49,7 @@ returns-in-Ok g c =
     let named : c.in-Some-next_names.names.client.slot ≡ c.in-Some.slot = rw c.in-Some-next_names.ensures.client in
     let registered = rw named at c.in-Ok.ensures.acts in
     let next : ◌≡◌ {A = Ticket} (record { slot = c.in-Some.slot; generation = c.generation-generation.result }) (next_in c.args.poller.now c.in-Some.slot) =
-        rw (c.generation-generation.ensures.value, c.in-Some-next_names.ensures.client, c.table.ensures.table) in
+    rw (c.generation-generation.ensures.value, c.in-Some-next_names.ensures.client, c.table.ensures.table) in
     record {
       between = c.place.ensures.between;
       counted = rw first (placed_fate c.in-Ok.ensures.same next

@@ -29,6 +29,6 @@ returns-in-Ok-2 g c =
 pub returns-in-Err : goal.returns-in-Err
 returns-in-Err g c = record {
   done = none_found g.A.Moves.found g.A.Moves.moved g.A.Acts.made
-          (PlaysBy (IsServed g.F.Client.Wire.told g.F.Client.Wire.does) (IsServed g.F.Target.Wire.told g.F.Target.Wire.does) c.args.terms)
-          c.in-Err.ensures.made c.in-Err.ensures.empty.1 c.give_up-in-Err.ensures.done;
+      (PlaysBy (IsServed g.F.Client.Wire.told g.F.Client.Wire.does) (IsServed g.F.Target.Wire.told g.F.Target.Wire.does) c.args.terms)
+      c.in-Err.ensures.made c.in-Err.ensures.empty.1 c.give_up-in-Err.ensures.done;
 }

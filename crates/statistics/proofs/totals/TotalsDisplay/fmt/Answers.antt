@@ -1,4 +1,4 @@
-use Rattle.std.proofs.{Common.{rules, ◌≡◌, ◌<◌, ℕ, ◌+◌, List, ◌++◌, codes, length, take, get_or, true, refl, sym, ap, append-nil}, Output.{has_written_append, has_written_of_eq}}
+use Rattle.std.proofs.{Common.{rules, ◌≡◌, ◌<◌, ℕ, ◌+◌, List, ◌++◌, codes, length, take, get_or, true, refl, sym, append-nil}, Output.{has_written_append, has_written_of_eq}}
 use Rattle.std.specs.{Prelude.{flat_map}, Fmt.decimal}
 use Rattle.statistics.proofs.Tables.{grown, row}
 use Rattle.statistics.specs.Counts.{number_of, column, columns}
