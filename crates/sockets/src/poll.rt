@@ -443,6 +443,7 @@ impl<R: Dial> Front for Sockets<'_, R> {
         ensures accepted { IfOk result (λ client. (peer : SocketAddr) × (client.socket ≡ fresh_wire true (Some peer))) }
         ensures lacking { 1 ≤ self.old.lacking
             → IsErrAnd result (λ error. unaccepted_of (error_kind error) ≡ Starved) }
+        ensures none { IfErr result (λ _. Unit {0}) }
         ensures fewer { self.new ≡ record self.old { lacking = self.old.lacking - 1 } }
     {
         if self.lacks_memory() {
