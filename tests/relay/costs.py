@@ -12,8 +12,8 @@ from shared import asked, left_out, served
 # The system calls of a request and its answer over a connection that is alone. A message is reported, read and written, and
 # its side is read once more, which would block; the wire of the other side knows that a read there would.
 CALLS = {"epoll_wait": 2, "recvfrom": 4, "sendto": 2}
-# The instructions of such a request outside the system, as callgrind of valgrind(1) counts them: 5,830, with 3 % of room.
-INSTRUCTIONS = 6_000
+# The instructions of such a request outside the system, as callgrind of valgrind(1) counts them: 3,970, with 3 % of room.
+INSTRUCTIONS = 4_100
 
 
 def ask(client, many):

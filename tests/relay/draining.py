@@ -10,7 +10,7 @@ import subprocess
 import time
 
 from loopback import TESTS, WAIT, Relay, echo, in_thread, settings_file, start, target, until
-from shared import LONGEST, asked, by_time, connected, is_closed_soon, is_open, left_out, numbers_in, unused_port
+from shared import LONGEST, asked, connected, is_closed_soon, is_open, left_out, numbers_in, unused_port
 
 DRAIN = os.path.abspath(f"{TESTS}/../packaging/relayd-drain")
 BUSY = 50
@@ -39,7 +39,6 @@ def ask_until(client, is_over):
     return client.recv(1) == b"" and count
 
 
-@by_time
 def a_signal_cuts_none_of_the_connections():
     # To the process alone as by `kill` and a container's end, and to its group as by systemd and a terminal.
     for send, number in (os.kill, signal.SIGTERM), (os.killpg, signal.SIGTERM), (os.killpg, signal.SIGINT):
