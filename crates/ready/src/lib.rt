@@ -42,8 +42,9 @@
 //! on it to come back exactly if its last `take` gave a ticket and it has put nothing since (`End`: `same`,
 //! `comes_back`, `stays`). The word has no step but a read, and to set or clear bits at once (`Bits`): `withdraw` and
 //! `wake` make one such step, and say what it found (`cleared`), and `all_busy` returns Some exactly if its one look
-//! found no bit (`looked`). A close gives a value that only the mark and a wake of every end make ([`Closed`]). An end that withdraws gets back a wake that was spent on it: an end that found nothing takes the wake,
-//! and an end that found a ticket passes it on.
+//! found no bit (`looked`). A close gives a value that only the mark and a wake of every end make ([`Closed`]). An end
+//! that withdraws gets back a wake that was spent on it: an end that found nothing takes the wake, and an end that found
+//! a ticket passes it on.
 #![tactic(auto)]
 
 mod end;

@@ -15,7 +15,8 @@ abbrev pub peer_message : ℕ → ℕ → List ℕ → List ℕ
 peer_message slot generation address =
     codes "peer s=" ++ (decimal slot ++ (codes " g=" ++ (decimal generation ++ (codes " from=" ++ address))))
 
--- the whole of `peer`, with the client's address as it prints, and that from which the relay connects to the target, if it is given
+-- the whole of `peer`, with the client's address as it prints, and that from which the relay connects to the target, if it
+-- is given
 abbrev pub peer_text : ℕ → ℕ → Option (List ℕ) → Option (Option (List ℕ)) → Option (List ℕ)
 peer_text slot generation from None = Some (peer_message slot generation []) ++? from
 peer_text slot generation from (Some via) = Some (peer_message slot generation []) ++? from ++? Some (codes " via=") ++? via

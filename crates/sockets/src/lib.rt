@@ -12,8 +12,9 @@
 //!
 //! An event names reading if it says that something can be read, or that the socket has failed or was closed
 //! (`names_reading`). Such an event sets the word of the end that its number names, if any (`tell`: `heard`). A socket
-//! is registered under its token's number, with that token's word (`watch`: `registered`). A wait for reports is made once and for as long as is asked for (`Waiter`: `asked`). `bind` asks the system to
-//! listen at the settings' address and no other (`listen`).
+//! is registered under its token's number, with that token's word (`watch`: `registered`). A wait for reports is made
+//! once and for as long as is asked for (`Waiter`: `asked`). `bind` asks the system to listen at the settings' address
+//! and no other (`listen`).
 #![tactic(auto)]
 
 mod bound;

@@ -1,5 +1,5 @@
--- The file of the counts for a monitor, in Prometheus' text exposition format (prometheus.io/docs/instrumenting/exposition_formats).
--- Part of the promises.
+-- The file of the counts for a monitor, in the text exposition format of Prometheus
+-- (prometheus.io/docs/instrumenting/exposition_formats). Part of the promises.
 use Rattle.std.specs.{Prelude.{ℕ, List, map, ◌++◌, codes, [], ◌∷◌, flat_map}, Fmt.decimal}
 use Rattle.token.specs.{Kinds.{all_kinds, kind_name}, Sides.side_name, declared.{kind.Kind.Kind, side.Side.{Side, TheVariants.{Client, Target}}}}
 use Rattle.statistics.specs.{Counts.{at, number_of}, declared.{monitor.Metric.Metric, totals.{Figure.Figure, Totals.Totals}}}
