@@ -2,13 +2,15 @@
 
 import contextlib
 import pathlib
+import re
 import resource
+import shutil
 import socket
 import tempfile
 import threading
 import time
 
-from loopback import WAIT, Relay, echo, in_thread, port_of, target, unheard, until
+from loopback import WAIT, Relay, echo, in_thread, made, port_of, target, unheard, until
 from shared import (
     answer_and_read, ask_once, asked, asking, by_time, having, is_silent, left_out, move_much, numbers_in, served,
 )
@@ -105,6 +107,24 @@ def wakes_the_poller_of_a_freed_slot():
         clients.append(waiting)
     # A poller that nobody wakes waits for 200 ms, unless the slot is free before it waits, as about half of these are.
     assert slow < 4
+
+
+# refuses wake_of_all: a worker that frees a slot wakes every poller, and not the slot's alone
+def wakes_no_other_poller():
+    if not shutil.which("strace"):
+        return left_out("strace")
+    relay = Relay(target(answer_and_read), slots=256, workers=4)
+    clients = served(relay, 16)
+    move_much(relay, *clients)
+
+    def end():
+        for client in clients:
+            client.shutdown(socket.SHUT_WR)
+            assert client.recv(1) == b""
+
+    # By write(2) of 1 to its eventfd(2).
+    wakes = [call for call in made([relay], 0.5, end)[relay] if re.search(r'write\(\d+, "\\1(\\0){7}", 8\)', call)]
+    assert 0 < len(wakes) <= 16, wakes
 
 
 # refuses clients_are_not_dealt: a poller takes each client that it can, however many more than others it has
