@@ -109,6 +109,7 @@ def lets_others_run_under_load():
         assert (lets > 4) == (many > 1) and abs(calls.count("sched_yield(") - lets) <= 1
 
 
+# refuses listener_stays_registered: a front that stops listening leaves the listening socket in its epoll(7)
 def makes_no_call_that_nobody_asked_for():
     # From its only accept(2) on. How often it writes and waits is left out.
     if not shutil.which("strace"):

@@ -1,5 +1,6 @@
 """Many connections at once: slots, pollers, workers, and what they do while nothing comes."""
 
+import collections
 import contextlib
 import pathlib
 import re
@@ -114,17 +115,22 @@ def wakes_no_other_poller():
     if not shutil.which("strace"):
         return left_out("strace")
     relay = Relay(target(answer_and_read), slots=256, workers=4)
-    clients = served(relay, 16)
-    move_much(relay, *clients)
+    clients, waiting = served(relay, 256), asking(relay, 16)
+    move_much(relay, *clients[:16])
 
     def end():
-        for client in clients:
+        for client in clients[:16]:
             client.shutdown(socket.SHUT_WR)
             assert client.recv(1) == b""
+        assert all([client.recv(1) == b"?" for client in waiting])
 
-    # By write(2) of 1 to its eventfd(2).
-    wakes = [call for call in made([relay], 0.5, end)[relay] if re.search(r'write\(\d+, "\\1(\\0){7}", 8\)', call)]
-    assert 0 < len(wakes) <= 16, wakes
+    # A thread wakes a poller by the eight bytes that it writes to an eventfd(2), behind the two close(2) of a connection.
+    acts = collections.defaultdict(str)
+    for call in made([relay], 0.1, end)[relay]:
+        found = re.match(r"(\d+) +(?:<... )?(close|write)\b.* = [08]$", call)
+        if found:
+            acts[found[1]] += found[2][0]
+    assert "ccw" in "".join(acts.values()) and not any("ww" in of_thread for of_thread in acts.values()), acts
 
 
 # refuses clients_are_not_dealt: a poller takes each client that it can, however many more than others it has
