@@ -36,7 +36,7 @@ run: build
 sim: build
 	@$(PROGRAM)
 
-## make pages         writes out/pages/index.html: every contract, with links to all that it cites
+## make pages         writes out/pages/index.html, and for each public call a page with all that its contract cites
 pages: $(PAGES)
 	@echo $(PAGES)
 
