@@ -3,7 +3,7 @@ pub mod Programs
 use Rattle.world.{specs.{declared.limits.Limits.Limits, Headline.EveryRunHolds, CoreLaws.CoreLaws, States.{opening, unused as unused_place}}, proofs.Headline.Ends.Pairs.Holders.{Events.{holds_after, Lists.{get-replicate, get_beside}}, turns_after, turns_on}}
 use Rattle.dispatch.specs.Acts.{gone_turn, quiet_turn, again_turn}
 use Rattle.interleaving.specs.{Threads.{Claim, ProgramsAreThese, gone, resting, run, seen, start}, Likeness.{all_outside, calls_of, exchanges, taken_word, EveryInterleavingIsARun, EveryStepIsFollowed, NoActInVain}}
-use Rattle.std.proofs.lemmas.Option.{option_and_then_some}
+use Rattle.std.proofs.lemmas.Option.{option_and_then_some, same_Some}
 use Programs.*
 
 -- The programs are the server's acts
@@ -56,7 +56,7 @@ module _ (st : System) (p : SlotState) (workers : List WorkerState) (set : Settl
 -- Where an opening is half way, the poller's thread alone acts, and the machine makes no event
 
 module _ {word : WordState} {place : Option Connection} {entry : ℕ} {t : Thread} {c : Connection} where
-  stage_acts : {todo : List Act} → Stage word place entry t c todo → is_over todo ≡ false
+  pub stage_acts : {todo : List Act} → Stage word place entry t c todo → is_over todo ≡ false
   stage_acts (Registered notes is at out) = refl
   stage_acts stage = refl
 
@@ -157,7 +157,7 @@ count_tickets : (xs : List ℕ) → total (of_slot 0) (map ticket xs) ≡ length
 count_tickets [] = refl
 count_tickets (x ∷ xs) = let rest = count_tickets xs in omega arith
 
-count_free : (n : ℕ) → total (is_number 0) (replicate {A = ℕ} n zero) ≡ n
+pub count_free : (n : ℕ) → total (is_number 0) (replicate {A = ℕ} n zero) ≡ n
 count_free zero = refl
 count_free (suc n) = let rest = count_free n in omega arith
 
@@ -190,6 +190,10 @@ no_act_in_vain st w (IsHalfOpen t c workers is half) turns = record {
 }
 
 -- A list of steps
+
+pub run_on : (steps more : List Step) (st mid : System) → run st steps ≡ Some mid → run st (steps ++ more) ≡ run mid more
+run_on [] more st mid ran = ap (λ (q : System). run q more) (same_Some st mid ran)
+run_on (s ∷ steps) more st mid ran = option_and_then_some (λ (q : System). run q steps) (step st s) mid ran (λ q is rest. rw is (run_on steps more q mid rest))
 
 record Ran (st : System) (w : State) (before : List Exchange) (steps : List Step) (to : System) : Type 0 where
   pub events : List Event

@@ -8,11 +8,8 @@ use Rattle.world.proofs.Headline.Ends.Pairs.Holders.Events.Lists.{kept_at}
 use Rattle.interleaving.specs.{Threads.{System, resting, rests_at}, Likeness.EveryInterleavingIsARun, Slots.{AllStandApart, Sees, SeesAll, Many, Server, SlotsStandApart, Step, is_listener, one_slot, rank, run, slot_of, start, step}}
 use Steps.{Apart, Between, FrontsHold, Next}
 use Shared.{next}
+use Rattle.interleaving.proofs.Runs.{run_on}
 use Rattle.interleaving.specs.Threads as alone
-
-pub alone_append : (xs ys : List alone.Step) (st mid : System) → alone.run st xs ≡ Some mid → alone.run st (xs ++ ys) ≡ alone.run mid ys
-alone_append [] ys st mid is = ap (λ (q : System). alone.run q ys) (same_Some st mid is)
-alone_append (x ∷ xs) ys st mid is = option_and_then_some (λ (q : System). alone.run q xs) (alone.step st x) mid is (λ q there rest. rw there (alone_append xs ys q mid rest))
 
 -- a state that steps lead to
 pub record Reached (server : Server) (m : Many) : Type 0 where
@@ -56,7 +53,7 @@ module _ (law : EveryInterleavingIsARun) (server : Server) (inside : (s : ℕ) �
   reach m x n r it = record {
     same = it.server ∙ r.same;
     own = λ s. r.own s ++ (it.each s).own;
-    leads = λ s. alone_append (r.own s) (it.each s).own _ (slot_of m s) (r.leads s) ∙ (it.each s).leads;
+    leads = λ s. run_on (r.own s) (it.each s).own _ (slot_of m s) (r.leads s) ∙ (it.each s).leads;
     apart = it.apart;
     fronts = it.fronts;
   }
@@ -71,7 +68,7 @@ module _ (law : EveryInterleavingIsARun) (server : Server) (inside : (s : ℕ) �
         each = λ s. record {
           own = (it.each s).own ++ (w.each s).own;
           sees = one_more m s x n xs (it.each s).own (w.each s).own (it.each s).sees is (w.each s).sees;
-          leads = alone_append (it.each s).own (w.each s).own (slot_of m s) (slot_of n s) (it.each s).leads ∙ (w.each s).leads;
+          leads = run_on (it.each s).own (w.each s).own (slot_of m s) (slot_of n s) (it.each s).leads ∙ (w.each s).leads;
         };
       })
 

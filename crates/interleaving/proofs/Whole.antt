@@ -1,11 +1,11 @@
 -- A whole server, left alone, comes to rest: each of its own steps makes it lighter.
-use Rattle.std.{proofs.{Common.{Bool, List, None, Option, Some, [], ap, arith, drop, false, if◌then◌else◌, inl, inr, length, map, nat_lt, not, option_map, refl, suc, sym, true, zero, ℕ, ◌&&◌, ◌++◌, ◌+◌, ◌-◌, ◌*◌, ◌==◌, ◌∙◌, ◌∷◌, ◌≡◌, ◌≢◌, ◌≤◌, ◌<◌, ◌⊎◌, eq-eqb, length-append, ltb-true, nat_le, ne_eqb}, lemmas.{Bool.{and_parts, cases_eq}, List.length-drop, Option.{option_and_then_some, same_Some}}}, specs.{Cmp.second_so, List.list_any, Option.is_none}}
+use Rattle.std.{proofs.{Common.{Bool, List, None, Option, Some, [], ap, arith, drop, false, if◌then◌else◌, inl, inr, length, map, nat_lt, not, option_map, refl, suc, sym, true, zero, ℕ, ◌&&◌, ◌++◌, ◌+◌, ◌-◌, ◌*◌, ◌==◌, ◌∙◌, ◌∷◌, ◌≡◌, ◌≢◌, ◌≤◌, ◌<◌, ◌⊎◌, eq-eqb, length-append, ltb-true, nat_le, ne_eqb}, lemmas.{Bool.{and_parts, cases_eq}, List.length-drop, Option.{option_and_then_some, same_Some}}}, specs.{Cmp.second_so, List.{list_all, list_any}, Option.is_none}}
 use Rattle.claims.specs.Words.{one}
 use Rattle.kernel_model.specs.{Kernel.reported, Names.{has, without_names}, declared.accepting.Accepting.{Accepting, TheVariants.{Accepted, Blocked, Again, Starved}}}
 use Rattle.token.specs.declared.name.Name.{Name, TheVariants.Listener as listener_name}
-use Rattle.world.{proofs.Headline.Ends.Pairs.Holders.Events.Lists.{Kept, kept_at, kept_guard, kept_map, kept_none, kept_over, kept_some, kept_when, total_le, total_push}, specs.{States.numbers_below, Support.total}}
-use Rattle.interleaving.specs.{Threads.{System}, Likeness.EveryInterleavingIsARun, Rest.{LeftAloneItEnds, client_weight}, Slots.{Deed, Front, Many, Report, Of, Listener, Waker, Server, Taken, Ticket, Step, Poll, Deliver, Accept, Drop, Open, Begin, Put, Acts, Calls, Sees, answered, are_queued, besides, deed, delivering, first_of, in_hand, is_hand, is_listener, makes, may, may_accept, names_at, one_slot, opening, polled, rank_at, rests, run, set, shared, slot_of, start, step, steps_at, suits, tickets_at, with_front, written}, Whole.{ServersComeToRest, accepted_weight, are_own, front_weight, hand_weight, is_own, is_waker, report_weight, weight, wakes}}
-use Rattle.interleaving.proofs.{Slots.{Reached, alone_append, between, first, goes, reach, Shared.{next}, Steps.{Next}, Views.{Found, found, queued, set_here, set_there}}, Rest.Kernels.{not_so, polled as left_queue}}
+use Rattle.world.{proofs.Headline.Ends.Pairs.Holders.Events.Lists.{Kept, kept_at, kept_guard, kept_map, kept_none, kept_over, kept_some, kept_when, total_le, total_push}, specs.{Calls.when, States.numbers_below, Support.total}}
+use Rattle.interleaving.specs.{Threads.{System}, Likeness.EveryInterleavingIsARun, Rest.{LeftAloneItEnds, client_weight}, Slots.{Deed, Front, Many, Report, Of, Listener, Waker, Server, Taken, Ticket, Step, Poll, Deliver, Accept, Drop, Open, Begin, Put, Acts, Calls, Sees, answered, are_queued, besides, deed, delivering, first_of, in_hand, is_hand, is_listener, makes, may, may_accept, names_at, one_slot, opening, polled, rank_at, rests, run, set, shared, slot_of, start, step, steps_at, suits, tickets_at, with_front, written}, Whole.{ServersComeToRest, accepted_weight, front_weight, hand_weight, is_own, is_waker, report_weight, weight, wakes}}
+use Rattle.interleaving.proofs.{Runs.{run_on}, Slots.{Reached, between, first, goes, reach, Shared.{next}, Steps.{Next}, Views.{Found, found, queued, set_here, set_there}}, Rest.Kernels.{not_so, polled as left_queue}}
 use Rattle.interleaving.specs.Threads as alone
 use Rattle.interleaving.specs.Rest as slot
 use Rattle.kernel_model.specs.Kernel as kernel
@@ -174,7 +174,7 @@ module _ (law : EveryInterleavingIsARun) (ends : LeftAloneItEnds) (server : Serv
           stays s other = same_Some _ _ (rw (ne_eqb d.slot s (λ e. other (sym e))) at (same_at x n it (λ s. steps_at s (Some d)) is s))
 
       -- by one own step of the slot
-      one_lighter : slot.are_own d.own ≡ true → length d.own ≡ 1 → slots_of n + 1 ≤ slots_of m + 0
+      one_lighter : list_all slot.is_own d.own ≡ true → length d.own ≡ 1 → slots_of n + 1 ≤ slots_of m + 0
       one_lighter are one_step =
           let less = ends (one_slot server.limits) (r.own d.slot) d.own (slot_of m d.slot) q refl (r.leads d.slot) are ran in
           slots_lighter 1 0 (omega (arith, less, one_step))
@@ -187,27 +187,27 @@ module _ (law : EveryInterleavingIsARun) (ends : LeftAloneItEnds) (server : Serv
           let k = length (tickets_at d.slot m.tickets) in
           omega (arith, hands_more d.slot d.thread m.tickets (drop k q.tickets), length-drop k q.tickets)
 
+    -- one own step of a slot, which may make a ticket
+    by_one : (x : Step) (d : Deed) (made : System → Many) → IsAt x (λ s. steps_at s (Some d)) → list_all slot.is_own d.own ≡ true → length d.own ≡ 1
+        → ((q : System) → slots_of (made q) + 1 ≤ slots_of m + 0 → total hand_weight (written m d q).tickets ≤ total hand_weight m.tickets + 1 → weight (made q) + 1 ≤ weight m + 2 * wakes x)
+        → Kept (Lighter x) (when (nat_lt d.slot m.server.limits.slots) (option_map made (alone.run (slot_of m d.slot) d.own)))
+    by_one x d made is are one_step leads = kept_when _ _ (λ within. kept_map made (alone.run (slot_of m d.slot) d.own) (λ q ran it.
+        leads q (one_lighter x (made q) d q it is ran within are one_step) (made_few x (made q) d q it is ran within)))
+
     -- the next act or call of a thread
     threads : (x : Step) (i : ℕ) (own : List alone.Step) → let d : Deed = record { slot = m.busy_at i; thread = i; own = own } in
-        IsAt x (λ s. steps_at s (Some d)) → slot.are_own own ≡ true → length own ≡ 1 → nat_lt (m.busy_at i) m.server.limits.slots ≡ true
-        → (q : System) → alone.run (slot_of m (m.busy_at i)) own ≡ Some q → Lighter x (written m d q)
-    threads x i own is are one_step within q ran it =
+        IsAt x (λ s. steps_at s (Some d)) → list_all slot.is_own own ≡ true → length own ≡ 1
+        → Kept (Lighter x) (when (nat_lt d.slot m.server.limits.slots) (option_map (λ (q : System). written m d q) (alone.run (slot_of m d.slot) own)))
+    threads x i own is are one_step =
         let d : Deed = record { slot = m.busy_at i; thread = i; own = own } in
-        let n = written m d q in
-        sums _ _ _ _ _ _ _ (one_lighter x n d q it is ran within are one_step) (made_few x n d q it is ran within)
-      where
-        sums : (s' s b h' h f w : ℕ) → s' + 1 ≤ s + 0 → h' ≤ h + 1 → (2 * s' + (b + (h' + f))) + 1 ≤ (2 * s + (b + (h + f))) + w
-        sums s' s b h' h f w slots hands = omega arith
+        by_one x d (λ q. written m d q) is are one_step (λ q slots hands. omega (arith, slots, hands))
 
     -- one front and the backlog
     fronts_only : (x : Step) (p : ℕ) (new : Front) (b : ℕ) → p < m.server.limits.workers → IsAt x (λ s. [])
         → ((1 + A) * b + front_weight m.server.limits new) + 1 ≤ (1 + A) * m.backlog + front_weight m.server.limits (m.fronts p)
         → Lighter x (record (with_front m p new) { backlog = b })
     fronts_only x p new b below none less it =
-        sums _ _ _ _ _ _ _ _ _ _ (slots_same x (record (with_front m p new) { backlog = b }) it none) (front_changed p new below) less
-      where
-        sums : (s' s b' b h f' f new old w : ℕ) → s' ≡ s → f' + old ≡ f + new → (b' + new) + 1 ≤ b + old → (2 * s' + (b' + (h + f'))) + 1 ≤ (2 * s + (b + (h + f))) + w
-        sums s' s b' b h f' f new old w same fronts less = omega arith
+        omega (arith, slots_same x (record (with_front m p new) { backlog = b }) it none, front_changed p new below, less)
 
     opens : (p s : ℕ) → may m (Open p s) ≡ true → Kept (Lighter (Open p s)) (makes m (Open p s) (deed m (Open p s)))
     opens p s allowed = kept_when _ _ (λ within. kept_map _ (alone.run (slot_of m s) opening) (λ q ran it.
@@ -221,7 +221,7 @@ module _ (law : EveryInterleavingIsARun) (ends : LeftAloneItEnds) (server : Serv
       where
         opened : (q : System) → alone.run (slot_of m s) opening ≡ Some q → slot.weight q + 3 ≤ slot.weight (slot_of m s) + ((1 + client_weight m.server.limits) + 17)
         opened q ran = option_and_then_some (λ (st : System). alone.run st (drop 1 opening)) (alone.step (slot_of m s) alone.Connect) q ran (λ st is rest.
-            let before = alone_append (r.own s) (alone.Connect ∷ []) (alone.start (one_slot server.limits)) (slot_of m s) (r.leads s) ∙ rw is refl in
+            let before = run_on (r.own s) (alone.Connect ∷ []) (alone.start (one_slot server.limits)) (slot_of m s) (r.leads s) ∙ rw is refl in
             let less = ends (one_slot server.limits) (r.own s ++ alone.Connect ∷ []) (drop 1 opening) st q refl before refl rest in
             let more = kept_at (alone.step (slot_of m s) alone.Connect) st is (connects_weigh (slot_of m s)) in
             omega (arith, less, more))
@@ -237,46 +237,35 @@ module _ (law : EveryInterleavingIsARun) (ends : LeftAloneItEnds) (server : Serv
     delivers p below (Listener ∷ rest) is = rw is (kept_some (fronts_only (Deliver p) p (record (m.fronts p) { flag = true; batch = rest }) m.backlog below
         (λ s own e. rw is at e) (rw is (omega arith))))
     delivers p below (Waker ∷ rest) is = rw is (kept_some (fronts_only (Deliver p) p (record (m.fronts p) { batch = rest }) m.backlog below (λ s own e. rw is at e) (rw is (omega arith))))
-    delivers p below (Of s name ∷ rest) is = kept_when _ _ (λ within. kept_map _ (alone.run (slot_of m s) (alone.Deliver ∷ [])) (λ q ran it.
+    delivers p below (Of s name ∷ rest) is =
         let d : Deed = record { slot = s; thread = p; own = alone.Deliver ∷ [] } in
-        let n = besides m (Deliver p) (written m d q) in
         let sees : IsAt (Deliver p) (λ t. steps_at t (Some d)) = λ t own e. e ∙ ap (λ (rs : List Report). steps_at t (delivering p rs)) is in
-        let slots = one_lighter (Deliver p) n d q it sees ran within refl refl in
-        let hands = made_few (Deliver p) n d q it sees ran within in
         let new : Front = record (m.fronts p) { batch = drop 1 (m.fronts p).batch } in
         let weighs : front_weight m.server.limits new ≡ front_weight m.server.limits (m.fronts p) = rw is (omega arith) in
-        sums _ _ _ _ _ _ _ _ _ slots hands (front_changed p new below) weighs))
-      where
-        sums : (s' s b h' h f' f old : ℕ) (new : ℕ) → s' + 1 ≤ s + 0 → h' ≤ h + 1 → f' + old ≡ f + new → new ≡ old → (2 * s' + (b + (h' + f'))) + 1 ≤ (2 * s + (b + (h + f))) + 2 * 0
-        sums s' s b h' h f' f old new slots hands fronts same = omega arith
+        by_one (Deliver p) d (λ q. besides m (Deliver p) (written m d q)) sees refl refl (λ q slots hands. omega (arith, slots, hands, front_changed p new below, weighs))
 
     -- a turn, with the ticket c
     begins : (i : ℕ) (from : Option ℕ) (most : ℕ) → nat_le 4 most ≡ true → (o : Option Taken) → first_of (suits i from) m.tickets ≡ o
         → Kept (Lighter (Begin i from most)) (makes m (Begin i from most)
         (option_map (λ (c : Taken). record { slot = c.ticket.slot; thread = i; own = alone.Begin (rank_at m c.ticket.slot i) most ∷ [] }) o))
     begins i from most four None is = kept_none
-    begins i from most four (Some c) is = kept_when _ _ (λ within. kept_map _ (alone.run (slot_of m c.ticket.slot) (alone.Begin (rank_at m c.ticket.slot i) most ∷ [])) (λ q ran it.
-        let own : List alone.Step = alone.Begin (rank_at m c.ticket.slot i) most ∷ [] in
-        let d : Deed = record { slot = c.ticket.slot; thread = i; own = own } in
-        let n = besides m (Begin i from most) (written m d q) in
+    begins i from most four (Some c) is =
+        let d : Deed = record { slot = c.ticket.slot; thread = i; own = alone.Begin (rank_at m c.ticket.slot i) most ∷ [] } in
         let sees : IsAt (Begin i from most) (λ t. steps_at t (Some d)) = λ t own e. e
         ∙ ap (λ (o : Option Taken). steps_at t (option_map (λ (c : Taken). record { slot = c.ticket.slot; thread = i; own = alone.Begin (rank_at m c.ticket.slot i) most ∷ [] }) o)) is in
-        let slots = one_lighter (Begin i from most) n d q it sees ran within (rw four refl) refl in
-        let hands = (taken_weighs (suits i from) m.tickets c is).1 in
-        rw is (sums _ _ _ _ _ _ _ (rw is at slots) hands)))
-      where
-        sums : (s' s b h' h f g : ℕ) → s' + 1 ≤ s + 0 → h' + g ≡ h → (2 * s' + (b + (h' + f))) + 1 ≤ (2 * s + (b + (h + f))) + 2 * 0
-        sums s' s b h' h f g slots hands = omega arith
+        by_one (Begin i from most) d (λ q. besides m (Begin i from most) (written m d q)) sees (rw four refl) refl (λ q slots hands.
+        rw is (omega (arith, rw is at slots, (taken_weighs (suits i from) m.tickets c is).1)))
 
     puts : (i s : ℕ) → Kept (Lighter (Put i s)) (shared m (Put i s))
     puts i s = kept_map _ (first_of (suits i (Some s)) m.tickets) (λ c is it.
         let taken = taken_weighs (suits i (Some s)) m.tickets c is in
-        let one_less = in_a_hand i s c.ticket taken.0 in
-        let pushed = total_push hand_weight c.rest (record c.ticket { hand = None }) in
-        sums _ _ _ _ _ _ _ _ (slots_same (Put i s) (record m { tickets = c.rest ++ record c.ticket { hand = None } ∷ [] }) it (λ t own e. e)) pushed taken.1 one_less)
-      where
-        sums : (s' s b h' h f r g : ℕ) → s' ≡ s → h' ≡ r + 0 → r + g ≡ h → g ≡ 1 → (2 * s' + (b + (h' + f))) + 1 ≤ (2 * s + (b + (h + f))) + 2 * 0
-        sums s' s b h' h f r g same pushed taken less = omega arith
+        omega (
+          arith,
+          slots_same (Put i s) (record m { tickets = c.rest ++ record c.ticket { hand = None } ∷ [] }) it (λ t own e. e),
+          in_a_hand i s c.ticket taken.0,
+          total_push hand_weight c.rest (record c.ticket { hand = None }),
+          taken.1,
+        ))
 
     accepts : (p : ℕ) (reply : Accepting) → slot.is_settled reply ≡ true → p < m.server.limits.workers
         → may_accept m.server p (m.fronts p) ≡ true → Kept (Lighter (Accept p reply)) (answered m p reply)
@@ -330,18 +319,16 @@ module _ (law : EveryInterleavingIsARun) (ends : LeftAloneItEnds) (server : Serv
     lighter (Open p s) own = kept_when _ _ (λ may. opens p s may)
     lighter (Begin i from most) own = kept_when (rests m i) _ (λ rested. begins i from most own (first_of (suits i from) m.tickets) refl)
     lighter (Put i s) own = puts i s
-    lighter (Acts i) own = kept_when _ _ (λ within. kept_map _ (alone.run (slot_of m (m.busy_at i)) (alone.Acts (rank_at m (m.busy_at i) i) ∷ [])) (λ q ran.
-        threads (Acts i) i _ (λ t own e. e) refl refl within q ran))
-    lighter (Calls i reply) own = kept_when _ _ (λ within. kept_map _ (alone.run (slot_of m (m.busy_at i)) (alone.Calls (rank_at m (m.busy_at i) i) reply ∷ [])) (λ q ran.
-        threads (Calls i reply) i _ (λ t own e. e) (rw own refl) refl within q ran))
+    lighter (Acts i) own = threads (Acts i) i (alone.Acts (rank_at m (m.busy_at i) i) ∷ []) (λ t own e. e) refl refl
+    lighter (Calls i reply) own = threads (Calls i reply) i (alone.Calls (rank_at m (m.busy_at i) i) reply ∷ []) (λ t own e. e) (rw own refl) refl
     lighter x own = absurd (cc)
 
   -- A list of steps
 
-  rests_on : (own : List Step) (m next : Many) → Reached server m → are_own own ≡ true → run m own ≡ Some next → length own + weight next ≤ weight m + 2 * total wakes own
+  rests_on : (own : List Step) (m next : Many) → Reached server m → list_all is_own own ≡ true → run m own ≡ Some next → length own + weight next ≤ weight m + 2 * total wakes own
   rests_on [] m next_ r are ran = rw (← same_Some m next_ ran) (omega arith)
   rests_on (x ∷ xs) m to r are ran = option_and_then_some (λ (n : Many). run n xs) (step m x) to ran (λ n is rest.
-      let parts = and_parts (is_own x) (are_own xs) are in
+      let parts = and_parts (is_own x) (list_all is_own xs) are in
       let it : Next m x n = kept_at {P = Next m x} (step m x) n is (next m (between law server inside m r) x) in
       let less = kept_at {P = Lighter m r x} (step m x) n is (lighter m r x parts.0) it in
       let more = rests_on xs n to (reach law server inside m x n r it) parts.1 rest in

@@ -1,7 +1,7 @@
 -- Left alone, the threads come to rest. Part of the promises. A state has a weight, a number that each step of the
 -- relay's own makes smaller. What a step uses up weighs more than all that it may bring about: so each weight is 1, for
 -- the step, and the weight of what may come of it.
-use Rattle.std.specs.Prelude.{◌≡◌, ℕ, ◌+◌, ◌*◌, ◌<◌, ◌≤◌, Bool, true, false, not, ◌&&◌, nat_lt, nat_le, if◌then◌else◌, List, [], ◌∷◌, length, slice_get, Option, Some, None, ◌⊎◌}
+use Rattle.std.specs.{List.list_all, Prelude.{◌≡◌, ℕ, ◌+◌, ◌*◌, ◌<◌, ◌≤◌, Bool, true, false, not, ◌&&◌, nat_lt, nat_le, if◌then◌else◌, List, [], ◌∷◌, length, slice_get, Option, Some, None, ◌⊎◌}}
 use Rattle.token.specs.{declared.direction.Direction.Direction, Names.last_generation, Sides.{destination, opposite}}
 use Rattle.flow.specs.Stream.{Stream, waiting}
 use Rattle.kernel_model.specs.{declared.{reply.Reply.Reply, accepting.Accepting.{Accepting, TheVariants.{Accepted, Blocked, Again, Starved}}}, Kernel.{KernelState, Registered}}
@@ -151,16 +151,12 @@ slot_weight st =
 abbrev pub weight : System → ℕ
 weight st = kernel_weight st.limits st.kernel + (poller_weight st + (slot_weight st + total thread_weight st.threads))
 
-abbrev pub are_own : List Step → Bool
-are_own [] = true
-are_own (s ∷ steps) = is_own s && are_own steps
-
 -- From any state to which steps lead, each step of the relay's own makes the weight smaller by at least 1, whichever
 -- thread makes it. So no more of them can follow, in any order, than the state weighs
 abbrev pub LeftAloneItEnds : Type 0
 LeftAloneItEnds =
     (l : Limits) (before own : List Step) (st next : System) → l.slots ≡ 1 → run (start l) before ≡ Some st
-    → are_own own ≡ true → run st own ≡ Some next → length own + weight next ≤ weight st
+    → list_all is_own own ≡ true → run st own ≡ Some next → length own + weight next ≤ weight st
 
 -- Rest
 

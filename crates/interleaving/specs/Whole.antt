@@ -1,6 +1,6 @@
 -- A whole server, left alone, comes to rest. Part of the promises. What a server weighs is what each of its slots weighs
 -- (`Rest.antt`), twice, since a step at a slot may leave a ticket in a hand; and what slots share.
-use Rattle.std.specs.{Prelude.{◌≡◌, ℕ, ◌+◌, ◌*◌, ◌<◌, ◌≤◌, Bool, true, false, not, ◌&&◌, nat_lt, nat_le, List, [], ◌∷◌, length, Some}, Option.is_none}
+use Rattle.std.specs.{Prelude.{◌≡◌, ℕ, ◌+◌, ◌*◌, ◌<◌, ◌≤◌, Bool, true, false, not, ◌&&◌, nat_lt, nat_le, List, [], ◌∷◌, length, Some}, List.list_all, Option.is_none}
 use Rattle.claims.specs.Words.{one}
 use Rattle.world.specs.{declared.limits.Limits.Limits, States.numbers_below, Support.total}
 use Rattle.interleaving.specs.{Rest.{client_weight, is_settled, is_answered, post_weight}, Slots.{Server, Report, Listener, Waker, Of, Front, Ticket, Many, Step, Poll, Deliver, Accept, Drop, Open, Begin, Put, Acts, Calls, start, slot_of, run}}
@@ -18,10 +18,6 @@ is_own (Put i s) = true
 is_own (Acts i) = true
 is_own (Calls i r) = is_answered r
 is_own x = false
-
-abbrev pub are_own : List Step → Bool
-are_own [] = true
-are_own (x ∷ xs) = is_own x && are_own xs
 
 -- the reports of the waker that a poll gives: of each may come a poll and a delivery that do nothing else
 abbrev pub is_waker : Report → ℕ
@@ -66,5 +62,5 @@ weight m = 2 * slots_weight m + shared_weight m
 abbrev pub ServersComeToRest : Type 0
 ServersComeToRest =
     (server : Server) (before own : List Step) (m next : Many) → ((s : ℕ) → server.owner s < server.limits.workers)
-    → run (start server) before ≡ Some m → are_own own ≡ true → run m own ≡ Some next
+    → run (start server) before ≡ Some m → list_all is_own own ≡ true → run m own ≡ Some next
     → length own + weight next ≤ weight m + 2 * total wakes own

@@ -1,14 +1,15 @@
--- What a thread does makes the state lighter: each act of its program, and each call.
-use Rattle.std.{proofs.{Common.{Bool, List, None, Option, Some, [], ap, arith, drop, false, if◌then◌else◌, inl, inr, length, refl, replicate, slice_get, subst, suc, sym, true, zero, ℕ, ◌&&◌, ◌++◌, ◌+◌, ◌-◌, ◌*◌, ◌==◌, ◌∙◌, ◌∷◌, ◌≡◌, ◌≢◌, ◌≤◌, ◌⊎◌, eq-eqb, eqb-true, length-append}, lemmas.{Bool.{and_parts, cases_eq, Decides.nat_tests}}}, specs.{Option.is_none, Prelude.{IsSome}}}
+-- What a thread does leaves a sound state, which its own steps make lighter: each act of its program, and each call.
+use Rattle.std.{proofs.{Common.{Bool, List, None, Option, Some, [], ap, arith, drop, false, if◌then◌else◌, inl, inr, length, refl, slice_get, slice_set, subst, suc, sym, true, zero, ℕ, ◌&&◌, ◌++◌, ◌+◌, ◌-◌, ◌*◌, ◌==◌, ◌∙◌, ◌∷◌, ◌≡◌, ◌≢◌, ◌≤◌, ◌<◌, ◌⊎◌, eq-eqb, eqb-true, leb-false, leb-true, length-append, nat_le}, lemmas.{Grind.common_steps, List.length-set, Bool.{and_parts, cases_eq, Decides.nat_tests}}}, specs.{Option.is_none, Prelude.{IsSome}}}
 use Rattle.claims.specs.Words.{WordState, some_wait, wakes, word_after, one}
-use Rattle.kernel_model.specs.{Kernel.{KernelState, end_at}, declared.{reply.Reply.Reply}}
-use Rattle.relay_core.specs.{Order.next_call, Pairs.{PairState, is_live, verdict, fresh}, Idle.{is_overdue, is_past, expired, timed_out}}
-use Rattle.token.specs.{declared.{side.Side.{Side, TheVariants.{Client, Target}}}}
-use Rattle.world.{proofs.Headline.Ends.Pairs.Holders.{Events.Lists.{Kept, kept_at, kept_bind, kept_map, kept_none, kept_some, kept_when, total-set}, Turns, is_number}, specs.{Calls.{OpenConnection, called, descriptor}, Headline.{end_of}, Slots.{SlotState, WorkerState}, States.State, Steps.{connection_at, is_worn, token_of}, Support.total, declared.{connection.Connection.Connection, limits.Limits.Limits}}}
-use Rattle.interleaving.specs.{Likeness.{Adopted, Emptied, Entered, Goes, HalfOpen, HasClosed, HasOut, HasRetired, HolderLike, Holds, IsHalfOpen, IsHolder, IsSettled, Leaves, Like, Opens, Placed, Posted, Registered as IsRegistered, Rests, Stage, Stays, ThreadLike, Tries, Finds, ends_of, machine_of, opened_slot}, Threads.{Act, Call, PutIn, Release, again, ended, open_slot, plan, quiet, turn, System, Thread, acts, calls, goes_on, heard, planned, posted, registering, released, taken_out, taking, with_thread}, Rest.{calls_left, calls_to_come, client_weight, connection_weight, end_weight, is_answered, kernel_weight, move_weight, notes_weight, pair_weight, poller_weight, post_weight, program_weight, slot_weight, socket_weight, spent_weight, thread_weight, ticket_weight, weight}}
-use Rattle.claims.specs.Words as word
+use Rattle.kernel_model.specs.{Ends.opened, Kernel.{KernelState, Registered, end_at, lowest_free}, declared.{both.Descriptors.Descriptors, reply.Reply.Reply}}
+use Rattle.relay_core.specs.{Order.next_call, Pairs.{PairState, is_live, verdict}, Idle.{is_overdue, is_past, expired, timed_out}}
+use Rattle.token.specs.{Names.{EndName, last_generation}, declared.{side.Side.{Side, TheVariants.{Client, Target}}}}
+use Rattle.world.{proofs.Headline.Ends.Pairs.Holders.{Events.Lists.{Kept, at_one, kept_at, kept_bind, kept_map, kept_none, kept_some, kept_when, opened_here, opened_other, total-set}, Turns}, specs.{Calls.{OpenConnection, called, descriptor}, Headline.{end_of}, Slots.{SlotState, WorkerState}, States.State, Steps.{connection_at, is_worn, token_of}, Support.total, declared.{connection.Connection.Connection, limits.Limits.Limits}}}
+use Rattle.interleaving.specs.{Likeness.{Adopted, Emptied, Entered, Goes, HalfOpen, HasClosed, HasOut, HasRetired, HolderLike, Holds, IsHalfOpen, IsHolder, IsSettled, Leaves, Like, Opens, Placed, Posted, Registered as IsRegistered, Rests, Stage, Stays, ThreadLike, Tries, Finds, ends_of, machine_of, opened_slot}, Threads.{Act, Call, again, ended, gone, open_slot, plan, quiet, turn, System, Thread, acts, begun, calls, goes_on, heard, planned, posted, registering, released, taken_out, taking, with_thread}, Rest.{calls_left, calls_to_come, client_weight, end_weight, is_answered, kernel_weight, move_weight, notes_weight, pair_weight, poller_weight, post_weight, program_weight, slot_weight, socket_weight, spent_weight, thread_weight, ticket_weight, weight}}
 use Rattle.kernel_model.specs.Kernel as kernel
-use Rattle.interleaving.proofs.Rest.{Pairs.{four_left, some_left, either}, Replies.{Called, Outcome, Moved, Waited, Over, calls_answered}, Kernels.{LighterKernel, both_opened, both_closed}}
+use Rattle.interleaving.proofs.{Runs.{count_free, Programs.by_plan}, Rest.{Pairs.{four_left, some_left}, Replies.{rest_most, rest_weight, calls_answered}, Kernels.{both_opened, both_closed}}}
+
+-- Which programs there are
 
 -- its connection is out, and both ends of that are open
 pub record IsOut (st : System) (t : Thread) (c : Connection) : Type 0 where
@@ -36,28 +37,15 @@ pub data Known (st : System) (i : ℕ) (t : Thread) : List Act → Type 0 where
   Retiring : Known st i t (drop 1 ended)
   Giving : t.generation ≡ st.entry → Known st i t (drop 2 ended)
 
-count_free : (n : ℕ) → total (is_number 0) (replicate {A = ℕ} n zero) ≡ n
-count_free zero = refl
-count_free (suc n) = let rest = count_free n in omega arith
-
 ends_at : (p : SlotState) (c : Connection) → p.connection ≡ Some c → ends_of p ≡ Some c.ends
 ends_at p c lies = rw lies refl
 
 module _ (st : System) (i : ℕ) (t : Thread) where
-  known_plan : (c : Connection) → IsOut st t c → Known st i t (plan t.left c.pair)
-  known_plan c out = go (is_live (verdict c.pair)) (is_none (next_call c.pair)) (t.left == 0) refl
-    where
-      go : (live none spent : Bool) → is_none (next_call c.pair) ≡ none → Known st i t (if live then (if none then quiet else (if spent then again else Call ∷ [])) else ended)
-      go true true spent is = Resting
-      go true false true is = Spending
-      go true false false is = Calling c out is
-      go false none spent is = Ending c out
-
   known_holder : {budget : ℕ} {place : Option Connection} {p : SlotState} {c : Connection} {more : ℕ} {todo : List Act} → (t.out ≡ Some c → IsOut st t c)
       → HolderLike budget place p t c more todo → Known st i t todo
   known_holder out (Holds at least all some) = TakingOut
   known_holder out (HasOut at is least all some) = Taking
-  known_holder {c = c} out (Goes at is least) = known_plan c (out is)
+  known_holder {c = c} out (Goes at is least) = by_plan (Known st i t) t.left c.pair (λ live none. Resting) (λ live some spent. Spending) (λ live some left. Calling c (out is) some) (λ over. Ending c (out is))
   known_holder out (Stays at live) = Posting
   known_holder out (Leaves at may) = Releasing
 
@@ -79,14 +67,6 @@ module _ (st : System) (i : ℕ) (t : Thread) where
   known_stage free (Placed is at own) = Posting
   known_stage free (Posted is at own) = Releasing
 
-  known_half : (first : Thread) (c : Connection) (workers : List WorkerState) → HalfOpen st first c workers → st.free ≡ 0 → slice_get st.threads i ≡ Some t
-      → (i ≡ 0) ⊎ (i ≢ 0) → Known st i t t.todo
-  known_half first c workers half free there (inl this) =
-      let same : t ≡ first = cc half.first in
-      let stage : Stage st.word st.place st.entry first c t.todo = rw same half.stage in
-      known_stage free stage
-  known_half first c workers half free there (inr other) = rw (half.others i t other there).0 Nothing
-
   pub known : (w : State) → Like st w → Turns w → ((c : Connection) → connection_at w 0 ≡ Some c → (side : Side) → IsSome (end_of w c side)) → slice_get st.threads i ≡ Some t
       → Known st i t t.todo
   known w (IsSettled p workers is set) turns opens there =
@@ -94,242 +74,194 @@ module _ (st : System) (i : ℕ) (t : Thread) where
       let entry : Some st.entry ≡ Some p.generation = (now.each 0 p refl).entry in
       let at = rw is at opens in
       known_thread (cc entry) (λ c lies has. record { out = has; ends = set.ends ∙ ends_at p c lies; open_ends = at c lies }) (set.threads i t there).like
-  known w (IsHalfOpen first c workers is half) turns opens there =
-      let now : Turns (machine_of st (opened_slot first.generation c) first.generation (first.generation ∷ []) workers) = rw is at turns in
-      let gone = (now.each 0 (opened_slot first.generation c) refl).gone in
-      let count = count_free st.free in
-      known_half first c workers half (omega arith) there (cases_eq i 0)
+  known w (IsHalfOpen first c workers is half) turns opens there = by (cases_eq i 0)
+    where
+      now : Turns (machine_of st (opened_slot first.generation c) first.generation (first.generation ∷ []) workers)
+      now = rw is at turns
 
--- A step of one thread
+      by : (i ≡ 0) ⊎ (i ≢ 0) → Known st i t t.todo
+      by (inl this) =
+          let same : t ≡ first = cc half.first in
+          let stage : Stage st.word st.place st.entry first c t.todo = rw same half.stage in
+          known_stage (omega (arith, (now.each 0 (opened_slot first.generation c) refl).gone, count_free st.free)) stage
+      by (inr other) = rw (half.others i t other there).0 Nothing
 
-abbrev pub Lighter : System → System → Type 0
-Lighter st next = weight next + 1 ≤ weight st
+-- What is sound
+
+-- All but the threads: the slot's two descriptors differ; a slot is free for an accepted client, and has a generation left
+pub record Base (l : Limits) (st : System) : Type 0 where
+  pub limits : st.limits ≡ l
+  pub apart : (e : Descriptors) → st.ends ≡ Some e → e.client ≢ e.target
+  pub some_free : st.accepted ≡ true → 1 ≤ st.free
+  pub unworn : l.generation < last_generation → 1 ≤ st.free → st.entry < last_generation
+
+-- and the poller opens only with an accepted client
+pub record Sound (l : Limits) (st : System) : Type 0 where
+  pub base : Base l st
+  pub open base use *
+  pub count : length st.threads ≡ l.workers
+  pub begun : (t : Thread) → slice_get st.threads 0 ≡ Some t → t.todo ≡ open_slot → st.accepted ≡ true
+
+-- The step from st to `next` left a sound state, which is lighter if the step is the relay's own
+pub record Fine (l : Limits) (st : System) (own : Bool) (next : System) : Type 0 where
+  pub sound : Sound l next
+  pub lighter : own ≡ true → weight next + 1 ≤ weight st
 
 -- all but the threads
-abbrev pub others_weight : System → ℕ
+abbrev others_weight : System → ℕ
 others_weight st = kernel_weight st.limits st.kernel + (poller_weight st + slot_weight st)
+
+one_end : (ends : List (Option Registered)) {d e : ℕ} (a b : Registered) → end_at ends d ≡ Some a → end_at ends e ≡ Some b → d ≡ e → a ≡ b
+one_end ends a b at also same = cc (ap (end_at ends) same)
+
+two_ends : (k : KernelState) (client target : EndName) → client.side ≡ Client → target.side ≡ Target
+    → (kernel.open_both k client target).told.client ≢ (kernel.open_both k client target).told.target
+two_ends k client target this that same =
+    let first = (kernel.open_end k client).value in
+    let a : Registered = record { token = client; socket = opened client.side } in
+    let b : Registered = record { token = target; socket = opened target.side } in
+    let still = opened_other first.ends (lowest_free k.ends) b (opened_here k.ends a) in
+    let both = one_end (kernel.open_both k client target).value.ends a b still (opened_here first.ends b) same in
+    let sides : Client ≡ Target = sym this ∙ (ap (λ (r : Registered). r.token.side) both ∙ that) in
+    cc
+
+side_is : (side : Side) (g : ℕ) (n : EndName) → token_of 0 side g ≡ Some n → n.side ≡ side
+side_is side g n is = grind (arith, common_steps)
+
+-- What weighs
 
 spent_none : (left : ℕ) → spent_weight left 0 ≡ 0
 spent_none left = grind (arith, nat_tests)
 
-spent_more : (left m n : ℕ) → m ≤ n → spent_weight left m ≤ spent_weight left n
-spent_more left m n more = grind (arith, nat_tests)
-
--- a turn that goes on comes to its end, and posts if its calls are spent
+spent_full : (left : ℕ) → 4 ≤ left → spent_weight left 4 ≡ 0
+spent_full left four = grind (arith, nat_tests)
 
 spent_all : (left n : ℕ) → left ≡ 0 → 1 ≤ n → spent_weight left n ≡ post_weight
 spent_all left n none some = grind (arith, nat_tests)
+
+spent_more : (left m n : ℕ) → m ≤ n → spent_weight left m ≤ spent_weight left n
+spent_more left m n more = grind (arith, nat_tests)
 
 pub the_some : {X : Type 0} (o : Option X) → is_none o ≡ false → (x : X) × (o ≡ Some x)
 the_some None some = cc
 the_some (Some x) some = (x, refl)
 
-abbrev Within : ℕ → ℕ → Connection → List Act → Type 0
-Within left calls c todo = program_weight todo + spent_weight left (calls_to_come todo (Some c)) ≤ 1 + (end_weight + spent_weight left calls)
+-- a turn that goes on comes to its end, and posts if its calls are spent
+plan_weighs : (left : ℕ) (p : PairState) (c : Connection) → c.pair ≡ p → program_weight (plan left p) + spent_weight left (calls_to_come (plan left p) (Some c)) ≤ rest_weight left p
+plan_weighs left p c is = by_plan (λ todo. program_weight todo + spent_weight left (calls_to_come todo (Some c)) ≤ rest_weight left p) left p
+    (λ live none. rw live (omega (arith, spent_none left)))
+    (λ live some spent. let next = the_some (next_call p) some in
+    rw live (omega (arith, spent_none left, spent_all left (calls_left p) (eqb-true left 0 spent) (some_left p next.0 next.1))))
+    (λ live some more. rw (live, is) (omega arith)) (λ over. rw over (omega (arith, spent_none left)))
 
-plan_weighs : (left : ℕ) (p : PairState) (c : Connection) → c.pair ≡ p
-    → Within left (calls_left p) c (plan left p)
-plan_weighs left p c is = go (is_live (verdict p)) (is_none (next_call p)) (left == 0) refl refl
-  where
-    go : (live none spent : Bool) → is_none (next_call p) ≡ none → (left == 0) ≡ spent
-        → Within left (calls_left p) c (if live then (if none then quiet else (if spent then again else Call ∷ [])) else ended)
-    go true true spent nothing all = omega (arith, spent_none left)
-    go true false true some all =
-        let next = the_some (next_call p) some in
-        let full = spent_all left (calls_left p) (eqb-true left 0 all) (some_left p next.0 (either p next.0 next.1)) in
-        omega (arith, spent_none left)
-    go true false false some more = rw is (omega arith)
-    go false none spent any all = omega (arith, spent_none left)
-
-planned_weighs : (st : System) (t : Thread) (left : ℕ) (c : Connection) → thread_weight (planned st t left c) ≤ 1 + (end_weight + (spent_weight left (calls_left c.pair) + pair_weight c.pair))
+planned_weighs : (st : System) (t : Thread) (left : ℕ) (c : Connection) → thread_weight (planned st t left c) ≤ rest_weight left c.pair + pair_weight c.pair
 planned_weighs st t left c =
     let p = expired st.second st.limits.idle c.pair in
     let same = by (is_overdue st.second st.limits.idle c.pair) in
-    let most = plan_weighs left p (record c { pair = p }) refl in
-    sums _ _ _ _ _ _ _ most same.0 same.1
+    omega (arith, plan_weighs left p (record c { pair = p }) refl, same.0, same.1)
   where
-    by : (b : Bool) → let p = if b then timed_out c.pair else c.pair in (pair_weight p ≡ pair_weight c.pair) × (calls_left p ≡ calls_left c.pair)
-    by true = (refl, refl)
-    by false = (refl, refl)
-
-    sums : (a b n m w v k : ℕ) → a + b ≤ 1 + (k + spent_weight left n) → w ≡ v → n ≡ m → a + (b + w) ≤ 1 + (k + (spent_weight left m + v))
-    sums a b n m w v k most same fewer = let left : spent_weight left n ≡ spent_weight left m = ap (spent_weight left) fewer in omega arith
-
--- a turn whose connection is over closes it
-planned_over : (st : System) (t : Thread) (left : ℕ) (c : Connection) → is_live (verdict c.pair) ≡ false → thread_weight (planned st t left c) ≤ 4 + pair_weight c.pair
-planned_over st t left c over = by (is_overdue st.second st.limits.idle c.pair) refl
-  where
-    by : (b : Bool) → is_overdue st.second st.limits.idle c.pair ≡ b → thread_weight (planned st t left c) ≤ 4 + pair_weight c.pair
-    by true late = absurd (
-        let past = is_past st.second st.limits.idle c.pair.moved in
-        let live = and_parts past (is_live (verdict c.pair)) (and_parts (past && is_live (verdict c.pair)) _ late).0 in
-        cc)
-    by false late = rw (late, over) (omega (arith, spent_none left))
+    by : (b : Bool) → let p = if b then timed_out c.pair else c.pair in (pair_weight p ≡ pair_weight c.pair) × (rest_weight left p ≤ rest_weight left c.pair)
+    by true = (refl, (rest_most left c.pair).0)
+    by false = (refl, omega arith)
 
 heard_weighs : (notes : ℕ) (c : Connection) → pair_weight (heard notes c).pair ≤ pair_weight c.pair + 4
 heard_weighs notes c = grind arith
-
--- a note, a ticket
 
 one_more : (b : Bool) (tickets : List ℕ) (g : ℕ) → length (if b then tickets ++ g ∷ [] else tickets) ≤ length tickets + 1
 one_more b tickets g = grind (arith, length-append {A = ℕ})
 
 pub posted_weighs : (st : System) (g : ℕ) → slot_weight (posted st g) ≤ slot_weight st + post_weight
-posted_weighs st g = let more = one_more (wakes st.word) st.tickets g in omega arith
+posted_weighs st g = omega (arith, one_more (wakes st.word) st.tickets g)
 
 released_weighs : (st : System) (g : ℕ) → slot_weight (released st g) ≤ slot_weight st + ticket_weight
-released_weighs st g = let more = one_more (some_wait st.word.pending) st.tickets g in omega arith
+released_weighs st g = omega (arith, one_more (some_wait st.word.pending) st.tickets g)
 
-closed_weighs : (l : Limits) (k q : KernelState) → LighterKernel k q → kernel_weight l q ≤ kernel_weight l k
-closed_weighs l k q less = rw less.backlog (sums _ _ _ _ _ less.ends less.queue)
-  where
-    sums : (a b c d x : ℕ) → a ≤ b → c ≤ d → a + (17 * c + x) ≤ b + (17 * d + x)
-    sums a b c d x one two = omega arith
+-- A step of one thread
 
-spent_most : (left n : ℕ) → spent_weight left n ≤ post_weight
-spent_most left n = grind (arith, nat_tests)
+not_opening : {X : Type 0} (left : ℕ) (p : PairState) → plan left p ≡ open_slot → X
+not_opening {X} left p = by_plan (λ todo. todo ≡ open_slot → X) left p (λ live none e. absurd (cc)) (λ live some spent e. absurd (cc)) (λ live some left e. absurd (cc)) (λ over e. absurd (cc))
 
-spent_less : (left m n : ℕ) → m + 1 ≤ n → spent_weight (left - 1) m ≤ spent_weight left n
-spent_less left m n less = grind (arith, nat_tests)
-
-module _ (st : System) (i : ℕ) (t : Thread) (there : slice_get st.threads i ≡ Some t) where
-  -- it gives up more than comes of it
-  pub goes_lighter : (next : System) (u : Thread) → next.threads ≡ st.threads → others_weight next + (thread_weight u + 1) ≤ others_weight st + thread_weight t → Lighter st (with_thread next i u)
-  goes_lighter next u same less =
-      let threads = total-set thread_weight st.threads i t u there in
-      rw same (sums _ _ _ _ _ _ _ _ _ _ threads less)
+module _ {l : Limits} {st : System} (s : Sound l st) (i : ℕ) (t : Thread) (there : slice_get st.threads i ≡ Some t) where
+  -- the thread becomes u, and gives up more than comes of it
+  pub goes : {own : Bool} (q : System) (u : Thread) → q.threads ≡ slice_set st.threads i u → Base l q → (i ≢ 0 → q.accepted ≡ st.accepted) → (u.todo ≡ open_slot → q.accepted ≡ true)
+      → (own ≡ true → others_weight q + (thread_weight u + 1) ≤ others_weight st + thread_weight t) → Fine l st own q
+  goes q u is base same opens less = record {
+    sound = record { base = base; count = ap (λ (ts : List Thread). length ts) is ∙ length-set st.threads i u ∙ s.count; begun = λ v at. by v (at_one st.threads 0 there is at) };
+    lighter = λ own. rw is (sums _ _ _ _ _ _ _ _ _ _ (total-set thread_weight st.threads i t u there) (less own));
+  }
     where
+      by : (v : Thread) → ((0 ≡ i) × (v ≡ u)) ⊎ ((0 ≡ i → ⊥) × (slice_get st.threads 0 ≡ Some v)) → v.todo ≡ open_slot → q.accepted ≡ true
+      by v (inl it) begins = opens (rw it.1 at begins)
+      by v (inr it) begins = same (λ e. it.0 (sym e)) ∙ s.begun v it.1 begins
+
       sums : (k' p' s' k p s c d x y : ℕ) → x + c ≡ y + d → (k' + (p' + s')) + (d + 1) ≤ (k + (p + s)) + c → (k' + (p' + (s' + x))) + 1 ≤ k + (p + (s + y))
       sums k' p' s' k p s c d x y threads less = omega arith
 
-  -- the rest of a program, after an act that changes nothing that weighs
-  on_lighter : (next : System) (rest : List Act) → next.threads ≡ st.threads → others_weight next ≤ others_weight st → thread_weight (goes_on t rest) + 1 ≤ thread_weight t
-      → Lighter st (with_thread next i (goes_on t rest))
-  on_lighter next rest same others less = goes_lighter next (goes_on t rest) same (sums _ _ _ _ others less)
-    where
-      sums : (a b c d : ℕ) → a ≤ b → d + 1 ≤ c → a + (d + 1) ≤ b + c
-      sums a b c d others less = omega arith
+  chosen : (b : Bool) (x y : System) → Fine l st true x → Fine l st true y → Fine l st true (if b then x else y)
+  chosen true x y p q = p
+  chosen false x y p q = q
 
-  -- The acts
+  takes : (o : Option Connection) → t.out ≡ o → t.todo ≡ drop 2 turn → some_wait st.word.pending ≡ true → Fine l st true (taking st i t [] o)
+  takes None none is some = goes _ _ refl (assumption s) (λ e. refl) (λ e. cc) (λ own. rw (is, none) (omega (arith, spent_none t.left)))
+  -- the notes pay for the turn's calls and its end
+  takes (Some c) has is some =
+      let c' = heard st.word.pending c in
+      goes _ _ refl (assumption s) (λ e. refl) (not_opening t.left (expired st.second st.limits.idle c'.pair)) (λ own. rw (is, has)
+      (omega (arith, ap one some, planned_weighs st t t.left c', (rest_most t.left c'.pair).1, spent_more t.left (calls_left c'.pair) 4 (four_left c'.pair), heard_weighs st.word.pending c)))
 
-  abbrev pub OneAct : List Act → Type 0
-  OneAct todo = t.todo ≡ todo → Finds st.word st.place t.generation todo → Kept (Lighter st) (acts st i t todo)
+  closes : t.todo ≡ ended → Kept (Fine l st true) (acts st i t ended)
+  closes is = kept_bind _ t.out (λ c has. kept_map _ (kernel.close_both st.kernel c.ends) (λ told may.
+      let none : (e : Descriptors) → None ≡ Some e → e.client ≢ e.target = λ e at. absurd (cc) in
+      let less = kept_at (kernel.close_both st.kernel c.ends) told may (both_closed st.limits st.kernel c.ends) in
+      goes _ _ refl (assumption (s, none)) (λ e. refl) (λ e. cc) (λ own. rw is (omega arith))))
 
-  claims : OneAct turn
-  claims is free = rw free (kept_some (on_lighter (record st { word = word_after word.claim st.word }) (drop 1 turn) refl (omega arith) (rw is (omega arith))))
-
-  takes_out : OneAct (drop 1 turn)
-  takes_out is (c, at, own) =
-      let place : connection_weight st.place ≡ pair_weight c.pair = rw at refl in
-      kept_some (subst (λ (o : Option Connection). Lighter st (taken_out st i t (drop 2 turn) o)) (sym at) (rw (eq-eqb c.pair.generation t.generation own)
-      (goes_lighter (record st { place = None }) (record t { out = Some c; todo = drop 2 turn }) refl (rw is (omega arith)))))
-
-  -- the notes that a turn takes pay for its calls and its end
-  takes_with : (o : Option Connection) → t.out ≡ o → t.todo ≡ drop 2 turn → some_wait st.word.pending ≡ true → Lighter st (taking st i t [] o)
-  takes_with None none is some = on_lighter (record st { word = word_after word.take st.word }) [] refl (omega arith) (rw (is, none) (omega (arith, spent_none t.left)))
-  takes_with (Some c) has is some =
-      let next = planned_weighs st t t.left (heard st.word.pending c) in
-      let flags = heard_weighs st.word.pending c in
-      let spent = spent_more t.left (calls_left (heard st.word.pending c).pair) 4 (four_left (heard st.word.pending c).pair) in
-      goes_lighter (record st { word = word_after word.take st.word }) (planned st t t.left (heard st.word.pending c)) refl
-      (rw (is, has) (sums _ _ _ _ _ _ _ _ _ (rw some refl) next spent flags))
-    where
-      sums : (k p x n u s m v w : ℕ) → n ≡ 1 → u ≤ 1 + (end_weight + (s + m)) → s ≤ v → m ≤ w + 4 → (k + (p + (0 + x))) + (u + 1) ≤ (k + (p + (notes_weight * n + x))) + (2 + (v + w))
-      sums k p x n u s m v w one most spent flags = omega arith
-
-  takes : OneAct (drop 2 turn)
-  takes is some = kept_some (takes_with t.out refl is some)
-
-  puts : (rest : List Act) → program_weight (PutIn ∷ rest) ≡ 1 + program_weight rest → calls_to_come rest None ≡ 0 → calls_to_come (PutIn ∷ rest) t.out ≡ 0 → t.todo ≡ PutIn ∷ rest
-      → Kept (Lighter st) (acts st i t (PutIn ∷ rest))
-  puts rest weighs none nothing is = kept_some (goes_lighter (record st { place = t.out }) (record t { out = None; todo = rest }) refl (rw (is, none, nothing, weighs) (omega arith)))
-
-  posts : OneAct (drop 1 again)
-  posts is find = let more = posted_weighs st t.generation in kept_some (goes_lighter (posted st t.generation) (goes_on t (Release ∷ [])) refl (rw is (omega arith)))
-
-  releases : OneAct (drop 1 quiet)
-  releases is find = let more = released_weighs st t.generation in kept_some (goes_lighter (released st t.generation) (goes_on t []) refl (rw is (omega arith)))
-
-  closes : OneAct ended
-  closes is find = kept_bind _ t.out (λ c has. kept_map _ (kernel.close_both st.kernel c.ends) (λ told may.
-      let less = closed_weighs st.limits st.kernel told.value (kept_at (kernel.close_both st.kernel c.ends) told may (both_closed st.kernel c.ends)) in
-      goes_lighter (record st { kernel = told.value; ends = None; past = st.past ++ record { slot = 0; generation = c.pair.generation; verdict = verdict c.pair; ends = told.told } ∷ [] })
-      (record t { out = None; todo = drop 1 ended }) refl (rw is (omega arith))))
-
-  retires : OneAct (drop 1 ended)
-  retires is find = kept_some (on_lighter (record st { word = word_after word.retire st.word }) (drop 2 ended) refl (omega arith) (rw is (omega arith)))
-
-  gives : OneAct (drop 2 ended)
-  gives is find = kept_some (by (is_worn t.generation))
-    where
-      by : (b : Bool) → Lighter st (with_thread (if b then st else record st { free = suc st.free }) i (goes_on t []))
-      by true = on_lighter st [] refl (omega arith) (rw is (omega arith))
-      by false = on_lighter (record st { free = suc st.free }) [] refl (omega arith) (rw is (omega arith))
+  gives : t.generation ≡ st.entry → t.todo ≡ drop 2 ended → (b : Bool) → is_worn t.generation ≡ b
+      → Fine l st true (with_thread (if b then st else record st { free = suc st.free }) i (goes_on t []))
+  gives own is true worn = goes _ _ refl (assumption s) (λ e. refl) (λ e. cc) (λ one. rw is (omega arith))
+  gives own is false not_worn =
+      let free : st.accepted ≡ true → 1 ≤ suc st.free = λ yes. omega arith in
+      let less : l.generation < last_generation → 1 ≤ suc st.free → st.entry < last_generation =
+      λ below some. (let most = leb-false last_generation t.generation not_worn in omega arith) in
+      goes _ _ refl (assumption (s, free, less)) (λ e. refl) (λ e. cc) (λ one. rw is (omega arith))
 
   -- the client that was accepted pays for a fresh connection and the opening
-  registers : (free : ℕ) → t.todo ≡ open_slot → Kept (Lighter st) (registering st i t (drop 1 open_slot) free)
-  registers zero is = kept_none
-  registers (suc free) is = kept_when st.accepted _ (λ accepted. kept_bind _ (token_of 0 Client (st.entry + 1)) (λ client one. kept_map _ (token_of 0 Target (st.entry + 1)) (λ target two.
-      let told = kernel.open_both st.kernel client target in
-      let less = both_opened st.kernel client target in
-      goes_lighter (record st { kernel = told.value; accepted = false; free = free; ends = Some told.told })
-      (record t { generation = st.entry + 1; out = Some (record { pair = fresh 0 (st.entry + 1) st.limits.ring st.second st.limits.lead; ends = told.told }); todo = drop 1 open_slot })
-      refl (rw (is, accepted) (omega arith)))))
+  registers : i ≡ 0 → t.todo ≡ open_slot → (free : ℕ) → st.free ≡ free → Kept (Fine l st true) (registering st i t (drop 1 open_slot) free)
+  registers first is zero some = kept_none
+  registers first is (suc free) some = kept_when st.accepted _ (λ accepted. kept_bind _ (token_of 0 Client (st.entry + 1)) (λ client one. kept_map _ (token_of 0 Target (st.entry + 1)) (λ target two.
+      let differ = two_ends st.kernel client target (side_is Client (st.entry + 1) client one) (side_is Target (st.entry + 1) target two) in
+      goes _ _ refl (record { limits = s.limits; apart = λ e at same. differ (cc); some_free = λ yes. absurd (cc); unworn = λ below more. s.unworn below (omega arith) })
+      (λ later. absurd (later first)) (λ e. cc) (λ own. rw (is, accepted) (omega (arith, both_opened st.kernel client target))))))
 
-  adopts : OneAct (drop 1 open_slot)
-  adopts is free = rw free (kept_some (on_lighter (record st { word = word_after word.adopt st.word }) (drop 2 open_slot) refl (omega arith) (rw is (omega arith))))
-
-  enters : OneAct (drop 2 open_slot)
-  enters is find = kept_some (on_lighter (record st { entry = t.generation }) (drop 3 open_slot) refl (omega arith) (rw is (omega arith)))
-
-  discards : OneAct (drop 3 open_slot)
-  discards is find = kept_some (on_lighter (record st { word = word_after word.take st.word }) (drop 4 open_slot) refl (omega arith) (rw is (omega arith)))
-
-  pub acts_lighter : {todo : List Act} → Known st i t todo → OneAct todo
-  acts_lighter Nothing is find = kept_none
-  acts_lighter (Opening own) is find = registers st.free is
-  acts_lighter Adopting is find = adopts is find
-  acts_lighter (Entering own) is find = enters is find
-  acts_lighter Discarding is find = discards is find
-  acts_lighter Posting is find = posts is find
-  acts_lighter Releasing is find = releases is find
-  acts_lighter Claiming is find = claims is find
-  acts_lighter TakingOut is find = takes_out is find
-  acts_lighter Taking is find = takes is find
-  acts_lighter (Calling c out next) is find = kept_none
-  acts_lighter Resting is find = puts (drop 1 quiet) refl refl refl is
-  acts_lighter Spending is find = puts (drop 1 again) refl refl refl is
-  acts_lighter (Ending c out) is find = closes is find
-  acts_lighter Retiring is find = retires is find
-  acts_lighter (Giving own) is find = gives is find
+  pub acts_fine : {todo : List Act} → Known st i t todo → t.todo ≡ todo → Finds st.word st.place t.generation todo → Kept (Fine l st true) (acts st i t todo)
+  acts_fine Nothing is find = kept_none
+  acts_fine (Calling c out next) is find = kept_none
+  acts_fine (Opening first) is find = registers first is st.free refl
+  acts_fine (Entering none) is find =
+      let never : l.generation < last_generation → 1 ≤ st.free → t.generation < last_generation = λ below some. absurd (omega (arith, none)) in
+      kept_some (goes _ _ refl (assumption (s, never)) (λ e. refl) (λ e. cc) (λ own. rw is (omega arith)))
+  acts_fine Adopting is find = kept_some (chosen st.word.free _ _ (goes _ _ refl (assumption s) (λ e. refl) (λ e. cc) (λ own. rw is (omega arith)))
+      (goes _ _ refl (assumption s) (λ e. refl) (λ e. cc) (λ own. rw is (omega (arith, spent_none 0)))))
+  acts_fine Claiming is find = kept_some (chosen st.word.held _ _ (goes _ _ refl (assumption s) (λ e. refl) (λ e. cc) (λ own. rw is (omega (arith, spent_none 0))))
+      (goes _ _ refl (assumption s) (λ e. refl) (λ e. cc) (λ own. rw is (omega arith))))
+  acts_fine TakingOut is (c, at, own) = kept_some (subst (λ (o : Option Connection). Fine l st true (taken_out st i t (drop 2 turn) o)) (sym at) (rw (eq-eqb c.pair.generation t.generation own)
+      (goes (with_thread (record st { place = None }) i (record t { out = Some c; todo = drop 2 turn })) _ refl (assumption s) (λ e. refl) (λ e. cc) (λ one. rw (is, at) (omega arith)))))
+  acts_fine Taking is some = kept_some (takes t.out refl is some)
+  acts_fine (Ending c out) is find = closes is
+  acts_fine (Giving own) is find = kept_some (gives own is (is_worn t.generation) refl)
+  acts_fine known is find =
+      kept_some (goes _ _ refl (assumption s) (λ e. refl) (λ e. cc) (λ own. rw is (omega (arith, posted_weighs st t.generation, released_weighs st t.generation))))
 
   -- a call
 
-  calls_on : (r : Reply) (c : Connection) (line : OpenConnection) → Called (record { kernel = st.kernel; connection = c }) line → t.todo ≡ Call ∷ [] → t.out ≡ Some c
-      → Lighter st (with_thread (record st { kernel = line.kernel }) i (planned st t (t.left - 1) line.connection))
-  calls_on r c line a is has =
-      goes_lighter (record st { kernel = line.kernel }) (planned st t (t.left - 1) line.connection) refl (rw (is, has, a.queue, a.backlog) (by a.outcome))
-    where
-      moved : (e' e z o u m' m s' s : ℕ) → e' + (m' + move_weight) ≤ e + m → u ≤ 1 + (end_weight + (s' + m')) → s' ≤ post_weight → ((e' + z) + o) + (u + 1) ≤ ((e + z) + o) + (8 + (s + m))
-      moved e' e z o u m' m s' s less most spent = omega arith
+  pub calls_fine : {todo : List Act} (r : Reply) → Known st i t todo → t.todo ≡ todo → Kept (Fine l st (is_answered r)) (calls st i t r todo)
+  calls_fine r (Calling _ out next) is = kept_bind _ t.out (λ c has. kept_map _ (called st.second (record { kernel = st.kernel; connection = c }) r) (λ line replied.
+      goes _ _ refl (assumption s) (λ e. refl) (not_opening (t.left - 1) (expired st.second st.limits.idle line.connection.pair)) (λ settled.
+      let a = kept_at (called st.second (record { kernel = st.kernel; connection = c }) r) line replied (calls_answered st.second (record { kernel = st.kernel; connection = c }) r settled) in
+      rw (is, has, a.queue, a.backlog) (omega (arith, a.lighter t.left, planned_weighs st t (t.left - 1) line.connection)))))
+  calls_fine r Nothing is = kept_none
+  calls_fine r _ is = kept_none
 
-      waited : (e' e z o u m' m s' s : ℕ) → e' ≡ e → m' + 1 ≤ m → u ≤ 1 + (end_weight + (s' + m')) → s' ≤ s → ((e' + z) + o) + (u + 1) ≤ ((e + z) + o) + (8 + (s + m))
-      waited e' e z o u m' m s' s same less most spent = omega arith
-
-      over : (e' e z o u m' m s : ℕ) → e' ≡ e → m' ≡ m → u ≤ 4 + m' → ((e' + z) + o) + (u + 1) ≤ ((e + z) + o) + (8 + (s + m))
-      over e' e z o u m' m s same pair most = omega arith
-
-      by : Outcome (record { kernel = st.kernel; connection = c }) line
-          → ((total socket_weight line.kernel.ends + ((2 + post_weight) * length st.kernel.queue + (1 + client_weight st.limits) * st.kernel.backlog)) + (poller_weight st + slot_weight st))
-          + (thread_weight (planned st t (t.left - 1) line.connection) + 1) ≤ others_weight st + (8 + (spent_weight t.left (calls_left c.pair) + pair_weight c.pair))
-      by (Moved less) = moved _ _ _ _ _ _ _ _ _ less (planned_weighs st t (t.left - 1) line.connection) (spent_most (t.left - 1) (calls_left line.connection.pair))
-      by (Waited same less fewer) = waited _ _ _ _ _ _ _ _ _ same less (planned_weighs st t (t.left - 1) line.connection)
-          (spent_less t.left (calls_left line.connection.pair) (calls_left c.pair) fewer)
-      by (Over same pair ends) = over _ _ _ _ _ _ _ _ same pair (planned_over st t (t.left - 1) line.connection ends)
-
-  pub calls_lighter : {todo : List Act} (r : Reply) → is_answered r ≡ true → Known st i t todo → t.todo ≡ todo → Kept (Lighter st) (calls st i t r todo)
-  calls_lighter r settled (Calling _ out next) is = kept_bind _ t.out (λ c has. kept_map _ (called st.second (record { kernel = st.kernel; connection = c }) r) (λ line replied.
-      calls_on r c line (kept_at (called st.second (record { kernel = st.kernel; connection = c }) r) line replied
-      (calls_answered st.second (record { kernel = st.kernel; connection = c }) r settled)) is has))
-  calls_lighter r settled Nothing is = kept_none
-  calls_lighter r settled _ is = kept_none
+  pub begins_fine : (most : ℕ) (tickets : List ℕ) → st.tickets ≡ tickets → t.todo ≡ [] → Kept (Fine l st (nat_le 4 most)) (begun st i most tickets)
+  begins_fine most [] is rest = kept_none
+  begins_fine most (g ∷ tickets) is rest =
+      kept_some (goes _ _ refl (assumption s) (λ e. refl) (λ e. cc) (λ four. rw (is, rest) (omega (arith, spent_full most (leb-true 4 most four)))))

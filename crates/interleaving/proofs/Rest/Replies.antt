@@ -1,43 +1,39 @@
 -- What a call with its reply makes of the weight of a connection and of the sockets.
-use Rattle.std.proofs.{Common.{List, None, Option, Some, true, false, arith, length, refl, ap, ℕ, ◌*◌, ◌+◌, ◌≡◌, ◌≤◌, ◌∙◌, option_map, slice_get, slice_set}, lemmas.{Grind.common_steps}}
+use Rattle.std.proofs.{Common.{Bool, List, None, Option, Some, true, false, if◌then◌else◌, arith, length, refl, ℕ, ◌*◌, ◌+◌, ◌-◌, ◌≡◌, ◌≤◌, option_map, slice_get, slice_set}, lemmas.{Grind.common_steps, Bool.Decides.nat_tests}}
 use Rattle.kernel_model.specs.{Ends.EndState, Kernel.{KernelState, Registered, end_at}, Replies.{after_read, bytes_read}, declared.reply.Reply.Reply}
 use Rattle.relay_core.specs.{Calls.side_of, Order.{next_call}, Pairs.{PairState, is_live, verdict}, Replies.{after, fits}, declared.call.Call.{Call, TheVariants.{Join, Read, Shut, Write}}}
-use Rattle.world.{proofs.Headline.Ends.Pairs.Holders.Events.{end_after, Lists.{Kept, kept_bind, kept_map, kept_none, kept_over, kept_some, kept_when, total-set}}, specs.{Calls.{OpenConnection, descriptor, made, plain, told_of}, Support.total}}
+use Rattle.world.{proofs.Headline.Ends.Pairs.Holders.Events.{end_after, Lists.{Kept, kept_bind, kept_map, kept_over, kept_when, total-set}}, specs.{Calls.{OpenConnection, descriptor, made, plain, told_of}, Support.total}}
 unfoldable use Rattle.world.specs.Calls.{called}
-use Rattle.interleaving.specs.Rest.{calls_left, is_answered, move_weight, pair_weight, socket_weight}
-use Rattle.interleaving.proofs.Rest.Pairs.{fewer_left, clears, read_by, moves_less, flags_stay, failed_weighs, failed_ends, either, up_if_next}
+use Rattle.interleaving.specs.Rest.{calls_left, end_weight, is_answered, move_weight, pair_weight, post_weight, socket_weight, spent_weight}
+use Rattle.interleaving.proofs.Rest.Pairs.{blocks, read_by, moves_less, flags_stay}
 use Rattle.kernel_model.specs.Kernel as kernel
 use Rattle.kernel_model.specs.declared.reply.Reply.TheVariants as reply
 use Rattle.relay_core.specs.Replies as answer
 
--- a call that was made, with what the pair was told and the socket that it left
-record Answered (now : ℕ) (l : OpenConnection) (r : Reply) (next : OpenConnection) : Type 0 where
-  pub call : Call
-  pub value : answer.AnswerValue
-  pub old : Registered
-  pub socket : EndState
-  pub first : next_call l.connection.pair ≡ Some call
-  pub told : told_of l call r ≡ Some value
-  pub fit : fits l.connection.pair call value ≡ true
-  pub there : end_at l.kernel.ends (descriptor l.connection.ends (side_of call)) ≡ Some old
-  pub replied : end_after l.connection.pair call r old.socket ≡ Some socket
-  pub leaves : next ≡ record {
-    kernel = record l.kernel { ends = slice_set l.kernel.ends (descriptor l.connection.ends (side_of call)) (Some (record old { socket = socket })) };
-    connection = record l.connection { pair = after now l.connection.pair call value };
-  }
+spent_most : (left n : ℕ) → spent_weight left n ≤ post_weight
+spent_most left n = grind (arith, nat_tests)
 
-made_is : (l : OpenConnection) (call : Call) (r : Reply) → made l call r ≡ kernel.called l.kernel (descriptor l.connection.ends (side_of call)) (end_after l.connection.pair call r)
-made_is l (Read side most) r = refl
-made_is l (Write side) r = refl
-made_is l (Join side) r = refl
-made_is l (Shut side) r = refl
+spent_less : (left m n : ℕ) → m + 1 ≤ n → spent_weight (left - 1) m ≤ spent_weight left n
+spent_less left m n less = grind (arith, nat_tests)
 
-answered : (now : ℕ) (l : OpenConnection) (r : Reply) → Kept (Answered now l r) (called now l r)
-unfolding called
-answered now l r = kept_bind _ (next_call l.connection.pair) (λ call first. kept_bind _ (told_of l call r) (λ value told. kept_when (fits l.connection.pair call value) _ (λ fit.
-    rw (made_is l call r) (kept_over _ _ (kept_bind _ (end_at l.kernel.ends (descriptor l.connection.ends (side_of call))) (λ old there.
-    kept_map _ (end_after l.connection.pair call r old.socket) (λ socket replied.
-    record { call = call; value = value; old = old; socket = socket; first = first; told = told; fit = fit; there = there; replied = replied; leaves = refl })))))))
+-- what a turn weighs that goes on with this pair, at most: its calls and its end, or the closing of a connection that is over
+abbrev pub rest_weight : ℕ → PairState → ℕ
+rest_weight left p = if is_live (verdict p) then 1 + (end_weight + spent_weight left (calls_left p)) else 4
+
+pub rest_most : (left : ℕ) (p : PairState) → (4 ≤ rest_weight left p) × (rest_weight left p ≤ 1 + (end_weight + spent_weight left (calls_left p)))
+rest_most left p = by (is_live (verdict p)) (spent_weight left (calls_left p))
+  where
+    by : (b : Bool) (n : ℕ) → (4 ≤ (if b then 1 + (end_weight + n) else 4)) × ((if b then 1 + (end_weight + n) else 4) ≤ 1 + (end_weight + n))
+    by true n = (omega arith, omega arith)
+    by false n = (omega arith, omega arith)
+
+-- A call moves something, or it blocks, and one call less is left; or the pair is over
+pub record Called (l next : OpenConnection) : Type 0 where
+  pub lighter : (left : ℕ) → let p = l.connection.pair in let q = next.connection.pair in
+      (total socket_weight next.kernel.ends + (rest_weight (left - 1) q + pair_weight q)) + 1
+      ≤ total socket_weight l.kernel.ends + ((1 + (end_weight + spent_weight left (calls_left p))) + pair_weight p)
+  pub queue : next.kernel.queue ≡ l.kernel.queue
+  pub backlog : next.kernel.backlog ≡ l.kernel.backlog
 
 there_is : (ends : List (Option Registered)) (d : ℕ) (r : Registered) → end_at ends d ≡ Some r → slice_get ends d ≡ Some (Some r)
 there_is ends d r at = grind (arith, common_steps)
@@ -57,77 +53,47 @@ read_off : (l : OpenConnection) (p : PairState) (call : Call) (r : Reply) (value
 read_off l p (Read side most) (reply.Bytes n) value old socket told there replied = read_some old.socket socket most n value (rw there at told) replied
 read_off l p call r value old socket told there replied = read_none p call r value old.socket socket told replied
 
--- A call has moved something, or it blocked, or the pair is over
-pub data Outcome (l next : OpenConnection) : Type 0 where
-  Moved : total socket_weight next.kernel.ends + (pair_weight next.connection.pair + move_weight) ≤ total socket_weight l.kernel.ends + pair_weight l.connection.pair
-      → Outcome l next
-  Waited : total socket_weight next.kernel.ends ≡ total socket_weight l.kernel.ends → pair_weight next.connection.pair + 1 ≤ pair_weight l.connection.pair
-      → calls_left next.connection.pair + 1 ≤ calls_left l.connection.pair → Outcome l next
-  Over : total socket_weight next.kernel.ends ≡ total socket_weight l.kernel.ends → pair_weight next.connection.pair ≡ pair_weight l.connection.pair
-      → is_live (verdict next.connection.pair) ≡ false → Outcome l next
-
-pub record Called (l next : OpenConnection) : Type 0 where
-  pub outcome : Outcome l next
-  pub queue : next.kernel.queue ≡ l.kernel.queue
-  pub backlog : next.kernel.backlog ≡ l.kernel.backlog
-
 -- a call that is not interrupted has another answer
 answers_all : (l : OpenConnection) (call : Call) (r : Reply) → told_of l call r ≡ Some answer.Interrupted → is_answered r ≡ true → ⊥
 answers_all l call r told settled = grind (arith, common_steps)
 
-sums : (ends' ends m' m f' f k : ℕ) → ends' + move_weight * (2 * k) ≡ ends → m' + 1 ≤ m + 2 * k → f' ≡ f → ends' + ((move_weight * m' + f') + move_weight) ≤ ends + (move_weight * m + f)
-sums ends' ends m' m f' f k off fewer same = omega arith
+module _ (now : ℕ) (l : OpenConnection) (r : Reply) (call : Call) (next : next_call l.connection.pair ≡ Some call) (old : Registered) (socket : EndState)
+    (there : end_at l.kernel.ends (descriptor l.connection.ends (side_of call)) ≡ Some old) (replied : end_after l.connection.pair call r old.socket ≡ Some socket) where
+  -- the call is answered so
+  abbrev line : answer.AnswerValue → OpenConnection
+  line value = record {
+    kernel = record l.kernel { ends = slice_set l.kernel.ends (descriptor l.connection.ends (side_of call)) (Some (record old { socket = socket })) };
+    connection = record l.connection { pair = after now l.connection.pair call value };
+  }
 
-kept_from : {X : Type 0} {P Q : X → Type 0} {o : Option X} → Kept P o → ((x : X) → P x → Q x) → Kept Q o
-kept_from {o = None} k f = kept_none
-kept_from {o = Some x} k f = kept_some (f x k.kept)
+  -- the sockets weigh less by what was read
+  less : (value : answer.AnswerValue) → told_of l call r ≡ Some value → total socket_weight (line value).kernel.ends + move_weight * (2 * read_by value) ≡ total socket_weight l.kernel.ends
+  less value told =
+      let d = descriptor l.connection.ends (side_of call) in
+      let off = read_off l l.connection.pair call r value old socket told there replied in
+      omega (arith, total-set socket_weight l.kernel.ends d (Some old) (Some (record old { socket = socket })) (there_is l.kernel.ends d old there))
 
-module _ (now : ℕ) (l : OpenConnection) (r : Reply) (next : OpenConnection) (a : Answered now l r next) where
-  abbrev p : PairState
-  p = l.connection.pair
+  lighter : (value : answer.AnswerValue) → told_of l call r ≡ Some value → fits l.connection.pair call value ≡ true → is_answered r ≡ true → Called l (line value)
+  lighter answer.Blocked told fit settled =
+      let it = blocks now l.connection.pair call next fit in
+      let q = after now l.connection.pair call answer.Blocked in
+      record { lighter = λ left. omega (arith, less answer.Blocked told, it.0, spent_less left (calls_left q) (calls_left l.connection.pair) it.1, (rest_most (left - 1) q).1); queue = refl; backlog = refl }
+  lighter answer.Interrupted told fit settled = absurd (answers_all l call r told settled)
+  lighter (answer.Failed kind) told fit settled =
+      record { lighter = λ left. omega (arith, less (answer.Failed kind) told); queue = refl; backlog = refl }
+  lighter value told fit settled =
+      let q = after now l.connection.pair call value in
+      let moves = moves_less now l.connection.pair call value next fit refl in
+      let flags = flags_stay now l.connection.pair call value refl in
+      record { lighter = λ left. omega (arith, less value told, moves, flags, spent_most (left - 1) (calls_left q), (rest_most (left - 1) q).1); queue = refl; backlog = refl }
 
-  abbrev sockets : ℕ
-  sockets = total socket_weight l.kernel.ends
-
-  -- the sockets' weight with this one in place of the old
-  less : total socket_weight next.kernel.ends + socket_weight (Some a.old) ≡ sockets + socket_weight (Some (record a.old { socket = a.socket }))
-  less =
-      let d = descriptor l.connection.ends (side_of a.call) in
-      rw a.leaves (total-set socket_weight l.kernel.ends d (Some a.old) (Some (record a.old { socket = a.socket })) (there_is l.kernel.ends d a.old a.there))
-
-  sockets_less : total socket_weight next.kernel.ends + move_weight * (2 * read_by a.value) ≡ sockets
-  sockets_less =
-      let off = read_off l p a.call r a.value a.old a.socket a.told a.there a.replied in
-      let same = less in
-      omega arith
-
-  pair_is : {value : answer.AnswerValue} → a.value ≡ value → next.connection.pair ≡ after now p a.call value
-  pair_is is = rw (a.leaves, is) refl
-
-  interrupted : {X : Type 0} → a.value ≡ answer.Interrupted → is_answered r ≡ true → X
-  interrupted is settled = absurd (answers_all l a.call r (a.told ∙ ap Some is) settled)
-
-  moved : (value : answer.AnswerValue) → a.value ≡ value → answer.moves value ≡ true → Outcome l next
-  moved value is moves =
-      let fit = rw is at a.fit in
-      let fewer = moves_less now p a.call value a.first fit moves in
-      let flags = flags_stay now p a.call value moves in
-      let off = rw is at sockets_less in
-      Moved (rw (pair_is is) (sums _ _ _ _ _ _ (read_by value) off fewer flags))
-
-  outcome : (value : answer.AnswerValue) → a.value ≡ value → is_answered r ≡ true → Outcome l next
-  outcome answer.Blocked is settled =
-      let fit = rw is at a.fit in
-      let at = either p a.call a.first in
-      let lighter = clears now p a.call (up_if_next now p a.call fit at) in
-      let off = rw is at sockets_less in
-      Waited (omega arith) (rw (pair_is is) (omega arith)) (rw (pair_is is) (fewer_left now p a.call fit at))
-  outcome answer.Interrupted is settled = interrupted is settled
-  outcome (answer.Failed kind) is settled =
-      let off = rw is at sockets_less in
-      Over (omega arith) (rw (pair_is is) (failed_weighs now p a.call kind)) (rw (pair_is is) (failed_ends now p a.call kind))
-  outcome value is settled = moved value is refl
+made_is : (l : OpenConnection) (call : Call) (r : Reply) → made l call r ≡ kernel.called l.kernel (descriptor l.connection.ends (side_of call)) (end_after l.connection.pair call r)
+made_is l (Read side most) r = refl
+made_is l call r = refl
 
 pub calls_answered : (now : ℕ) (l : OpenConnection) (r : Reply) → is_answered r ≡ true → Kept (Called l) (called now l r)
-calls_answered now l r settled = kept_from (answered now l r) (λ next a.
-    record { outcome = outcome now l r next a a.value refl settled; queue = rw a.leaves refl; backlog = rw a.leaves refl })
+unfolding called
+calls_answered now l r settled = kept_bind _ (next_call l.connection.pair) (λ call next. kept_bind _ (told_of l call r) (λ value told. kept_when (fits l.connection.pair call value) _ (λ fit.
+    rw (made_is l call r) (kept_over _ _ (kept_bind _ (end_at l.kernel.ends (descriptor l.connection.ends (side_of call))) (λ old there.
+    kept_map _ (end_after l.connection.pair call r old.socket) (λ socket replied.
+    lighter now l r call next old socket there replied value told fit settled)))))))

@@ -1,21 +1,16 @@
--- Where no step of the relay's own can be made, nothing is half way.
-use Rattle.std.{proofs.{Common.{List, None, Option, Some, Vec, [], ap, arith, drop, false, refl, slice_get, slice_set, subst, suc, true, zero, ℕ, ◌+◌, ◌∙◌, ◌∷◌, ◌≡◌, ◌≢◌, ◌≤◌, ◌<◌, le-leb, option_map}}, specs.{Option.is_none}}
-use Rattle.token.specs.{Names.{last_generation}, declared.{kind.Kind.TheVariants.{Reset}, name.Name.Name, side.Side.{Side, TheVariants.{Client, Target}}}}
-use Rattle.claims.specs.Words.{WordState}
-use Rattle.kernel_model.specs.{Kernel.{KernelState, Registered, end_at}, declared.{both.{Descriptors.Descriptors}}}
-use Rattle.relay_core.specs.{Calls.side_of, Order.next_call, declared.call.Call.{Call as PairCall, TheVariants.{Join, Read, Shut, Write}}}
-use Rattle.world.{proofs.Headline.Ends.Pairs.Holders.{Events.{Lists.{get-set_other}}}, specs.{Steps.{token_of}, Calls.{OpenConnection, descriptor}, declared.{connection.Connection.Connection}}}
-unfoldable use Rattle.world.specs.Calls.{called}
-use Rattle.interleaving.specs.{Likeness.{Adopted, Emptied, Entered, Placed, Posted, Registered as IsRegistered, Stage}, Threads.{Act, Call, Acts as DoesAct, Calls, ended, open_slot, acts, is_over, registering, System, Thread}, Rest.{HasStopped}}
-use Rattle.interleaving.proofs.{Rest.{Acts.{IsOut, Known, Nothing, Opening, Adopting, Calling, Ending, the_some}, Needs.{Sound}}}
-use Rattle.std.specs.Prelude.{IsSome}
+-- Where no step of the relay's own can be made, nothing is half way, and nothing is left to do.
+use Rattle.std.{proofs.{Common.{List, None, Option, Some, Vec, [], ap, arith, drop, false, get_or, is_some, inl, inr, length, not, refl, replicate, slice_get, slice_set, subst, suc, sym, true, zero, Bool, ℕ, ◌&&◌, ◌||◌, ◌+◌, ◌==◌, ◌∙◌, ◌∷◌, ◌≡◌, ◌≢◌, ◌≤◌, ◌<◌, ◌⊎◌, le-leb, lt-ltb, option_map}, lemmas.{List.{length-set, length-replicate}, Bool.Decides.nat_tests, Option.slice_get-get_or}}, specs.{Global.{Global}, List.list_any, Option.{is_none, option_flatten}}}
 use denote.RawPtr.{null_ptr}
-use Rattle.std.specs.{Global.{Global}, Option.{option_flatten}}
+use Rattle.token.specs.{Names.{last_generation}, declared.{kind.Kind.TheVariants.{Reset}, name.Name.Name, side.Side.{Side, TheVariants.{Client, Target}}}}
+use Rattle.kernel_model.specs.{Ends.is_nonempty, Kernel.{KernelState, Registered, end_at}, declared.{accepting.Accepting.TheVariants.{Accepted}, both.Descriptors.Descriptors}}
+use Rattle.relay_core.specs.{Calls.side_of, Order.next_call, declared.call.Call.{Call as PairCall, TheVariants.{Join, Read, Shut, Write}}}
+use Rattle.world.{proofs.Headline.Ends.Pairs.Holders.{Events.{Happens, Ticks, holds_after, Lists.{get-set_other, total_none}}, SlotOk, Turns, facts, worker_closes, worker_holds}, specs.{Calls.{OpenConnection, descriptor}, Due.{due, due_place, has_ticket}, Headline.{ListenerHolds}, Slots.{SlotState, WorkerState, is_by_worker, is_held}, States.{State, opening, resting as idle_worker}, Steps.{token_of}, Support.{one, total, worker_tickets}, declared.{actors.Holder.{Holder, TheVariants.{By, Free, Nobody}}, connection.Connection.Connection, event.Event.Event, limits.Limits.Limits}}}
+unfoldable use Rattle.world.specs.Calls.{called}
+use Rattle.interleaving.specs.{Likeness.{IsHalfOpen, IsSettled, Like, Settled, machine_of}, Threads.{Accept, Act, Acts as DoesAct, Begin, Call, Calls, Deliver, Drop, Poll, System, Thread, acts, ended, is_over, open_slot, poller_rests, registering, resting}, Rest.{HasStopped}}
+use Rattle.interleaving.proofs.{Runs.{stage_acts, Programs.{rests_like, some_there}}, Rest.{Acts.{IsOut, Known, Nothing, Opening, Adopting, Calling, Ending, Sound, the_some}, Kernels.same_self}}
 use Rattle.kernel_model.specs.Kernel as kernel
 use Rattle.kernel_model.specs.declared.reply.Reply.TheVariants as reply
-
-abbrev pub a_vec : Name → Vec Name Global
-a_vec n = record { ptr = null_ptr; len = 1; cap = 1; alloc = record { memory = record { seal = tt } }; items = n ∷ []; ok = (refl, omega arith); small = omega arith }
+use Rattle.world.specs.Runs as machine_runs
 
 -- A program that is half way can go on
 
@@ -25,10 +20,7 @@ token_some side g some most = rw (le-leb 1 g some, le-leb g last_generation most
 registers_on : (st : System) (i : ℕ) (t : Thread) (rest : List Act) (free : ℕ) → st.accepted ≡ true → 1 ≤ free → st.entry < last_generation → registering st i t rest free ≡ None → ⊥
 registers_on st i t rest zero had some below none = absurd (omega arith)
 registers_on st i t rest (suc free) had some below none =
-    let first = token_some Client (st.entry + 1) (omega arith) (omega arith) in
-    let second = token_some Target (st.entry + 1) (omega arith) (omega arith) in
-    let made = rw (had, first, second) at none in
-    cc
+    let made = rw (had, token_some Client (st.entry + 1) (omega arith) (omega arith), token_some Target (st.entry + 1) (omega arith) (omega arith)) at none in cc
 
 closes_on : (k : KernelState) (e : Descriptors) (a b : Registered) → end_at k.ends e.client ≡ Some a → end_at k.ends e.target ≡ Some b → e.client ≢ e.target → kernel.close_both k e ≡ None → ⊥
 closes_on k e a b one two apart none =
@@ -40,57 +32,153 @@ calls_on : (now : ℕ) (l : OpenConnection) (call : PairCall) (a : Registered) �
     → called now l (reply.Failed Reset) ≡ None → ⊥
 unfolding called
 calls_on now l (Read side most) a next there none = let made = rw (next, there) at none in cc
-calls_on now l (Write side) a next there none = let made = rw (next, there) at none in cc
-calls_on now l (Join side) a next there none = let made = rw (next, there) at none in cc
-calls_on now l (Shut side) a next there none = let made = rw (next, there) at none in cc
-
--- an opening that is half way has a program
-pub stage_in : {word : WordState} {place : Option Connection} {entry : ℕ} {t : Thread} {c : Connection} {todo : List Act} → Stage word place entry t c todo → is_over todo ≡ false
-stage_in (IsRegistered notes is at out) = refl
-stage_in (Adopted notes is at out) = refl
-stage_in (Entered notes is at out own) = refl
-stage_in (Emptied is at out own) = refl
-stage_in (Placed is at own) = refl
-stage_in (Posted is at own) = refl
-
-some_in : {X : Type 0} (o : Option X) → IsSome o → (x : X) × (o ≡ Some x)
-some_in None h = cc
-some_in (Some x) h = (x, refl)
+calls_on now l call a next there none = let made = rw (next, there) at none in cc
 
 mapped : {X Y : Type 0} (f : X → Y) (o : Option X) → option_map f o ≡ None → o ≡ None
 mapped f None none = refl
 mapped f (Some x) none = cc
 
-module _ (st : System) (sound : Sound st) (stopped : HasStopped st) (i : ℕ) (t : Thread) (there : slice_get st.threads i ≡ Some t) where
-  -- where no act is left, none could be made
-  no_act : {todo : List Act} → t.todo ≡ todo → acts st i t todo ≡ None
-  no_act is = rw (there, is) at (stopped (DoesAct i) refl)
+abbrev a_vec : Name → Vec Name Global
+a_vec n = record { ptr = null_ptr; len = 1; cap = 1; alloc = record { memory = record { seal = tt } }; items = n ∷ []; ok = (refl, omega arith); small = omega arith }
 
-  no_opening : i ≡ 0 → t.todo ≡ open_slot → ⊥
-  no_opening first is =
-      let had = sound.begun t (subst (λ (k : ℕ). slice_get st.threads k ≡ Some t) first there) is in
-      let some = sound.some_free had in
-      registers_on st i t (drop 1 open_slot) st.free had some (sound.unworn some) (no_act is)
+module _ {l : Limits} {st : System} (sound : Sound l st) (stopped : HasStopped st) where
+  module _ (below : l.generation < last_generation) (i : ℕ) (t : Thread) (there : slice_get st.threads i ≡ Some t) where
+    -- where no act is left, none could be made
+    no_act : {todo : List Act} → t.todo ≡ todo → acts st i t todo ≡ None
+    no_act is = rw (there, is) at (stopped (DoesAct i) refl)
 
-  no_closing : t.todo ≡ ended → (c : Connection) → IsOut st t c → ⊥
-  no_closing is c o =
-      let a = some_in (end_at st.kernel.ends c.ends.client) (o.open_ends Client) in
-      let b = some_in (end_at st.kernel.ends c.ends.target) (o.open_ends Target) in
-      let none = no_act {todo = ended} is in
-      closes_on st.kernel c.ends a.0 b.0 a.1 b.1 (sound.apart c.ends o.ends) (mapped _ (kernel.close_both st.kernel c.ends) (rw o.out at none))
+    -- each thread rests
+    pub no_program : {todo : List Act} → Known st i t todo → t.todo ≡ todo → todo ≡ []
+    no_program Nothing is = refl
+    no_program (Opening first) is = absurd (
+        let had = sound.begun t (subst (λ (k : ℕ). slice_get st.threads k ≡ Some t) first there) is in
+        registers_on st i t (drop 1 open_slot) st.free had (sound.some_free had) (sound.unworn below (sound.some_free had)) (no_act is))
+    no_program (Calling c out some) is = absurd (
+        let next = the_some (next_call c.pair) some in
+        let a = some_there (end_at st.kernel.ends (descriptor c.ends (side_of next.0))) (out.open_ends (side_of next.0)) in
+        calls_on st.second (record { kernel = st.kernel; connection = c }) next.0 a.0 next.1 a.1
+        (mapped _ (called st.second (record { kernel = st.kernel; connection = c }) (reply.Failed Reset)) (rw (there, is, out.out) at (stopped (Calls i (reply.Failed Reset)) refl))))
+    no_program (Ending c out) is = absurd (
+        let a = some_there (end_at st.kernel.ends c.ends.client) (out.open_ends Client) in
+        let b = some_there (end_at st.kernel.ends c.ends.target) (out.open_ends Target) in
+        let none = no_act {todo = ended} is in
+        closes_on st.kernel c.ends a.0 b.0 a.1 b.1 (sound.apart c.ends out.ends) (mapped _ (kernel.close_both st.kernel c.ends) (rw out.out at none)))
+    no_program Adopting is = let none = no_act is in cc
+    no_program known is = let none = no_act is in cc
 
-  no_call : t.todo ≡ Call ∷ [] → (c : Connection) → IsOut st t c → is_none (next_call c.pair) ≡ false → ⊥
-  no_call is c o some =
-      let next = the_some (next_call c.pair) some in
-      let a = some_in (end_at st.kernel.ends (descriptor c.ends (side_of next.0))) (o.open_ends (side_of next.0)) in
-      calls_on st.second (record { kernel = st.kernel; connection = c }) next.0 a.0 next.1 a.1
-      (mapped _ (called st.second (record { kernel = st.kernel; connection = c }) (reply.Failed Reset)) (rw (there, is, o.out) at (stopped (Calls i (reply.Failed Reset)) refl)))
+  -- The poller and the tickets
 
-  -- each thread rests
-  pub no_program : {todo : List Act} → Known st i t todo → t.todo ≡ todo → todo ≡ []
-  no_program Nothing is = refl
-  no_program (Opening first) is = absurd (no_opening first is)
-  no_program (Calling c out some) is = absurd (no_call is c out some)
-  no_program (Ending c out) is = absurd (no_closing is c out)
-  no_program Adopting is = let none = no_act is in cc
-  no_program known is = let none = no_act is in cc
+  module _ (some : 1 ≤ l.workers) (over : (i : ℕ) (t : Thread) → slice_get st.threads i ≡ Some t → t.todo ≡ []) where
+    poller : (t : Thread) × (slice_get st.threads 0 ≡ Some t)
+    poller = (get_or st.threads 0 resting, slice_get-get_or st.threads 0 resting (omega (arith, sound.count)))
+
+    rests_now : poller_rests st ≡ true
+    rests_now = rw (poller.1, over 0 poller.0 poller.1) refl
+
+    pub no_tickets : 4 ≤ l.budget → (tickets : List ℕ) → st.tickets ≡ tickets → tickets ≡ []
+    no_tickets four [] is = refl
+    no_tickets four (g ∷ rest) is =
+        let none = rw (poller.1, over 0 poller.0 poller.1, sound.limits, le-leb 4 l.budget four, is) at (stopped (Begin 0 4) refl) in cc
+
+    pub no_batch : (batch : List Name) → st.batch ≡ batch → batch ≡ []
+    no_batch [] is = refl
+    no_batch (n ∷ rest) is = let none = rw (rests_now, is) at (stopped Deliver refl) in cc
+
+    pub no_queue : st.batch ≡ [] → (queue : List Name) → st.kernel.queue ≡ queue → queue ≡ []
+    no_queue empty [] is = refl
+    no_queue empty (n ∷ rest) is = let none = rw (rests_now, empty, is, same_self n) at (stopped (Poll (a_vec n)) refl) in cc
+
+    pub no_client : (b : Bool) → st.accepted ≡ b → b ≡ false
+    no_client false is = refl
+    no_client true is = let none = rw (rests_now, is) at (stopped Drop refl) in cc
+
+    none_waits : st.accepted ≡ false → 1 ≤ st.free → (b : Bool) → st.flag ≡ b → (st.flag ≡ false → st.kernel.backlog ≡ 0) → (n : ℕ) → st.kernel.backlog ≡ n → n ≡ 0
+    none_waits accepted free false down none n is = sym is ∙ none down
+    none_waits accepted free true up none zero is = refl
+    none_waits accepted free true up none (suc n) is =
+        let made = rw (rests_now, up, accepted, lt-ltb 0 st.free free, is, lt-ltb 0 (suc n) (omega arith)) at (stopped (Accept Accepted) refl) in cc
+
+    pub no_clients : st.accepted ≡ false → (st.flag ≡ false → st.kernel.backlog ≡ 0) → (n : ℕ) → st.free ≡ n → (st.kernel.backlog ≡ 0) ⊎ (st.free ≡ 0)
+    no_clients accepted none zero is = inr is
+    no_clients accepted none (suc n) is = inl (none_waits accepted (omega arith) st.flag refl none st.kernel.backlog refl)
+
+-- The machine: each worker rests
+
+idle_all : (ws : List WorkerState) (ts : List Thread) → length ws ≡ length ts → ((j : ℕ) (t : Thread) → slice_get ts j ≡ Some t → slice_get ws j ≡ Some idle_worker)
+    → ws ≡ replicate (length ws) idle_worker
+idle_all [] ts same each = refl
+idle_all (w ∷ ws) [] same each = absurd (omega arith)
+idle_all (w ∷ ws) (t ∷ ts) same each =
+    let first : w ≡ idle_worker = cc (each 0 t refl) in
+    rw first (ap (λ (vs : List WorkerState). idle_worker ∷ vs) (idle_all ws ts (omega arith) (λ j u at. each (suc j) u at)))
+
+any_none : (n : ℕ) (p : WorkerState → Bool) → p idle_worker ≡ false → list_any p (replicate n idle_worker) ≡ false
+any_none zero p none = refl
+any_none (suc n) p none = rw none (any_none n p none)
+
+counted : (st : State) (e : Event) (q : State) → length st.workers ≡ st.limits.workers → Happens st e q → length q.workers ≡ q.limits.workers
+counted st e q h (Ticks n) = h
+counted st e q h _ = omega (arith, length-set {A = WorkerState})
+
+pub counted_after : (l : Limits) (events : List Event) (w : State) → machine_runs.run (opening l) events ≡ Some w → length w.workers ≡ w.limits.workers
+counted_after l events w ran = holds_after (λ (q : State). length q.workers ≡ q.limits.workers) counted (opening l) w events (length-replicate {A = WorkerState} l.workers idle_worker) ran
+
+nobody_holds : (h : Holder) (has : Bool) → one (is_by_worker h && has) ≡ 0 → one (is_by_worker h && not has) ≡ 0 → is_by_worker h ≡ false
+nobody_holds h has a b = grind arith
+
+nothing_in : (xs : List ℕ) → one (is_nonempty xs) ≡ 0 → length xs ≡ 0
+nothing_in xs none = grind (arith, nat_tests)
+
+without : (o : Option Connection) → not (is_some o) ≡ true → option_map (λ (c : Connection). c.ends) o ≡ None
+without None none = refl
+without (Some c) none = cc
+
+nobody_waits : (n : ℕ) → (n == 0) || (false || false) ≡ true → n ≡ 0
+nobody_waits n h = grind (arith, nat_tests)
+
+-- nothing is due, no note waits but in a slot without a connection, and no client where the accept flag is down
+pub record Still (st : System) (w : State) : Type 0 where
+  pub due : (s : ℕ) → due w s ≡ false
+  pub notes : (st.word.pending ≡ 0) ⊎ (st.ends ≡ None)
+  pub waits : st.flag ≡ false → st.kernel.backlog ≡ 0
+
+module _ {l : Limits} (st : System) (sound : Sound l st) (over : (i : ℕ) (t : Thread) → slice_get st.threads i ≡ Some t → t.todo ≡ [])
+    (tickets : st.tickets ≡ []) (batch : st.batch ≡ []) (queue : st.kernel.queue ≡ []) where
+  settled_still : (p : SlotState) (workers : List WorkerState) → Settled st p workers → let w = machine_of st p st.entry st.tickets workers in
+      Turns w → ListenerHolds w → length workers ≡ st.limits.workers → Still st w
+  settled_still p workers set turns listens count = record {
+    due = not_due;
+    notes = by p.holder refl (rw tickets at ok.tickets);
+    waits = λ down. nobody_waits st.kernel.backlog (rw (batch, queue) at (listens down));
+  }
+    where
+      idle : workers ≡ replicate (length workers) idle_worker
+      idle = idle_all workers st.threads (count ∙ ap (λ (k : Limits). k.workers) sound.limits ∙ sym sound.count)
+          (λ j t at. let it = set.threads j t at in it.there ∙ ap Some (rests_like it.like (ap is_over (over j t at))))
+
+      none : (f : WorkerState → ℕ) → f idle_worker ≡ 0 → total f workers ≡ 0
+      none f is = ap (total f) idle ∙ total_none f (length workers) idle_worker is
+
+      ok : SlotOk (facts (machine_of st p st.entry st.tickets workers) 0 p.generation) p
+      ok = turns.each 0 p refl
+
+      holder : is_by_worker p.holder ≡ false
+      holder = nobody_holds p.holder (is_some p.connection) (sym ok.holding ∙ none (worker_holds 0) refl) (sym ok.closing ∙ none (worker_closes 0) refl)
+
+      not_due : (s : ℕ) → due (machine_of st p st.entry st.tickets workers) s ≡ false
+      not_due zero = lies p.connection
+        where
+          lies : (o : Option Connection) → due_place (machine_of st p st.entry st.tickets workers) 0 p o ≡ false
+          lies None = refl
+          lies (Some c) = rw (holder, queue, batch, tickets) (ap (list_any (has_ticket 0 c.pair.generation)) idle ∙ any_none (length workers) (has_ticket 0 c.pair.generation) refl)
+      not_due (suc s) = refl
+
+      by : (h : Holder) → p.holder ≡ h → 0 + (0 + total (worker_tickets 0) workers) ≡ one (not (is_held p.holder) && is_nonempty p.notes) → (st.word.pending ≡ 0) ⊎ (st.ends ≡ None)
+      by Nobody is made = let now = rw is at made in inl (rw set.word (nothing_in p.notes (omega (arith, none (worker_tickets 0) refl))))
+      by (By j) is made = cc (holder)
+      by Free is made = inr (set.ends ∙ without p.connection (rw is at ok.shape))
+
+  pub still : (w : State) → Like st w → Turns w → ListenerHolds w → length w.workers ≡ w.limits.workers → Still st w
+  still w (IsSettled p workers is set) turns listens count = rw is (settled_still p workers set (rw is at turns) (rw is at listens) (rw is at count))
+  -- an opening that is half way has a program
+  still w (IsHalfOpen t c workers is half) turns listens count = absurd (let none = ap is_over (over 0 t half.first) in cc (stage_acts half.stage))

@@ -172,19 +172,20 @@ still : {p : SlotState} {i g : ℕ} {has : Option Connection} (note : ℕ) → H
 still note held = assumption held
 
 -- what is so of each list that a plan may be, for the pair for which it is one, is so of the plan
-pub by_plan : (P : List Act → Type 0) (left : ℕ) (p : PairState) → (is_live (verdict p) ≡ true → is_none (next_call p) ≡ true → P quiet) → (is_live (verdict p) ≡ true → P again)
-    → ((left == 0) ≡ false → P (Call ∷ [])) → (is_live (verdict p) ≡ false → P ended) → P (plan left p)
+pub by_plan : (P : List Act → Type 0) (left : ℕ) (p : PairState) → (is_live (verdict p) ≡ true → is_none (next_call p) ≡ true → P quiet)
+    → (is_live (verdict p) ≡ true → is_none (next_call p) ≡ false → (left == 0) ≡ true → P again)
+    → (is_live (verdict p) ≡ true → is_none (next_call p) ≡ false → (left == 0) ≡ false → P (Call ∷ [])) → (is_live (verdict p) ≡ false → P ended) → P (plan left p)
 by_plan P left p rests spends calls ends = go (is_live (verdict p)) (is_none (next_call p)) (left == 0) refl refl refl
   where
     go : (live none spent : Bool) → is_live (verdict p) ≡ live → is_none (next_call p) ≡ none → (left == 0) ≡ spent
         → P (if live then (if none then quiet else (if spent then again else Call ∷ [])) else ended)
     go true true spent lives rest over = rests lives rest
-    go true false true lives rest over = spends lives
-    go true false false lives rest over = calls over
+    go true false true lives some over = spends lives some over
+    go true false false lives some more = calls lives some more
     go false none spent lives rest over = ends lives
 
 pub plan_finds : (word : WordState) (place : Option Connection) (g left : ℕ) (p : PairState) → place ≡ None → Finds word place g (plan left p)
-plan_finds word place g left p at = by_plan (Finds word place g) left p (λ live none. at) (λ live. at) (λ some. tt) (λ over. tt)
+plan_finds word place g left p at = by_plan (Finds word place g) left p (λ live none. at) (λ live some spent. at) (λ live some left. tt) (λ over. tt)
 
 held_by : {X : Type 0} {h : Holder} {i : ℕ} → h ≡ By i → is_by_worker h ≡ false → X
 held_by by nobody = cc
@@ -203,11 +204,11 @@ noted_holder {p = p} {c = c} g (Leaves at may) = Leaves at (rw (some_more p.note
 
 module _ {budget : ℕ} {place : Option Connection} {p : SlotState} {i : ℕ} {t : Thread} {k : WorkerState} where
   -- a thread without a program is like a worker with nothing to do
-  rests_like : {todo : List Act} → ThreadLike budget place p i t k todo → is_over todo ≡ true → k ≡ idle_worker
+  pub rests_like : {todo : List Act} → ThreadLike budget place p i t k todo → is_over todo ≡ true → k ≡ idle_worker
   rests_like (Rests is) over = is
   rests_like (Opens first is) over = is
   rests_like (IsHolder c more held is (Goes at out least)) over =
-      let no = by_plan (λ acts. is_over acts ≡ false) t.left c.pair (λ live none. refl) (λ live. refl) (λ some. refl) (λ over. refl) in cc
+      let no = by_plan (λ acts. is_over acts ≡ false) t.left c.pair (λ live none. refl) (λ live some spent. refl) (λ live some left. refl) (λ over. refl) in cc
   rests_like like over = cc
 
   -- a thread that does not hold the slot is where it was, whatever becomes of place and slot but its generation
@@ -306,9 +307,9 @@ module _ {st : System} {p : SlotState} {workers : List WorkerState} (set : Settl
 set_again : {X : Type 0} (xs : List X) (i : ℕ) (x : X) → slice_get xs i ≡ Some x → slice_set xs i x ≡ xs
 set_again xs i x there = rw (get_or_from_slice_get xs i x x there) at (set-get_or xs i x)
 
-some_there : (o : Option Connection) → is_some o ≡ true → (c : Connection) × (o ≡ Some c)
+pub some_there : {X : Type 0} (o : Option X) → is_some o ≡ true → (x : X) × (o ≡ Some x)
 some_there None h = cc
-some_there (Some c) h = (c, refl)
+some_there (Some x) h = (x, refl)
 
 rests_now : (c : Connection) (some : Bool) → is_live (verdict c.pair) ≡ true → is_none (next_call c.pair) ≡ true → may_release c some ≡ true
 unfolding may_release
@@ -512,8 +513,8 @@ module _ (st : System) (p : SlotState) (workers : List WorkerState) (set : Settl
         (limited (taking st i t [] (Some c)) (record p { notes = [] }) heard_now workers i more (had ∙ ap Some is) b refl es)))))
     holder_acts turns (Goes at out least) = by_plan (λ todo. Kept (Acted (exchange st.word (first_kind todo))) (acts st i t todo)) t.left c.pair
         (λ live none. kept_some (put_back out (Release ∷ []) (Leaves refl (rests_now c (is_nonempty p.notes) live none))))
-        (λ live. kept_some (put_back out (Post ∷ Release ∷ []) (Stays refl live)))
-        (λ some. kept_none)
+        (λ live some spent. kept_some (put_back out (Post ∷ Release ∷ []) (Stays refl live)))
+        (λ live some left. kept_none)
         (λ over. rw out (closes at over))
     -- it posts, which wakes nobody
     holder_acts turns (Stays at live) =
@@ -530,8 +531,8 @@ module _ (st : System) (p : SlotState) (workers : List WorkerState) (set : Settl
 
     -- and the next call
     plan_calls : st.place ≡ None → t.out ≡ Some c → t.left ≤ more → (r : Reply) → Kept (Follows [] [] w (Calls i r)) (calls st i t r (plan t.left c.pair))
-    plan_calls at out least r = by_plan (λ todo. Kept (Follows [] [] w (Calls i r)) (calls st i t r todo)) t.left c.pair (λ live none. kept_none) (λ live. kept_none)
-        (λ some. rw out (kept_map _ (called st.second (record { kernel = st.kernel; connection = c }) r) (λ line replied. (
+    plan_calls at out least r = by_plan (λ todo. Kept (Follows [] [] w (Calls i r)) (calls st i t r todo)) t.left c.pair (λ live none. kept_none) (λ live some spent. kept_none)
+        (λ live call some. rw out (kept_map _ (called st.second (record { kernel = st.kernel; connection = c }) r) (λ line replied. (
         let some_left = some_more_left t.left more some least in
         let d = held_to_limit st line.connection in
         let b = is_overdue st.second st.limits.idle line.connection.pair in

@@ -73,30 +73,21 @@ module _ (k : ℕ) (st : System) where
   leaves_act t TakeOut rest none = kept_some (leaves_out t rest st.place)
   leaves_act t TakeNotes rest none = kept_some (leaves_notes t rest t.out)
   leaves_act t Call rest none = kept_none
-  leaves_act t PutIn rest none = kept_some (moved _ _ refl refl refl refl)
   leaves_act t Post rest none = kept_some (brought _ _ (wakes st.word) t.generation refl refl refl refl)
   leaves_act t Release rest none = kept_some (brought _ _ (some_wait st.word.pending) t.generation refl refl refl refl)
   leaves_act t Close rest none = kept_bind _ t.out (λ c is. kept_map _ (kernel.close_both st.kernel c.ends) (λ told is. moved _ _ refl refl refl refl))
-  leaves_act t Retire rest none = kept_some (moved _ _ refl refl refl refl)
   leaves_act t Give rest none = kept_some (leaves_given t rest (is_worn t.generation))
   leaves_act t Register rest none = registers_not t rest st.free none
   leaves_act t Adopt rest none = kept_some (chosen st.word.free _ _ (moved _ _ refl refl refl refl) (moved _ _ refl refl refl refl))
-  leaves_act t Enter rest none = kept_some (moved _ _ refl refl refl refl)
-  leaves_act t Discard rest none = kept_some (moved _ _ refl refl refl refl)
-  leaves_act t Settle rest none = kept_some (moved _ _ refl refl refl refl)
-  leaves_act t PutTicket rest none = kept_some (moved _ _ refl refl refl refl)
+  leaves_act t act rest none = kept_some (moved _ _ refl refl refl refl)
 
   leaves_acts : (t : Thread) (todo : List Act) → st.accepted ≡ false → Kept (Leaves (only k) [] st) (acts st k t todo)
   leaves_acts t [] none = kept_none
   leaves_acts t (act ∷ rest) none = leaves_act t act rest none
 
-  leaves_call : (t : Thread) (r : Reply) (act : Act) → Kept (Leaves (only k) [] st) (after_call st k t r act)
-  leaves_call t r Call = kept_bind _ t.out (λ c is. kept_map _ (called st.second (record { kernel = st.kernel; connection = c }) r) (λ line is. moved _ _ refl refl refl refl))
-  leaves_call t r act = kept_none
-
   leaves_calls : (t : Thread) (r : Reply) (todo : List Act) → Kept (Leaves (only k) [] st) (calls st k t r todo)
-  leaves_calls t r [] = kept_none
-  leaves_calls t r (act ∷ rest) = leaves_call t r act
+  leaves_calls t r (Call ∷ rest) = kept_bind _ t.out (λ c is. kept_map _ (called st.second (record { kernel = st.kernel; connection = c }) r) (λ line is. moved _ _ refl refl refl refl))
+  leaves_calls t r todo = kept_none
 
 -- a step alone, as a run
 alone_step : {P : System → Type 0} (st : System) (s : Step) → Kept P (step st s) → Kept P (run st (s ∷ []))

@@ -1,12 +1,12 @@
 -- The steps of a server that are at no slot alone, and then any step.
 use Rattle.std.{proofs.{Common.{Bool, List, None, Some, Vec, [], ap, append-nil, arith, false, if◌then◌else◌, inl, inr, length, not, refl, slice_get, sym, true, ℕ, nat_le, nat_lt, ◌&&◌, ◌||◌, ◌++◌, ◌+◌, ◌-◌, ◌==◌, ◌∙◌, ◌∷◌, ◌≡◌, ◌≢◌, ◌≤◌, ◌<◌, ◌⊎◌, eq-eqb, eqb-true, ne_eqb, le-leb, leb-true}, lemmas.{Bool.{and_parts, cases_eq, ltb-true}, List.nil_from_length}}, specs.{Cmp.second_so, Global.Global, List.list_any}}
 use denote.RawPtr.{null_ptr}
-use Rattle.interleaving.specs.{Threads.{System, rests_at}, Slots.{Front, Many, Report, Of, Listener, Waker, Taken, Step, Tick, Network, Spurious, Vanish, Connect, Rumour, Retract, Refuse, Poll, Deliver, Sweep, Accept, Drop, Stop, Open, Begin, Put, Acts, Calls, Sees, Server, may_accept, are_queued, answered, delivering, first_of, is_listener, makes, may, names_at, polled, rank, rank_at, rests, shared, slot_of, step, suits, tickets_at, unqueued, with_front}}
+use Rattle.interleaving.specs.{Threads.{System, rests_at}, Slots.{Front, Many, Report, Of, Listener, Waker, Taken, Step, Tick, Network, Spurious, Vanish, Connect, Rumour, Retract, Refuse, Poll, Deliver, Sweep, Accept, Drop, Stop, Open, Begin, Put, Acts, Calls, Sees, Server, may_accept, are_queued, answered, delivering, first_of, is_listener, makes, may, names_at, polled, rank, rank_at, rests, shared, slot_of, step, suits, tickets_at, told, unqueued, with_front}}
 use Rattle.world.proofs.Headline.Ends.Pairs.Holders.Events.Lists.{Kept, kept_guard, kept_map, kept_none, kept_some, kept_when}
 use Rattle.kernel_model.specs.{declared.accepting.Accepting.{Accepting, TheVariants.{Accepted, Blocked, Again, Starved}}}
 use Rattle.token.specs.declared.name.Name.{Name}
 use Rattle.world.specs.declared.event.Reported.TheVariants as reported
-use Rattle.interleaving.proofs.Slots.{Leaves.{leaves_acting, leaves_calling, leaves_network, leaves_spurious, leaves_sweep, leaves_tick, leaves_vanish}, Views.{Alone, AreOwn, fewer_names, framed, own_reports, queued, rank_first, taken_here, taken_there, tickets_append}, Steps.{AtSlot, Between, FrontHolds, Next, at_each, begins, by_still, by_thread, count, delivers_end, opens, same_names}}
+use Rattle.interleaving.proofs.Slots.{Leaves.{leaves_acting, leaves_calling, leaves_network, leaves_spurious, leaves_sweep, leaves_tick, leaves_vanish}, Views.{Alone, AreOwn, fewer_names, framed, own_reports, queued, rank_first, taken_here, taken_there, tickets_append}, Steps.{Apart, AtSlot, Between, FrontHolds, FrontsHold, Next, at_each, begins, by_still, by_thread, count, delivers_end, opens, same_names}}
 use Rattle.interleaving.specs.Threads as alone
 
 -- What a front holds by: whether it listens, its flag, its arm, whether nobody waits, and whether a report is queued or in its batch
@@ -59,59 +59,44 @@ vec_of names few = (
 )
 
 module _ (m : Many) (between : Between m) where
-  -- a step that is at no slot, and changes one front and the backlog
+  -- a step that is at no slot
+  quiet : (x : Step) (n : Many) → n.server ≡ m.server → ((s : ℕ) → Sees m s x []) → ((s : ℕ) → slot_of n s ≡ slot_of m s) → Apart n → FrontsHold n → Next m x n
+  quiet x n server is same apart fronts = record { server = server; each = λ s. record { own = []; sees = is s; leads = ap Some (sym (same s)) }; apart = apart; fronts = fronts }
+
+  -- it changes one front and the backlog
   front_next : (x : Step) (p : ℕ) (new : Front) (b : ℕ) → ((s : ℕ) → Sees m s x []) → ((s : ℕ) → names_at s new.batch ≡ names_at s (m.fronts p).batch)
       → ((i : ℕ) → FrontHolds m.server b i (m.fronts i)) → FrontHolds m.server b p new
       → Next m x (record (with_front m p new) { backlog = b })
   front_next x p new b is names others front =
       let n : Many = record (with_front m p new) { backlog = b } in
-      record {
-        server = refl;
-        each = λ s. record {
-          own = [];
-          sees = is s;
-          leads = ap Some (sym (framed m n s refl refl (same_names m.fronts p new s (m.server.owner s) (λ e. names s)) refl));
-        };
-        apart = between.apart;
-        fronts = at_each (λ i f. FrontHolds m.server b i f) m.fronts p new others front;
-      }
+      quiet x n refl is (λ s. framed m n s refl refl (same_names m.fronts p new s (m.server.owner s) (λ e. names s)) refl) between.apart
+      (λ i. at_each (FrontHolds m.server b) m.fronts p new i (others i) (λ e. front))
 
-  nothing_next : (x : Step) → ((s : ℕ) → Sees m s x []) → Next m x m
-  nothing_next x is = record {
-    server = refl;
-    each = λ s. record { own = []; sees = is s; leads = refl };
-    apart = between.apart;
-    fronts = between.fronts;
-  }
+  -- it changes what one front knows of the listener
+  hears_of : (x : Step) (p : ℕ) (listens flag armed reported : Bool) → ((s : ℕ) → Sees m s x []) → let f = m.fronts p in
+      ((not listens || flag) || ((armed && m.backlog == 0) || (reported || list_any is_listener f.batch))) ≡ true
+      → Next m x (with_front m p (record f { listens = listens; flag = flag; armed = armed; reported = reported }))
+  hears_of x p listens flag armed reported is holds = let f = m.fronts p in
+      front_next x p (record f { listens = listens; flag = flag; armed = armed; reported = reported }) m.backlog is (λ s. refl) between.fronts
+      (record { listener = holds; share = (between.fronts p).share; own = (between.fronts p).own })
 
   connects : Kept (Next m Connect) (shared m Connect)
-  connects = kept_some (record {
-    server = refl;
-    each = λ s. record { own = []; sees = refl; leads = refl };
-    apart = between.apart;
-    fronts = λ p. let f = m.fronts p in
-        record {
-          listener = told_holds f.listens f.flag f.armed (m.backlog == 0) (m.backlog + 1 == 0) f.reported (list_any is_listener f.batch) (between.fronts p).listener;
-          share = (between.fronts p).share;
-          own = (between.fronts p).own;
-        };
-  })
-
-  rumours : (p : ℕ) → Kept (Next m (Rumour p)) (shared m (Rumour p))
-  rumours p = let f = m.fronts p in
-      kept_some (front_next (Rumour p) p (record f { reported = true }) m.backlog (λ s. refl) (λ s. refl) between.fronts
-      (record {
-        listener = reported_holds (not f.listens || f.flag) (f.armed && m.backlog == 0) (list_any is_listener f.batch);
+  connects = kept_some (quiet Connect (record m { backlog = m.backlog + 1; fronts = λ p. told (m.fronts p) }) refl (λ s. refl) (λ s. refl) between.apart (λ p. let f = m.fronts p in
+      record {
+        listener = told_holds f.listens f.flag f.armed (m.backlog == 0) (m.backlog + 1 == 0) f.reported (list_any is_listener f.batch) (between.fronts p).listener;
         share = (between.fronts p).share;
         own = (between.fronts p).own;
       }))
+
+  rumours : (p : ℕ) → Kept (Next m (Rumour p)) (shared m (Rumour p))
+  rumours p = let f = m.fronts p in
+      kept_some (hears_of (Rumour p) p f.listens f.flag f.armed true (λ s. refl) (reported_holds (not f.listens || f.flag) (f.armed && m.backlog == 0) (list_any is_listener f.batch)))
 
   retracts : (p : ℕ) → Kept (Next m (Retract p)) (shared m (Retract p))
   retracts p = let f = m.fronts p in
       kept_guard _ _ (λ h.
       let none : (m.backlog == 0) ≡ true = second_so f.reported _ h in
-      front_next (Retract p) p (record f { reported = false; armed = true }) m.backlog (λ s. refl) (λ s. refl) between.fronts
-      (record { listener = rw none (armed_holds (not f.listens || f.flag) (false || list_any is_listener f.batch)); share = (between.fronts p).share; own = (between.fronts p).own }))
+      hears_of (Retract p) p f.listens f.flag true false (λ s. refl) (rw none (armed_holds (not f.listens || f.flag) (false || list_any is_listener f.batch))))
 
   drops : (p : ℕ) → Kept (Next m (Drop p)) (shared m (Drop p))
   drops p = let f = m.fronts p in
@@ -121,19 +106,12 @@ module _ (m : Many) (between : Between m) where
       (record { listener = (between.fronts p).listener; share = omega arith; own = (between.fronts p).own }))
 
   stops : (p : ℕ) → Kept (Next m (Stop p)) (shared m (Stop p))
-  stops p = let f = m.fronts p in
-      kept_some (front_next (Stop p) p (record f { listens = false; armed = false; reported = false }) m.backlog (λ s. refl) (λ s. refl) between.fronts
-      (record { listener = refl; share = (between.fronts p).share; own = (between.fronts p).own }))
+  stops p = kept_some (hears_of (Stop p) p false (m.fronts p).flag false false (λ s. refl) refl)
 
   refuses : Kept (Next m Refuse) (shared m Refuse)
-  refuses = kept_some (record {
-    server = refl;
-    each = λ s. record { own = []; sees = refl; leads = refl };
-    apart = between.apart;
-    fronts = λ p. let f = m.fronts p in
-        let h = between.fronts p in
-        record { listener = none_wait f.listens f.flag f.armed (m.backlog == 0) f.reported (list_any is_listener f.batch) h.listener; share = h.share; own = h.own };
-  })
+  refuses = kept_some (quiet Refuse (record m { backlog = 0 }) refl (λ s. refl) (λ s. refl) between.apart (λ p. let f = m.fronts p in
+      let h = between.fronts p in
+      record { listener = none_wait f.listens f.flag f.armed (m.backlog == 0) f.reported (list_any is_listener f.batch) h.listener; share = h.share; own = h.own }))
 
   -- a report of the listener or of the waker
   hears : (p : ℕ) (r : Report) (rest : List Report) (flag : Bool) → (m.fronts p).batch ≡ r ∷ rest → ((s : ℕ) → names_at s (r ∷ rest) ≡ names_at s rest)
@@ -146,11 +124,8 @@ module _ (m : Many) (between : Between m) where
 
   delivers : (p : ℕ) (batch : List Report) → (m.fronts p).batch ≡ batch → Kept (Next m (Deliver p)) (makes m (Deliver p) (delivering p batch))
   delivers p [] is = rw is kept_none
-  delivers p (Listener ∷ rest) is = let own : AreOwn m.server.owner p rest = rw is at (between.fronts p).own in
-      rw is (kept_some (hears p Listener rest true is (λ s. refl) own (λ s. rw is refl) (raised (m.fronts p).listens _)))
-  delivers p (Waker ∷ rest) is = let own : AreOwn m.server.owner p rest = rw is at (between.fronts p).own in
-      let was = rw is at (between.fronts p).listener in
-      rw is (kept_some (hears p Waker rest (m.fronts p).flag is (λ s. refl) own (λ s. rw is refl) was))
+  delivers p (Listener ∷ rest) is = rw is (kept_some (hears p Listener rest true is (λ s. refl) (rw is at (between.fronts p).own) (λ s. rw is refl) (raised (m.fronts p).listens _)))
+  delivers p (Waker ∷ rest) is = rw is (kept_some (hears p Waker rest (m.fronts p).flag is (λ s. refl) (rw is at (between.fronts p).own) (λ s. rw is refl) (rw is at (between.fronts p).listener)))
   delivers p (Of s name ∷ rest) is = delivers_end m between p s name rest is
 
   answers : (p : ℕ) (reply : Accepting) → may_accept m.server p (m.fronts p) ≡ true
@@ -163,24 +138,15 @@ module _ (m : Many) (between : Between m) where
       (λ i. with_backlog m.server m.backlog (m.backlog - 1) i (m.fronts i) some (between.fronts i))
       (record { listener = rw flag_up (raised f.listens _); share = omega arith; own = (between.fronts p).own }))
   answers p Blocked may = let f = m.fronts p in
-      kept_guard _ _ (λ none. front_next (Accept p Blocked) p (record f { flag = false; armed = true }) m.backlog (λ s. refl) (λ s. refl) between.fronts
-      (record { listener = rw none (armed_holds (not f.listens || false) (f.reported || list_any is_listener f.batch)); share = (between.fronts p).share; own = (between.fronts p).own }))
-  answers p Again may = kept_some (nothing_next (Accept p Again) (λ s. refl))
-  answers p Starved may = kept_some (nothing_next (Accept p Starved) (λ s. refl))
+      kept_guard _ _ (λ none. hears_of (Accept p Blocked) p f.listens false true f.reported (λ s. refl)
+      (rw none (armed_holds (not f.listens || false) (f.reported || list_any is_listener f.batch))))
+  answers p Again may = kept_some (quiet (Accept p Again) m refl (λ s. refl) (λ s. refl) between.apart between.fronts)
+  answers p Starved may = kept_some (quiet (Accept p Starved) m refl (λ s. refl) (λ s. refl) between.apart between.fronts)
 
   puts : (i s : ℕ) → Kept (Next m (Put i s)) (shared m (Put i s))
-  puts i s = kept_map _ (first_of (suits i (Some s)) m.tickets) (λ c is. record {
-    server = refl;
-    each = λ t. record {
-      own = [];
-      sees = refl;
-      leads = ap Some
-          (sym (framed m (record m { tickets = c.rest ++ record c.ticket { hand = None } ∷ [] }) t refl refl refl
-          (same c is t (cases_eq t c.ticket.slot))));
-    };
-    apart = between.apart;
-    fronts = between.fronts;
-  })
+  puts i s = kept_map _ (first_of (suits i (Some s)) m.tickets) (λ c is.
+      let n : Many = record m { tickets = c.rest ++ record c.ticket { hand = None } ∷ [] } in
+      quiet (Put i s) n refl (λ t. refl) (λ t. framed m n t refl refl refl (same c is t (cases_eq t c.ticket.slot))) between.apart between.fronts)
     where
       same : (c : Taken) → first_of (suits i (Some s)) m.tickets ≡ Some c → (t : ℕ) → (t ≡ c.ticket.slot) ⊎ (t ≢ c.ticket.slot)
           → tickets_at t (c.rest ++ record c.ticket { hand = None } ∷ []) ≡ tickets_at t m.tickets
@@ -196,70 +162,58 @@ module _ (m : Many) (between : Between m) where
   same_threads true place names = refl
   same_threads false place names = refl
 
+  module _ (p : ℕ) (reports : List Report) (rested : rests m p ≡ true) (few : length reports ≤ 256) (empty : (m.fronts p).batch ≡ []) (asked : are_queued m p reports ≡ true) where
+    -- the poller has no program at its slots
+    idle : (s : ℕ) → m.server.owner s ≡ p → (s ≡ m.busy_at p) ⊎ (s ≢ m.busy_at p) → rests_at (slice_get (m.places s).threads 0) ≡ true
+    idle s own (inl here) =
+        let first : rank (m.server.owner (m.busy_at p)) p ≡ 0 = rw (← here, own) (rank_first p) in
+        let now = rw first at (second_so (nat_lt p m.server.limits.workers) _ rested) in
+        rw here now
+    idle s own (inr other) =
+        let first : rank (m.server.owner s) p ≡ 0 = rw own (rank_first p) in
+        let some : p < m.server.limits.workers = rw own at (between.inside s) in
+        let now = rw first at (between.apart p s some other) in
+        now
+
+    polls_at : (s : ℕ) → (m.server.owner s ≡ p) ⊎ (m.server.owner s ≢ p) → AtSlot m (Poll p reports) (polled m p reports) s
+    polls_at s (inl own) =
+        let least = fewer_names s reports in
+        let fewer : length (names_at s reports) ≤ 256 = omega arith in
+        let q = queued m p s reports asked in
+        let idle_now = idle s own (cases_eq s (m.busy_at p)) in
+        let given = vec_of (names_at s reports) fewer in
+        record {
+          own = alone.Poll given.0 ∷ [];
+          sees = rw (eq-eqb (m.server.owner s) p own) (given.0, given.1, refl);
+          leads = rw (own, empty, idle_now, given.1, le-leb (length (names_at s reports)) 256 fewer, q.among, q.once, eq-eqb p p refl) refl;
+        }
+    polls_at s (inr other) = record {
+      own = [];
+      sees = rw (ne_eqb (m.server.owner s) p other) refl;
+      leads = ap Some (sym (framed m (polled m p reports) s refl (rw (ne_eqb (m.server.owner s) p other) refl)
+          (same_names m.fronts p _ s (m.server.owner s) (λ e. absurd (other e))) refl));
+    }
+
+    polled_next : Next m (Poll p reports) (polled m p reports)
+    polled_next =
+        let f = m.fronts p in
+        let was = rw empty at (between.fronts p).listener in
+        record {
+          server = refl;
+          each = λ s. polls_at s (cases_eq (m.server.owner s) p);
+          apart = λ i s some other. rw (same_threads (m.server.owner s == p) (m.places s) (names_at s reports)) (between.apart i s some other);
+          fronts = λ i. at_each (FrontHolds m.server m.backlog) m.fronts p _ i (between.fronts i) (λ e. record {
+            listener = polled_holds (not f.listens || f.flag) (f.armed && m.backlog == 0) f.reported (list_any is_listener reports) was;
+            share = (between.fronts p).share;
+            own = own_reports m p reports asked;
+          });
+        }
+
   polls : (p : ℕ) (reports : List Report) → rests m p ≡ true → Kept (Next m (Poll p reports)) (shared m (Poll p reports))
   polls p reports rested = kept_guard _ _ (λ h.
-      let few : length reports ≤ 256 = leb-true (length reports) 256 (and_parts (nat_le (length reports) 256) _ h).0 in
-      let more = second_so (nat_le (length reports) 256) _ h in
-      let empty : (m.fronts p).batch ≡ [] = nil_from_length (m.fronts p).batch (eqb-true (length (m.fronts p).batch) 0 (and_parts (length (m.fronts p).batch == 0) _ more).0) in
-      let given : are_queued m p reports ≡ true = second_so (length (m.fronts p).batch == 0) _ more in
-      polled_next few empty given)
-    where
-      new : Front
-      new = record (m.fronts p) { batch = reports; reported = (m.fronts p).reported && not (list_any is_listener reports) }
-
-      n : Many
-      n = polled m p reports
-
-      polls_at : (s : ℕ) → length reports ≤ 256 → (m.fronts p).batch ≡ [] → are_queued m p reports ≡ true → m.server.owner s ≡ p → AtSlot m (Poll p reports) n s
-      polls_at s few empty asked own =
-          let least = fewer_names s reports in
-          let fewer : length (names_at s reports) ≤ 256 = omega arith in
-          let short : nat_le (length (names_at s reports)) 256 ≡ true = le-leb (length (names_at s reports)) 256 fewer in
-          let q = queued m p s reports asked in
-          let idle : rests_at (slice_get (m.places s).threads 0) ≡ true = idle_at s own (cases_eq s (m.busy_at p)) in
-          let given = vec_of (names_at s reports) fewer in
-          record {
-            own = alone.Poll given.0 ∷ [];
-            sees = rw (eq-eqb (m.server.owner s) p own) (given.0, given.1, refl);
-            leads = rw (own, empty, idle, given.1, short, q.among, q.once, eq-eqb p p refl) refl;
-          }
-        where
-          idle_at : (s : ℕ) → m.server.owner s ≡ p → (s ≡ m.busy_at p) ⊎ (s ≢ m.busy_at p) → rests_at (slice_get (m.places s).threads 0) ≡ true
-          idle_at s own (inl here) =
-              let first : rank (m.server.owner (m.busy_at p)) p ≡ 0 = rw (← here, own) (rank_first p) in
-              let now = rw first at (second_so (nat_lt p m.server.limits.workers) _ rested) in
-              rw here now
-          idle_at s own (inr other) =
-              let first : rank (m.server.owner s) p ≡ 0 = rw own (rank_first p) in
-              let some : p < m.server.limits.workers = rw own at (between.inside s) in
-              let now = rw first at (between.apart p s some other) in
-              now
-
-      elsewhere : (s : ℕ) → m.server.owner s ≢ p → AtSlot m (Poll p reports) n s
-      elsewhere s other = record {
-        own = [];
-        sees = rw (ne_eqb (m.server.owner s) p other) refl;
-        leads = ap Some (sym (framed m n s refl (rw (ne_eqb (m.server.owner s) p other) refl) (same_names m.fronts p new s (m.server.owner s) (λ e. absurd (other e))) refl));
-      }
-
-      polled_next : length reports ≤ 256 → (m.fronts p).batch ≡ [] → are_queued m p reports ≡ true → Next m (Poll p reports) n
-      polled_next few empty given =
-          let f = m.fronts p in
-          let was = rw empty at (between.fronts p).listener in
-          record {
-            server = refl;
-            each = λ s. by s few empty given (cases_eq (m.server.owner s) p);
-            apart = λ i s some other. rw (same_threads (m.server.owner s == p) (m.places s) (names_at s reports)) (between.apart i s some other);
-            fronts = at_each (λ i f. FrontHolds m.server m.backlog i f) m.fronts p new between.fronts (record {
-              listener = polled_holds (not f.listens || f.flag) (f.armed && m.backlog == 0) f.reported (list_any is_listener reports) was;
-              share = (between.fronts p).share;
-              own = own_reports m p reports given;
-            });
-          }
-        where
-          by : (s : ℕ) → length reports ≤ 256 → (m.fronts p).batch ≡ [] → are_queued m p reports ≡ true → (m.server.owner s ≡ p) ⊎ (m.server.owner s ≢ p) → AtSlot m (Poll p reports) n s
-          by s few empty given (inl own) = polls_at s few empty given own
-          by s few empty given (inr other) = elsewhere s other
+      let few = and_parts (nat_le (length reports) 256) _ h in
+      let parts = and_parts (length (m.fronts p).batch == 0) (are_queued m p reports) few.1 in
+      polled_next p reports rested (leb-true (length reports) 256 few.0) (nil_from_length (m.fronts p).batch (eqb-true (length (m.fronts p).batch) 0 parts.0)) parts.1)
 
   -- any step
 

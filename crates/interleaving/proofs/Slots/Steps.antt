@@ -49,20 +49,16 @@ pub record Next (m : Many) (x : Step) (n : Many) : Type 0 where
 
 -- Fronts
 
-pub at_each : (P : ℕ → Front → Type 0) (f : ℕ → Front) (p : ℕ) (new : Front) → ((i : ℕ) → P i (f i)) → P p new → (i : ℕ) → P i (set f p new i)
-at_each P f p new all one i = by (cases_eq i p)
+pub at_each : (P : ℕ → Front → Type 0) (f : ℕ → Front) (p : ℕ) (new : Front) (i : ℕ) → P i (f i) → (i ≡ p → P p new) → P i (set f p new i)
+at_each P f p new i all one = by (cases_eq i p)
   where
     by : (i ≡ p) ⊎ (i ≢ p) → P i (set f p new i)
-    by (inl e) = rw (e, set_here f p new) one
-    by (inr other) = rw (set_there f p i new other) (all i)
+    by (inl e) = rw (e, set_here f p new) (one e)
+    by (inr other) = rw (set_there f p i new other) all
 
 -- a front's batch is in the view of its poller's slots alone
 pub same_names : (f : ℕ → Front) (p : ℕ) (new : Front) (s i : ℕ) → (i ≡ p → names_at s new.batch ≡ names_at s (f p).batch) → names_at s (set f p new i).batch ≡ names_at s (f i).batch
-same_names f p new s i same = by (cases_eq i p)
-  where
-    by : (i ≡ p) ⊎ (i ≢ p) → names_at s (set f p new i).batch ≡ names_at s (f i).batch
-    by (inl e) = rw (e, set_here f p new) (same e)
-    by (inr other) = rw (set_there f p i new other) refl
+same_names f p new s i same = at_each (λ j g. names_at s g.batch ≡ names_at s (f j).batch) f p new i refl same
 
 -- A deed
 
@@ -85,62 +81,45 @@ module _ (m : Many) (x : Step) (d : Deed) (n : Many) (q : System) where
   done_there : Done → (s : ℕ) → s ≢ d.slot → slot_of n s ≡ slot_of m s
   done_there done s other = framed m n s done.server (done.places s ∙ set_there m.places d.slot s q other) (done.names s other) (done.tickets s other)
 
-  each_slot : ((s : ℕ) (own : List alone.Step) → own ≡ steps_at s (Some d) → Sees m s x own) → alone.run (slot_of m d.slot) d.own ≡ Some q → Done → (s : ℕ) → AtSlot m x n s
-  each_slot is ran done s = by (cases_eq d.slot s)
+  -- nothing has changed for the thread i; or it is at the deed's slot, where it was, or it rested where it was
+  abbrev pub Stands : ℕ → Type 0
+  Stands i = ((n.busy_at i ≡ m.busy_at i) × (slice_get q.threads (rank_at m d.slot i) ≡ slice_get (m.places d.slot).threads (rank_at m d.slot i)))
+      ⊎ ((n.busy_at i ≡ d.slot) × ((m.busy_at i ≡ d.slot) ⊎ (rests m i ≡ true)))
+
+  -- for each thread, if k alone has moved
+  pub moved : (k : ℕ) → n.busy_at k ≡ d.slot → ((i : ℕ) → i ≢ k → n.busy_at i ≡ m.busy_at i) → (m.busy_at k ≡ d.slot) ⊎ (rests m k ≡ true)
+      → ((j : ℕ) → j ≢ rank_at m d.slot k → slice_get q.threads j ≡ slice_get (m.places d.slot).threads j) → (i : ℕ) → Stands i
+  moved k here busy before others i = by (cases_eq i k)
     where
-      by : (d.slot ≡ s) ⊎ (d.slot ≢ s) → AtSlot m x n s
-      by (inl here) = record {
-        own = d.own;
-        sees = is s d.own (rw (eq-eqb d.slot s here) refl);
-        leads = rw (← here) (ran ∙ ap Some (sym (done_here done)));
-      }
-      by (inr other) = record {
-        own = [];
-        sees = is s [] (rw (ne_eqb d.slot s other) refl);
-        leads = ap Some (sym (done_there done s (λ e. other (sym e))));
-      }
+      by : (i ≡ k) ⊎ (i ≢ k) → Stands i
+      by (inl own) = rw own (inr (here, before))
+      by (inr other) = inl (busy i other, others (rank_at m d.slot i) (rank_apart (m.server.owner d.slot) i k other))
 
-  -- no thread has moved
-  apart_still : Done → ((i : ℕ) → n.busy_at i ≡ m.busy_at i) → ((j : ℕ) → slice_get q.threads j ≡ slice_get (m.places d.slot).threads j) → Apart m → Apart n
-  apart_still done busy same apart i s some other = by (cases_eq s d.slot)
+  pub deed_next : Done → ((s : ℕ) (own : List alone.Step) → own ≡ steps_at s (Some d) → Sees m s x own) → alone.run (slot_of m d.slot) d.own ≡ Some q
+      → ((i : ℕ) → Stands i) → Apart m → FrontsHold n → Next m x n
+  deed_next done is ran stands apart fronts = record {
+    server = done.server;
+    each = λ s. at s (cases_eq d.slot s);
+    apart = λ i s some other. rests_on i s (rw done.server at some) other (stands i) (cases_eq s d.slot);
+    fronts = fronts;
+  }
     where
-      before : rests_at (slice_get (m.places s).threads (rank (m.server.owner s) i)) ≡ true
-      before = apart i s (rw done.server at some) (λ e. other (e ∙ sym (busy i)))
+      at : (s : ℕ) → (d.slot ≡ s) ⊎ (d.slot ≢ s) → AtSlot m x n s
+      at s (inl here) = record { own = d.own; sees = is s d.own (rw (eq-eqb d.slot s here) refl); leads = rw (← here) (ran ∙ ap Some (sym (done_here done))) }
+      at s (inr other) = record { own = []; sees = is s [] (rw (ne_eqb d.slot s other) refl); leads = ap Some (sym (done_there done s (λ e. other (sym e)))) }
 
-      by : (s ≡ d.slot) ⊎ (s ≢ d.slot) → rests_at (slice_get (n.places s).threads (rank (n.server.owner s) i)) ≡ true
-      by (inl here) = rw (done.server, done.places s, here, set_here m.places d.slot q, same (rank (m.server.owner d.slot) i)) (rw here at before)
-      by (inr there) = rw (done.server, done.places s, set_there m.places d.slot s q there) before
-
-  -- the thread k is at the deed's slot, where it was, or it rested where it was
-  pub record Moves (k : ℕ) : Type 0 where
-    pub here : n.busy_at k ≡ d.slot
-    pub busy : (i : ℕ) → i ≢ k → n.busy_at i ≡ m.busy_at i
-    pub before : (m.busy_at k ≡ d.slot) ⊎ (rests m k ≡ true)
-    pub others : (j : ℕ) → j ≢ rank (m.server.owner d.slot) k → slice_get q.threads j ≡ slice_get (m.places d.slot).threads j
-
-  apart_moved : Done → (k : ℕ) → Moves k → Apart m → Apart n
-  apart_moved done k moves apart i s some other = by (cases_eq i k) (cases_eq s d.slot) (cases_eq s (m.busy_at k))
-    where
-      inside : i < m.server.limits.workers
-      inside = rw done.server at some
-
-      -- where the place is as before
-      there : s ≢ d.slot → RestsAt m s i → RestsAt n s i
-      there apart rested = rw (done.server, done.places s, set_there m.places d.slot s q apart) rested
-
-      left : i ≡ k → s ≢ d.slot → s ≡ m.busy_at k → (m.busy_at k ≡ d.slot) ⊎ (rests m k ≡ true) → RestsAt n s i
-      left own apart was (inl at_slot) = absurd (apart (was ∙ at_slot))
-      left own apart was (inr rested) = let now = second_so (nat_lt k m.server.limits.workers) _ rested in there apart (rw (own, was) now)
-
-      by : (i ≡ k) ⊎ (i ≢ k) → (s ≡ d.slot) ⊎ (s ≢ d.slot) → (s ≡ m.busy_at k) ⊎ (s ≢ m.busy_at k) → RestsAt n s i
-      by (inl own) (inl here) busy = absurd (other (here ∙ sym moves.here ∙ ap n.busy_at (sym own)))
-      by (inl own) (inr apart) (inl was) = left own apart was moves.before
-      by (inl own) (inr there-it) (inr never) = there there-it (apart i s inside (λ e. never (e ∙ ap m.busy_at own)))
-      by (inr still) (inl here) busy =
-          let before = apart i s inside (λ e. other (e ∙ sym (moves.busy i still))) in
-          let same = moves.others (rank (m.server.owner d.slot) i) (rank_apart (m.server.owner d.slot) i k still) in
-          rw (done.server, done.places s, here, set_here m.places d.slot q, same) (rw here at before)
-      by (inr still) (inr there-it) busy = there there-it (apart i s inside (λ e. other (e ∙ sym (moves.busy i still))))
+      rests_on : (i s : ℕ) → i < m.server.limits.workers → s ≢ n.busy_at i → Stands i → (s ≡ d.slot) ⊎ (s ≢ d.slot) → RestsAt n s i
+      rests_on i s some other (inl same) (inl here) =
+          let before : RestsAt m s i = apart i s some (λ e. other (e ∙ sym same.0)) in
+          rw (done.server, done.places s, here, set_here m.places d.slot q, same.1) (rw here at before)
+      rests_on i s some other (inl same) (inr away) = rw (done.server, done.places s, set_there m.places d.slot s q away) (apart i s some (λ e. other (e ∙ sym same.0)))
+      rests_on i s some other (inr it) (inl here) = absurd (other (here ∙ sym it.0))
+      rests_on i s some other (inr it) (inr away) = rw (done.server, done.places s, set_there m.places d.slot s q away) (was (cases_eq s (m.busy_at i)) it.1)
+        where
+          was : (s ≡ m.busy_at i) ⊎ (s ≢ m.busy_at i) → (m.busy_at i ≡ d.slot) ⊎ (rests m i ≡ true) → RestsAt m s i
+          was (inl here) (inl at_slot) = absurd (away (here ∙ at_slot))
+          was (inl here) (inr rested) = let now = second_so (nat_lt i m.server.limits.workers) _ rested in rw here now
+          was (inr never) before = apart i s some never
 
 -- a deed, with other fronts and threads elsewhere besides
 front_done : (m : Many) (x : Step) (d : Deed) (q : System) (fronts : ℕ → Front) (busy : ℕ → ℕ) {moves : ℕ → Type 0} {names : List Name} → Leaves moves names (slot_of m d.slot) q
@@ -157,184 +136,96 @@ front_done m x d q fronts busy left names here = record {
 }
 
 -- with nothing besides
-pub written_done : (m : Many) (x : Step) (d : Deed) (q : System) {moves : ℕ → Type 0} → Leaves moves [] (slot_of m d.slot) q → Done m x d (written m d q) q
+written_done : (m : Many) (x : Step) (d : Deed) (q : System) {moves : ℕ → Type 0} → Leaves moves [] (slot_of m d.slot) q → Done m x d (written m d q) q
 written_done m x d q left = front_done m x d q m.fronts m.busy_at left (λ s other. refl) left.batch
 
 -- Steps with a deed
 
 module _ (m : Many) (between : Between m) where
+  -- by what the slot's own steps keep
+  by_deed : {P : System → Type 0} (x : Step) (d : Deed) (made : System → Many) → Kept P (alone.run (slot_of m d.slot) d.own)
+      → ((q : System) → alone.run (slot_of m d.slot) d.own ≡ Some q → P q → Next m x (made q))
+      → Kept (Next m x) (when (nat_lt d.slot m.server.limits.slots) (option_map made (alone.run (slot_of m d.slot) d.own)))
+  by_deed {P} x d made kept leads = kept_when _ _ (λ within. kept_map made (alone.run (slot_of m d.slot) d.own) (λ q ran. leads q ran (kept_at {P = P} _ q ran kept)))
+
   pub by_still : (x : Step) (d : Deed) → ((s : ℕ) (own : List alone.Step) → own ≡ steps_at s (Some d) → Sees m s x own)
       → Kept (Leaves nobody [] (slot_of m d.slot)) (alone.run (slot_of m d.slot) d.own)
       → Kept (Next m x) (when (nat_lt d.slot m.server.limits.slots) (option_map (λ (q : System). written m d q) (alone.run (slot_of m d.slot) d.own)))
-  by_still x d is kept = kept_when _ _ (λ within. kept_map (λ (q : System). written m d q) (alone.run (slot_of m d.slot) d.own) (λ q ran.
-      let left : Leaves nobody [] (slot_of m d.slot) q = kept_at {P = Leaves nobody [] (slot_of m d.slot)} _ q ran kept in
-      let done = written_done m x d q left in
-      record {
-        server = refl;
-        each = each_slot m x d (written m d q) q is ran done;
-        apart = apart_still m x d (written m d q) q done (λ i. refl) (λ j. left.others j (λ no. no)) between.apart;
-        fronts = between.fronts;
-      }))
+  by_still x d is kept = by_deed x d (λ q. written m d q) kept (λ q ran left.
+      deed_next m x d (written m d q) q (written_done m x d q left) is ran (λ i. inl (refl, left.others _ (λ no. no))) between.apart between.fronts)
 
   -- the next act or call of the thread i
   pub by_thread : (x : Step) (i : ℕ) (own : List alone.Step) → let d : Deed = record { slot = m.busy_at i; thread = i; own = own } in
       ((s : ℕ) (own : List alone.Step) → own ≡ steps_at s (Some d) → Sees m s x own)
       → Kept (Leaves (only (rank_at m (m.busy_at i) i)) [] (slot_of m (m.busy_at i))) (alone.run (slot_of m (m.busy_at i)) own)
       → Kept (Next m x) (when (nat_lt d.slot m.server.limits.slots) (option_map (λ (q : System). written m d q) (alone.run (slot_of m (m.busy_at i)) own)))
-  by_thread x i own is kept = kept_when _ _ (λ within. kept_map _ (alone.run (slot_of m (m.busy_at i)) own) (λ q ran.
+  by_thread x i own is kept =
       let d : Deed = record { slot = m.busy_at i; thread = i; own = own } in
-      let left : Leaves (only (rank_at m (m.busy_at i) i)) [] (slot_of m (m.busy_at i)) q = kept_at {P = Leaves (only (rank_at m (m.busy_at i) i)) [] (slot_of m (m.busy_at i))} _ q ran kept in
-      let done = written_done m x d q left in
-      record {
-        server = refl;
-        each = each_slot m x d (written m d q) q is ran done;
-        apart = apart_moved m x d (written m d q) q done i (record { here = refl; busy = λ j other. refl; before = inl refl; others = λ j other. left.others j other }) between.apart;
-        fronts = between.fronts;
-      }))
+      by_deed x d (λ q. written m d q) kept (λ q ran left. deed_next m x d (written m d q) q (written_done m x d q left) is ran
+      (moved m x d (written m d q) q i refl (λ j other. refl) (inl refl) (λ j other. left.others j other)) between.apart between.fronts)
 
   pub opens : (p s : ℕ) → (rests m p && (m.server.owner s == p && (m.fronts p).accepted)) ≡ true → Kept (Next m (Open p s)) (makes m (Open p s) (deed m (Open p s)))
-  opens p s allowed = kept_when _ _ (λ within. kept_map _ (alone.run (slot_of m s) opening) (λ q ran.
-      let left : Leaves (only 0) [] (slot_of m s) q = kept_at {P = Leaves (only 0) [] (slot_of m s)} _ q ran (leaves_opening (slot_of m s) refl) in
-      opened q ran left))
-    where
-      d : Deed
-      d = record { slot = s; thread = p; own = opening }
-
-      new : Front
-      new = record (m.fronts p) { accepted = false; opened = (m.fronts p).opened + 1 }
-
-      rested : rests m p ≡ true
-      rested = (and_parts (rests m p) _ allowed).0
-
-      mine : (m.server.owner s == p && (m.fronts p).accepted) ≡ true
-      mine = second_so (rests m p) _ allowed
-
-      own : m.server.owner s ≡ p
-      own = eqb-true (m.server.owner s) p (and_parts (m.server.owner s == p) _ mine).0
-
-      has : (m.fronts p).accepted ≡ true
-      has = second_so (m.server.owner s == p) _ mine
-
-      first : rank (m.server.owner s) p ≡ 0
-      first = rw own (rank_first p)
-
-      within : (m.fronts p).opened + 1 ≤ m.server.share p
-      within = rw has at (between.fronts p).share
-
-      front : FrontHolds m.server m.backlog p new
-      front = record { listener = (between.fronts p).listener; share = omega (arith, within); own = (between.fronts p).own }
-
-      opened : (q : System) → alone.run (slot_of m s) opening ≡ Some q → Leaves (only 0) [] (slot_of m s) q → Next m (Open p s) (besides m (Open p s) (written m d q))
-      opened q ran left =
-          let n : Many = besides m (Open p s) (written m d q) in
-          let done = front_done m (Open p s) d q (set m.fronts p new) (set m.busy_at p s) left (λ t other. same_names m.fronts p new t (m.server.owner t) (λ e. refl))
-          (same_names m.fronts p new s (m.server.owner s) (λ e. refl) ∙ left.batch) in
-          record {
-            server = refl;
-            each = each_slot m (Open p s) d n q (λ t own e. e) ran done;
-            apart = apart_moved m (Open p s) d n q done p (record {
-              here = set_here m.busy_at p s;
-              busy = λ i other. set_there m.busy_at p i s other;
-              before = inr rested;
-              others = λ j other. left.others j (λ e. other (e ∙ sym first));
-            }) between.apart;
-            fronts = at_each (λ i f. FrontHolds m.server m.backlog i f) m.fronts p new between.fronts front;
-          }
+  opens p s allowed =
+      let d : Deed = record { slot = s; thread = p; own = opening } in
+      let f : Front = m.fronts p in
+      let new : Front = record f { accepted = false; opened = f.opened + 1 } in
+      let parts = and_parts (rests m p) _ allowed in
+      let mine = and_parts (m.server.owner s == p) f.accepted parts.1 in
+      let first : rank (m.server.owner s) p ≡ 0 = rw (eqb-true (m.server.owner s) p mine.0) (rank_first p) in
+      let within : f.opened + 1 ≤ m.server.share p = rw mine.1 at (between.fronts p).share in
+      by_deed (Open p s) d (λ q. besides m (Open p s) (written m d q)) (leaves_opening (slot_of m s) refl) (λ q ran left.
+      let n : Many = besides m (Open p s) (written m d q) in
+      deed_next m (Open p s) d n q (front_done m (Open p s) d q (set m.fronts p new) (set m.busy_at p s) left
+      (λ t other. same_names m.fronts p new t (m.server.owner t) (λ e. refl)) (same_names m.fronts p new s (m.server.owner s) (λ e. refl) ∙ left.batch))
+      (λ t own e. e) ran
+      (moved m (Open p s) d n q p (set_here m.busy_at p s) (λ i other. set_there m.busy_at p i s other) (inr parts.0) (λ j other. left.others j (λ e. other (e ∙ sym first))))
+      between.apart (λ i. at_each (FrontHolds m.server m.backlog) m.fronts p new i (between.fronts i)
+      (λ e. record { listener = (between.fronts p).listener; share = omega (arith, within); own = (between.fronts p).own })))
 
   -- a report of an end
   pub delivers_end : (p s : ℕ) (name : Name) (rest : List Report) → (m.fronts p).batch ≡ Of s name ∷ rest
       → Kept (Next m (Deliver p)) (makes m (Deliver p) (delivering p (Of s name ∷ rest)))
-  delivers_end p s name rest is = kept_when _ _ (λ within. kept_map _ (alone.run (slot_of m s) (alone.Deliver ∷ [])) (λ q ran.
-      delivered q ran (kept_at {P = Delivers (slot_of m s)} _ q ran (leaves_delivery (slot_of m s) refl))))
+  delivers_end p s name rest is =
+      let d : Deed = record { slot = s; thread = p; own = alone.Deliver ∷ [] } in
+      let new : Front = record (m.fronts p) { batch = drop 1 (m.fronts p).batch } in
+      let reported : AreOwn m.server.owner p (Of s name ∷ rest) = rw is at (between.fronts p).own in
+      by_deed (Deliver p) d (λ q. besides m (Deliver p) (written m d q)) (leaves_delivery (slot_of m s) refl) (λ q ran left.
+      deed_next m (Deliver p) d (besides m (Deliver p) (written m d q)) q (front_done m (Deliver p) d q (set m.fronts p new) m.busy_at left.1
+      (λ t other. same_names m.fronts p new t (m.server.owner t) (λ e. rw (is, ne_eqb s t (λ e. other (sym e))) refl)) (here q reported.0 left))
+      (λ t own e. e ∙ ap (λ (rs : List Report). steps_at t (delivering p rs)) (sym is)) ran (λ i. inl (refl, left.1.others _ (λ no. no)))
+      between.apart (λ i. at_each (FrontHolds m.server m.backlog) m.fronts p new i (between.fronts i)
+      (λ e. record { listener = rw is (rw is at (between.fronts p).listener); share = (between.fronts p).share; own = rw is reported.1 })))
     where
-      d : Deed
-      d = record { slot = s; thread = p; own = alone.Deliver ∷ [] }
-
-      new : Front
-      new = record (m.fronts p) { batch = drop 1 (m.fronts p).batch }
-
-      reported : AreOwn m.server.owner p (Of s name ∷ rest)
-      reported = rw is at (between.fronts p).own
-
-      own : m.server.owner s ≡ p
-      own = reported.0
-
-      lost : (t : ℕ) → t ≢ s → names_at t (drop 1 (m.fronts p).batch) ≡ names_at t (m.fronts p).batch
-      lost t other = rw (is, ne_eqb s t (λ e. other (sym e))) refl
-
-      here : (q : System) → Delivers (slot_of m s) q → names_at s (set m.fronts p new (m.server.owner s)).batch ≡ q.batch
-      here q left =
+      here : (q : System) → m.server.owner s ≡ p → Delivers (slot_of m s) q
+          → names_at s (set m.fronts p (record (m.fronts p) { batch = drop 1 (m.fronts p).batch }) (m.server.owner s)).batch ≡ q.batch
+      here q own left =
           let was : names_at s (m.fronts p).batch ≡ left.0 ∷ q.batch = rw own at left.1.batch in
           let now : name ∷ names_at s rest ≡ left.0 ∷ q.batch = rw (is, eq-eqb s s refl) at was in
           let tail : names_at s rest ≡ q.batch = cc in
-          rw (own, set_here m.fronts p new, is) tail
-
-      rest_own : AreOwn m.server.owner p (drop 1 (m.fronts p).batch)
-      rest_own = rw is reported.1
-
-      front : FrontHolds m.server m.backlog p new
-      front = record { listener = rw is (rw is at (between.fronts p).listener); share = (between.fronts p).share; own = rest_own }
-
-      delivered : (q : System) → alone.run (slot_of m s) (alone.Deliver ∷ []) ≡ Some q → Delivers (slot_of m s) q → Next m (Deliver p) (besides m (Deliver p) (written m d q))
-      delivered q ran left =
-          let n : Many = besides m (Deliver p) (written m d q) in
-          let done = front_done m (Deliver p) d q (set m.fronts p new) m.busy_at left.1 (λ t other. same_names m.fronts p new t (m.server.owner t) (λ e. lost t other)) (here q left) in
-          record {
-            server = refl;
-            each = each_slot m (Deliver p) d n q (λ t own e. e ∙ ap (λ (rs : List Report). steps_at t (delivering p rs)) (sym is)) ran done;
-            apart = apart_still m (Deliver p) d n q done (λ i. refl) (λ j. left.1.others j (λ no. no)) between.apart;
-            fronts = at_each (λ i f. FrontHolds m.server m.backlog i f) m.fronts p new between.fronts front;
-          }
+          rw (own, set_here m.fronts p (record (m.fronts p) { batch = drop 1 (m.fronts p).batch }), is) tail
 
   -- a turn, with the ticket c
   pub begins : (i : ℕ) (from : Option ℕ) (most : ℕ) → rests m i ≡ true → (o : Option Taken) → first_of (suits i from) m.tickets ≡ o
       → Kept (Next m (Begin i from most)) (makes m (Begin i from most)
       (option_map (λ (c : Taken). record { slot = c.ticket.slot; thread = i; own = alone.Begin (rank_at m c.ticket.slot i) most ∷ [] }) o))
   begins i from most rested None is = kept_none
-  begins i from most rested (Some c) is = kept_when _ _ (λ within. kept_map _ (alone.run (slot_of m c.ticket.slot) (alone.Begin (rank_at m c.ticket.slot i) most ∷ [])) (λ q ran.
-      begun q ran (kept_at {P = Begins (rank_at m c.ticket.slot i) (slot_of m c.ticket.slot)} _ q ran (leaves_begin (slot_of m c.ticket.slot) (rank_at m c.ticket.slot i) most))))
-    where
-      s : ℕ
-      s = c.ticket.slot
-
-      d : Deed
-      d = record { slot = c.ticket.slot; thread = i; own = alone.Begin (rank_at m c.ticket.slot i) most ∷ [] }
-
-      only_one : Alone c.ticket.slot m.tickets c
-      only_one = taken_here (suits i from) m.tickets c is c.ticket.slot refl (between.one_ticket c.ticket.slot)
-
-      begun : (q : System) → alone.run (slot_of m c.ticket.slot) d.own ≡ Some q → Begins (rank_at m c.ticket.slot i) (slot_of m c.ticket.slot) q
-          → Next m (Begin i from most) (besides m (Begin i from most) (written m d q))
-      begun q ran left =
-          let had : tickets_at c.ticket.slot m.tickets ≡ left.first ∷ q.tickets = left.tickets in
-          let none : q.tickets ≡ [] = cc (had, only_one.whole) in
-          rw is (record {
-            server = refl;
-            each = each_slot m (Begin i from most) d now q
-                (λ t own e. e ∙ ap (λ (o : Option Taken). steps_at t (option_map
-                (λ (c : Taken). record { slot = c.ticket.slot; thread = i; own = alone.Begin (rank_at m c.ticket.slot i) most ∷ [] })
-                o)) (sym is))
-                ran (done q left none);
-            apart = apart_moved m (Begin i from most) d now q (done q left none) i (record {
-              here = set_here m.busy_at i c.ticket.slot;
-              busy = λ j other. set_there m.busy_at i j c.ticket.slot other;
-              before = inr rested;
-              others = λ j other. left.others j other;
-            }) between.apart;
-            fronts = between.fronts;
-          })
-        where
-          now : Many
-          now = record (written m d q) { tickets = c.rest; busy_at = set m.busy_at i c.ticket.slot }
-
-          done : (q : System) → Begins (rank_at m c.ticket.slot i) (slot_of m c.ticket.slot) q → q.tickets ≡ []
-              → Done m (Begin i from most) d (record (written m d q) { tickets = c.rest; busy_at = set m.busy_at i c.ticket.slot }) q
-          done q left none = record {
-            server = refl;
-            places = λ t. refl;
-            names = λ t other. refl;
-            names_here = left.batch;
-            tickets = λ t other. taken_there (suits i from) m.tickets c is t other;
-            tickets_here = only_one.rest ∙ sym none;
-            common = left.common;
-          }
+  begins i from most rested (Some c) is =
+      let s = c.ticket.slot in
+      let d : Deed = record { slot = s; thread = i; own = alone.Begin (rank_at m s i) most ∷ [] } in
+      let only_one : Alone s m.tickets c = taken_here (suits i from) m.tickets c is s refl (between.one_ticket s) in
+      by_deed (Begin i from most) d (λ q. besides m (Begin i from most) (written m d q)) (leaves_begin (slot_of m s) (rank_at m s i) most) (λ q ran left.
+      let n : Many = record (written m d q) { tickets = c.rest; busy_at = set m.busy_at i s } in
+      let had : tickets_at s m.tickets ≡ left.first ∷ q.tickets = left.tickets in
+      let none : q.tickets ≡ [] = cc (had, only_one.whole) in
+      rw is (deed_next m (Begin i from most) d n q (record {
+        server = refl;
+        places = λ t. refl;
+        names = λ t other. refl;
+        names_here = left.batch;
+        tickets = λ t other. taken_there (suits i from) m.tickets c is t other;
+        tickets_here = only_one.rest ∙ sym none;
+        common = left.common;
+      }) (λ t own e. e ∙ ap (λ (o : Option Taken). steps_at t (option_map
+      (λ (c : Taken). record { slot = c.ticket.slot; thread = i; own = alone.Begin (rank_at m c.ticket.slot i) most ∷ [] }) o)) (sym is)) ran
+      (moved m (Begin i from most) d n q i (set_here m.busy_at i s) (λ j other. set_there m.busy_at i j s other) (inr rested) (λ j other. left.others j other))
+      between.apart between.fronts))

@@ -159,14 +159,11 @@ own_reports m p (Of t n ∷ rs) h =
 
 -- Ranks: a poller and thread 0 are in exchange
 
-rank_poller : (p : ℕ) → rank p p ≡ 0
-rank_poller p = rw (eq-eqb p p refl) refl
+pub rank_first : (p : ℕ) → rank p p ≡ 0
+rank_first p = rw (eq-eqb p p refl) refl
 
 rank_twice : (p i : ℕ) → rank p (rank p i) ≡ i
 rank_twice p i = grind (arith, nat_tests)
-
-pub rank_first : (p : ℕ) → rank p p ≡ 0
-rank_first = rank_poller
 
 pub rank_apart : (p i j : ℕ) → i ≢ j → rank p i ≢ rank p j
 rank_apart p i j other same = other (sym (rank_twice p i) ∙ ap (rank p) same ∙ rank_twice p j)
