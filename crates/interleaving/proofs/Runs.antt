@@ -2,26 +2,14 @@
 pub mod Programs
 use Rattle.world.{specs.{declared.limits.Limits.Limits, Headline.EveryRunHolds, CoreLaws.CoreLaws, States.{opening, unused as unused_place}}, proofs.Headline.Ends.Pairs.Holders.{Events.{holds_after, Lists.{get-replicate, get_beside}}, turns_after, turns_on}}
 use Rattle.dispatch.specs.Acts.{gone_turn, quiet_turn, again_turn}
-use Rattle.interleaving.specs.{Threads.{Claim, ProgramsAreThese, gone, resting, run, seen, start}, Likeness.{all_outside, calls_of, exchanges, taken_word, EveryInterleavingIsARun, EveryStepIsFollowed, NoActInVain}}
+use Rattle.interleaving.specs.{Threads.{Claim, ProgramsAreThese, gone, resting, run, seen, start}, Likeness.{exchanges, taken_word, EveryInterleavingIsARun, EveryStepIsFollowed, NoActInVain}}
 use Rattle.std.proofs.lemmas.Option.{option_and_then_some, same_Some}
 use Programs.*
 
 -- The programs are the server's acts
 
 pub programs_are_these : ProgramsAreThese
-programs_are_these = record { gone = gone_is; quiet = quiet_is; again = again_is; ended = refl; opening = refl }
-  where
-    gone_is : (woke : Bool) → seen (gone_turn false woke) ≡ Claim ∷ TakeOut ∷ gone
-    gone_is true = refl
-    gone_is false = refl
-
-    quiet_is : (woke : Bool) → seen (quiet_turn woke) ≡ turn ++ quiet
-    quiet_is true = refl
-    quiet_is false = refl
-
-    again_is : (woke : Bool) → seen (again_turn woke) ≡ turn ++ again
-    again_is true = refl
-    again_is false = refl
+programs_are_these = record { gone = λ woke. grind arith; quiet = λ woke. grind arith; again = λ woke. grind arith; ended = refl; opening = refl }
 
 module _ (st : System) (p : SlotState) (workers : List WorkerState) (set : Settled st p workers) (turns : Turns (machine_of st p st.entry st.tickets workers)) where
   finds_settled : {i : ℕ} {t : Thread} {k : WorkerState} {todo : List Act} → slice_get workers i ≡ Some k → ThreadLike st.limits.budget st.place p i t k todo
@@ -162,8 +150,7 @@ count_free zero = refl
 count_free (suc n) = let rest = count_free n in omega arith
 
 one_at_most : (b : Bool) → one b ≤ 1
-one_at_most true = omega arith
-one_at_most false = omega arith
+one_at_most b = grind arith
 
 few : (st : System) (p : SlotState) (entry : ℕ) (ts : List ℕ) (workers : List WorkerState) → Turns (machine_of st p entry ts workers)
     → (length ts ≤ 1) × (st.free ≤ 1)
@@ -199,7 +186,7 @@ record Ran (st : System) (w : State) (before : List Exchange) (steps : List Step
   pub events : List Event
   pub world : State
   pub like : Like to world
-  pub shows : shown before w events ≡ (Some world, calls_of steps, all_outside steps, exchanges st steps ++ ahead to world like)
+  pub shows : shown before w events ≡ (Some world, flat_map call_of steps, flat_map outside_of steps, exchanges st steps ++ ahead to world like)
 
 went_on : {before : List Exchange} {w : State} {st q to : System} (s : Step) (steps : List Step) → step st s ≡ Some q → (f : Follows before (exchange st.word (kind_in st s)) w s q)
     → Ran q f.world (ahead q f.world f.like) steps to → Ran st w before (s ∷ steps) to

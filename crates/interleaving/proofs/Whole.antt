@@ -215,9 +215,9 @@ module _ (law : EveryInterleavingIsARun) (ends : LeftAloneItEnds) (server : Serv
         let n = besides m (Open p s) (written m d q) in
         let slots = slots_lighter (Open p s) n d q it (λ t own e. e) ran within 3 ((1 + client_weight m.server.limits) + 17) (opened q ran) in
         let hands = made_few (Open p s) n d q it (λ t own e. e) ran within in
+        let had : (m.fronts p).accepted ≡ true = second_so (m.server.owner s == p) (m.fronts p).accepted (second_so (rests m p) _ allowed) in
         let fronts = front_changed p (record (m.fronts p) { accepted = false; opened = (m.fronts p).opened + 1 }) (is_thread p (and_parts (rests m p) _ allowed).0) in
-        let had = second_so (m.server.owner s == p) (m.fronts p).accepted (second_so (rests m p) _ allowed) in
-        sums _ _ _ _ _ _ _ _ _ _ _ had slots hands fronts))
+        omega (arith, slots, hands, rw had at fronts)))
       where
         opened : (q : System) → alone.run (slot_of m s) opening ≡ Some q → slot.weight q + 3 ≤ slot.weight (slot_of m s) + ((1 + client_weight m.server.limits) + 17)
         opened q ran = option_and_then_some (λ (st : System). alone.run st (drop 1 opening)) (alone.step (slot_of m s) alone.Connect) q ran (λ st is rest.
@@ -225,11 +225,6 @@ module _ (law : EveryInterleavingIsARun) (ends : LeftAloneItEnds) (server : Serv
             let less = ends (one_slot server.limits) (r.own s ++ alone.Connect ∷ []) (drop 1 opening) st q refl before refl rest in
             let more = kept_at (alone.step (slot_of m s) alone.Connect) st is (connects_weigh (slot_of m s)) in
             omega (arith, less, more))
-
-        sums : (s' s b h' h f' f l g c w : ℕ) {had : Bool} → had ≡ true → s' + 3 ≤ s + ((1 + c) + 17) → h' ≤ h + 1
-            → f' + (l + (3 * g + (w + (2 * (c + 17)) * one had))) ≡ f + (l + (3 * g + (w + (2 * (c + 17)) * 0)))
-            → (2 * s' + (b + (h' + f'))) + 1 ≤ (2 * s + (b + (h + f))) + 2 * 0
-        sums s' s b h' h f' f l g c w had slots hands fronts = let now = rw had at fronts in omega arith
 
     -- a report of the batch
     delivers : (p : ℕ) → p < m.server.limits.workers → (batch : List Report) → (m.fronts p).batch ≡ batch → Kept (Lighter (Deliver p)) (makes m (Deliver p) (delivering p batch))
@@ -259,13 +254,8 @@ module _ (law : EveryInterleavingIsARun) (ends : LeftAloneItEnds) (server : Serv
     puts : (i s : ℕ) → Kept (Lighter (Put i s)) (shared m (Put i s))
     puts i s = kept_map _ (first_of (suits i (Some s)) m.tickets) (λ c is it.
         let taken = taken_weighs (suits i (Some s)) m.tickets c is in
-        omega (
-          arith,
-          slots_same (Put i s) (record m { tickets = c.rest ++ record c.ticket { hand = None } ∷ [] }) it (λ t own e. e),
-          in_a_hand i s c.ticket taken.0,
-          total_push hand_weight c.rest (record c.ticket { hand = None }),
-          taken.1,
-        ))
+        let slots = slots_same (Put i s) (record m { tickets = c.rest ++ record c.ticket { hand = None } ∷ [] }) it (λ t own e. e) in
+        omega (arith, slots, in_a_hand i s c.ticket taken.0, total_push hand_weight c.rest (record c.ticket { hand = None }), taken.1))
 
     accepts : (p : ℕ) (reply : Accepting) → slot.is_settled reply ≡ true → p < m.server.limits.workers
         → may_accept m.server p (m.fronts p) ≡ true → Kept (Lighter (Accept p reply)) (answered m p reply)
@@ -293,7 +283,7 @@ module _ (law : EveryInterleavingIsARun) (ends : LeftAloneItEnds) (server : Serv
         let both = total_both m.server.limits.slots (λ s. slot.weight (slot_of (polled m p reports) s)) (given m p reports) in
         let ends = ends_given m p reports queued_ok in
         let new : Front = record (m.fronts p) { batch = reports; reported = (m.fronts p).reported && not (list_any is_listener reports) } in
-        sums _ _ _ _ _ _ _ _ _ _ _ _ _ _ _ _ _ _ each both ends (front_changed p new below) (reports_weigh m p reports queued_ok) some)
+        omega (arith, each, both, ends, front_changed p new below, reports_weigh m p reports queued_ok, some))
       where
         weighs : are_queued m p reports ≡ true → (s : ℕ) → slot.weight (slot_of (polled m p reports) s) + given m p reports s ≤ slot.weight (slot_of m s)
         weighs h s = by (m.server.owner s == p) refl
@@ -304,11 +294,6 @@ module _ (law : EveryInterleavingIsARun) (ends : LeftAloneItEnds) (server : Serv
                 let less = poll_weighs (slot_of m s) (names_at s reports) (left_queue (names_at s reports) (m.places s).kernel.queue q.among q.once) in
                 rw own less
             by false other = rw other (omega arith)
-
-        sums : (sg s' s g e b h f' f k c a r r' t t' n w : ℕ) → sg ≤ s → sg ≡ s' + g → e ≤ g
-            → f' + (k + (3 * r + (t + c * a))) ≡ f + (k + (3 * r' + (t' + c * a))) → (3 * r' + t') + n ≤ (3 * r + e) + 2 * w → 0 < n
-            → (2 * s' + (b + (h + f'))) + 1 ≤ (2 * s + (b + (h + f))) + 2 * w
-        sums sg s' s g e b h f' f k c a r r' t t' n w each both ends fronts reports some = omega arith
 
     lighter : (x : Step) → is_own x ≡ true → Kept (Lighter x) (step m x)
     lighter (Poll p reports) own = kept_when (rests m p) _ (λ rested. polls p reports (ltb-true 0 (length reports) own) (is_thread p rested))

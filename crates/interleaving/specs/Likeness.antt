@@ -212,15 +212,9 @@ abbrev pub call_of : Step → List (ℕ × Reply)
 call_of (Calls i r) = (i, r) ∷ []
 call_of s = []
 
-abbrev pub calls_of : List Step → List (ℕ × Reply)
-calls_of = flat_map call_of
-
 abbrev pub call_in : Event → List (ℕ × Reply)
 call_in (event.Work i (act.Call r)) = (i, r) ∷ []
 call_in e = []
-
-abbrev pub calls_in : List Event → List (ℕ × Reply)
-calls_in = flat_map call_in
 
 -- What a thread with a ticket of this generation finds at its next act. If it claims the slot, nobody holds the slot;
 -- if it takes the connection out, the ticket's own is in the place; if it takes the notes, there are some; if it puts
@@ -258,9 +252,6 @@ outside_of Drop = event.Listen listening.Drop ∷ []
 outside_of (Poll names) = event.Poll (polling.Poll names) ∷ []
 outside_of s = []
 
-abbrev pub all_outside : List Step → List Event
-all_outside = flat_map outside_of
-
 abbrev pub outside_in : Event → List Event
 outside_in (event.Tick n) = event.Tick n ∷ []
 outside_in (event.Network s side change) = event.Network s side change ∷ []
@@ -269,9 +260,6 @@ outside_in (event.Vanish who) = event.Vanish who ∷ []
 outside_in (event.Listen l) = event.Listen l ∷ []
 outside_in (event.Poll (polling.Poll names)) = event.Poll (polling.Poll names) ∷ []
 outside_in e = []
-
-abbrev pub outside_among : List Event → List Event
-outside_among = flat_map outside_in
 
 -- These steps of threads are a run of the machine: events, allowed one after the other from its opening, lead to a
 -- like state. Of the steps and of the events these are the same, in the same order: calls and replies; what clock,
@@ -282,8 +270,8 @@ pub record IsARun (l : Limits) (steps : List Step) (st : System) : Type 0 where
   pub world : State
   pub allowed : events.run (machine.opening l) made ≡ Some world
   pub like : Like st world
-  pub calls : calls_in made ≡ calls_of steps
-  pub outside : outside_among made ≡ all_outside steps
+  pub calls : flat_map call_in made ≡ flat_map call_of steps
+  pub outside : flat_map outside_in made ≡ flat_map outside_of steps
   pub words : exchanges_in (machine.opening l) made ≡ exchanges (start l) steps ++ ahead st world like
   pub holds : HeadlineHolds l made world
   pub nothing : NoActInVain st
@@ -299,8 +287,8 @@ pub record IsFollowed (w : State) (st q : System) (was : Like st w) (s : Step) :
   pub world : State
   pub allowed : events.run w made ≡ Some world
   pub like : Like q world
-  pub calls : calls_in made ≡ call_of s
-  pub outside : outside_among made ≡ outside_of s
+  pub calls : flat_map call_in made ≡ call_of s
+  pub outside : flat_map outside_in made ≡ outside_of s
   pub words : ahead st w was ++ exchanges_in w made ≡ exchange st.word (kind_in st s) ++ ahead q world like
 
 -- Both begin alike, and from any state of the machine that events lead to, each step is followed. So the events of a

@@ -1,6 +1,6 @@
 -- A server of many slots and pollers, and the law that each of its slots can be looked at alone. Part of the promises.
 -- What is done at a slot is a step of `System`, which has one slot (`Threads.antt`). Here is only what slots share.
-use Rattle.std.specs.{Prelude.{◌≡◌, ◌≢◌, ℕ, ◌+◌, ◌-◌, ◌<◌, ◌≤◌, ◌==◌, Bool, true, false, not, ◌&&◌, ◌||◌, nat_lt, nat_le, if◌then◌else◌, List, [], ◌∷◌, ◌++◌, length, map, drop, slice_get, Option, Some, None, option_map, option_and_then, IfSome, Vec}, Global.Global, Option.is_none, List.list_any}
+use Rattle.std.specs.{Prelude.{◌≡◌, ◌≢◌, ℕ, ◌+◌, ◌-◌, ◌<◌, ◌≤◌, ◌==◌, Bool, true, false, not, ◌&&◌, ◌||◌, nat_lt, nat_le, if◌then◌else◌, List, [], ◌∷◌, ◌++◌, length, map, drop, slice_get, Option, Some, None, option_map, option_and_then, unwrap_or, IfSome, Vec}, Global.Global, Option.is_none, List.list_any}
 use Rattle.token.specs.declared.{side.Side.Side, name.Name.Name}
 use Rattle.kernel_model.specs.{declared.{reply.Reply.Reply, accepting.Accepting.{Accepting, TheVariants.{Accepted, Blocked, Again, Starved}}}, Outcome.guard, Names.{has, without_names}}
 use Rattle.world.specs.{declared.{limits.Limits.Limits, event.Change.Change}, Calls.when}
@@ -197,15 +197,12 @@ written m d q = record m {
 
 -- what a step with a deed does besides: a report leaves the batch; a client is no longer accepted, but opened; a ticket
 -- is taken. A thread that begins something at a slot is there from then on
-abbrev pub taking : Many → ℕ → Option Taken → Many
-taking n i None = n
-taking n i (Some c) = record n { tickets = c.rest; busy_at = set n.busy_at i c.ticket.slot }
-
 abbrev pub besides : Many → Step → Many → Many
 besides m (Deliver p) n = with_front n p (record (m.fronts p) { batch = drop 1 (m.fronts p).batch })
 besides m (Open p s) n = record (with_front n p (record (m.fronts p) { accepted = false; opened = (m.fronts p).opened + 1 }))
     { busy_at = set n.busy_at p s }
-besides m (Begin i from most) n = taking n i (first_of (suits i from) m.tickets)
+besides m (Begin i from most) n = unwrap_or (option_map
+    (λ (c : Taken). record n { tickets = c.rest; busy_at = set n.busy_at i c.ticket.slot }) (first_of (suits i from) m.tickets)) n
 besides m x n = n
 
 -- What is done at no slot, or at all

@@ -1,4 +1,5 @@
 //! What holds for every interleaving. The functions do nothing: the contract of each is the law that it is named after.
+ghost use Rattle.world.specs.CoreLaws.{CoreLaws};
 ghost use Rattle.interleaving.specs.{Likeness.{EveryInterleavingIsARun, EveryStepIsFollowed}, Rest.{LeftAloneItEnds, LeftAloneItRests}, Slots.SlotsStandApart, Threads.ProgramsAreThese, Whole.ServersComeToRest};
 
 use relay_core::laws;
@@ -10,10 +11,7 @@ use relay_core::laws;
 pub fn every_interleaving_is_a_run()
     ensures { EveryInterleavingIsARun }
 {
-    laws::answers_keep_place();
-    laws::failures_are_told();
-    laws::live_pairs_rest();
-    laws::only_overdue_pairs_expire();
+    rests_on_core();
     world::laws::every_run_holds();
 }
 
@@ -23,10 +21,7 @@ pub fn every_interleaving_is_a_run()
 pub fn every_step_is_followed()
     ensures { EveryStepIsFollowed }
 {
-    laws::answers_keep_place();
-    laws::failures_are_told();
-    laws::live_pairs_rest();
-    laws::only_overdue_pairs_expire();
+    rests_on_core();
 }
 
 /// The acts of a turn of the server, by the contract of `turns`, are the program of that turn here, but for its calls
@@ -42,10 +37,7 @@ pub fn programs_are_these()
 pub fn left_alone_it_ends()
     ensures { LeftAloneItEnds }
 {
-    laws::answers_keep_place();
-    laws::failures_are_told();
-    laws::live_pairs_rest();
-    laws::only_overdue_pairs_expire();
+    rests_on_core();
     every_interleaving_is_a_run();
 }
 
@@ -54,10 +46,7 @@ pub fn left_alone_it_ends()
 pub fn left_alone_it_rests()
     ensures { LeftAloneItRests }
 {
-    laws::answers_keep_place();
-    laws::failures_are_told();
-    laws::live_pairs_rest();
-    laws::only_overdue_pairs_expire();
+    rests_on_core();
     every_interleaving_is_a_run();
 }
 
@@ -79,4 +68,14 @@ pub fn servers_come_to_rest()
 {
     every_interleaving_is_a_run();
     left_alone_it_ends();
+}
+
+/// The core's laws for every pair, on which the laws above depend.
+fn rests_on_core()
+    ensures { CoreLaws }
+{
+    laws::answers_keep_place();
+    laws::failures_are_told();
+    laws::live_pairs_rest();
+    laws::only_overdue_pairs_expire();
 }

@@ -45,7 +45,8 @@ module _ (st : System) (i : ℕ) (t : Thread) where
       → HolderLike budget place p t c more todo → Known st i t todo
   known_holder out (Holds at least all some) = TakingOut
   known_holder out (HasOut at is least all some) = Taking
-  known_holder {c = c} out (Goes at is least) = by_plan (Known st i t) t.left c.pair (λ live none. Resting) (λ live some spent. Spending) (λ live some left. Calling c (out is) some) (λ over. Ending c (out is))
+  known_holder {c = c} out (Goes at is least) = by_plan (Known st i t) t.left c.pair (λ live none. Resting) (λ live some spent. Spending)
+      (λ live some left. Calling c (out is) some) (λ over. Ending c (out is))
   known_holder out (Stays at live) = Posting
   known_holder out (Leaves at may) = Releasing
 
@@ -187,42 +188,39 @@ module _ {l : Limits} {st : System} (s : Sound l st) (i : ℕ) (t : Thread) (the
       → (own ≡ true → others_weight q + (thread_weight u + 1) ≤ others_weight st + thread_weight t) → Fine l st own q
   goes q u is base same opens less = record {
     sound = record { base = base; count = ap (λ (ts : List Thread). length ts) is ∙ length-set st.threads i u ∙ s.count; begun = λ v at. by v (at_one st.threads 0 there is at) };
-    lighter = λ own. rw is (sums _ _ _ _ _ _ _ _ _ _ (total-set thread_weight st.threads i t u there) (less own));
+    lighter = λ own. rw is (omega (arith, total-set thread_weight st.threads i t u there, less own));
   }
     where
       by : (v : Thread) → ((0 ≡ i) × (v ≡ u)) ⊎ ((0 ≡ i → ⊥) × (slice_get st.threads 0 ≡ Some v)) → v.todo ≡ open_slot → q.accepted ≡ true
       by v (inl it) begins = opens (rw it.1 at begins)
       by v (inr it) begins = same (λ e. it.0 (sym e)) ∙ s.begun v it.1 begins
 
-      sums : (k' p' s' k p s c d x y : ℕ) → x + c ≡ y + d → (k' + (p' + s')) + (d + 1) ≤ (k + (p + s)) + c → (k' + (p' + (s' + x))) + 1 ≤ k + (p + (s + y))
-      sums k' p' s' k p s c d x y threads less = omega arith
-
   chosen : (b : Bool) (x y : System) → Fine l st true x → Fine l st true y → Fine l st true (if b then x else y)
   chosen true x y p q = p
   chosen false x y p q = q
 
   takes : (o : Option Connection) → t.out ≡ o → t.todo ≡ drop 2 turn → some_wait st.word.pending ≡ true → Fine l st true (taking st i t [] o)
-  takes None none is some = goes _ _ refl (assumption s) (λ e. refl) (λ e. cc) (λ own. rw (is, none) (omega (arith, spent_none t.left)))
+  takes None none is some = goes _ _ refl (assumption s) (λ e. refl) (λ e. cc) (λ yes. rw (is, none) (omega (arith, spent_none t.left)))
   -- the notes pay for the turn's calls and its end
   takes (Some c) has is some =
       let c' = heard st.word.pending c in
-      goes _ _ refl (assumption s) (λ e. refl) (not_opening t.left (expired st.second st.limits.idle c'.pair)) (λ own. rw (is, has)
+      goes _ _ refl (assumption s) (λ e. refl) (not_opening t.left (expired st.second st.limits.idle c'.pair)) (λ yes. rw (is, has)
       (omega (arith, ap one some, planned_weighs st t t.left c', (rest_most t.left c'.pair).1, spent_more t.left (calls_left c'.pair) 4 (four_left c'.pair), heard_weighs st.word.pending c)))
 
   closes : t.todo ≡ ended → Kept (Fine l st true) (acts st i t ended)
   closes is = kept_bind _ t.out (λ c has. kept_map _ (kernel.close_both st.kernel c.ends) (λ told may.
       let none : (e : Descriptors) → None ≡ Some e → e.client ≢ e.target = λ e at. absurd (cc) in
       let less = kept_at (kernel.close_both st.kernel c.ends) told may (both_closed st.limits st.kernel c.ends) in
-      goes _ _ refl (assumption (s, none)) (λ e. refl) (λ e. cc) (λ own. rw is (omega arith))))
+      goes _ _ refl (assumption (s, none)) (λ e. refl) (λ e. cc) (λ yes. rw is (omega arith))))
 
   gives : t.generation ≡ st.entry → t.todo ≡ drop 2 ended → (b : Bool) → is_worn t.generation ≡ b
       → Fine l st true (with_thread (if b then st else record st { free = suc st.free }) i (goes_on t []))
-  gives own is true worn = goes _ _ refl (assumption s) (λ e. refl) (λ e. cc) (λ one. rw is (omega arith))
+  gives own is true worn = goes _ _ refl (assumption s) (λ e. refl) (λ e. cc) (λ yes. rw is (omega arith))
   gives own is false not_worn =
       let free : st.accepted ≡ true → 1 ≤ suc st.free = λ yes. omega arith in
       let less : l.generation < last_generation → 1 ≤ suc st.free → st.entry < last_generation =
       λ below some. (let most = leb-false last_generation t.generation not_worn in omega arith) in
-      goes _ _ refl (assumption (s, free, less)) (λ e. refl) (λ e. cc) (λ one. rw is (omega arith))
+      goes _ _ refl (assumption (s, free, less)) (λ e. refl) (λ e. cc) (λ yes. rw is (omega arith))
 
   -- the client that was accepted pays for a fresh connection and the opening
   registers : i ≡ 0 → t.todo ≡ open_slot → (free : ℕ) → st.free ≡ free → Kept (Fine l st true) (registering st i t (drop 1 open_slot) free)
@@ -230,7 +228,7 @@ module _ {l : Limits} {st : System} (s : Sound l st) (i : ℕ) (t : Thread) (the
   registers first is (suc free) some = kept_when st.accepted _ (λ accepted. kept_bind _ (token_of 0 Client (st.entry + 1)) (λ client one. kept_map _ (token_of 0 Target (st.entry + 1)) (λ target two.
       let differ = two_ends st.kernel client target (side_is Client (st.entry + 1) client one) (side_is Target (st.entry + 1) target two) in
       goes _ _ refl (record { limits = s.limits; apart = λ e at same. differ (cc); some_free = λ yes. absurd (cc); unworn = λ below more. s.unworn below (omega arith) })
-      (λ later. absurd (later first)) (λ e. cc) (λ own. rw (is, accepted) (omega (arith, both_opened st.kernel client target))))))
+      (λ later. absurd (later first)) (λ e. cc) (λ yes. rw (is, accepted) (omega (arith, both_opened st.kernel client target))))))
 
   pub acts_fine : {todo : List Act} → Known st i t todo → t.todo ≡ todo → Finds st.word st.place t.generation todo → Kept (Fine l st true) (acts st i t todo)
   acts_fine Nothing is find = kept_none
@@ -238,18 +236,18 @@ module _ {l : Limits} {st : System} (s : Sound l st) (i : ℕ) (t : Thread) (the
   acts_fine (Opening first) is find = registers first is st.free refl
   acts_fine (Entering none) is find =
       let never : l.generation < last_generation → 1 ≤ st.free → t.generation < last_generation = λ below some. absurd (omega (arith, none)) in
-      kept_some (goes _ _ refl (assumption (s, never)) (λ e. refl) (λ e. cc) (λ own. rw is (omega arith)))
-  acts_fine Adopting is find = kept_some (chosen st.word.free _ _ (goes _ _ refl (assumption s) (λ e. refl) (λ e. cc) (λ own. rw is (omega arith)))
-      (goes _ _ refl (assumption s) (λ e. refl) (λ e. cc) (λ own. rw is (omega (arith, spent_none 0)))))
-  acts_fine Claiming is find = kept_some (chosen st.word.held _ _ (goes _ _ refl (assumption s) (λ e. refl) (λ e. cc) (λ own. rw is (omega (arith, spent_none 0))))
-      (goes _ _ refl (assumption s) (λ e. refl) (λ e. cc) (λ own. rw is (omega arith))))
+      kept_some (goes _ _ refl (assumption (s, never)) (λ e. refl) (λ e. cc) (λ yes. rw is (omega arith)))
+  acts_fine Adopting is find = kept_some (chosen st.word.free _ _ (goes _ _ refl (assumption s) (λ e. refl) (λ e. cc) (λ yes. rw is (omega arith)))
+      (goes _ _ refl (assumption s) (λ e. refl) (λ e. cc) (λ yes. rw is (omega (arith, spent_none 0)))))
+  acts_fine Claiming is find = kept_some (chosen st.word.held _ _ (goes _ _ refl (assumption s) (λ e. refl) (λ e. cc) (λ yes. rw is (omega (arith, spent_none 0))))
+      (goes _ _ refl (assumption s) (λ e. refl) (λ e. cc) (λ yes. rw is (omega arith))))
   acts_fine TakingOut is (c, at, own) = kept_some (subst (λ (o : Option Connection). Fine l st true (taken_out st i t (drop 2 turn) o)) (sym at) (rw (eq-eqb c.pair.generation t.generation own)
-      (goes (with_thread (record st { place = None }) i (record t { out = Some c; todo = drop 2 turn })) _ refl (assumption s) (λ e. refl) (λ e. cc) (λ one. rw (is, at) (omega arith)))))
+      (goes (with_thread (record st { place = None }) i (record t { out = Some c; todo = drop 2 turn })) _ refl (assumption s) (λ e. refl) (λ e. cc) (λ yes. rw (is, at) (omega arith)))))
   acts_fine Taking is some = kept_some (takes t.out refl is some)
   acts_fine (Ending c out) is find = closes is
   acts_fine (Giving own) is find = kept_some (gives own is (is_worn t.generation) refl)
   acts_fine known is find =
-      kept_some (goes _ _ refl (assumption s) (λ e. refl) (λ e. cc) (λ own. rw is (omega (arith, posted_weighs st t.generation, released_weighs st t.generation))))
+      kept_some (goes _ _ refl (assumption s) (λ e. refl) (λ e. cc) (λ yes. rw is (omega (arith, posted_weighs st t.generation, released_weighs st t.generation))))
 
   -- a call
 

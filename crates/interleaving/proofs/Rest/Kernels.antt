@@ -35,10 +35,7 @@ counts_beside n ns (x ∷ q) other = by (has x ns) (same n x) (same x n) _ _ _ (
 
 counts_once : (n : Name) (q : List Name) → has n q ≡ true → 1 ≤ total (λ x. one (same n x)) q
 counts_once n [] h = absurd (cc)
-counts_once n (x ∷ q) h = by (same n x) (has n q) _ h (counts_once n q)
-  where
-    by : (b c : Bool) (k : ℕ) → (b || c) ≡ true → (c ≡ true → 1 ≤ k) → 1 ≤ one b + k
-    by b c k h rest = grind arith
+counts_once n (x ∷ q) h = let rest = counts_once n q in grind arith
 
 counted : (names q : List Name) → are_among q names ≡ true → are_distinct names ≡ true → length names ≤ count names q
 counted [] q among distinct = omega arith
@@ -49,10 +46,7 @@ counted (n ∷ ns) q among distinct =
 
 parted : (names q : List Name) → length (without_names names q) + count names q ≡ length q
 parted names [] = refl
-parted names (x ∷ q) = by (has x names) _ _ _ (parted names q)
-  where
-    by : (b : Bool) (ys : List Name) (n k : ℕ) → length ys + n ≡ k → length (cond (not b) (x ∷ ys) ys) + (one b + n) ≡ suc k
-    by b ys n k rest = grind arith
+parted names (x ∷ q) = let rest = parted names q in grind arith
 
 pub polled : (names q : List Name) → are_among q names ≡ true → are_distinct names ≡ true → length (without_names names q) + length names ≤ length q
 polled names q among distinct = omega (arith, counted names q among distinct, parted names q)

@@ -66,41 +66,31 @@ keeps_passing now p call d = grind (arith, common_steps)
 opposite_twice : (d : Direction) → opposite (opposite d) ≡ d
 opposite_twice d = grind arith
 
-module _ (p : PairState) (d : Direction) (call : Call) (at : call_for p d ≡ Some call) (fit : fits p call answer.Blocked ≡ true) where
-  serves : direction_of call ≡ d
-  serves = grind (arith, common_steps)
+is_up : (p : PairState) (d : Direction) (call : Call) → call_for p d ≡ Some call → fits p call answer.Blocked ≡ true → flag p call ≡ true
+is_up p d call at fit = grind (arith, common_steps)
 
-  is_up : flag p call ≡ true
-  is_up = grind (arith, common_steps)
-
-  keeps_back : passes_on p d ≡ false
-  keeps_back = grind (arith, common_steps)
+keeps_back : (p : PairState) (d : Direction) (call : Call) → call_for p d ≡ Some call → fits p call answer.Blocked ≡ true → (direction_of call ≡ d) × (passes_on p d ≡ false)
+keeps_back p d call at fit = grind (arith, common_steps)
 
 -- one flag less is up, and one call less is left
 pub blocks : (now : ℕ) (p : PairState) (call : Call) → next_call p ≡ Some call → fits p call answer.Blocked ≡ true
     → let q = after now p call answer.Blocked in (pair_weight q + 1 ≡ pair_weight p) × (calls_left q + 1 ≤ calls_left p)
 blocks now p call next fit = by (either p call next)
   where
-    q : PairState
-    q = after now p call answer.Blocked
-
     fewer : (second : Bool) (n m : ℕ) → n + 1 ≡ m → left_by second false n + 1 ≤ left_by false second m
     fewer second n m one = grind arith
 
-    by : Next p call → (pair_weight q + 1 ≡ pair_weight p) × (calls_left q + 1 ≤ calls_left p)
+    by : Next p call → let q = after now p call answer.Blocked in (pair_weight q + 1 ≡ pair_weight p) × (calls_left q + 1 ≤ calls_left p)
     by (First at) =
-        let up = is_up p p.turn call at fit in (
-          clears now p call up,
-          rw (serves p p.turn call at fit, keeps_passing now p call (opposite p.turn), opposite_twice p.turn, keeps_passing now p call p.turn, keeps_back p p.turn call at fit)
-              (fewer (passes_on p (opposite p.turn)) _ _ (clears_one now p call up)),
-        )
+        let up = is_up p p.turn call at fit in
+        let is = keeps_back p p.turn call at fit in
+        let less = fewer (passes_on p (opposite p.turn)) _ _ (clears_one now p call up) in
+        (clears now p call up, rw (is.0, keeps_passing now p call (opposite p.turn), opposite_twice p.turn, keeps_passing now p call p.turn, is.1) less)
     by (Second none at) =
         let up = is_up p (opposite p.turn) call at fit in
-        let keeps = keeps_back p (opposite p.turn) call at fit in (
-          clears now p call up,
-          rw (serves p (opposite p.turn) call at fit, opposite_twice p.turn, keeps_passing now p call p.turn, keeps_passing now p call (opposite p.turn), none_passes p p.turn none, keeps)
-              (fewer false _ _ (clears_one now p call up)),
-        )
+        let is = keeps_back p (opposite p.turn) call at fit in
+        let less = fewer false _ _ (clears_one now p call up) in
+        (clears now p call up, rw (is.0, opposite_twice p.turn, keeps_passing now p call p.turn, keeps_passing now p call (opposite p.turn), none_passes p p.turn none, is.1) less)
 
 -- An answer that moves something. What is left to move in the pair becomes less, but for bytes that were read, of which
 -- each is to be written

@@ -77,7 +77,8 @@ module _ (now : ℕ) (l : OpenConnection) (r : Reply) (call : Call) (next : next
   lighter answer.Blocked told fit settled =
       let it = blocks now l.connection.pair call next fit in
       let q = after now l.connection.pair call answer.Blocked in
-      record { lighter = λ left. omega (arith, less answer.Blocked told, it.0, spent_less left (calls_left q) (calls_left l.connection.pair) it.1, (rest_most (left - 1) q).1); queue = refl; backlog = refl }
+      let spent = λ (left : ℕ). spent_less left (calls_left q) (calls_left l.connection.pair) it.1 in
+      record { lighter = λ left. omega (arith, less answer.Blocked told, it.0, spent left, (rest_most (left - 1) q).1); queue = refl; backlog = refl }
   lighter answer.Interrupted told fit settled = absurd (answers_all l call r told settled)
   lighter (answer.Failed kind) told fit settled =
       record { lighter = λ left. omega (arith, less (answer.Failed kind) told); queue = refl; backlog = refl }

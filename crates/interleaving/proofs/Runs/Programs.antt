@@ -1,8 +1,8 @@
 -- What a step is for the machine: what the network, the kernel, the clock and the poller do between the programs, and
 -- what a thread does, act by act, where no opening is half way. Its imports are passed on to the file above it.
-pub use Rattle.std.{proofs.{Common.{Bool, List, None, Option, Some, [], ap, append-nil, arith, drop, false, if◌then◌else◌, inl, inr, is_some, length, lt-ltb, map, nat_le, nat_lt, not, option_map, refl, replicate, slice_get, slice_set, subst, suc, sym, true, zero, ℕ, ◌&&◌, ◌++◌, ◌+◌, ◌==◌, ◌∙◌, ◌∷◌, ◌≡◌, ◌≢◌, ◌≤◌, ◌⊎◌, ◌||◌, length-append, eqb-true, ne_eqb, ◌-◌, append_assoc, eq-eqb, leb-true}, lemmas.{Bool.{or_right, and_parts, cases_eq}, Option.get_or_from_slice_get, List.{map-append, length-replicate, set-get_or, set-set}}}, specs.{Option.is_none, Cmp.second_so}}
+pub use Rattle.std.{proofs.{Common.{Bool, List, None, Option, Some, [], ap, append-nil, arith, drop, false, if◌then◌else◌, inl, inr, is_some, length, lt-ltb, map, nat_le, nat_lt, not, option_map, refl, replicate, slice_get, slice_set, subst, suc, sym, true, zero, ℕ, ◌&&◌, ◌++◌, ◌+◌, ◌==◌, ◌∙◌, ◌∷◌, ◌≡◌, ◌≢◌, ◌≤◌, ◌⊎◌, ◌||◌, length-append, eqb-true, ne_eqb, ◌-◌, append_assoc, eq-eqb, leb-true}, lemmas.{Bool.{or_right, and_parts, cases_eq}, Option.get_or_from_slice_get, List.{map-append, length-replicate, set-get_or, set-set}}}, specs.{Option.is_none, Cmp.second_so, List.flat_map}}
 pub use Rattle.claims.specs.{Words.{WordState, made as exchange_made, some_wait, wakes, word_after}, declared.view.Exchange.Exchange}
-pub use Rattle.interleaving.specs.{Likeness.{OthersRest, exchange, exchanges_in, first_kind, kind_in, left_of, Adopted, Emptied, Entered, Goes, HalfOpen, HasClosed, HasOut, HasRetired, Held, HolderLike, Holds, IsHalfOpen, IsHolder, IsSettled, Leaves, Like, Opens, Placed, Posted, Registered, Rests, Settled, Stage, Stays, ThreadLike, Tries, WorkerFor, WorkersFor, ahead, call_of, calls_in, ends_of, machine_of, opened_slot, outside_among, outside_of, ticket, posts, here, Finds}, Threads.{Act, Call, Release, TakeOut, again, ended, open_slot, plan, quiet, turn, Accept, Acts, Begin, Calls, Connect, Deliver, Drop, Network, Open, Poll, Spurious, Step, Sweep, System, Thread, Tick, Vanish, acts, begun, goes_on, is_over, poller_rests, posted, released, rests, step, with_thread, watched_of, is_limited, delivered, delivers, Post, Retire, Give, calls, closed, begins, given, heard, taking, planned, put_in, registered, registering}}
+pub use Rattle.interleaving.specs.{Likeness.{OthersRest, exchange, exchanges_in, first_kind, kind_in, left_of, Adopted, Emptied, Entered, Goes, HalfOpen, HasClosed, HasOut, HasRetired, Held, HolderLike, Holds, IsHalfOpen, IsHolder, IsSettled, Leaves, Like, Opens, Placed, Posted, Registered, Rests, Settled, Stage, Stays, ThreadLike, Tries, WorkerFor, WorkersFor, ahead, call_of, call_in, ends_of, machine_of, opened_slot, outside_in, outside_of, ticket, posts, here, Finds}, Threads.{Act, Call, Release, TakeOut, again, ended, open_slot, plan, quiet, turn, Accept, Acts, Begin, Calls, Connect, Deliver, Drop, Network, Open, Poll, Spurious, Step, Sweep, System, Thread, Tick, Vanish, acts, begun, goes_on, is_over, poller_rests, posted, released, rests, step, with_thread, watched_of, is_limited, delivered, delivers, Post, Retire, Give, calls, closed, begins, given, heard, taking, planned, put_in, registered, registering}}
 pub use Rattle.kernel_model.specs.{Ends.is_nonempty, Kernel.KernelState, declared.{both.Descriptors.Descriptors, reply.Reply.Reply, accepting.Accepting.TheVariants.{Accepted, Blocked, Again, Starved}}}
 pub use Rattle.relay_core.specs.{Order.next_call, Pairs.{PairState, is_live, verdict, fresh, noted}, Replies.fits, Idle.{is_overdue, expired}}
 pub use Rattle.token.specs.{Names.EndName, declared.{name.Name.Name, side.Side.{Side, TheVariants.{Client, Target}}}}
@@ -25,7 +25,7 @@ abbrev pub Shown : Type 0
 Shown = Option State × List (ℕ × Reply) × List Event × List Exchange
 
 abbrev pub shown : List Exchange → State → List Event → Shown
-shown before w events = (machine_runs.run w events, calls_in events, outside_among events, before ++ exchanges_in w events)
+shown before w events = (machine_runs.run w events, flat_map call_in events, flat_map outside_in events, before ++ exchanges_in w events)
 
 -- with a step of the threads first, which makes these exchanges
 abbrev pub after_step : Step → List Exchange → Shown → Shown
@@ -149,9 +149,7 @@ wakes_as : (p : SlotState) → wakes (word_at p) ≡ brings_ticket p
 wakes_as p = rw (some_notes p.notes) (by_bits (is_held p.holder) (is_nonempty p.notes))
   where
     by_bits : (held some : Bool) → (if held then false else (if some then false else true)) ≡ not (held || some)
-    by_bits true some = refl
-    by_bits false true = refl
-    by_bits false false = refl
+    by_bits held some = grind arith
 
 post_word : (p : SlotState) (g : ℕ) → word_after word.post (word_at p) ≡ word_at (with_note p g)
 post_word p g =
@@ -346,11 +344,7 @@ heard_as : (c : Connection) (notes : List ℕ) → machine.heard c notes ≡ hea
 heard_as c notes = rw (some_notes notes) refl
 
 same_ends : (notes : ℕ) (c : Connection) → (heard notes c).ends ≡ c.ends
-same_ends notes c = by (some_wait notes)
-  where
-    by : (b : Bool) → (if b then record c { pair = noted c.pair } else c).ends ≡ c.ends
-    by true = refl
-    by false = refl
+same_ends notes c = grind arith
 
 all_keep_ends : (now : ℕ) (l : OpenConnection) (r : Reply) → Kept (λ (line : OpenConnection). line.connection.ends ≡ l.connection.ends) (called now l r)
 unfolding called

@@ -26,15 +26,6 @@ told_holds listens flag armed none now queued batch h = grind arith
 polled_holds : (x y queued batch : Bool) → (x || (y || (queued || false))) ≡ true → (x || (y || ((queued && not batch) || batch))) ≡ true
 polled_holds x y queued batch h = grind arith
 
-reported_holds : (x y batch : Bool) → (x || (y || (true || batch))) ≡ true
-reported_holds x y batch = grind arith
-
-armed_holds : (x rest : Bool) → (x || ((true && true) || rest)) ≡ true
-armed_holds x rest = grind arith
-
-raised : (listens rest : Bool) → ((not listens || true) || rest) ≡ true
-raised listens rest = grind arith
-
 -- once a client waits, a front holds by what is on its way; the backlog may have any size then
 with_backlog : (server : Server) (b c p : ℕ) (f : Front) → nat_lt 0 b ≡ true → FrontHolds server b p f → FrontHolds server c p f
 with_backlog server b c p f some h =
@@ -90,13 +81,13 @@ module _ (m : Many) (between : Between m) where
 
   rumours : (p : ℕ) → Kept (Next m (Rumour p)) (shared m (Rumour p))
   rumours p = let f = m.fronts p in
-      kept_some (hears_of (Rumour p) p f.listens f.flag f.armed true (λ s. refl) (reported_holds (not f.listens || f.flag) (f.armed && m.backlog == 0) (list_any is_listener f.batch)))
+      kept_some (hears_of (Rumour p) p f.listens f.flag f.armed true (λ s. refl) (grind arith))
 
   retracts : (p : ℕ) → Kept (Next m (Retract p)) (shared m (Retract p))
   retracts p = let f = m.fronts p in
       kept_guard _ _ (λ h.
       let none : (m.backlog == 0) ≡ true = second_so f.reported _ h in
-      hears_of (Retract p) p f.listens f.flag true false (λ s. refl) (rw none (armed_holds (not f.listens || f.flag) (false || list_any is_listener f.batch))))
+      hears_of (Retract p) p f.listens f.flag true false (λ s. refl) (rw none (grind arith)))
 
   drops : (p : ℕ) → Kept (Next m (Drop p)) (shared m (Drop p))
   drops p = let f = m.fronts p in
@@ -124,7 +115,7 @@ module _ (m : Many) (between : Between m) where
 
   delivers : (p : ℕ) (batch : List Report) → (m.fronts p).batch ≡ batch → Kept (Next m (Deliver p)) (makes m (Deliver p) (delivering p batch))
   delivers p [] is = rw is kept_none
-  delivers p (Listener ∷ rest) is = rw is (kept_some (hears p Listener rest true is (λ s. refl) (rw is at (between.fronts p).own) (λ s. rw is refl) (raised (m.fronts p).listens _)))
+  delivers p (Listener ∷ rest) is = rw is (kept_some (hears p Listener rest true is (λ s. refl) (rw is at (between.fronts p).own) (λ s. rw is refl) (grind arith)))
   delivers p (Waker ∷ rest) is = rw is (kept_some (hears p Waker rest (m.fronts p).flag is (λ s. refl) (rw is at (between.fronts p).own) (λ s. rw is refl) (rw is at (between.fronts p).listener)))
   delivers p (Of s name ∷ rest) is = delivers_end m between p s name rest is
 
@@ -136,10 +127,10 @@ module _ (m : Many) (between : Between m) where
       let flag_up : f.flag ≡ true = second_so f.listens f.flag (and_parts (f.listens && f.flag) _ may).0 in
       kept_guard _ _ (λ some. front_next (Accept p Accepted) p (record f { accepted = true }) (m.backlog - 1) (λ s. refl) (λ s. refl)
       (λ i. with_backlog m.server m.backlog (m.backlog - 1) i (m.fronts i) some (between.fronts i))
-      (record { listener = rw flag_up (raised f.listens _); share = omega arith; own = (between.fronts p).own }))
+      (record { listener = rw flag_up (grind arith); share = omega arith; own = (between.fronts p).own }))
   answers p Blocked may = let f = m.fronts p in
       kept_guard _ _ (λ none. hears_of (Accept p Blocked) p f.listens false true f.reported (λ s. refl)
-      (rw none (armed_holds (not f.listens || false) (f.reported || list_any is_listener f.batch))))
+      (rw none (grind arith)))
   answers p Again may = kept_some (quiet (Accept p Again) m refl (λ s. refl) (λ s. refl) between.apart between.fronts)
   answers p Starved may = kept_some (quiet (Accept p Starved) m refl (λ s. refl) (λ s. refl) between.apart between.fronts)
 

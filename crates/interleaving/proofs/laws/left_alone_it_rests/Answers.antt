@@ -2,9 +2,4 @@ use Rattle.interleaving.proofs.Rest.{at_rest}
 use Rattle.interleaving.proofs.laws.left_alone_it_rests.Goals as goal
 
 pub returns : goal.returns
-returns c = at_rest (record {
-  place = c.answers_keep_place.ensures;
-  failures = c.failures_are_told.ensures;
-  rest = c.live_pairs_rest.ensures;
-  overdue = c.only_overdue_pairs_expire.ensures;
-}) c.every_interleaving_is_a_run.ensures
+returns c = at_rest c.rests_on_core.ensures c.every_interleaving_is_a_run.ensures
