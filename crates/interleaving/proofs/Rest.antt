@@ -1,5 +1,4 @@
 -- Left alone, the threads come to rest: each step leaves a sound state, which the relay's own steps make lighter.
-pub mod Pairs
 pub mod Replies
 pub mod Kernels
 pub mod Acts

@@ -1,13 +1,13 @@
 -- What a thread does leaves a sound state, which its own steps make lighter: each act of its program, and each call.
-use Rattle.std.{proofs.{Common.{Bool, List, None, Option, Some, [], ap, arith, drop, false, if◌then◌else◌, inl, inr, length, refl, slice_get, slice_set, subst, suc, sym, true, zero, ℕ, ◌&&◌, ◌++◌, ◌+◌, ◌-◌, ◌*◌, ◌==◌, ◌∙◌, ◌∷◌, ◌≡◌, ◌≢◌, ◌≤◌, ◌<◌, ◌⊎◌, eq-eqb, eqb-true, leb-false, leb-true, length-append, nat_le}, lemmas.{Grind.common_steps, List.length-set, Bool.{and_parts, cases_eq, Decides.nat_tests}}}, specs.{Option.is_none, Prelude.{IsSome}}}
-use Rattle.claims.specs.Words.{WordState, some_wait, wakes, word_after, one}
+use Rattle.std.{proofs.{Common.{Bool, List, None, Option, Some, [], ap, arith, drop, false, if◌then◌else◌, inl, inr, length, refl, slice_get, slice_set, subst, suc, sym, true, zero, ℕ, ◌++◌, ◌+◌, ◌-◌, ◌∙◌, ◌∷◌, ◌≡◌, ◌≢◌, ◌≤◌, ◌<◌, ◌⊎◌, eq-eqb, eqb-true, leb-false, leb-true, length-append, nat_le}, lemmas.{Grind.common_steps, List.length-set, Bool.{cases_eq, Decides.nat_tests}}}, specs.{Prelude.{IsSome}}}
+use Rattle.claims.specs.Words.{WordState, some_wait, wakes, one}
 use Rattle.kernel_model.specs.{Ends.opened, Kernel.{KernelState, Registered, end_at, lowest_free}, declared.{both.Descriptors.Descriptors, reply.Reply.Reply}}
-use Rattle.relay_core.specs.{Order.next_call, Pairs.{PairState, is_live, verdict}, Idle.{is_overdue, is_past, expired, timed_out}}
+use Rattle.relay_core.specs.{Order.next_call, Pairs.{PairState}, Idle.{is_overdue, expired, timed_out}}
 use Rattle.token.specs.{Names.{EndName, last_generation}, declared.{side.Side.{Side, TheVariants.{Client, Target}}}}
-use Rattle.world.{proofs.Headline.Ends.Pairs.Holders.{Events.Lists.{Kept, at_one, kept_at, kept_bind, kept_map, kept_none, kept_some, kept_when, opened_here, opened_other, total-set}, Turns}, specs.{Calls.{OpenConnection, called, descriptor}, Headline.{end_of}, Slots.{SlotState, WorkerState}, States.State, Steps.{connection_at, is_worn, token_of}, Support.total, declared.{connection.Connection.Connection, limits.Limits.Limits}}}
-use Rattle.interleaving.specs.{Likeness.{Adopted, Emptied, Entered, Goes, HalfOpen, HasClosed, HasOut, HasRetired, HolderLike, Holds, IsHalfOpen, IsHolder, IsSettled, Leaves, Like, Opens, Placed, Posted, Registered as IsRegistered, Rests, Stage, Stays, ThreadLike, Tries, Finds, ends_of, machine_of, opened_slot}, Threads.{Act, Call, again, ended, gone, open_slot, plan, quiet, turn, System, Thread, acts, begun, calls, goes_on, heard, planned, posted, registering, released, taken_out, taking, with_thread}, Rest.{calls_left, calls_to_come, client_weight, end_weight, is_answered, kernel_weight, move_weight, notes_weight, pair_weight, poller_weight, post_weight, program_weight, slot_weight, socket_weight, spent_weight, thread_weight, ticket_weight, weight}}
+use Rattle.world.{proofs.Headline.Ends.Pairs.Holders.{Events.Lists.{Kept, at_one, kept_at, kept_bind, kept_map, kept_none, kept_some, kept_when, opened_here, opened_other, total-set}, Turns}, specs.{Calls.{called, descriptor}, Headline.{end_of}, Slots.{SlotState, WorkerState}, States.State, Steps.{connection_at, is_worn, token_of}, declared.{connection.Connection.Connection, limits.Limits.Limits}}}
+use Rattle.interleaving.specs.{Likeness.{Adopted, Emptied, Entered, Goes, HasClosed, HasOut, HasRetired, HolderLike, Holds, IsHalfOpen, IsHolder, IsSettled, Leaves, Like, Opens, Placed, Posted, Registered as IsRegistered, Rests, Stage, Stays, ThreadLike, Tries, Finds, ends_of, machine_of, opened_slot}, Threads.{Act, Call, again, ended, open_slot, plan, quiet, turn, System, Thread, acts, begun, calls, goes_on, heard, planned, posted, registering, released, taken_out, taking, with_thread}, Rest.{calls_left, calls_to_come, is_answered, kernel_weight, pair_weight, poller_weight, post_weight, program_weight, slot_weight, spent_weight, thread_weight, ticket_weight, weight}}
 use Rattle.kernel_model.specs.Kernel as kernel
-use Rattle.interleaving.proofs.{Runs.{count_free, Programs.by_plan}, Rest.{Pairs.{four_left, some_left}, Replies.{rest_most, rest_weight, calls_answered}, Kernels.{both_opened, both_closed}}}
+use Rattle.interleaving.proofs.{Runs.{count_free, Programs.{PairCall, by_plan, chosen}}, Rest.{Replies.{four_left, some_left, rest_most, rest_weight, calls_answered}, Kernels.{both_opened, both_closed}}}
 
 -- Which programs there are
 
@@ -29,8 +29,8 @@ pub data Known (st : System) (i : ℕ) (t : Thread) : List Act → Type 0 where
   Releasing : Known st i t (drop 1 quiet)
   Claiming : Known st i t turn
   TakingOut : Known st i t (drop 1 turn)
-  Taking : Known st i t (drop 2 turn)
-  Calling : (c : Connection) → IsOut st t c → is_none (next_call c.pair) ≡ false → Known st i t (Call ∷ [])
+  Taking : (c : Connection) → t.out ≡ Some c → Known st i t (drop 2 turn)
+  Calling : (c : Connection) → IsOut st t c → (call : PairCall) → next_call c.pair ≡ Some call → Known st i t (Call ∷ [])
   Resting : Known st i t quiet
   Spending : Known st i t again
   Ending : (c : Connection) → IsOut st t c → Known st i t ended
@@ -44,9 +44,9 @@ module _ (st : System) (i : ℕ) (t : Thread) where
   known_holder : {budget : ℕ} {place : Option Connection} {p : SlotState} {c : Connection} {more : ℕ} {todo : List Act} → (t.out ≡ Some c → IsOut st t c)
       → HolderLike budget place p t c more todo → Known st i t todo
   known_holder out (Holds at least all some) = TakingOut
-  known_holder out (HasOut at is least all some) = Taking
-  known_holder {c = c} out (Goes at is least) = by_plan (Known st i t) t.left c.pair (λ live none. Resting) (λ live some spent. Spending)
-      (λ live some left. Calling c (out is) some) (λ over. Ending c (out is))
+  known_holder {c = c} out (HasOut at is least all some) = Taking c is
+  known_holder {c = c} out (Goes at is least) = by_plan (Known st i t) t.left c.pair (λ live none. Resting) (λ live call next spent. Spending)
+      (λ live call next left. Calling c (out is) call next) (λ over. Ending c (out is))
   known_holder out (Stays at live) = Posting
   known_holder out (Leaves at may) = Releasing
 
@@ -143,17 +143,12 @@ spent_all left n none some = grind (arith, nat_tests)
 spent_more : (left m n : ℕ) → m ≤ n → spent_weight left m ≤ spent_weight left n
 spent_more left m n more = grind (arith, nat_tests)
 
-pub the_some : {X : Type 0} (o : Option X) → is_none o ≡ false → (x : X) × (o ≡ Some x)
-the_some None some = cc
-the_some (Some x) some = (x, refl)
-
 -- a turn that goes on comes to its end, and posts if its calls are spent
 plan_weighs : (left : ℕ) (p : PairState) (c : Connection) → c.pair ≡ p → program_weight (plan left p) + spent_weight left (calls_to_come (plan left p) (Some c)) ≤ rest_weight left p
 plan_weighs left p c is = by_plan (λ todo. program_weight todo + spent_weight left (calls_to_come todo (Some c)) ≤ rest_weight left p) left p
     (λ live none. rw live (omega (arith, spent_none left)))
-    (λ live some spent. let next = the_some (next_call p) some in
-    rw live (omega (arith, spent_none left, spent_all left (calls_left p) (eqb-true left 0 spent) (some_left p next.0 next.1))))
-    (λ live some more. rw (live, is) (omega arith)) (λ over. rw over (omega (arith, spent_none left)))
+    (λ live call next spent. rw live (omega (arith, spent_none left, spent_all left (calls_left p) (eqb-true left 0 spent) (some_left p call next))))
+    (λ live call next more. rw (live, is) (omega arith)) (λ over. rw over (omega (arith, spent_none left)))
 
 planned_weighs : (st : System) (t : Thread) (left : ℕ) (c : Connection) → thread_weight (planned st t left c) ≤ rest_weight left c.pair + pair_weight c.pair
 planned_weighs st t left c =
@@ -180,7 +175,7 @@ released_weighs st g = omega (arith, one_more (some_wait st.word.pending) st.tic
 -- A step of one thread
 
 not_opening : {X : Type 0} (left : ℕ) (p : PairState) → plan left p ≡ open_slot → X
-not_opening {X} left p = by_plan (λ todo. todo ≡ open_slot → X) left p (λ live none e. absurd (cc)) (λ live some spent e. absurd (cc)) (λ live some left e. absurd (cc)) (λ over e. absurd (cc))
+not_opening {X} left p = by_plan (λ todo. todo ≡ open_slot → X) left p (λ live none e. absurd (cc)) (λ live call next spent e. absurd (cc)) (λ live call next left e. absurd (cc)) (λ over e. absurd (cc))
 
 module _ {l : Limits} {st : System} (s : Sound l st) (i : ℕ) (t : Thread) (there : slice_get st.threads i ≡ Some t) where
   -- the thread becomes u, and gives up more than comes of it
@@ -195,23 +190,12 @@ module _ {l : Limits} {st : System} (s : Sound l st) (i : ℕ) (t : Thread) (the
       by v (inl it) begins = opens (rw it.1 at begins)
       by v (inr it) begins = same (λ e. it.0 (sym e)) ∙ s.begun v it.1 begins
 
-  chosen : (b : Bool) (x y : System) → Fine l st true x → Fine l st true y → Fine l st true (if b then x else y)
-  chosen true x y p q = p
-  chosen false x y p q = q
-
-  takes : (o : Option Connection) → t.out ≡ o → t.todo ≡ drop 2 turn → some_wait st.word.pending ≡ true → Fine l st true (taking st i t [] o)
-  takes None none is some = goes _ _ refl (assumption s) (λ e. refl) (λ e. cc) (λ yes. rw (is, none) (omega (arith, spent_none t.left)))
   -- the notes pay for the turn's calls and its end
-  takes (Some c) has is some =
+  takes : (c : Connection) → t.out ≡ Some c → t.todo ≡ drop 2 turn → some_wait st.word.pending ≡ true → Fine l st true (taking st i t [] (Some c))
+  takes c has is some =
       let c' = heard st.word.pending c in
       goes _ _ refl (assumption s) (λ e. refl) (not_opening t.left (expired st.second st.limits.idle c'.pair)) (λ yes. rw (is, has)
       (omega (arith, ap one some, planned_weighs st t t.left c', (rest_most t.left c'.pair).1, spent_more t.left (calls_left c'.pair) 4 (four_left c'.pair), heard_weighs st.word.pending c)))
-
-  closes : t.todo ≡ ended → Kept (Fine l st true) (acts st i t ended)
-  closes is = kept_bind _ t.out (λ c has. kept_map _ (kernel.close_both st.kernel c.ends) (λ told may.
-      let none : (e : Descriptors) → None ≡ Some e → e.client ≢ e.target = λ e at. absurd (cc) in
-      let less = kept_at (kernel.close_both st.kernel c.ends) told may (both_closed st.limits st.kernel c.ends) in
-      goes _ _ refl (assumption (s, none)) (λ e. refl) (λ e. cc) (λ yes. rw is (omega arith))))
 
   gives : t.generation ≡ st.entry → t.todo ≡ drop 2 ended → (b : Bool) → is_worn t.generation ≡ b
       → Fine l st true (with_thread (if b then st else record st { free = suc st.free }) i (goes_on t []))
@@ -232,19 +216,22 @@ module _ {l : Limits} {st : System} (s : Sound l st) (i : ℕ) (t : Thread) (the
 
   pub acts_fine : {todo : List Act} → Known st i t todo → t.todo ≡ todo → Finds st.word st.place t.generation todo → Kept (Fine l st true) (acts st i t todo)
   acts_fine Nothing is find = kept_none
-  acts_fine (Calling c out next) is find = kept_none
+  acts_fine (Calling c out call next) is find = kept_none
   acts_fine (Opening first) is find = registers first is st.free refl
   acts_fine (Entering none) is find =
       let never : l.generation < last_generation → 1 ≤ st.free → t.generation < last_generation = λ below some. absurd (omega (arith, none)) in
       kept_some (goes _ _ refl (assumption (s, never)) (λ e. refl) (λ e. cc) (λ yes. rw is (omega arith)))
-  acts_fine Adopting is find = kept_some (chosen st.word.free _ _ (goes _ _ refl (assumption s) (λ e. refl) (λ e. cc) (λ yes. rw is (omega arith)))
+  acts_fine Adopting is find = kept_some (chosen (Fine l st true) st.word.free _ _ (goes _ _ refl (assumption s) (λ e. refl) (λ e. cc) (λ yes. rw is (omega arith)))
       (goes _ _ refl (assumption s) (λ e. refl) (λ e. cc) (λ yes. rw is (omega (arith, spent_none 0)))))
-  acts_fine Claiming is find = kept_some (chosen st.word.held _ _ (goes _ _ refl (assumption s) (λ e. refl) (λ e. cc) (λ yes. rw is (omega (arith, spent_none 0))))
+  acts_fine Claiming is find = kept_some (chosen (Fine l st true) st.word.held _ _ (goes _ _ refl (assumption s) (λ e. refl) (λ e. cc) (λ yes. rw is (omega (arith, spent_none 0))))
       (goes _ _ refl (assumption s) (λ e. refl) (λ e. cc) (λ yes. rw is (omega arith))))
   acts_fine TakingOut is (c, at, own) = kept_some (subst (λ (o : Option Connection). Fine l st true (taken_out st i t (drop 2 turn) o)) (sym at) (rw (eq-eqb c.pair.generation t.generation own)
       (goes (with_thread (record st { place = None }) i (record t { out = Some c; todo = drop 2 turn })) _ refl (assumption s) (λ e. refl) (λ e. cc) (λ yes. rw (is, at) (omega arith)))))
-  acts_fine Taking is some = kept_some (takes t.out refl is some)
-  acts_fine (Ending c out) is find = closes is
+  acts_fine (Taking c has) is some = kept_some (subst (λ (o : Option Connection). Fine l st true (taking st i t [] o)) (sym has) (takes c has is some))
+  acts_fine (Ending _ out) is find = kept_bind _ t.out (λ c has. kept_map _ (kernel.close_both st.kernel c.ends) (λ told may.
+      let none : (e : Descriptors) → None ≡ Some e → e.client ≢ e.target = λ e at. absurd (cc) in
+      let less = kept_at (kernel.close_both st.kernel c.ends) told may (both_closed st.limits st.kernel c.ends) in
+      goes _ _ refl (assumption (s, none)) (λ e. refl) (λ e. cc) (λ yes. rw is (omega arith))))
   acts_fine (Giving own) is find = kept_some (gives own is (is_worn t.generation) refl)
   acts_fine known is find =
       kept_some (goes _ _ refl (assumption s) (λ e. refl) (λ e. cc) (λ yes. rw is (omega (arith, posted_weighs st t.generation, released_weighs st t.generation))))
@@ -252,7 +239,7 @@ module _ {l : Limits} {st : System} (s : Sound l st) (i : ℕ) (t : Thread) (the
   -- a call
 
   pub calls_fine : {todo : List Act} (r : Reply) → Known st i t todo → t.todo ≡ todo → Kept (Fine l st (is_answered r)) (calls st i t r todo)
-  calls_fine r (Calling _ out next) is = kept_bind _ t.out (λ c has. kept_map _ (called st.second (record { kernel = st.kernel; connection = c }) r) (λ line replied.
+  calls_fine r (Calling _ out call next) is = kept_bind _ t.out (λ c has. kept_map _ (called st.second (record { kernel = st.kernel; connection = c }) r) (λ line replied.
       goes _ _ refl (assumption s) (λ e. refl) (not_opening (t.left - 1) (expired st.second st.limits.idle line.connection.pair)) (λ settled.
       let a = kept_at (called st.second (record { kernel = st.kernel; connection = c }) r) line replied (calls_answered st.second (record { kernel = st.kernel; connection = c }) r settled) in
       rw (is, has, a.queue, a.backlog) (omega (arith, a.lighter t.left, planned_weighs st t (t.left - 1) line.connection)))))

@@ -1,5 +1,5 @@
 -- What a poll, an opening and a closing make of the kernel's weight.
-use Rattle.std.{proofs.{Common.{Bool, List, None, Option, Some, [], ap, ◌∷◌, ◌++◌, true, false, not, arith, cond, if◌then◌else◌, length, refl, ℕ, ◌||◌, ◌+◌, ◌≡◌, ◌≤◌, nat_lt, slice_set, zero, suc}, lemmas.{Bool.{and_parts}, List.Sums.{length-filter, count_by-le-length}}}, specs.List.filter}
+use Rattle.std.{proofs.{Common.{Bool, List, None, Option, Some, [], ap, ◌∷◌, ◌++◌, true, false, not, arith, if◌then◌else◌, length, refl, ℕ, ◌||◌, ◌+◌, ◌≡◌, ◌≤◌, nat_lt, slice_set, zero, suc}, lemmas.{Bool.{and_parts}, List.Sums.{length-filter, count_by-le-length}}}}
 use Rattle.kernel_model.specs.{Ends.{EndState, opened}, Kernel.{KernelState, Registered, end_at, lowest_free, with_end}, Names.{are_among, are_distinct, has, same, without_names}, Outcome.Told, declared.both.{Descriptors.Descriptors, Sockets.Sockets}}
 use Rattle.token.specs.{Names.EndName, declared.name.Name.Name}
 use Rattle.world.{proofs.Headline.Ends.Pairs.Holders.Events.Lists.{Kept, kept_at, kept_bind, kept_map, same_end_is, total_push}, specs.{Support.{one, total}, declared.limits.Limits.Limits}}

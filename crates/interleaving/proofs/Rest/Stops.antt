@@ -1,13 +1,13 @@
 -- Where no step of the relay's own can be made, nothing is half way, and nothing is left to do.
-use Rattle.std.{proofs.{Common.{List, None, Option, Some, Vec, [], ap, arith, drop, false, get_or, is_some, inl, inr, length, not, refl, replicate, slice_get, slice_set, subst, suc, sym, true, zero, Bool, ℕ, ◌&&◌, ◌||◌, ◌+◌, ◌==◌, ◌∙◌, ◌∷◌, ◌≡◌, ◌≢◌, ◌≤◌, ◌<◌, ◌⊎◌, le-leb, lt-ltb, option_map}, lemmas.{List.{length-set, length-replicate}, Bool.Decides.nat_tests, Option.slice_get-get_or}}, specs.{Global.{Global}, List.list_any, Option.{is_none, option_flatten}}}
+use Rattle.std.{proofs.{Common.{List, None, Option, Some, Vec, [], ap, arith, drop, false, get_or, is_some, inl, inr, length, not, refl, replicate, slice_get, slice_set, subst, suc, sym, true, zero, Bool, ℕ, ◌&&◌, ◌||◌, ◌+◌, ◌==◌, ◌∙◌, ◌∷◌, ◌≡◌, ◌≢◌, ◌≤◌, ◌<◌, ◌⊎◌, le-leb, lt-ltb, option_map}, lemmas.{List.{length-set, length-replicate}, Bool.Decides.nat_tests, Option.slice_get-get_or}}, specs.{Global.{Global}, List.list_any, Option.{option_flatten}}}
 use denote.RawPtr.{null_ptr}
 use Rattle.token.specs.{Names.{last_generation}, declared.{kind.Kind.TheVariants.{Reset}, name.Name.Name, side.Side.{Side, TheVariants.{Client, Target}}}}
 use Rattle.kernel_model.specs.{Ends.is_nonempty, Kernel.{KernelState, Registered, end_at}, declared.{accepting.Accepting.TheVariants.{Accepted}, both.Descriptors.Descriptors}}
-use Rattle.relay_core.specs.{Calls.side_of, Order.next_call, declared.call.Call.{Call as PairCall, TheVariants.{Join, Read, Shut, Write}}}
+use Rattle.relay_core.specs.{Calls.side_of, Order.next_call, declared.call.Call.{Call as PairCall, TheVariants.{Read}}}
 use Rattle.world.{proofs.Headline.Ends.Pairs.Holders.{Events.{Happens, Ticks, holds_after, Lists.{get-set_other, total_none}}, SlotOk, Turns, facts, worker_closes, worker_holds}, specs.{Calls.{OpenConnection, descriptor}, Due.{due, due_place, has_ticket}, Headline.{ListenerHolds}, Slots.{SlotState, WorkerState, is_by_worker, is_held}, States.{State, opening, resting as idle_worker}, Steps.{token_of}, Support.{one, total, worker_tickets}, declared.{actors.Holder.{Holder, TheVariants.{By, Free, Nobody}}, connection.Connection.Connection, event.Event.Event, limits.Limits.Limits}}}
 unfoldable use Rattle.world.specs.Calls.{called}
-use Rattle.interleaving.specs.{Likeness.{IsHalfOpen, IsSettled, Like, Settled, machine_of}, Threads.{Accept, Act, Acts as DoesAct, Begin, Call, Calls, Deliver, Drop, Poll, System, Thread, acts, ended, is_over, open_slot, poller_rests, registering, resting}, Rest.{HasStopped}}
-use Rattle.interleaving.proofs.{Runs.{stage_acts, Programs.{rests_like, some_there}}, Rest.{Acts.{IsOut, Known, Nothing, Opening, Adopting, Calling, Ending, Sound, the_some}, Kernels.same_self}}
+use Rattle.interleaving.specs.{Likeness.{IsHalfOpen, IsSettled, Like, Settled, machine_of}, Threads.{Accept, Act, Acts as DoesAct, Begin, Calls, Deliver, Drop, Poll, System, Thread, acts, ended, is_over, open_slot, poller_rests, registering, resting}, Rest.{HasStopped}}
+use Rattle.interleaving.proofs.{Runs.{stage_acts, Programs.{rests_like, some_there}}, Rest.{Acts.{Known, Nothing, Opening, Adopting, Calling, Ending, Sound}, Kernels.same_self}}
 use Rattle.kernel_model.specs.Kernel as kernel
 use Rattle.kernel_model.specs.declared.reply.Reply.TheVariants as reply
 use Rattle.world.specs.Runs as machine_runs
@@ -53,10 +53,9 @@ module _ {l : Limits} {st : System} (sound : Sound l st) (stopped : HasStopped s
     no_program (Opening first) is = absurd (
         let had = sound.begun t (subst (λ (k : ℕ). slice_get st.threads k ≡ Some t) first there) is in
         registers_on st i t (drop 1 open_slot) st.free had (sound.some_free had) (sound.unworn below (sound.some_free had)) (no_act is))
-    no_program (Calling c out some) is = absurd (
-        let next = the_some (next_call c.pair) some in
-        let a = some_there (end_at st.kernel.ends (descriptor c.ends (side_of next.0))) (out.open_ends (side_of next.0)) in
-        calls_on st.second (record { kernel = st.kernel; connection = c }) next.0 a.0 next.1 a.1
+    no_program (Calling c out call next) is = absurd (
+        let a = some_there (end_at st.kernel.ends (descriptor c.ends (side_of call))) (out.open_ends (side_of call)) in
+        calls_on st.second (record { kernel = st.kernel; connection = c }) call a.0 next a.1
         (mapped _ (called st.second (record { kernel = st.kernel; connection = c }) (reply.Failed Reset)) (rw (there, is, out.out) at (stopped (Calls i (reply.Failed Reset)) refl))))
     no_program (Ending c out) is = absurd (
         let a = some_there (end_at st.kernel.ends c.ends.client) (out.open_ends Client) in

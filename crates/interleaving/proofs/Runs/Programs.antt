@@ -1,12 +1,12 @@
 -- What a step is for the machine: what the network, the kernel, the clock and the poller do between the programs, and
 -- what a thread does, act by act, where no opening is half way. Its imports are passed on to the file above it.
-pub use Rattle.std.{proofs.{Common.{Bool, List, None, Option, Some, [], ap, append-nil, arith, drop, false, if◌then◌else◌, inl, inr, is_some, length, lt-ltb, map, nat_le, nat_lt, not, option_map, refl, replicate, slice_get, slice_set, subst, suc, sym, true, zero, ℕ, ◌&&◌, ◌++◌, ◌+◌, ◌==◌, ◌∙◌, ◌∷◌, ◌≡◌, ◌≢◌, ◌≤◌, ◌⊎◌, ◌||◌, length-append, eqb-true, ne_eqb, ◌-◌, append_assoc, eq-eqb, leb-true}, lemmas.{Bool.{or_right, and_parts, cases_eq}, Option.get_or_from_slice_get, List.{map-append, length-replicate, set-get_or, set-set}}}, specs.{Option.is_none, Cmp.second_so, List.flat_map}}
+pub use Rattle.std.{proofs.{Common.{Bool, List, None, Option, Some, [], ap, append-nil, arith, drop, false, if◌then◌else◌, inl, inr, is_some, length, lt-ltb, map, nat_le, nat_lt, not, option_map, refl, replicate, slice_get, slice_set, subst, suc, sym, true, zero, ℕ, ◌&&◌, ◌++◌, ◌+◌, ◌==◌, ◌∙◌, ◌∷◌, ◌≡◌, ◌≢◌, ◌≤◌, ◌⊎◌, ◌||◌, length-append, eqb-true, ne_eqb, ◌-◌, append_assoc, eq-eqb, leb-true}, lemmas.{Bool.{or_right, and_parts, cases_eq}, Option.slice_get_past, List.{map-append, length-replicate, set-set}}}, specs.{Option.is_none, Cmp.second_so, List.flat_map}}
 pub use Rattle.claims.specs.{Words.{WordState, made as exchange_made, some_wait, wakes, word_after}, declared.view.Exchange.Exchange}
 pub use Rattle.interleaving.specs.{Likeness.{OthersRest, exchange, exchanges_in, first_kind, kind_in, left_of, Adopted, Emptied, Entered, Goes, HalfOpen, HasClosed, HasOut, HasRetired, Held, HolderLike, Holds, IsHalfOpen, IsHolder, IsSettled, Leaves, Like, Opens, Placed, Posted, Registered, Rests, Settled, Stage, Stays, ThreadLike, Tries, WorkerFor, WorkersFor, ahead, call_of, call_in, ends_of, machine_of, opened_slot, outside_in, outside_of, ticket, posts, here, Finds}, Threads.{Act, Call, Release, TakeOut, again, ended, open_slot, plan, quiet, turn, Accept, Acts, Begin, Calls, Connect, Deliver, Drop, Network, Open, Poll, Spurious, Step, Sweep, System, Thread, Tick, Vanish, acts, begun, goes_on, is_over, poller_rests, posted, released, rests, step, with_thread, watched_of, is_limited, delivered, delivers, Post, Retire, Give, calls, closed, begins, given, heard, taking, planned, put_in, registered, registering}}
 pub use Rattle.kernel_model.specs.{Ends.is_nonempty, Kernel.KernelState, declared.{both.Descriptors.Descriptors, reply.Reply.Reply, accepting.Accepting.TheVariants.{Accepted, Blocked, Again, Starved}}}
-pub use Rattle.relay_core.specs.{Order.next_call, Pairs.{PairState, is_live, verdict, fresh, noted}, Replies.fits, Idle.{is_overdue, expired}}
+pub use Rattle.relay_core.specs.{declared.call.Call.{Call as PairCall}, Order.next_call, Pairs.{PairState, is_live, verdict, fresh, noted}, Replies.fits, Idle.{is_overdue, expired}}
 pub use Rattle.token.specs.{Names.EndName, declared.{name.Name.Name, side.Side.{Side, TheVariants.{Client, Target}}}}
-pub use Rattle.world.{proofs.Headline.Ends.Pairs.Holders.{Events.Lists.{Kept, get-set_other, get-set_same, kept_at, kept_bind, kept_guard, kept_map, kept_none, kept_some, kept_when, total_at}, Turns, facts, first_free, is_number, is_shaped, names_it, own_generation, some_more, waiting, worker_retires}, specs.{Acts.busy, Slots.{SlotState, WorkerState, is_by_worker, is_held}, States.{State, resting as idle_worker}, Steps.{with_note, brings_ticket, may_release, is_worn, token_of}, Support.{of_slot, one, tickets, total, worker_tickets}, Words.{is_free, word_at}, declared.{actors.Holder.{Holder, TheVariants.{By, Free, Nobody}}, connection.Connection.Connection, event.{Event.Event, Change.Change, Reported.Reported}}, Calls.{descriptor, OpenConnection, called, told_of, made}}}
+pub use Rattle.world.{proofs.Headline.Ends.Pairs.Holders.{Events.Lists.{Kept, get-set_other, get-set_same, kept_at, kept_bind, kept_guard, kept_map, kept_none, kept_some, kept_when, set_same, total_at}, Turns, facts, first_free, is_number, is_shaped, names_it, own_generation, some_more, waiting, worker_retires}, specs.{Acts.busy, Slots.{SlotState, WorkerState, is_by_worker, is_held}, States.{State, resting as idle_worker}, Steps.{with_note, brings_ticket, may_release, is_worn, token_of}, Support.{of_slot, one, tickets, total, worker_tickets}, Words.{is_free, word_at}, declared.{actors.Holder.{Holder, TheVariants.{By, Free, Nobody}}, connection.Connection.Connection, event.{Event.Event, Change.Change, Reported.Reported}}, Calls.{descriptor, OpenConnection, called, told_of, made}}}
 pub use Rattle.claims.specs.Words as word
 pub use Rattle.kernel_model.specs.Kernel as kernel
 pub use Rattle.world.specs.Runs as machine_runs
@@ -170,20 +170,25 @@ still : {p : SlotState} {i g : ℕ} {has : Option Connection} (note : ℕ) → H
 still note held = assumption held
 
 -- what is so of each list that a plan may be, for the pair for which it is one, is so of the plan
-pub by_plan : (P : List Act → Type 0) (left : ℕ) (p : PairState) → (is_live (verdict p) ≡ true → is_none (next_call p) ≡ true → P quiet)
-    → (is_live (verdict p) ≡ true → is_none (next_call p) ≡ false → (left == 0) ≡ true → P again)
-    → (is_live (verdict p) ≡ true → is_none (next_call p) ≡ false → (left == 0) ≡ false → P (Call ∷ [])) → (is_live (verdict p) ≡ false → P ended) → P (plan left p)
-by_plan P left p rests spends calls ends = go (is_live (verdict p)) (is_none (next_call p)) (left == 0) refl refl refl
+pub by_plan : (P : List Act → Type 0) (left : ℕ) (p : PairState) → (is_live (verdict p) ≡ true → next_call p ≡ None → P quiet)
+    → (is_live (verdict p) ≡ true → (call : PairCall) → next_call p ≡ Some call → (left == 0) ≡ true → P again)
+    → (is_live (verdict p) ≡ true → (call : PairCall) → next_call p ≡ Some call → (left == 0) ≡ false → P (Call ∷ [])) → (is_live (verdict p) ≡ false → P ended) → P (plan left p)
+by_plan P left p rests spends calls ends = go (is_live (verdict p)) (next_call p) (left == 0) refl refl refl
   where
-    go : (live none spent : Bool) → is_live (verdict p) ≡ live → is_none (next_call p) ≡ none → (left == 0) ≡ spent
-        → P (if live then (if none then quiet else (if spent then again else Call ∷ [])) else ended)
-    go true true spent lives rest over = rests lives rest
-    go true false true lives some over = spends lives some over
-    go true false false lives some more = calls lives some more
-    go false none spent lives rest over = ends lives
+    go : (live : Bool) (next : Option PairCall) (spent : Bool) → is_live (verdict p) ≡ live → next_call p ≡ next → (left == 0) ≡ spent
+        → P (if live then (if is_none next then quiet else (if spent then again else Call ∷ [])) else ended)
+    go true None spent lives none over = rests lives none
+    go true (Some call) true lives next over = spends lives call next over
+    go true (Some call) false lives next more = calls lives call next more
+    go false next spent lives is over = ends lives
+
+-- one of two states that a step may leave
+pub chosen : (P : System → Type 0) (b : Bool) (x y : System) → P x → P y → P (if b then x else y)
+chosen P true x y p q = p
+chosen P false x y p q = q
 
 pub plan_finds : (word : WordState) (place : Option Connection) (g left : ℕ) (p : PairState) → place ≡ None → Finds word place g (plan left p)
-plan_finds word place g left p at = by_plan (Finds word place g) left p (λ live none. at) (λ live some spent. at) (λ live some left. tt) (λ over. tt)
+plan_finds word place g left p at = by_plan (Finds word place g) left p (λ live none. at) (λ live call next spent. at) (λ live call next left. tt) (λ over. tt)
 
 held_by : {X : Type 0} {h : Holder} {i : ℕ} → h ≡ By i → is_by_worker h ≡ false → X
 held_by by nobody = cc
@@ -206,7 +211,7 @@ module _ {budget : ℕ} {place : Option Connection} {p : SlotState} {i : ℕ} {t
   rests_like (Rests is) over = is
   rests_like (Opens first is) over = is
   rests_like (IsHolder c more held is (Goes at out least)) over =
-      let no = by_plan (λ acts. is_over acts ≡ false) t.left c.pair (λ live none. refl) (λ live some spent. refl) (λ live some left. refl) (λ over. refl) in cc
+      let no = by_plan (λ acts. is_over acts ≡ false) t.left c.pair (λ live none. refl) (λ live call next spent. refl) (λ live call next left. refl) (λ over. refl) in cc
   rests_like like over = cc
 
   -- a thread that does not hold the slot is where it was, whatever becomes of place and slot but its generation
@@ -249,8 +254,7 @@ abbrev with_batch : System → List Name → System
 with_batch st batch = record st { batch = batch }
 
 past_one : (x k : ℕ) → k ≢ 0 → slice_get (x ∷ []) k ≡ None
-past_one x zero not = absurd (not refl)
-past_one x (suc k) not = refl
+past_one x k not = slice_get_past (x ∷ []) k (omega arith)
 
 module _ {st : System} {p : SlotState} {workers : List WorkerState} (set : Settled st p workers) where
   abbrev world : State
@@ -302,14 +306,11 @@ module _ {st : System} {p : SlotState} {workers : List WorkerState} (set : Settl
       let parts = and_parts (is_limited st) (nat_lt 0 st.entry) (second_so (poller_rests st) _ b) in
       posts_by Sweep (event.Poll (polling.Sweep 0)) st.entry st.batch (brings_ticket p) refl (λ more. rw (parts.0, parts.1)))
 
-set_again : {X : Type 0} (xs : List X) (i : ℕ) (x : X) → slice_get xs i ≡ Some x → slice_set xs i x ≡ xs
-set_again xs i x there = rw (get_or_from_slice_get xs i x x there) at (set-get_or xs i x)
-
 pub some_there : {X : Type 0} (o : Option X) → is_some o ≡ true → (x : X) × (o ≡ Some x)
 some_there None h = cc
 some_there (Some x) h = (x, refl)
 
-rests_now : (c : Connection) (some : Bool) → is_live (verdict c.pair) ≡ true → is_none (next_call c.pair) ≡ true → may_release c some ≡ true
+rests_now : (c : Connection) (some : Bool) → is_live (verdict c.pair) ≡ true → next_call c.pair ≡ None → may_release c some ≡ true
 unfolding may_release
 rests_now c some live none = rw (none, live) refl
 
@@ -407,7 +408,7 @@ module _ (st : System) (p : SlotState) (workers : List WorkerState) (set : Settl
   goes : {place : Option Connection} {q : SlotState} {new : Thread} → Others place q → ThreadLike st.limits.budget place q i new k new.todo
       → WorkersFor st.limits.budget place q workers (slice_set st.threads i new)
   goes {place} {q} {new} others like =
-      subst (λ (ks : List WorkerState). WorkersFor st.limits.budget place q ks (slice_set st.threads i new)) (set_again workers i k had) (both_go others like)
+      subst (λ (ks : List WorkerState). WorkersFor st.limits.budget place q ks (slice_set st.threads i new)) (sym (set_same workers i k had)) (both_go others like)
 
   -- it begins a turn with the oldest ticket, or an opening
 
@@ -507,8 +508,8 @@ module _ (st : System) (p : SlotState) (workers : List WorkerState) (set : Settl
         (limited (taking st i t [] (Some c)) (record p { notes = [] }) heard_now workers i more (had ∙ ap Some is) b refl es)))))
     holder_acts turns (Goes at out least) = by_plan (λ todo. Kept (Acted (exchange st.word (first_kind todo))) (acts st i t todo)) t.left c.pair
         (λ live none. kept_some (put_back out (Release ∷ []) (Leaves refl (rests_now c (is_nonempty p.notes) live none))))
-        (λ live some spent. kept_some (put_back out (Post ∷ Release ∷ []) (Stays refl live)))
-        (λ live some left. kept_none)
+        (λ live call next spent. kept_some (put_back out (Post ∷ Release ∷ []) (Stays refl live)))
+        (λ live call next left. kept_none)
         (λ over. rw out (closes at over))
     -- it posts, which wakes nobody
     holder_acts turns (Stays at live) =
@@ -525,8 +526,8 @@ module _ (st : System) (p : SlotState) (workers : List WorkerState) (set : Settl
 
     -- and the next call
     plan_calls : st.place ≡ None → t.out ≡ Some c → t.left ≤ more → (r : Reply) → Kept (Follows [] [] w (Calls i r)) (calls st i t r (plan t.left c.pair))
-    plan_calls at out least r = by_plan (λ todo. Kept (Follows [] [] w (Calls i r)) (calls st i t r todo)) t.left c.pair (λ live none. kept_none) (λ live some spent. kept_none)
-        (λ live call some. rw out (kept_map _ (called st.second (record { kernel = st.kernel; connection = c }) r) (λ line replied. (
+    plan_calls at out least r = by_plan (λ todo. Kept (Follows [] [] w (Calls i r)) (calls st i t r todo)) t.left c.pair (λ live none. kept_none) (λ live call next spent. kept_none)
+        (λ live call next some. rw out (kept_map _ (called st.second (record { kernel = st.kernel; connection = c }) r) (λ line replied. (
         let some_left = some_more_left t.left more some least in
         let d = held_to_limit st line.connection in
         let b = is_overdue st.second st.limits.idle line.connection.pair in

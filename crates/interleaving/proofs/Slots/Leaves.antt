@@ -1,10 +1,11 @@
 -- What a step of `System` leaves as it is, when the accept flag is up and no client is accepted, as in a slot of a server.
 use Rattle.std.{proofs.{Common.{Bool, List, None, Option, Some, [], ap, append-nil, drop, false, if◌then◌else◌, nat_lt, not, option_and_then, refl, slice_get, slice_set, sym, true, zero, suc, ℕ, ◌&&◌, ◌++◌, ◌+◌, ◌==◌, ◌∙◌, ◌∷◌, ◌≡◌}}}
-use Rattle.interleaving.specs.{Threads.{Act, Call, Claim, TakeOut, TakeNotes, PutIn, Release, Post, Close, Retire, Give, Register, Adopt, Enter, Discard, Settle, PutTicket, Accept, Acts, Begin, Calls, Connect, Deliver, Network, Open, Spurious, Step, Sweep, System, Thread, Tick, Vanish, acts, after_act, after_call, begun, calls, delivers, goes_on, open_slot, poller_rests, posted, registering, rests, run, step, taken_out, taking, watched_of, with_thread}, Slots.{opening}}
+use Rattle.interleaving.specs.{Threads.{Act, Call, Claim, TakeOut, TakeNotes, Release, Post, Close, Give, Register, Adopt, Accept, Acts, Begin, Calls, Connect, Deliver, Network, Open, Spurious, Step, Sweep, System, Thread, Tick, Vanish, acts, after_act, begun, calls, delivers, goes_on, open_slot, poller_rests, posted, registering, rests, run, step, taken_out, taking, watched_of, with_thread}, Slots.{opening}}
 use Rattle.kernel_model.specs.{Kernel.KernelState, declared.{reply.Reply.Reply, accepting.Accepting.TheVariants.Accepted}}
 use Rattle.token.specs.{declared.{name.Name.Name, side.Side.{Side, TheVariants.{Client, Target}}}}
 use Rattle.claims.specs.Words.{some_wait, wakes}
 use Rattle.world.{proofs.Headline.Ends.Pairs.Holders.Events.Lists.{Kept, get-set_other, get-set_same, kept_bind, kept_guard, kept_map, kept_none, kept_some, kept_through, kept_when}, specs.{Calls.{called, descriptor}, Steps.{change_at, is_worn, token_of}, declared.{connection.Connection.Connection, limits.Limits.Limits, event.{Change.Change, Reported.Reported}}}}
+use Rattle.interleaving.proofs.Runs.Programs.{chosen}
 use Rattle.kernel_model.specs.Kernel as kernel
 use Rattle.token.specs.declared.name.Name.TheVariants as name
 
@@ -48,13 +49,9 @@ module _ (k : ℕ) (st : System) where
   moved : (q : System) (u : Thread) → common q ≡ common st → st.batch ≡ q.batch → q.tickets ≡ st.tickets → q.threads ≡ slice_set st.threads k u → Leaves (only k) [] st q
   moved q u = brought q u false 0
 
-  chosen : (b : Bool) (x y : System) → Leaves (only k) [] st x → Leaves (only k) [] st y → Leaves (only k) [] st (if b then x else y)
-  chosen true x y p q = p
-  chosen false x y p q = q
-
   leaves_out : (t : Thread) (rest : List Act) (o : Option Connection) → Leaves (only k) [] st (taken_out st k t rest o)
   leaves_out t rest None = moved _ _ refl refl refl refl
-  leaves_out t rest (Some c) = chosen (c.pair.generation == t.generation) _ _ (moved _ _ refl refl refl refl) (moved _ _ refl refl refl refl)
+  leaves_out t rest (Some c) = chosen (Leaves (only k) [] st) (c.pair.generation == t.generation) _ _ (moved _ _ refl refl refl refl) (moved _ _ refl refl refl refl)
 
   leaves_notes : (t : Thread) (rest : List Act) (o : Option Connection) → Leaves (only k) [] st (taking st k t rest o)
   leaves_notes t rest None = moved _ _ refl refl refl refl
@@ -69,7 +66,7 @@ module _ (k : ℕ) (st : System) where
   registers_not t rest (suc free) none = kept_when st.accepted _ (λ yes. cc)
 
   leaves_act : (t : Thread) (act : Act) (rest : List Act) → st.accepted ≡ false → Kept (Leaves (only k) [] st) (after_act st k t act rest)
-  leaves_act t Claim rest none = kept_some (chosen st.word.held _ _ (moved _ _ refl refl refl refl) (moved _ _ refl refl refl refl))
+  leaves_act t Claim rest none = kept_some (chosen (Leaves (only k) [] st) st.word.held _ _ (moved _ _ refl refl refl refl) (moved _ _ refl refl refl refl))
   leaves_act t TakeOut rest none = kept_some (leaves_out t rest st.place)
   leaves_act t TakeNotes rest none = kept_some (leaves_notes t rest t.out)
   leaves_act t Call rest none = kept_none
@@ -78,7 +75,7 @@ module _ (k : ℕ) (st : System) where
   leaves_act t Close rest none = kept_bind _ t.out (λ c is. kept_map _ (kernel.close_both st.kernel c.ends) (λ told is. moved _ _ refl refl refl refl))
   leaves_act t Give rest none = kept_some (leaves_given t rest (is_worn t.generation))
   leaves_act t Register rest none = registers_not t rest st.free none
-  leaves_act t Adopt rest none = kept_some (chosen st.word.free _ _ (moved _ _ refl refl refl refl) (moved _ _ refl refl refl refl))
+  leaves_act t Adopt rest none = kept_some (chosen (Leaves (only k) [] st) st.word.free _ _ (moved _ _ refl refl refl refl) (moved _ _ refl refl refl refl))
   leaves_act t act rest none = kept_some (moved _ _ refl refl refl refl)
 
   leaves_acts : (t : Thread) (todo : List Act) → st.accepted ≡ false → Kept (Leaves (only k) [] st) (acts st k t todo)

@@ -3,7 +3,7 @@ use Rattle.std.{proofs.{Common.{Bool, List, None, Option, Some, [], ap, arith, d
 use Rattle.interleaving.specs.{Threads.{System, rests_at}, Slots.{Deed, Front, Many, Report, Of, Server, Taken, Step, Deliver, Open, Begin, Sees, besides, deed, delivering, first_of, is_listener, makes, names_at, one_slot, opening, rank, rank_at, rests, set, slot_of, steps_at, suits, tickets_at, written}}
 use Rattle.world.{proofs.Headline.Ends.Pairs.Holders.Events.Lists.{Kept, kept_at, kept_map, kept_none, kept_when}, specs.{Calls.when, declared.limits.Limits.Limits}}
 use Rattle.token.specs.declared.name.Name.{Name}
-use Rattle.interleaving.proofs.Slots.{Leaves.{Begins, Delivers, Leaves, common, leaves_begin, leaves_delivery, leaves_opening, nobody, only}, Views.{Alone, AreOwn, brought_here, brought_there, framed, rank_apart, rank_first, set_here, set_there, taken_here, taken_there, viewed}}
+use Rattle.interleaving.proofs.Slots.{Leaves.{Delivers, Leaves, common, leaves_begin, leaves_delivery, leaves_opening, nobody, only}, Views.{Alone, AreOwn, brought_here, brought_there, framed, rank_apart, rank_first, set_here, set_there, taken_here, taken_there, viewed}}
 use Rattle.interleaving.specs.Threads as alone
 
 -- What is true between steps
