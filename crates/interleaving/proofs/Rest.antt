@@ -17,8 +17,7 @@ use Rattle.kernel_model.specs.Kernel as kernel
 use Rattle.token.specs.declared.name.Name.TheVariants as name
 
 over_is : (acts : List Act) → is_over acts ≡ true → acts ≡ []
-over_is [] over = refl
-over_is (act ∷ acts) over = cc
+over_is acts over = grind arith
 
 -- when the poller may accept a client
 may_accept : (idle flag accepted some : Bool) → (idle && (flag && (not accepted && some))) ≡ true → (flag ≡ true) × (accepted ≡ false) × (some ≡ true)

@@ -20,7 +20,8 @@ module _ (st : System) (p : SlotState) (workers : List WorkerState) (set : Settl
   finds_settled had (IsHolder c more held is (Holds at least all some)) =
       (c, at, own_generation (facts (machine_of st p st.entry st.tickets workers) 0 p.generation) p c ((turns.each 0 p refl).connection c held.there).stands ∙ held.generation)
   finds_settled had (IsHolder c more held is (HasOut at out least all some)) = rw set.word (some_notes p.notes ∙ some)
-  finds_settled {t = t} had (IsHolder c more held is (Goes at out least)) = plan_finds st.word st.place t.generation t.left c.pair at
+  finds_settled {t = t} had (IsHolder c more held is (Goes at out least)) =
+      by_plan (Finds st.word st.place t.generation) t.left c.pair (λ live none. at) (λ live call next spent. at) (λ live call next left. tt) (λ over. tt)
   finds_settled had like = tt
 
   -- any step, where no opening is half way

@@ -5,7 +5,7 @@ use Rattle.kernel_model.specs.{Ends.opened, Kernel.{KernelState, Registered, end
 use Rattle.relay_core.specs.{Order.next_call, Pairs.{PairState}, Idle.{is_overdue, expired, timed_out}}
 use Rattle.token.specs.{Names.{EndName, last_generation}, declared.{side.Side.{Side, TheVariants.{Client, Target}}}}
 use Rattle.world.{proofs.Headline.Ends.Pairs.Holders.{Events.Lists.{Kept, at_one, kept_at, kept_bind, kept_map, kept_none, kept_some, kept_when, opened_here, opened_other, total-set}, Turns}, specs.{Calls.{called, descriptor}, Headline.{end_of}, Slots.{SlotState, WorkerState}, States.State, Steps.{connection_at, is_worn, token_of}, declared.{connection.Connection.Connection, limits.Limits.Limits}}}
-use Rattle.interleaving.specs.{Likeness.{Adopted, Emptied, Entered, Goes, HasClosed, HasOut, HasRetired, HolderLike, Holds, IsHalfOpen, IsHolder, IsSettled, Leaves, Like, Opens, Placed, Posted, Registered as IsRegistered, Rests, Stage, Stays, ThreadLike, Tries, Finds, ends_of, machine_of, opened_slot}, Threads.{Act, Call, again, ended, open_slot, plan, quiet, turn, System, Thread, acts, begun, calls, goes_on, heard, planned, posted, registering, released, taken_out, taking, with_thread}, Rest.{calls_left, calls_to_come, is_answered, kernel_weight, pair_weight, poller_weight, post_weight, program_weight, slot_weight, spent_weight, thread_weight, ticket_weight, weight}}
+use Rattle.interleaving.specs.{Likeness.{Adopted, Emptied, Entered, Goes, HasClosed, HasOut, HasRetired, Holds, IsHalfOpen, IsHolder, IsSettled, Leaves, Like, Opens, Placed, Posted, Registered as IsRegistered, Rests, Stage, Stays, ThreadLike, Tries, Finds, machine_of, opened_slot}, Threads.{Act, Call, again, ended, open_slot, plan, quiet, turn, System, Thread, acts, begun, calls, goes_on, heard, planned, posted, registering, released, taken_out, taking, with_thread}, Rest.{calls_left, calls_to_come, is_answered, kernel_weight, pair_weight, poller_weight, post_weight, program_weight, slot_weight, spent_weight, thread_weight, ticket_weight, weight}}
 use Rattle.kernel_model.specs.Kernel as kernel
 use Rattle.interleaving.proofs.{Runs.{count_free, Programs.{PairCall, by_plan, chosen}}, Rest.{Replies.{four_left, some_left, rest_most, rest_weight, calls_answered}, Kernels.{both_opened, both_closed}}}
 
@@ -37,25 +37,18 @@ pub data Known (st : System) (i : ℕ) (t : Thread) : List Act → Type 0 where
   Retiring : Known st i t (drop 1 ended)
   Giving : t.generation ≡ st.entry → Known st i t (drop 2 ended)
 
-ends_at : (p : SlotState) (c : Connection) → p.connection ≡ Some c → ends_of p ≡ Some c.ends
-ends_at p c lies = rw lies refl
-
 module _ (st : System) (i : ℕ) (t : Thread) where
-  known_holder : {budget : ℕ} {place : Option Connection} {p : SlotState} {c : Connection} {more : ℕ} {todo : List Act} → (t.out ≡ Some c → IsOut st t c)
-      → HolderLike budget place p t c more todo → Known st i t todo
-  known_holder out (Holds at least all some) = TakingOut
-  known_holder {c = c} out (HasOut at is least all some) = Taking c is
-  known_holder {c = c} out (Goes at is least) = by_plan (Known st i t) t.left c.pair (λ live none. Resting) (λ live call next spent. Spending)
-      (λ live call next left. Calling c (out is) call next) (λ over. Ending c (out is))
-  known_holder out (Stays at live) = Posting
-  known_holder out (Leaves at may) = Releasing
-
   known_thread : {budget : ℕ} {place : Option Connection} {p : SlotState} {k : WorkerState} {todo : List Act} → p.generation ≡ st.entry
       → ((c : Connection) → p.connection ≡ Some c → t.out ≡ Some c → IsOut st t c) → ThreadLike budget place p i t k todo → Known st i t todo
   known_thread entry out (Rests is) = Nothing
   known_thread entry out (Opens first is) = Opening first
   known_thread entry out (Tries least is) = Claiming
-  known_thread entry out (IsHolder c more held is at) = known_holder (out c held.there) at
+  known_thread entry out (IsHolder c more held is (Holds at least all some)) = TakingOut
+  known_thread entry out (IsHolder c more held is (HasOut at has least all some)) = Taking c has
+  known_thread entry out (IsHolder c more held is (Goes at has least)) = let o = out c held.there has in
+      by_plan (Known st i t) t.left c.pair (λ live none. Resting) (λ live call next spent. Spending) (λ live call next left. Calling c o call next) (λ over. Ending c o)
+  known_thread entry out (IsHolder c more held is (Stays at live)) = Posting
+  known_thread entry out (IsHolder c more held is (Leaves at may)) = Releasing
   known_thread entry out (HasClosed held at is) = Retiring
   known_thread entry out (HasRetired own is) = Giving (sym own ∙ entry)
 
@@ -74,7 +67,7 @@ module _ (st : System) (i : ℕ) (t : Thread) where
       let now : Turns (machine_of st p st.entry st.tickets workers) = rw is at turns in
       let entry : Some st.entry ≡ Some p.generation = (now.each 0 p refl).entry in
       let at = rw is at opens in
-      known_thread (cc entry) (λ c lies has. record { out = has; ends = set.ends ∙ ends_at p c lies; open_ends = at c lies }) (set.threads i t there).like
+      known_thread (cc entry) (λ c lies has. record { out = has; ends = rw (set.ends, lies) refl; open_ends = at c lies }) (set.threads i t there).like
   known w (IsHalfOpen first c workers is half) turns opens there = by (cases_eq i 0)
     where
       now : Turns (machine_of st (opened_slot first.generation c) first.generation (first.generation ∷ []) workers)
@@ -175,7 +168,7 @@ released_weighs st g = omega (arith, one_more (some_wait st.word.pending) st.tic
 -- A step of one thread
 
 not_opening : {X : Type 0} (left : ℕ) (p : PairState) → plan left p ≡ open_slot → X
-not_opening {X} left p = by_plan (λ todo. todo ≡ open_slot → X) left p (λ live none e. absurd (cc)) (λ live call next spent e. absurd (cc)) (λ live call next left e. absurd (cc)) (λ over e. absurd (cc))
+not_opening {X} left p = by_plan (λ todo. todo ≡ open_slot → X) left p (λ _ _ e. absurd (cc)) (λ _ _ _ _ e. absurd (cc)) (λ _ _ _ _ e. absurd (cc)) (λ _ e. absurd (cc))
 
 module _ {l : Limits} {st : System} (s : Sound l st) (i : ℕ) (t : Thread) (there : slice_get st.threads i ≡ Some t) where
   -- the thread becomes u, and gives up more than comes of it

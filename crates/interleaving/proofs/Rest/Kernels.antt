@@ -1,5 +1,5 @@
 -- What a poll, an opening and a closing make of the kernel's weight.
-use Rattle.std.{proofs.{Common.{Bool, List, None, Option, Some, [], ap, ◌∷◌, ◌++◌, true, false, not, arith, if◌then◌else◌, length, refl, ℕ, ◌||◌, ◌+◌, ◌≡◌, ◌≤◌, nat_lt, slice_set, zero, suc}, lemmas.{Bool.{and_parts}, List.Sums.{length-filter, count_by-le-length}}}}
+use Rattle.std.{proofs.{Common.{Bool, List, None, Option, Some, [], ◌∷◌, true, false, not, arith, length, refl, ℕ, ◌||◌, ◌+◌, ◌≡◌, ◌≤◌, slice_set, zero, suc}, lemmas.{Bool.{and_parts}, List.Sums.{length-filter, count_by-le-length}}}}
 use Rattle.kernel_model.specs.{Ends.{EndState, opened}, Kernel.{KernelState, Registered, end_at, lowest_free, with_end}, Names.{are_among, are_distinct, has, same, without_names}, Outcome.Told, declared.both.{Descriptors.Descriptors, Sockets.Sockets}}
 use Rattle.token.specs.{Names.EndName, declared.name.Name.Name}
 use Rattle.world.{proofs.Headline.Ends.Pairs.Holders.Events.Lists.{Kept, kept_at, kept_bind, kept_map, same_end_is, total_push}, specs.{Support.{one, total}, declared.limits.Limits.Limits}}
@@ -13,10 +13,7 @@ not_so b h = grind arith
 -- A poll: each name that it gives leaves the queue
 
 same_is : (n m : Name) → same n m ≡ true → n ≡ m
-same_is name.Listener name.Listener h = refl
-same_is name.Waker name.Waker h = refl
-same_is (name.End a) (name.End b) h = ap name.End (same_end_is a b h)
-same_is n m h = absurd (cc)
+same_is n m h = grind (arith, same_end_is)
 
 pub same_self : (n : Name) → same n n ≡ true
 same_self n = grind arith
@@ -62,11 +59,10 @@ replaced (x ∷ ends) zero o = omega arith
 replaced (x ∷ ends) (suc d) o = omega (arith, replaced ends d o)
 
 with_one : (ends : List (Option Registered)) (d : ℕ) (r : Registered) → sockets (with_end ends d r) ≤ sockets ends + socket_weight (Some r)
-with_one ends d r = by (nat_lt d (length ends))
-  where
-    by : (b : Bool) → sockets (if b then slice_set ends d (Some r) else ends ++ Some r ∷ []) ≤ sockets ends + socket_weight (Some r)
-    by true = replaced ends d (Some r)
-    by false = omega (arith, total_push socket_weight ends (Some r))
+with_one ends d r =
+    let in_place = replaced ends d (Some r) in
+    let at_end = total_push socket_weight ends (Some r) in
+    grind arith
 
 pub both_opened : (k : KernelState) (client target : EndName) → sockets (kernel.open_both k client target).value.ends ≤ sockets k.ends
 both_opened k client target =

@@ -1,14 +1,13 @@
 -- What a call with its reply makes of the weight of a pair, of the calls that it has left, and of the weight of the sockets.
-use Rattle.std.proofs.{Common.{Bool, List, None, Option, Some, true, false, not, if◌then◌else◌, arith, length, refl, ℕ, ◌*◌, ◌+◌, ◌-◌, ◌≡◌, ◌≤◌, option_map, slice_get, slice_set}, lemmas.{Grind.common_steps, Bool.Decides.nat_tests}}
+use Rattle.std.proofs.{Common.{Bool, List, None, Option, Some, true, false, not, if◌then◌else◌, arith, length, refl, ℕ, ◌*◌, ◌+◌, ◌-◌, ◌≡◌, ◌≤◌, slice_get, slice_set}, lemmas.{Grind.common_steps, Bool.Decides.nat_tests}}
 use Rattle.token.specs.{Sides.opposite, declared.{direction.Direction.{Direction}}}
-use Rattle.kernel_model.specs.{Ends.EndState, Kernel.{KernelState, Registered, end_at}, Replies.{after_read, bytes_read}, declared.reply.Reply.Reply}
+use Rattle.kernel_model.specs.{Ends.EndState, Kernel.{KernelState, Registered, end_at}, declared.reply.Reply.Reply}
 use Rattle.relay_core.{proofs.Pairs.{asked_is_possible}, specs.{Calls.{direction_of, side_of}, Order.{call_for, next_call}, declared.flags.Flags.Flags, Pairs.{PairState, flags_of, is_live, verdict}, Replies.{after, fits}, declared.call.Call.{Call, TheVariants.{Join, Read, Shut, Write}}}}
 use Rattle.claims.specs.Words.{one}
-use Rattle.world.{proofs.Headline.Ends.Pairs.Holders.Events.{end_after, Lists.{Kept, kept_bind, kept_map, kept_over, kept_when, total-set}}, specs.{Calls.{OpenConnection, descriptor, made, plain, told_of}, Support.total}}
+use Rattle.world.{proofs.Headline.Ends.Pairs.Holders.Events.{end_after, Lists.{Kept, kept_bind, kept_map, kept_over, kept_when, total-set}}, specs.{Calls.{OpenConnection, descriptor, made, told_of}, Support.total}}
 unfoldable use Rattle.world.specs.Calls.{called}
 use Rattle.interleaving.specs.Rest.{calls_left, end_weight, flags_up, is_answered, move_weight, moves_left, pair_weight, passes_on, post_weight, socket_weight, spent_weight}
 use Rattle.kernel_model.specs.Kernel as kernel
-use Rattle.kernel_model.specs.declared.reply.Reply.TheVariants as reply
 use Rattle.relay_core.specs.Replies as answer
 
 -- the flag by which a call is worth a try
@@ -133,11 +132,7 @@ abbrev pub rest_weight : ℕ → PairState → ℕ
 rest_weight left p = if is_live (verdict p) then 1 + (end_weight + spent_weight left (calls_left p)) else 4
 
 pub rest_most : (left : ℕ) (p : PairState) → (4 ≤ rest_weight left p) × (rest_weight left p ≤ 1 + (end_weight + spent_weight left (calls_left p)))
-rest_most left p = by (is_live (verdict p)) (spent_weight left (calls_left p))
-  where
-    by : (b : Bool) (n : ℕ) → (4 ≤ (if b then 1 + (end_weight + n) else 4)) × ((if b then 1 + (end_weight + n) else 4) ≤ 1 + (end_weight + n))
-    by true n = (omega arith, omega arith)
-    by false n = (omega arith, omega arith)
+rest_most left p = grind arith
 
 -- A call moves something, or it blocks, and one call less is left; or the pair is over
 pub record Called (l next : OpenConnection) : Type 0 where
@@ -151,19 +146,10 @@ there_is : (ends : List (Option Registered)) (d : ℕ) (r : Registered) → end_
 there_is ends d r at = grind (arith, common_steps)
 
 -- of what was unread, the bytes that were read are gone
-read_some : (e s : EndState) (most n : ℕ) (value : answer.AnswerValue) → option_map (λ (bytes : List ℕ). answer.Bytes bytes) (bytes_read e most n) ≡ Some value
-    → after_read e most (reply.Bytes n) ≡ Some s → length s.unread + read_by value ≡ length e.unread
-read_some e s most n value told replied = grind (arith, common_steps)
-
-read_none : (p : PairState) (call : Call) (r : Reply) (value : answer.AnswerValue) (e s : EndState) → plain r ≡ Some value → end_after p call r e ≡ Some s
-    → length s.unread + read_by value ≡ length e.unread
-read_none p call r value e s told replied = grind (arith, common_steps)
-
 read_off : (l : OpenConnection) (p : PairState) (call : Call) (r : Reply) (value : answer.AnswerValue) (old : Registered) (socket : EndState) → told_of l call r ≡ Some value
     → end_at l.kernel.ends (descriptor l.connection.ends (side_of call)) ≡ Some old → end_after p call r old.socket ≡ Some socket
     → length socket.unread + read_by value ≡ length old.socket.unread
-read_off l p (Read side most) (reply.Bytes n) value old socket told there replied = read_some old.socket socket most n value (rw there at told) replied
-read_off l p call r value old socket told there replied = read_none p call r value old.socket socket told replied
+read_off l p call r value old socket told there replied = grind (arith, common_steps)
 
 -- a call that is not interrupted has another answer
 answers_all : (l : OpenConnection) (call : Call) (r : Reply) → told_of l call r ≡ Some answer.Interrupted → is_answered r ≡ true → ⊥

@@ -35,8 +35,7 @@ calls_on now l (Read side most) a next there none = let made = rw (next, there) 
 calls_on now l call a next there none = let made = rw (next, there) at none in cc
 
 mapped : {X Y : Type 0} (f : X → Y) (o : Option X) → option_map f o ≡ None → o ≡ None
-mapped f None none = refl
-mapped f (Some x) none = cc
+mapped f o none = grind arith
 
 abbrev a_vec : Name → Vec Name Global
 a_vec n = record { ptr = null_ptr; len = 1; cap = 1; alloc = record { memory = record { seal = tt } }; items = n ∷ []; ok = (refl, omega arith); small = omega arith }
@@ -129,8 +128,7 @@ nothing_in : (xs : List ℕ) → one (is_nonempty xs) ≡ 0 → length xs ≡ 0
 nothing_in xs none = grind (arith, nat_tests)
 
 without : (o : Option Connection) → not (is_some o) ≡ true → option_map (λ (c : Connection). c.ends) o ≡ None
-without None none = refl
-without (Some c) none = cc
+without o none = grind arith
 
 nobody_waits : (n : ℕ) → (n == 0) || (false || false) ≡ true → n ≡ 0
 nobody_waits n h = grind (arith, nat_tests)

@@ -1,6 +1,6 @@
 -- What a step is for the machine: what the network, the kernel, the clock and the poller do between the programs, and
 -- what a thread does, act by act, where no opening is half way. Its imports are passed on to the file above it.
-pub use Rattle.std.{proofs.{Common.{Bool, List, None, Option, Some, [], ap, append-nil, arith, drop, false, if◌then◌else◌, inl, inr, is_some, length, lt-ltb, map, nat_le, nat_lt, not, option_map, refl, replicate, slice_get, slice_set, subst, suc, sym, true, zero, ℕ, ◌&&◌, ◌++◌, ◌+◌, ◌==◌, ◌∙◌, ◌∷◌, ◌≡◌, ◌≢◌, ◌≤◌, ◌⊎◌, ◌||◌, length-append, eqb-true, ne_eqb, ◌-◌, append_assoc, eq-eqb, leb-true}, lemmas.{Bool.{or_right, and_parts, cases_eq}, Option.slice_get_past, List.{map-append, length-replicate, set-set}}}, specs.{Option.is_none, Cmp.second_so, List.flat_map}}
+pub use Rattle.std.{proofs.{Common.{Bool, List, None, Option, Some, [], ap, append-nil, arith, drop, false, if◌then◌else◌, inl, inr, is_some, length, lt-ltb, map, nat_le, nat_lt, not, option_map, refl, replicate, slice_get, slice_set, subst, suc, sym, true, zero, ℕ, ◌&&◌, ◌++◌, ◌+◌, ◌==◌, ◌∙◌, ◌∷◌, ◌≡◌, ◌≢◌, ◌≤◌, ◌⊎◌, ◌||◌, length-append, eqb-true, ne_eqb, ◌-◌, append_assoc, eq-eqb, leb-true}, lemmas.{Bool.{or_right, and_parts, cases_eq, Decides.nat_tests}, Option.slice_get_past, List.{map-append, length-replicate, set-set}}}, specs.{Option.is_none, Cmp.second_so, List.flat_map}}
 pub use Rattle.claims.specs.{Words.{WordState, made as exchange_made, some_wait, wakes, word_after}, declared.view.Exchange.Exchange}
 pub use Rattle.interleaving.specs.{Likeness.{OthersRest, exchange, exchanges_in, first_kind, kind_in, left_of, Adopted, Emptied, Entered, Goes, HalfOpen, HasClosed, HasOut, HasRetired, Held, HolderLike, Holds, IsHalfOpen, IsHolder, IsSettled, Leaves, Like, Opens, Placed, Posted, Registered, Rests, Settled, Stage, Stays, ThreadLike, Tries, WorkerFor, WorkersFor, ahead, call_of, call_in, ends_of, machine_of, opened_slot, outside_in, outside_of, ticket, posts, here, Finds}, Threads.{Act, Call, Release, TakeOut, again, ended, open_slot, plan, quiet, turn, Accept, Acts, Begin, Calls, Connect, Deliver, Drop, Network, Open, Poll, Spurious, Step, Sweep, System, Thread, Tick, Vanish, acts, begun, goes_on, is_over, poller_rests, posted, released, rests, step, with_thread, watched_of, is_limited, delivered, delivers, Post, Retire, Give, calls, closed, begins, given, heard, taking, planned, put_in, registered, registering}}
 pub use Rattle.kernel_model.specs.{Ends.is_nonempty, Kernel.KernelState, declared.{both.Descriptors.Descriptors, reply.Reply.Reply, accepting.Accepting.TheVariants.{Accepted, Blocked, Again, Starved}}}
@@ -146,10 +146,7 @@ some_notes [] = refl
 some_notes (n ∷ ns) = sym (lt-ltb 0 (length (n ∷ ns)) (omega arith))
 
 wakes_as : (p : SlotState) → wakes (word_at p) ≡ brings_ticket p
-wakes_as p = rw (some_notes p.notes) (by_bits (is_held p.holder) (is_nonempty p.notes))
-  where
-    by_bits : (held some : Bool) → (if held then false else (if some then false else true)) ≡ not (held || some)
-    by_bits held some = grind arith
+wakes_as p = rw (some_notes p.notes) (grind arith)
 
 post_word : (p : SlotState) (g : ℕ) → word_after word.post (word_at p) ≡ word_at (with_note p g)
 post_word p g =
@@ -187,23 +184,11 @@ pub chosen : (P : System → Type 0) (b : Bool) (x y : System) → P x → P y �
 chosen P true x y p q = p
 chosen P false x y p q = q
 
-pub plan_finds : (word : WordState) (place : Option Connection) (g left : ℕ) (p : PairState) → place ≡ None → Finds word place g (plan left p)
-plan_finds word place g left p at = by_plan (Finds word place g) left p (λ live none. at) (λ live call next spent. at) (λ live call next left. tt) (λ over. tt)
-
 held_by : {X : Type 0} {h : Holder} {i : ℕ} → h ≡ By i → is_by_worker h ≡ false → X
 held_by by nobody = cc
 
 held_free : {X : Type 0} {h : Holder} {i : ℕ} → h ≡ Free → h ≡ By i → X
 held_free free by = cc
-
--- with one note more the holder is where it was
-noted_holder : {budget : ℕ} {place : Option Connection} {p : SlotState} {t : Thread} {c : Connection} {more : ℕ} {todo : List Act} (g : ℕ)
-    → HolderLike budget place p t c more todo → HolderLike budget place (with_note p g) t c more todo
-noted_holder {p = p} g (Holds at least all some) = Holds at least all (some_more p.notes g)
-noted_holder {p = p} g (HasOut at out least all some) = HasOut at out least all (some_more p.notes g)
-noted_holder g (Goes at out least) = Goes at out least
-noted_holder g (Stays at live) = Stays at live
-noted_holder {p = p} {c = c} g (Leaves at may) = Leaves at (rw (some_more p.notes g) (may_still c (is_nonempty p.notes) may))
 
 module _ {budget : ℕ} {place : Option Connection} {p : SlotState} {i : ℕ} {t : Thread} {k : WorkerState} where
   -- a thread without a program is like a worker with nothing to do
@@ -224,12 +209,17 @@ module _ {budget : ℕ} {place : Option Connection} {p : SlotState} {i : ℕ} {t
   apart other same (HasClosed held at is) = absurd (other held.holder)
   apart other same (HasRetired own is) = HasRetired (same ∙ own) is
 
-  -- and so is each thread
+  -- with one note more each thread is where it was
   noted_like : {todo : List Act} (g : ℕ) → ThreadLike budget place p i t k todo → ThreadLike budget place (with_note p g) i t k todo
   noted_like g (Rests is) = Rests is
   noted_like g (Opens first is) = Opens first is
   noted_like g (Tries least is) = Tries least is
-  noted_like g (IsHolder c more held is at) = IsHolder c more (still g held) is (noted_holder g at)
+  noted_like g (IsHolder c more held is (Holds at least all some)) = IsHolder c more (still g held) is (Holds at least all (some_more p.notes g))
+  noted_like g (IsHolder c more held is (HasOut at out least all some)) = IsHolder c more (still g held) is (HasOut at out least all (some_more p.notes g))
+  noted_like g (IsHolder c more held is (Goes at out least)) = IsHolder c more (still g held) is (Goes at out least)
+  noted_like g (IsHolder c more held is (Stays at live)) = IsHolder c more (still g held) is (Stays at live)
+  noted_like g (IsHolder c more held is (Leaves at may)) =
+      IsHolder c more (still g held) is (Leaves at (rw (some_more p.notes g) (may_still c (is_nonempty p.notes) may)))
   noted_like g (HasClosed held at is) = HasClosed (still g held) at is
   noted_like g (HasRetired own is) = HasRetired own is
 
@@ -319,8 +309,7 @@ one_more zero = refl
 one_more (suc n) = ap (λ (xs : List ℕ). 0 ∷ xs) (one_more n)
 
 some_more_left : (n more : ℕ) → (n == 0) ≡ false → n ≤ more → nat_lt 0 more ≡ true
-some_more_left zero more h least = cc
-some_more_left (suc n) more h least = lt-ltb 0 more (omega arith)
+some_more_left n more h least = grind (arith, nat_tests)
 
 -- A worker holds the slot, and its connection fails where the idle limit has passed: by one event more, or none
 
@@ -363,8 +352,7 @@ slot_calls now p k c r line is made = rw (is, made) refl
 -- Before a slot is opened it is free: nobody has anything to do with it
 
 none_by : (h : Holder) (o : Option Connection) → h ≡ Free → is_shaped h (is_some o) ≡ true → o ≡ None
-none_by h None is shape = refl
-none_by h (Some c) is shape = cc
+none_by h o is shape = grind arith
 
 no_tickets : (xs : List ℕ) → total (of_slot 0) (map ticket xs) ≡ 0 → xs ≡ []
 no_tickets [] none = refl

@@ -1,5 +1,5 @@
 -- What a step of `System` leaves as it is, when the accept flag is up and no client is accepted, as in a slot of a server.
-use Rattle.std.{proofs.{Common.{Bool, List, None, Option, Some, [], ap, append-nil, drop, false, if◌then◌else◌, nat_lt, not, option_and_then, refl, slice_get, slice_set, sym, true, zero, suc, ℕ, ◌&&◌, ◌++◌, ◌+◌, ◌==◌, ◌∙◌, ◌∷◌, ◌≡◌}}}
+use Rattle.std.{proofs.{Common.{Bool, List, None, Option, Some, [], ap, append-nil, arith, drop, false, if◌then◌else◌, nat_lt, not, option_and_then, refl, slice_get, slice_set, sym, true, zero, suc, ℕ, ◌&&◌, ◌++◌, ◌+◌, ◌==◌, ◌∙◌, ◌∷◌, ◌≡◌}}}
 use Rattle.interleaving.specs.{Threads.{Act, Call, Claim, TakeOut, TakeNotes, Release, Post, Close, Give, Register, Adopt, Accept, Acts, Begin, Calls, Connect, Deliver, Network, Open, Spurious, Step, Sweep, System, Thread, Tick, Vanish, acts, after_act, begun, calls, delivers, goes_on, open_slot, poller_rests, posted, registering, rests, run, step, taken_out, taking, watched_of, with_thread}, Slots.{opening}}
 use Rattle.kernel_model.specs.{Kernel.KernelState, declared.{reply.Reply.Reply, accepting.Accepting.TheVariants.Accepted}}
 use Rattle.token.specs.{declared.{name.Name.Name, side.Side.{Side, TheVariants.{Client, Target}}}}
@@ -32,8 +32,7 @@ module _ (k : ℕ) (st : System) where
   set_thread u j other = get-set_other st.threads k j u (λ e. other (sym e))
 
   if_more : (b : Bool) (g : ℕ) → (if b then st.tickets ++ g ∷ [] else st.tickets) ≡ st.tickets ++ (if b then g ∷ [] else [])
-  if_more true g = refl
-  if_more false g = sym (append-nil st.tickets)
+  if_more b g = grind (arith, append-nil)
 
   -- the thread k has become u, and there may be a ticket more
   brought : (q : System) (u : Thread) (b : Bool) (g : ℕ) → common q ≡ common st → st.batch ≡ q.batch

@@ -36,18 +36,9 @@ with_backlog server b c p f some h =
 
 -- names as a poll gives them
 vec_of : (names : List Name) → length names ≤ 256 → (v : Vec Name Global) × (v.items ≡ names)
-vec_of names few = (
-  record {
-    ptr = null_ptr;
-    len = length names;
-    cap = length names;
-    alloc = record { memory = record { seal = tt } };
-    items = names;
-    ok = (refl, omega arith);
-    small = omega arith;
-  },
-  refl,
-)
+vec_of names few =
+    let alloc : Global = record { memory = record { seal = tt } } in
+    (record { ptr = null_ptr; len = length names; cap = length names; alloc = alloc; items = names; ok = (refl, omega arith); small = omega arith }, refl)
 
 module _ (m : Many) (between : Between m) where
   -- a step that is at no slot
@@ -150,8 +141,7 @@ module _ (m : Many) (between : Between m) where
   -- a poll
 
   same_threads : (b : Bool) (place : System) (names : List Name) → (if b then unqueued place names else place).threads ≡ place.threads
-  same_threads true place names = refl
-  same_threads false place names = refl
+  same_threads b place names = grind arith
 
   module _ (p : ℕ) (reports : List Report) (rested : rests m p ≡ true) (few : length reports ≤ 256) (empty : (m.fronts p).batch ≡ []) (asked : are_queued m p reports ≡ true) where
     -- the poller has no program at its slots
