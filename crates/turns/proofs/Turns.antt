@@ -98,14 +98,18 @@ module _ {S : Type 0} {made : Made S} {t : Ticket} {a c : Own} {from mid to : S}
   pub played_then : {r : Answer} {notes : ℕ} {b : Own}
       → ((woke : Bool) → drop 2 (acts_of r t.generation false woke) ≡ act.TakeNotes ∷ drop 3 (acts_of r t.generation false woke))
       → made act.TakeNotes t.slot from mid → Adds t.slot (Take notes ∷ []) a.seat b.seat → Still a b
-      → TurnRest made t r false 2 3 b c mid to → TurnRest made t r false 1 2 a c from to
-  played_then {r} {notes} next first adds same rest = record {
-    noted = notes;
-    woke = rest.woke;
-    held = rest.held;
-    done = rw (firsts r rest.held 0 rest.noted notes 0 false rest.woke).1 at (done_after (Take notes ∷ []) adds refl same rest.done);
-    acts = rw (next rest.woke) (mid, first, rest.acts);
-  }
+      → TurnRest made t r false 2 3 b c mid to → (Played : ℕ → Type 0) → Played notes
+      → (rest : TurnRest made t r false 1 2 a c from to) × Played rest.noted
+  played_then {r} {notes} next first adds same rest Played played = (
+    record {
+      noted = notes;
+      woke = rest.woke;
+      held = rest.held;
+      done = rw (firsts r rest.held 0 rest.noted notes 0 false rest.woke).1 at (done_after (Take notes ∷ []) adds refl same rest.done);
+      acts = rw (next rest.woke) (mid, first, rest.acts);
+    },
+    played,
+  )
 
 -- acts that put no connection in, and close none, are known as they are
 
@@ -150,9 +154,9 @@ module _ {S C T : Type 0} (found : Option (Berth C T) → S → Type 0) (moved :
     by_last true less = rw less (mid, (out, is), rw less at acts)
     by_last false less = rw less (mid, (out, is), rw less at acts)
 
-module _ {C T : Type 0} (plays : Playing C T) (t : Ticket) (old new : Berth C T) where
+module _ {C T : Type 0} (plays : Playing C T) (notes : ℕ) (t : Ticket) (old new : Berth C T) where
   own_handled : (w : Worked) (spent : Bool) → let r = answer_of (if_posted w spent) in (w ≡ worked.Gone → ⊥)
-      → old.pair.generation ≡ t.generation → plays old new → IsLeft (Ok w) new.pair → Handles plays t r (record { found = Some old; left = Some new })
+      → old.pair.generation ≡ t.generation → plays notes old new → IsLeft (Ok w) new.pair → Handles plays notes t r (record { found = Some old; left = Some new })
   own_handled worked.Busy spent own same played left = tt
   own_handled worked.Gone spent own same played left = absurd (own refl)
   own_handled worked.Quiet spent own same played left = (old, new, refl, refl, same, played, left)
@@ -160,16 +164,19 @@ module _ {C T : Type 0} (plays : Playing C T) (t : Ticket) (old new : Berth C T)
   own_handled worked.Again false own same played left = (old, new, refl, refl, same, played, left)
   own_handled worked.Ended spent own same played left = (old, new, refl, refl, same, played, left)
 
+-- what it was after the claim
+abbrev pub Found : {S C T : Type 0} → (Handled C T → Made S) → Playing C T → Ticket → Answer → Own → Own → S → S → Type 0
+Found made plays t r a c from to = (h : Handled _ _) × (rest : TurnRest (made h) t r (is_some h.found) 1 1 a c from to) × Handles plays rest.noted t r h
+
 module _ {S C T : Type 0} (found : Option (Berth C T) → S → Type 0) (moved : Berth C T → S → Type 0) (made : Made S) (plays : Playing C T)
     {t : Ticket} {a c : Own} {from mid to : S} where
   -- the ticket's connection was in the place
   pub own_found : (w : Worked) (spent : Bool) (old new : Berth C T) → let r = answer_of (if_posted w spent) in (w ≡ worked.Gone → ⊥)
-      → old.pair.generation ≡ t.generation → plays old new → IsLeft (Ok w) new.pair → made act.TakeOut t.slot from mid → found (Some old) mid
-      → TurnRest (Leaving moved made (Some new)) t r false 1 2 a c mid to
-      → (h : Handled C T) × Handles plays t r h × TurnRest (Handling found moved made h) t r (is_some h.found) 1 1 a c from to
-  own_found w spent old new own same played left out is rest = (
+      → old.pair.generation ≡ t.generation → IsLeft (Ok w) new.pair → made act.TakeOut t.slot from mid → found (Some old) mid
+      → (rest : TurnRest (Leaving moved made (Some new)) t r false 1 2 a c mid to) → plays rest.noted old new
+      → Found (Handling found moved made) plays t r a c from to
+  own_found w spent old new own same left out is rest played = (
     record { found = Some old; left = Some new },
-    own_handled plays t old new w spent own same played left,
     record {
       noted = rest.noted;
       woke = rest.woke;
@@ -177,15 +184,16 @@ module _ {S C T : Type 0} (found : Option (Berth C T) → S → Type 0) (moved :
       done = rest.done;
       acts = own_acts found moved made t old new from mid to w spent rest.woke rest.held own rest.acts out is;
     },
+    own_handled plays rest.noted t old new w spent own same played left,
   )
 
   -- the place was empty
   pub none_found : made act.TakeOut t.slot from mid → found None mid → TurnRest made t (Ok worked.Gone) false 1 2 a c mid to
-      → (h : Handled C T) × Handles plays t (Ok worked.Gone) h × TurnRest (Handling found moved made h) t (Ok worked.Gone) (is_some h.found) 1 1 a c from to
+      → Found (Handling found moved made) plays t (Ok worked.Gone) a c from to
   none_found out is rest = (
     record { found = None; left = None },
-    (tt, refl),
     record { noted = rest.noted; woke = rest.woke; held = tt; done = rest.done; acts = left rest.woke rest.acts },
+    (tt, refl),
   ) where
     left : (woke : Bool) → ActsLeft made t (Ok worked.Gone) 2 false woke mid to
         → ActsLeft (Handling found moved made (record { found = None; left = None })) t (Ok worked.Gone) 1 false woke from to
@@ -195,11 +203,11 @@ module _ {S C T : Type 0} (found : Option (Berth C T) → S → Type 0) (moved :
   -- another connection was in the place, and was put back
   pub other_found : {back : S} {other : Berth C T} → other.pair.generation ≢ t.generation → made act.TakeOut t.slot from mid → found (Some other) mid
       → made act.PutIn t.slot mid back → moved other back → TurnRest made t (Ok worked.Gone) false 1 2 a c back to
-      → (h : Handled C T) × Handles plays t (Ok worked.Gone) h × TurnRest (Handling found moved made h) t (Ok worked.Gone) (is_some h.found) 1 1 a c from to
+      → Found (Handling found moved made) plays t (Ok worked.Gone) a c from to
   other_found {back} {other} differs out is put put_back rest = (
     record { found = Some other; left = Some other },
-    (differs, refl),
     record { noted = rest.noted; woke = rest.woke; held = tt; done = rest.done; acts = left rest.woke rest.acts },
+    (differs, refl),
   ) where
     left : (woke : Bool) → ActsLeft made t (Ok worked.Gone) 2 false woke back to
         → ActsLeft (Handling found moved made (record { found = Some other; left = Some other })) t (Ok worked.Gone) 1 true woke from to
@@ -210,8 +218,8 @@ module _ {S C T : Type 0} (made : Handled C T → Made S) (plays : Playing C T) 
   -- the slot was claimed, and then the turn went on
   pub claimed_then : {r : Answer} {found : ℕ} {b : Own} → t.slot < words → ((h : Handled C T) → made h act.Claim t.slot from mid)
       → Adds t.slot (Held found ∷ []) a.seat b.seat → Still a b
-      → (h : Handled C T) × Handles plays t r h × TurnRest (made h) t r (is_some h.found) 1 1 b c mid to → TurnInOrder made plays words t r a c from to
-  claimed_then {r = r} {found = found} within first adds same (h, handles, rest) =
+      → Found made plays t r b c mid to → TurnInOrder made plays words t r a c from to
+  claimed_then {r = r} {found = found} within first adds same (h, rest, handles) =
       let first_of = firsts r rest.held found rest.noted 0 t.generation (is_some h.found) rest.woke in (
         record {
           exchanges = Held found ∷ drop 1 (program r 0 rest.noted rest.woke);
@@ -239,21 +247,22 @@ module _ {S C T : Type 0} (made : Handled C T → Made S) (plays : Playing C T) 
   )
 
 -- what is known of how a connection was played may be said in other words
-module _ {C T : Type 0} {P Q : Playing C T} (more : (a b : Berth C T) → P a b → Q a b) where
-  handles_more : (t : Ticket) (r : Answer) (h : Handled C T) → Handles P t r h → Handles Q t r h
-  handles_more t (Ok worked.Busy) h handles = tt
-  handles_more t (Ok worked.Gone) h handles = handles
-  handles_more t _ h (old, new, found, left, same, played, is) = (old, new, found, left, same, more old new played, is)
+module _ {C T : Type 0} {P Q : Playing C T} (more : (notes : ℕ) (a b : Berth C T) → P notes a b → Q notes a b) where
+  handles_more : (notes : ℕ) (t : Ticket) (r : Answer) (h : Handled C T) → Handles P notes t r h → Handles Q notes t r h
+  handles_more notes t (Ok worked.Busy) h handles = tt
+  handles_more notes t (Ok worked.Gone) h handles = handles
+  handles_more notes t _ h (old, new, found, left, same, played, is) = (old, new, found, left, same, more notes old new played, is)
 
   pub turn_more : {S : Type 0} (made : Handled C T → Made S) {words : ℕ} {t : Ticket} {r : Answer} {a b : Own} {from to : S}
       → TurnInOrder made P words t r a b from to → TurnInOrder made Q words t r a b from to
-  turn_more made {t = t} {r = r} turn = (turn.0, λ lt. (let said = turn.1 lt in (said.0, handles_more t r said.0 said.1, said.2)), turn.2)
+  turn_more made {t = t} {r = r} turn = (turn.0, λ lt. (let said = turn.1 lt in (said.0, handles_more turn.0.are.noted t r said.0 said.1, said.2)), turn.2)
 
 -- by terms whose second the clock told
 pub plays_at : {C T : Type 0} (client : Serves C) (target : Serves T) {tells : ℕ → Type 0} {budget limit : ℕ} (terms : Terms) → tells terms.moment.second
-    → terms.budget ≡ budget → terms.moment.limit ≡ limit → (a b : Berth C T) → PlaysBy client target terms a b → PlaysAt client target tells budget limit a b
-plays_at client target terms told calls same a b (second, notes, played, is, pair, plays) =
-    (second, notes, played, rw is told, pair, rw (← calls, ← same) plays)
+    → terms.budget ≡ budget → terms.moment.limit ≡ limit → (notes : ℕ) (a b : Berth C T) → PlaysBy client target terms notes a b
+    → PlaysAt client target tells budget limit notes a b
+plays_at client target terms told calls same notes a b (second, played, is, pair, plays) =
+    (second, played, rw is told, pair, rw (← calls, ← same) plays)
 
 -- a post by the slot's holder does not answer Wake
 pub posted_quiet : (slot : ℕ) (r : Posted) {a b : SeatState} → (r ≡ posted.Wake) ⊎ (r ≡ posted.Quiet) → Holds a slot → PostChange slot a r b → Adds slot (Post false ∷ []) a b

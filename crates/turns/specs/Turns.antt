@@ -136,15 +136,15 @@ Plays client target terms notes old new =
     IsTurn terms.budget terms.moment.second terms.moment.limit (noted_by notes old.pair) new.pair
     (client terms.moment.second old.client new.client) (target terms.moment.second old.target new.target)
 
--- how a connection is played: what it was, and what it is
+-- how a connection is played after this many notes were taken: what it was, and what it is
 abbrev pub Playing : Type 0 → Type 0 → Type 1
-Playing C T = Berth C T → Berth C T → Type 0
+Playing C T = ℕ → Berth C T → Berth C T → Type 0
 
 -- as its terms allow, at a second that the clock may show, with so many calls at most and this idle limit. What holds bytes
 -- back may have sent them after it
 abbrev pub PlaysAt : {C T : Type 0} → Serves C → Serves T → (ℕ → Type 0) → ℕ → ℕ → Playing C T
-PlaysAt client target tells budget limit old new =
-    (second : ℕ) × (notes : ℕ) × (played : Berth _ _) × tells second × (new.pair ≡ played.pair)
+PlaysAt client target tells budget limit notes old new =
+    (second : ℕ) × (played : Berth _ _) × tells second × (new.pair ≡ played.pair)
     × Plays client target (record { budget = budget; moment = record { second = second; limit = limit } }) notes old played
 
 -- by these terms
@@ -174,13 +174,13 @@ IsLeft (Ok worked.Quiet) pair = outcome_of pair ≡ turn.Quiet
 IsLeft result pair = outcome_of pair ≡ turn.Again
 
 -- A turn that is Gone found no connection of the ticket's generation, and put back what it found. One that got its slot and is
--- not Gone found the ticket's own, played it, and put it back or closed it; one that is refused, since its seat is worn, put
+-- not Gone found the ticket's own, played it after it took these notes, and put it back or closed it; one that is refused, since its seat is worn, put
 -- it back, as one that answers Again. A busy turn does not look
-abbrev pub Handles : {C T : Type 0} → Playing C T → Ticket → Result Worked ServerFault → Handled C T → Type 0
-Handles plays ticket (Ok worked.Busy) h = Unit {0}
-Handles plays ticket (Ok worked.Gone) h = IfSome h.found (λ berth. berth.pair.generation ≢ ticket.generation) × (h.left ≡ h.found)
-Handles plays ticket result h = (old : Berth _ _) × (new : Berth _ _) × (h.found ≡ Some old) × (h.left ≡ Some new)
-    × (old.pair.generation ≡ ticket.generation) × plays old new × IsLeft result new.pair
+abbrev pub Handles : {C T : Type 0} → Playing C T → ℕ → Ticket → Result Worked ServerFault → Handled C T → Type 0
+Handles plays notes ticket (Ok worked.Busy) h = Unit {0}
+Handles plays notes ticket (Ok worked.Gone) h = IfSome h.found (λ berth. berth.pair.generation ≢ ticket.generation) × (h.left ≡ h.found)
+Handles plays notes ticket result h = (old : Berth _ _) × (new : Berth _ _) × (h.found ≡ Some old) × (h.left ≡ Some new)
+    × (old.pair.generation ≡ ticket.generation) × plays notes old new × IsLeft result new.pair
 
 -- `TurnMade`, with the acts of the turn but its calls, in order, and with what it did with the connection. If the claim
 -- words lack the slot, no act is made
@@ -188,7 +188,7 @@ abbrev pub TurnInOrder : {S C T : Type 0} → (Handled C T → Made S) → Playi
     → Result Worked ServerFault → Own → Own → S → S → Type 0
 TurnInOrder made plays words ticket result old new from to =
     (turn : TurnMade words ticket result old new)
-    × (ticket.slot < words → (h : Handled _ _) × Handles plays ticket result h
+    × (ticket.slot < words → (h : Handled _ _) × Handles plays turn.are.noted ticket result h
     × ActsLeft (made h) ticket result 0 (is_some h.found) turn.are.woke from to)
     × (words ≤ ticket.slot → to ≡ from)
 

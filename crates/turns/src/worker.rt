@@ -152,10 +152,10 @@ fn claimed<F: Front, A: Moves<F>, G: Gate, R: Wait + Log>(
     requires work { AtWork shared.now.claims ticket.slot own.old }
     requires budget { (1 ≤ terms.budget) × (terms.budget ≤ 1024) }
     ensures done { (h : Handled F.Client F.Target)
+        × (rest : TurnRest (Handling A.found A.moved A.made h) ticket (answer_by own.old.seat result) (is_some h.found) 1 1
+        own.old own.new acts.old acts.new)
         × Handles (PlaysBy (IsServed F.Client.told F.Client.does) (IsServed F.Target.told F.Target.does) terms)
-        ticket (answer_by own.old.seat result) h
-        × TurnRest (Handling A.found A.moved A.made h) ticket (answer_by own.old.seat result) (is_some h.found) 1 1
-        own.old own.new acts.old acts.new }
+        rest.noted ticket (answer_by own.old.seat result) h }
 {
     match take_out(rt, acts, shared, own, ticket) {
         Ok(visit) if visit.pair().generation() == ticket.generation => {
@@ -205,9 +205,10 @@ fn run<F: Front, A: Moves<F>, G: Gate, R: Wait + Log>(
     requires budget { (1 ≤ terms.budget) × (terms.budget ≤ 1024) }
     ensures own { result ≡ Worked.Gone → ⊥ }
     ensures done { (left : Berth F.Client F.Target) × IsLeft (Ok result) left.pair
-        × PlaysBy (IsServed F.Client.told F.Client.does) (IsServed F.Target.told F.Target.does) terms visit.berth.value left
-        × TurnRest (Leaving A.moved A.made (Some left)) visit.ticket (answer_by own.old.seat result) false 1 2
-        own.old own.new acts.old acts.new }
+        × (rest : TurnRest (Leaving A.moved A.made (Some left)) visit.ticket (answer_by own.old.seat result) false 1 2
+        own.old own.new acts.old acts.new)
+        × PlaysBy (IsServed F.Client.told F.Client.does) (IsServed F.Target.told F.Target.does) terms rest.noted
+        visit.berth.value left }
 {
     match play(
         acts,

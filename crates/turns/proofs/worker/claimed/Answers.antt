@@ -11,8 +11,8 @@ returns-in-Ok g c =
     record {
       done = own_found g.A.Moves.found g.A.Moves.moved g.A.Acts.made
           (PlaysBy (IsServed g.F.Client.Wire.told g.F.Client.Wire.does) (IsServed g.F.Target.Wire.told g.F.Target.Wire.does) c.args.terms)
-          c.run.result _ c.in-Ok.visit.berth.value ran.0 c.run.ensures.own own ran.2 ran.1
-          c.in-Ok.ensures.made c.in-Ok.ensures.found ran.3;
+          c.run.result _ c.in-Ok.visit.berth.value ran.0 c.run.ensures.own own ran.1
+          c.in-Ok.ensures.made c.in-Ok.ensures.found ran.2 ran.3;
     }
 
 pub returns-in-Ok-2 : goal.returns-in-Ok-2
