@@ -1,6 +1,6 @@
 """How threads sleep and are woken. Two of them stand still for a while before or after any of their atomic instructions: one that
-puts something, and one that is about to sleep or wakes. Then they go on in either order, and nothing waits while its thread
-sleeps."""
+puts something, or falls asleep or wakes itself, and one that falls asleep or wakes. Then they go on in either order, and nothing
+waits while its thread sleeps."""
 
 import contextlib
 import errno
@@ -54,17 +54,22 @@ class Pair:
         thread.step(place % 2, to)
 
     def go_on(self, stage, to=SLEEP):
-        """Lets both go on: one of them a little later than the other, once the putter has made a part of this stage; or in every
-        second try the sleeper, once the putter has done all and sleeps."""
-        threads = [self.putter, self.sleeper]
+        """Lets both go on once the putter has made a part of this stage, or in every second try all, and sleeps."""
         if self.number % 2:
             self.step(self.putter, stage, to)
-            self.chance.shuffle(threads)
         else:
             self.sleep(self.putter)
-        for thread in threads:
+        self.go()
+
+    def go(self):
+        """Lets both go on, one of them a little later than the other."""
+        for thread in self.chance.sample([self.putter, self.sleeper], 2):
             thread.go()
             time.sleep(0.002)
+
+    def halt(self):
+        self.putter.halt()
+        self.sleeper.halt()
 
 
 @contextlib.contextmanager
@@ -133,8 +138,7 @@ def put_twice(both, number, first, second, readers):
     poller.run_to(EPOLL_WAIT, lambda answer: answer == len(second))
     both.go_on("puts", RECVFROM)
     assert all([gives(reader) for reader in readers]), (number, both.places)
-    poller.halt()
-    worker.halt()
+    both.halt()
 
 
 def a_worker_beside_a_poller():
@@ -148,19 +152,14 @@ def a_worker_beside_a_poller():
 
 def much_moved(both):
     """A client and its end, once so much has gone that the worker gets the next 16 tickets of the connection."""
-    threads = [both.putter, both.sleeper]
-    for thread in threads:
-        thread.go()
+    both.go()
     client, end = both.relay.pair()
-    for thread in threads:
-        thread.halt()
+    both.halt()
     client.sendall(bytes(MUCH))
-    for thread in threads:
-        thread.go()
+    both.go()
     read_all_of(end, MUCH)
     time.sleep(0.1)
-    for thread in threads:
-        thread.halt()
+    both.halt()
     return client, end
 
 
@@ -172,6 +171,33 @@ def a_worker_beside_a_poller_that_puts_in_any_case():
             if number % 6 == 0:
                 clients, ends = zip(much_moved(both), much_moved(both))
             put_twice(both, number, clients[:1], clients[1:], ends)
+
+
+def a_worker_beside_another():
+    relay = Relay(recorded=False, slots=64, workers=2, log="off")
+    with pair(relay, *relay.named("worker", 2)) as both:
+        for number in range(TRIES if both else 0):
+            if number % 5 == 0:
+                clients, ends = zip(much_moved(both), much_moved(both))
+            both.number, workers = number, both.chance.sample([both.putter, both.sleeper], 2)
+            both.sleep(*workers)
+            send(clients)
+            for worker in workers:
+                worker.run_to(SENDTO, lambda answer: answer > 0)
+            # Both fall asleep, or one does while the other wakes. Meanwhile the pollers put once more.
+            if number % 2:
+                both.sleep(workers[1])
+            for worker in workers[: 2 - number % 2]:
+                both.step(worker, "falls asleep")
+            assert all([gives(end) for end in ends])
+            send(clients)
+            time.sleep(0.005)
+            if number % 2:
+                workers[1].run_to(FUTEX, lambda answer: answer > RESTARTS)
+                both.step(workers[1], "wakes", RECVFROM)
+            both.go()
+            assert all([gives(end) for end in ends]), (number, both.places)
+            both.halt()
 
 
 # refuses writer_sleeps_without_its_last_look: the writer of the log announces that it sleeps behind its last look
@@ -197,8 +223,7 @@ def the_writer_of_the_log_beside_a_poller():
                 more = gives(relay.process.stderr)
                 assert more, (number, both.places)
                 lines += more
-            poller.halt()
-            writer.halt()
+            both.halt()
 
 
 # refuses waker_before_the_slot: a worker wakes the slot's poller, and gives the slot after that

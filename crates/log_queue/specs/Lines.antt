@@ -47,12 +47,6 @@ pub data CountStep : Type 0 where
   Added : CountStep
   Taken : ℕ → CountStep
 
--- one step on a flag that threads share: it was read as set or not; it was set; or it was cleared, and was set before or not
-pub data FlagStep : Type 0 where
-  Read : Bool → FlagStep
-  Set : FlagStep
-  Cleared : Bool → FlagStep
-
 -- the priority of a line, as syslog(3) counts them: err, warning, info and debug
 abbrev pub priority_of : Level → List ℕ
 priority_of Error = codes "<3>"

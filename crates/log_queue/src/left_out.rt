@@ -1,6 +1,8 @@
 //! How many lines found the queue full.
 ghost use Rattle.log_queue.specs.Lines.{CountStep, Added, Taken};
 
+use ready::{Full, Put};
+use std::sync::Wait;
 use std::sync::atomic::{AtomicU64, Ordering};
 
 /// A count that threads share. Each method is one atomic step: what is added between a load of the count and a store
@@ -54,5 +56,20 @@ impl<C: Count> Missing<C> {
         ensures { C.did (Taken result) self.now.0 }
     {
         self.0.take()
+    }
+}
+
+/// A line that was left out is put by being counted.
+#[derive(Drop)]
+pub(crate) struct Counted<'a>(pub(crate) &'a Missing);
+
+impl Put<()> for Counted<'_> {
+    ghost did_put = { λ _ _ _. Unit {0} };
+
+    ghost refused = { λ _ _. ⊥ };
+
+    fn put<R: Wait>(&mut self, _rt: &R, _line: ()) -> Result<(), Full<()>> {
+        self.0.add();
+        Ok(())
     }
 }

@@ -12,11 +12,10 @@
 //!
 //! # Inside
 //!
-//! [`ParkedQueue`] is what the log and a recording have in common: bounded queues for a thread that writes. The
-//! thread sleeps only after it found the queues open and empty, has announced its sleep and then found them empty again
-//! (`Sleep`). Only something to write (`There`) or a close wakes it. These are the acts of `ready`, whose law says that
-//! nobody sleeps beside work. The thread ends only after it found the queues closed and then empty ([`Drained`]). A line
-//! that was taken cannot be dropped unwritten (`Unwritten`). `Missing` counts lines left out.
+//! [`ParkedQueue`] is what the log and a recording have in common: bounded queues for a thread that writes. The thread
+//! sleeps as an end of the ready queue does (`IdleEnds` of `ready`), whose law says that nobody sleeps beside work. It
+//! ends only after it found the queues closed and then empty ([`Drained`]). A line that was taken cannot be dropped
+//! unwritten (`Unwritten`). `Missing` counts lines left out.
 #![tactic(auto)]
 
 mod left_out;
@@ -25,12 +24,12 @@ mod line;
 mod parked;
 mod queue;
 mod sink;
-mod sleeping;
 mod writing;
 
 pub use limits::{MAX_LINE, MAX_LINES};
 pub use line::{LeftOut, LogLine};
-pub use parked::{Drain, Drained, ParkedQueue};
+pub use parked::{Drain, ParkedQueue};
 pub use queue::{LogQueue, Written};
+pub use ready::Drained;
 pub use sink::{Direct, Form, Queued};
 pub use writing::write_lines;

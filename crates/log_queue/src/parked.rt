@@ -1,20 +1,14 @@
-//! Queues for a thread that writes, and sleeps while there is nothing to write.
-ghost use Rattle.std.specs.Prelude.{◌≡◌, ◌<◌, map, true, false};
+//! Queues for a thread that writes, and sleeps while there is nothing to write. It is the one end that takes, of the ends of
+//! `ready`.
+ghost use Rattle.std.specs.Prelude.{◌≡◌, ◌<◌, map, true, All};
 ghost use Rattle.crossbeam_queue.specs.Passes.{queue_capacity};
 
-use crate::left_out::Missing;
-use crate::sleeping::{Empty, MarkSeen, Sleep, There, look};
+use crate::left_out::{Counted, Missing};
 use crossbeam_queue::ArrayQueue;
+use ready::{Drained, Full, IdleEnds, Put, Source};
 use std::marker::Model;
 use std::sync::Wait;
 use std::time::Duration;
-
-/// The queues were closed, and then found empty. Only [`ParkedQueue::drain`] makes one.
-#[derive(Drop)]
-pub struct Drained {
-    empty: Empty<MarkSeen>,
-    ghost closed: { empty.0.closed ≡ true },
-}
 
 /// Bounded queues of items, each oldest first, between the threads that put items and a writer. The writer sleeps
 /// while there are no items, and ends only after it found the queues closed and then empty. In a clause a
@@ -22,7 +16,7 @@ pub struct Drained {
 #[derive(Drop)]
 pub struct ParkedQueue<T: Drop, const QUEUES: usize> {
     queues: [ArrayQueue<T>; QUEUES],
-    sleep: Sleep,
+    ends: IdleEnds,
 }
 
 /// What a writer does with the items.
@@ -42,6 +36,82 @@ impl<T: Drop, const QUEUES: usize> Model for ParkedQueue<T, QUEUES> {
     ghost view = { λ parked. map queue_capacity parked.queues };
 }
 
+/// What may be empty. The trait leaves open what a look shows.
+pub(crate) trait Line {
+    // It was empty at one moment.
+    ghost was_empty: { Self → Type 0 };
+
+    fn holds_none(&self) -> bool
+        ensures { result ≡ true → was_empty self.now };
+}
+
+impl<T: Drop> Line for ArrayQueue<T> {
+    ghost was_empty = { λ _. Unit {0} };
+
+    fn holds_none(&self) -> bool {
+        self.is_empty()
+    }
+}
+
+/// The place for an item in a queue.
+#[derive(Drop)]
+struct Back<'a, T: Drop>(&'a ArrayQueue<T>);
+
+impl<T: Drop> Put<T> for Back<'_, T> {
+    ghost did_put = { λ _ _ _. Unit {0} };
+
+    ghost refused = { λ _ _. Unit {0} };
+
+    fn put<R: Wait>(&mut self, rt: &R, item: T) -> Result<(), Full<T>> {
+        match self.0.push(rt, item) {
+            Ok(()) => Ok(()),
+            Err(item) => Err(Full(item)),
+        }
+    }
+}
+
+/// What the writer looks at: it drains the queues, and then looks whether they are empty. What was left out since the
+/// drain before is shown by no queue, but by the drain.
+#[derive(Drop)]
+struct Drains<'w, 'q, W, Q> {
+    writer: &'w mut W,
+    queues: &'q [Q],
+}
+
+impl<W: Drain, Q: Line> Source for Drains<'_, '_, W, Q> {
+    ghost use Rattle.std.specs.Prelude.{All};
+
+    ghost state = { λ _. tt };
+
+    ghost found = { λ _ _ _. Unit {0} };
+
+    ghost held_none = { λ d. All Q.was_empty d.queues.now };
+
+    /// Whether the drain found items.
+    type Found = Result<bool, W::Error>;
+
+    type State = ();
+
+    fn look<R: Wait>(&mut self, _rt: &R) -> Option<Result<bool, W::Error>> {
+        let drained = self.writer.drain();
+        match drained {
+            Ok(false) if are_empty(self.queues) => None,
+            found => Some(found),
+        }
+    }
+}
+
+fn are_empty<Q: Line>(queues: &[Q]) -> bool
+    ensures { result ≡ true → All Q.was_empty queues.now }
+{
+    for queue in queues {
+        if !queue.holds_none() {
+            return false;
+        }
+    }
+    true
+}
+
 impl<T: Drop, const QUEUES: usize> ParkedQueue<T, QUEUES> {
     /// The queues, open and with a writer that is awake.
     pub fn new(queues: [ArrayQueue<T>; QUEUES]) -> ParkedQueue<T, QUEUES>
@@ -49,7 +119,7 @@ impl<T: Drop, const QUEUES: usize> ParkedQueue<T, QUEUES> {
     {
         ParkedQueue {
             queues,
-            sleep: Sleep::new(),
+            ends: IdleEnds::new(),
         }
     }
 
@@ -58,28 +128,15 @@ impl<T: Drop, const QUEUES: usize> ParkedQueue<T, QUEUES> {
     pub fn put(&self, rt: &impl Wait, at: usize, item: T) -> bool
         requires { at < QUEUES }
     {
-        match self.push(rt, at, item) {
-            Some(there) => {
-                self.sleep.wake(rt, there);
-                true
-            }
-            None => false,
+        match self.ends.put(rt, &mut Back(&self.queues[at]), item) {
+            Ok(()) => true,
+            Err(Full(_item)) => false,
         }
     }
 
     /// Counts an item that was left out.
     pub(crate) fn count(&self, rt: &impl Wait, missing: &Missing) {
-        missing.add();
-        self.sleep.wake(rt, There(()));
-    }
-
-    fn push(&self, rt: &impl Wait, at: usize, item: T) -> Option<There>
-        requires { at < QUEUES }
-    {
-        match self.queues[at].push(rt, item) {
-            Ok(()) => Some(There(())),
-            Err(_) => None,
-        }
+        let _ = self.ends.put(rt, &mut Counted(missing), ());
     }
 
     /// Takes the oldest item of the queue `at`.
@@ -91,7 +148,7 @@ impl<T: Drop, const QUEUES: usize> ParkedQueue<T, QUEUES> {
 
     /// Lets the writer end once every item is written, and wakes it. What is put later may not be written.
     pub fn close(&self) {
-        self.sleep.close();
+        let _ = self.ends.close();
     }
 
     /// Has a writer drain the queues until they were closed and then found empty. After a drain that found items,
@@ -102,44 +159,18 @@ impl<T: Drop, const QUEUES: usize> ParkedQueue<T, QUEUES> {
         writer: &mut W,
         rest: Duration,
     ) -> Result<Drained, W::Error> {
+        let mut drains = Drains {
+            writer,
+            queues: &self.queues,
+        };
         for _look in rt.forever() {
-            let seen = self.sleep.read_mark();
-            let some = writer.drain()?;
-            if let Ok(empty) = look(seen, &self.queues) {
-                if empty.was_closed() {
-                    return Ok(Drained { empty });
-                }
-                if !some {
-                    self.drain_or_park(rt, writer, empty)?;
-                }
-            }
-            if some {
-                self.sleep.rest(rt, rest);
+            match self.ends.take(rt, 0, &mut drains) {
+                Ok(Ok(true)) => self.ends.rest(rt, 0, rest),
+                Ok(Ok(false)) => {}
+                Ok(Err(fault)) => return Err(fault),
+                Err(drained) => return Ok(drained),
             }
         }
         unreachable!()
-    }
-
-    /// Announces that the writer sleeps, drains the queues again, and parks if they are empty. No queue shows what was
-    /// left out since the drain before, but a drain does.
-    fn drain_or_park<R: Wait, W: Drain>(
-        &self,
-        rt: &R,
-        writer: &mut W,
-        empty: Empty<MarkSeen>,
-    ) -> Result<(), W::Error>
-        requires open { empty.0.closed ≡ false }
-    {
-        let announced = self.sleep.announce(empty);
-        if let Err(fault) = writer.drain() {
-            self.sleep.withdraw(announced);
-            return Err(fault);
-        }
-        let awake = match look(announced, &self.queues) {
-            Ok(looked) => self.sleep.park(rt, looked),
-            Err(announced) => announced,
-        };
-        self.sleep.withdraw(awake);
-        Ok(())
     }
 }

@@ -1,46 +1,25 @@
 -- What every step keeps of the ends of a queue, and so what holds after any list of steps.
-use Rattle.std.{proofs.{Common.{◌≡◌, ◌≢◌, ◌⊎◌, ◌<◌, ◌≤◌, ◌+◌, ◌&&◌, ◌||◌, ℕ, zero, suc, Bool, true, false, true≢false, not, List, [], ◌∷◌, length, get_or, set, replicate, Some, None, refl, sym, ap, ◌∙◌, inl, inr, arith}, lemmas.{Bool.{cases_lt, not-true, or_right, lt-ltb, le-leb, ltb-true, leb-true}, Bool.Decides.eqb_tells, List.{get_or-set_same, get_or-set_other, get_or_past, get_or-replicate, set_past, length-replicate, length-set}, List.Sums.{sum_by-set, sum_by-cons}, Option.option_and_then_some}}, specs.{Prelude.{if◌then◌else◌, nat_lt, nat_le, sum_by}, Cmp.{first_so, second_so}}}
-use Rattle.ready.specs.Sleep.{Act, Rest, Push, Wake, Unpark, ReadMark, Look, SetBit, LookAgain, Park, Withdraw, SetMark, Standing, ComesBack, End, Queue, Step, Puts, Takes, Closes, Makes, Clears, Stirs, Taken, resting, start, end_at, with_end, goes_on, pushed, withdrawn, after_look, after_unpark, looked, are_clear, with_permit, after_act, begins, cleared, stirred, fewer, step, run, IsAsleep, unparks, WillBeUnparked, owes, has_wake, was_woken, one, duties, IsOnItsWay, ToLook, ToWake, WasWoken, ToUnpark, NobodySleepsBesideWork, NobodySleeps}
-
-some_is : {X : Type 0} {x y : X} → Some x ≡ Some y → y ≡ x
-some_is h = cc
+use Rattle.std.{proofs.{Common.{◌≡◌, ◌≢◌, ◌⊎◌, ◌<◌, ◌≤◌, ◌+◌, ◌&&◌, ◌||◌, ℕ, zero, suc, Bool, true, false, true≢false, not, List, [], ◌∷◌, length, get_or, set, replicate, refl, sym, ap, ◌∙◌, inl, inr, arith}, lemmas.{Bool.{cases_lt, not-true, or_right, lt-ltb, le-leb, leb-true}, Bool.Decides.eqb_tells, List.{get_or-set_same, get_or-set_other, get_or_past, get_or-replicate, length-replicate, length-set}, List.Sums.{sum_by-set, sum_by-cons}}}, specs.{Prelude.{nat_le, sum_by}, Cmp.{first_so, second_so}}}
+use Rattle.ready.specs.Sleep.{Act, Rest, Push, Wake, Unpark, ReadMark, Look, SetBit, LookAgain, Park, Withdraw, SetMark, Standing, ComesBack, End, Queue, Step, Begins, Pushes, FindsNone, Clears, Unparks, Ends, ReadsMark, Looks, SetsBit, LooksAgain, Rises, Withdraws, SetsMark, Rests, Takes, Run, resting, start, end_at, with_end, goes_on, is_drowsy, is_announced, is_first, pushed, withdrawn, after_look, looked, with_permit, unparked, without_bit, IsAsleep, unparks, WillBeUnparked, owes, has_wake, was_woken, one, duties, IsOnItsWay, ToLook, ToWake, WasWoken, ToUnpark, NobodySleepsBesideWork, NobodySleeps}
 
 one_le : (b : Bool) → one b ≤ 1
 one_le true = omega arith
 one_le false = omega arith
 
--- its bit was set, and it has not withdrawn
-abbrev is_announced : Act → Bool
-is_announced LookAgain = true
-is_announced Park = true
-is_announced (Withdraw found) = true
-is_announced act = false
-
--- on its way to sleep
-abbrev is_drowsy : Act → Bool
-is_drowsy LookAgain = true
-is_drowsy Park = true
-is_drowsy act = false
-
 -- it has found the queue open, and has not slept since
 abbrev is_open : Act → Bool
 is_open (Look false) = true
 is_open SetBit = true
-is_open LookAgain = true
-is_open Park = true
-is_open act = false
-
--- it may sleep although its bit is clear, or the queue closed
-abbrev must_hear : Bool → Act → Bool → Bool
-must_hear closed act bit = is_open act && ((is_drowsy act && not bit) || closed)
+is_open act = is_drowsy act
 
 -- it has looked in vain, and has not begun anew
 abbrev has_looked : Act → Bool
 has_looked SetBit = true
-has_looked LookAgain = true
-has_looked Park = true
-has_looked (Withdraw found) = true
-has_looked act = false
+has_looked act = is_announced act
+
+-- it may sleep although its bit is clear, or the queue closed
+abbrev must_hear : Bool → Act → Bool → Bool
+must_hear closed act bit = is_open act && ((is_drowsy act && not bit) || closed)
 
 record Sound (e : End) : Type 0 where
   bit : e.bit ≡ true → is_announced e.next ≡ true
@@ -63,11 +42,6 @@ must_busy closed act bit h rest = let no : is_open Rest ≡ true = rw rest at (f
 need_not : (closed : Bool) (act : Act) (bit : Bool) {X : Type 0} → is_open act ≡ false → must_hear closed act bit ≡ true → X
 need_not closed act bit shut h = absurd (true≢false (sym (first_so (is_open act) _ h) ∙ shut))
 
-each_clear : (ends : List End) (k : ℕ) → are_clear ends ≡ true → (get_or ends k resting).bit ≡ false
-each_clear [] k h = refl
-each_clear (e ∷ ends) zero h = not-true e.bit (first_so (not e.bit) _ h)
-each_clear (e ∷ ends) (suc k) h = each_clear ends k (second_so (not e.bit) _ h)
-
 within : (q : Queue) (i : ℕ) → (end_at q i).next ≢ Rest → i < length q.ends
 within q i busy = elim (cases_lt i (length q.ends)) [
   | inl below ↦ below
@@ -78,21 +52,15 @@ counting : (items was_items sum was_sum duty was_duty extra more : ℕ)
     → sum + was_duty ≡ was_sum + duty → items + (was_duty + extra) ≤ was_items + (duty + more) → was_items ≤ was_sum + extra → items ≤ sum + more
 counting items was_items sum was_sum duty was_duty extra more same step was = omega arith
 
--- what is so of an unpark and of rest is so after an unpark
-either_way : (f : Act → Bool) (from below : ℕ) (v : Bool) → f (Unpark from below) ≡ v → f Rest ≡ v → f (after_unpark from below) ≡ v
-either_way f from below v one_is other_is = by (nat_lt from below)
-  where
-    by : (b : Bool) → f (if b then Unpark from below else Rest) ≡ v
-    by true = one_is
-    by false = other_is
-
-unparks_rest : (k from below : ℕ) → k ≢ from → unparks k (Unpark from below) ≡ true → unparks k (after_unpark (suc from) below) ≡ true
+unparks_rest : (k from below : ℕ) → k ≢ from → unparks k (Unpark from below) ≡ true → unparks k (Unpark (suc from) below) ≡ true
 unparks_rest k from below other h =
     let least = leb-true from k (first_so (nat_le from k) _ h) in
-    let most = ltb-true k below (second_so (nat_le from k) _ h) in
-    rw (lt-ltb (suc from) below (omega arith), le-leb (suc from) k (omega arith), lt-ltb k below most) refl
+    rw (le-leb (suc from) k (omega arith)) (second_so (nat_le from k) _ h)
 
--- an end i, whose next act is not rest
+unparks_none : (from k : ℕ) → unparks k (Unpark from from) ≡ false
+unparks_none from k = elim (cases_lt k from) [ inl below ↦ grind arith | inr past ↦ grind arith ]
+
+-- an end i
 module _ {extra : ℕ} (q : Queue) (kept : Kept extra q) (i : ℕ) (inside : i < length q.ends) where
   abbrev was : End
   was = end_at q i
@@ -119,15 +87,15 @@ module _ {extra : ℕ} (q : Queue) (kept : Kept extra q) (i : ℕ) (inside : i <
 
     -- each that is about to be unparked still is, or has its permit
     abbrev Still : Type 0
-    Still = (k : ℕ) → (end_at q k).next ≢ Rest → unparks k was.next ≡ true → Hears now k
+    Still = (k : ℕ) → unparks k was.next ≡ true → Hears now k
 
-    hears : Still → (k : ℕ) → (end_at q k).next ≢ Rest → ((end_at q k).permit ≡ true → (end_at now k).permit ≡ true) → Hears q k → Hears now k
-    hears still k busy keeps (inl permit) = inl (keeps permit)
-    hears still k busy keeps (inr (t, is)) = elim (eqb_tells t i) [ inl y ↦ still k busy (rw y.1 at is) | inr n ↦ inr (t, rw (there t n.1) is) ]
+    hears : Still → (k : ℕ) → ((end_at q k).permit ≡ true → (end_at now k).permit ≡ true) → Hears q k → Hears now k
+    hears still k keeps (inl permit) = inl (keeps permit)
+    hears still k keeps (inr (t, is)) = elim (eqb_tells t i) [ inl y ↦ still k (rw y.1 at is) | inr n ↦ inr (t, rw (there t n.1) is) ]
 
     -- the others that must hear are those that had to before
     others_hear : Still → (k : ℕ) → k ≢ i → must_hear q.closed (end_at q k).next (end_at q k).bit ≡ true → Hears now k
-    others_hear still k other must = hears still k (must_busy _ _ _ must) (λ permit. rw (there k other) permit) (kept.hears k must)
+    others_hear still k other must = hears still k (λ permit. rw (there k other) permit) (kept.hears k must)
 
     record Changes : Type 0 where
       sound : Sound e
@@ -155,13 +123,13 @@ module _ {extra : ℕ} (q : Queue) (kept : Kept extra q) (i : ℕ) (inside : i <
     next = now more e items q.closed
 
     still : Still more e items q.closed
-    still k busy h = let no = sym (quiet k) ∙ rw is at h in cc
+    still k h = let no = sym (quiet k) ∙ rw is at h in cc
 
     -- the end must hear only if it had to before
     own : was.permit ≡ e.permit → must_hear q.closed act was.bit ≡ true → Hears next i
     own same must =
         let h : must_hear q.closed was.next was.bit ≡ true = rw is must in
-        hears more e items q.closed still i (must_busy _ _ _ h) (λ permit. rw (here more e items q.closed) (sym same ∙ permit)) (kept.hears i h)
+        hears more e items q.closed still i (λ permit. rw (here more e items q.closed) (sym same ∙ permit)) (kept.hears i h)
 
     moves : Sound e → (must_hear q.closed e.next e.bit ≡ true → Hears next i)
         → ((k : ℕ) → (end_at q k).next ≡ Park → (end_at q k).bit ≡ true → items ≤ sum_by duties next.ends + more)
@@ -185,10 +153,8 @@ module _ {extra : ℕ} (q : Queue) (kept : Kept extra q) (i : ℕ) (inside : i <
   pushes ComesBack is stands = acts extra _ _ is (λ k. refl) (as_clear _ is refl refl refl) refl (rw (is, stands) (omega arith))
   pushes s is stands = acts extra _ _ is (λ k. refl) (as_clear _ is refl refl refl) refl (rw (is, stands) (omega arith))
 
-  -- a wake ends if all bits are clear
-  wakes : was.next ≡ Wake → (b : Bool) → are_clear q.ends ≡ b → Kept extra (if b then goes_on q i Rest else q)
-  wakes is true clear = awake extra _ q.items is (λ k. refl) (as_clear _ is refl refl refl) refl (λ k parked b. absurd (true≢false (sym b ∙ each_clear q.ends k clear)))
-  wakes is false some = kept
+  finds_none : was.next ≡ Wake → ((k : ℕ) → (end_at q k).bit ≡ false) → Kept extra (goes_on q i Rest)
+  finds_none is clear = awake extra _ q.items is (λ k. refl) (as_clear _ is refl refl refl) refl (λ k parked b. absurd (true≢false (sym b ∙ clear k)))
 
   reads_mark : was.next ≡ ReadMark → (c : Bool) → q.closed ≡ c → Kept extra (goes_on q i (Look c))
   reads_mark is true mark = acts extra _ q.items is (λ k. refl) (as_clear _ is refl refl refl) refl (rw is (omega arith))
@@ -223,23 +189,24 @@ module _ {extra : ℕ} (q : Queue) (kept : Kept extra q) (i : ℕ) (inside : i <
   withdraws true true is bit = acts extra _ q.items is (λ k. refl) (record { bit = λ b. cc; looked = λ h. cc }) refl (rw (is, bit) (omega arith))
 
   -- all are unparked once the mark is set
-  sets_mark : was.next ≡ SetMark → Kept extra (goes_on (record q { closed = true }) i (after_unpark 0 (length q.ends)))
+  sets_mark : was.next ≡ SetMark → Kept extra (goes_on (record q { closed = true }) i (Unpark 0 (length q.ends)))
   sets_mark is =
-      let e = record was { next = Unpark 0 (length q.ends) } in
+      let e : End = record was { next = Unpark 0 (length q.ends) } in
       let its = here extra e q.items true in
-      let some : nat_lt 0 (length q.ends) ≡ true = lt-ltb 0 (length q.ends) (omega arith) in
-      rw some (changes extra e q.items true (record {
+      changes extra e q.items true (record {
         sound = as_clear e is refl refl refl;
-        still = λ k busy h. let none = rw is at h in cc;
+        still = λ k h. let none = rw is at h in cc;
         own = λ h. cc;
         others = λ k other must. inr (i, rw (its, le-leb 0 k (omega arith), lt-ltb k (length q.ends) (within q k (must_busy _ _ _ must))) refl);
         counts = alike extra e q.items true (rw is (omega arith));
         own_counts = λ h. cc;
-      }))
+      })
 
-  calls : (first : Act) → was.next ≡ Rest → is_open first ≡ false → has_looked first ≡ false → one (has_wake first) + one (was_woken was.bit first) ≡ 0
-      → Kept extra (goes_on q i first)
-  calls first is shut fresh free = acts extra _ q.items is (λ k. refl) (as_clear _ is refl refl fresh) shut (rw (is, free) (omega arith))
+  begins : (first : Act) → is_first first ≡ true → was.next ≡ Rest → Kept extra (goes_on q i first)
+  begins Push ok is = acts extra _ q.items is (λ k. refl) (as_clear _ is refl refl refl) refl (rw is (omega arith))
+  begins ReadMark ok is = acts extra _ q.items is (λ k. refl) (as_clear _ is refl refl refl) refl (rw is (omega arith))
+  begins SetMark ok is = acts extra _ q.items is (λ k. refl) (as_clear _ is refl refl refl) refl (rw is (omega arith))
+  begins act ok is = cc
 
   dozes : was.next ≡ Rest → Kept extra (with_end q i (record was { permit = false }))
   dozes is = acts extra _ q.items is (λ k. refl) (as_clear _ is refl refl (rw is refl)) (rw is refl) (omega arith)
@@ -249,7 +216,7 @@ module _ {extra : ℕ} (q : Queue) (kept : Kept extra q) (i : ℕ) (inside : i <
   gets =
       let e = record was { permit = true } in
       let its = here extra e q.items q.closed in
-      let still : Still extra e q.items q.closed = λ k busy h. inr (i, rw its h) in
+      let still : Still extra e q.items q.closed = λ k h. inr (i, rw its h) in
       let permit : Hears (now extra e q.items q.closed) i = inl (rw its refl) in
       changes extra e q.items q.closed (record {
         sound = record { bit = (kept.sound i).bit; looked = (kept.sound i).looked };
@@ -261,62 +228,48 @@ module _ {extra : ℕ} (q : Queue) (kept : Kept extra q) (i : ℕ) (inside : i <
       })
 
   -- it has given this end its permit, and goes on
-  unparks_on : (from below : ℕ) → was.next ≡ Unpark from below → ((end_at q from).next ≢ Rest → (end_at q from).permit ≡ true)
-      → Kept extra (goes_on q i (after_unpark (suc from) below))
-  unparks_on from below is given =
-      let e : End = record was { next = after_unpark (suc from) below } in
-      let keeps : (k : ℕ) → (end_at q k).permit ≡ true → (end_at (now extra e q.items q.closed) k).permit ≡ true
-      = λ k permit. at_each extra e q.items q.closed (λ x. x.permit ≡ true) k (λ same. rw same at permit) (λ other. permit) in
-      let still : Still extra e q.items q.closed = λ k busy h. elim (eqb_tells k from) [
-        | inl y ↦ inl (keeps k (rw y.1 (given (rw y.1 at busy))))
-        | inr n ↦ inr (i, rw (here extra e q.items q.closed) (unparks_rest k from below n.1 (rw is at h)))
+  unparks_on : (k below : ℕ) → was.next ≡ Unpark k below → (end_at q k).permit ≡ true → Kept extra (goes_on q i (Unpark (suc k) below))
+  unparks_on k below is given =
+      let e : End = record was { next = Unpark (suc k) below } in
+      let next = now extra e q.items q.closed in
+      let given : (end_at next k).permit ≡ true = at_each extra e q.items q.closed (λ x. x.permit ≡ true) k (λ same. rw same at given) (λ other. given) in
+      let still : Still extra e q.items q.closed = λ j h. elim (eqb_tells j k) [
+        | inl y ↦ inl (rw y.1 given)
+        | inr n ↦ inr (i, rw (here extra e q.items q.closed) (unparks_rest j k below n.1 (rw is at h)))
       ] in
-      let shut = either_way is_open (suc from) below false refl refl in
-      let fresh = either_way has_looked (suc from) below false refl refl in
-      let wakeless = either_way has_wake (suc from) below false refl refl in
-      let unwoken = either_way (was_woken was.bit) (suc from) below false refl refl in
       changes extra e q.items q.closed (record {
-        sound = as_clear e is refl refl fresh;
+        sound = as_clear e is refl refl refl;
         still = still;
-        own = need_not _ _ _ shut;
+        own = λ h. cc;
         others = others_hear extra e q.items q.closed still;
-        counts = alike extra e q.items q.closed (rw (is, wakeless, unwoken) (omega arith));
-        own_counts = λ parks b. let no : is_open Park ≡ false = rw parks at shut in cc;
+        counts = alike extra e q.items q.closed (rw is (omega arith));
+        own_counts = λ h. cc;
       })
 
-unparks_one : (q : Queue) (i from below : ℕ) → Kept 0 q → (end_at q i).next ≡ Unpark from below → i < length q.ends
-    → Kept 0 (goes_on (with_permit q from) i (after_unpark (suc from) below))
-unparks_one q i from below kept is inside = elim (cases_lt from (length q.ends)) [
-  | inl few ↦ unparks_on (with_permit q from) (gets q kept from few) i (rw (length-set q.ends from _) inside) from below
-      (elim (eqb_tells i from) [
-        | inl y ↦ rw (y.1, get_or-set_same q.ends from _ resting few) (rw y.1 at is)
-        | inr n ↦ rw (get_or-set_other q.ends from i _ resting n.1) is
-      ])
-      (λ busy. rw (get_or-set_same q.ends from _ resting few) refl)
-  | inr past ↦ rw (set_past q.ends from (record (end_at q from) { permit = true }) past) (unparks_on q kept i inside from below is
-      (λ busy. absurd (busy (ap (λ (x : End). x.next) (get_or_past q.ends from resting past)))))
-]
+  -- all are unparked
+  ends : (k : ℕ) → was.next ≡ Unpark k k → Kept extra (goes_on q i Rest)
+  ends k is = acts extra _ q.items is (unparks_none k) (as_clear _ is refl refl refl) refl (rw is (omega arith))
 
-woken_by : (act : Act) → is_announced act ≡ true → (was_woken true act ≡ false) × (was_woken false act ≡ true)
-woken_by LookAgain h = (refl, refl)
-woken_by Park h = (refl, refl)
-woken_by (Withdraw found) h = (refl, refl)
-woken_by act h = cc
+unparks_one : (q : Queue) (i k below : ℕ) → Kept 0 q → (end_at q i).next ≡ Unpark k below → i < length q.ends → k < length q.ends → Kept 0 (unparked q i k below)
+unparks_one q i k below kept is inside few = unparks_on (with_permit q k) (gets q kept k few) i (rw (length-set q.ends k _) inside) k below
+    (elim (eqb_tells i k) [
+      | inl y ↦ rw (y.1, get_or-set_same q.ends k _ resting few) (rw y.1 at is)
+      | inr n ↦ rw (get_or-set_other q.ends k i _ resting n.1) is
+    ])
+    (rw (get_or-set_same q.ends k _ resting few) refl)
 
 -- the end i has a wake in hand, and clears the bit of the end k. In between the wake is in nobody's hand
-clears : (q : Queue) (i k : ℕ) → Kept 0 q → (end_at q i).next ≡ Wake → i < length q.ends → (b : Bool) → (end_at q k).bit ≡ b
-    → Kept 0 (if b then with_end (goes_on q i (Unpark k (suc k))) k (record (end_at q k) { bit = false }) else q)
-clears q i k kept is busy false bit = kept
-clears q i k kept is busy true bit =
+clears : (q : Queue) (i k : ℕ) → Kept 0 q → (end_at q i).next ≡ Wake → i < length q.ends → (end_at q k).bit ≡ true → Kept 0 (without_bit (goes_on q i (Unpark k (suc k))) k)
+clears q i k kept is busy bit =
     let gone = goes_on q i (Unpark k (suc k)) in
     let first : Kept 1 gone = acts q kept i busy 1 _ q.items is (λ k. refl) (as_clear q kept i busy _ is refl refl refl) refl (rw is (omega arith)) in
     let apart : k ≢ i = λ same. unset q kept i busy is refl (rw same at bit) in
-    let e : End = record (end_at q k) { bit = false } in
     let same : end_at gone k ≡ end_at q k = get_or-set_other q.ends i k _ resting apart in
+    let e : End = record (end_at gone k) { bit = false } in
     let announced : is_announced (end_at q k).next ≡ true = (kept.sound k).bit bit in
     let inside : k < length gone.ends = within gone k (λ rest. let none : is_announced Rest ≡ true = rw (sym (ap (λ (x : End). x.next) same) ∙ rest) at announced in cc) in
     let its = here gone first k inside 0 e q.items q.closed in
-    let still : Still gone first k inside 0 e q.items q.closed = λ j some h. inr (k, rw its (rw same at h)) in
+    let still : Still gone first k inside 0 e q.items q.closed = λ j h. inr (k, rw its h) in
     let waker : WillBeUnparked (now gone first k inside 0 e q.items q.closed) k
     = (
       i,
@@ -327,74 +280,39 @@ clears q i k kept is busy true bit =
         lt-ltb k (suc k) (omega arith),
       ) refl,
     ) in
-    let w = woken_by _ announced in
     changes gone first k inside 0 e q.items q.closed (record {
-      sound = record { bit = λ b. cc; looked = (kept.sound k).looked };
+      sound = record { bit = λ b. cc; looked = rw same (kept.sound k).looked };
       still = still;
       own = λ h. inr waker;
       others = others_hear gone first k inside 0 e q.items q.closed still;
-      counts = alike gone first k inside 0 e q.items q.closed (rw (same, bit, w.0, w.1) (omega arith));
+      counts = alike gone first k inside 0 e q.items q.closed (rw (same, bit, announced) (omega arith));
       own_counts = λ parked b. cc;
     })
 
-taken : (q r : Queue) (n : ℕ) → q.items ≡ n → Kept 0 q → fewer q n ≡ Some r → Kept 0 r
-taken q r zero is kept h = cc
-taken q r (suc n) is kept h = rw (some_is h) (record {
+stepped : (q r : Queue) (i : ℕ) → Kept 0 q → i < length q.ends → Step q i r → Kept 0 r
+stepped q r i kept inside (Begins first ok is made) = rw made (begins q kept i inside first ok is)
+stepped q r i kept inside (Pushes is made) = rw made (pushes q kept i inside _ is refl)
+stepped q r i kept inside (FindsNone is clear made) = rw made (finds_none q kept i inside is clear)
+stepped q r i kept inside (Clears k is bit made) = rw made (clears q i k kept is inside bit)
+stepped q r i kept inside (Unparks k below few is made) = rw made (unparks_one q i k below kept is inside few.1)
+stepped q r i kept inside (Ends k is made) = rw made (ends q kept i inside k is)
+stepped q r i kept inside (ReadsMark is made) = rw made (reads_mark q kept i inside is _ refl)
+stepped q r i kept inside (Looks closed is made) = rw made (looks q kept i inside closed _ is refl)
+stepped q r i kept inside (SetsBit is made) = rw made (sets_bit q kept i inside is)
+stepped q r i kept inside (LooksAgain is made) = rw made (looks_again q kept i inside _ is refl)
+stepped q r i kept inside (Rises act permit drowsy is made) = rw made (rises q kept i inside permit is drowsy)
+stepped q r i kept inside (Withdraws found is made) = rw made (withdraws q kept i inside found _ is refl)
+stepped q r i kept inside (SetsMark is made) = rw made (sets_mark q kept i inside is)
+stepped q r i kept inside (Rests is made) = rw made (dozes q kept i inside is)
+stepped q r i kept inside (Takes items some made) = rw made (record {
   sound = kept.sound;
   hears = kept.hears;
   counted = λ k parked b. let m = kept.counted k parked b in omega arith;
 })
 
-if_some : {X : Type 0} (b : Bool) (x y : X) → (if b then Some x else None) ≡ Some y → y ≡ x
-if_some true x y h = some_is h
-if_some false x y h = cc
-
-acted : (q r : Queue) (i : ℕ) (act : Act) → Kept 0 q → (end_at q i).next ≡ act → (act ≢ Rest → i < length q.ends) → after_act q i (end_at q i) act ≡ Some r → Kept 0 r
-acted q r i Rest kept is inside h = cc
-acted q r i Push kept is inside h = rw (some_is h) (pushes q kept i (inside (λ e. cc)) _ is refl)
-acted q r i Wake kept is inside h = rw (some_is h) (wakes q kept i (inside (λ e. cc)) is _ refl)
-acted q r i (Unpark from below) kept is inside h = rw (some_is h) (unparks_one q i from below kept is (inside (λ e. cc)))
-acted q r i ReadMark kept is inside h = rw (some_is h) (reads_mark q kept i (inside (λ e. cc)) is _ refl)
-acted q r i (Look c) kept is inside h = rw (some_is h) (looks q kept i (inside (λ e. cc)) c _ is refl)
-acted q r i SetBit kept is inside h = rw (some_is h) (sets_bit q kept i (inside (λ e. cc)) is)
-acted q r i LookAgain kept is inside h = rw (some_is h) (looks_again q kept i (inside (λ e. cc)) _ is refl)
-acted q r i Park kept is inside h = rw (if_some _ _ _ h) (rises q kept i (inside (λ e. cc)) _ is refl)
-acted q r i (Withdraw found) kept is inside h = rw (some_is h) (withdraws q kept i (inside (λ e. cc)) found _ is refl)
-acted q r i SetMark kept is inside h = rw (some_is h) (sets_mark q kept i (inside (λ e. cc)) is)
-
-began : (q r : Queue) (i : ℕ) (first act : Act) → Kept 0 q → (end_at q i).next ≡ act → is_open first ≡ false → has_looked first ≡ false
-    → ((b : Bool) → one (has_wake first) + one (was_woken b first) ≡ 0) → begins q i first act ≡ Some r → Kept 0 r
-began q r i first Rest kept is shut fresh free h = rw (some_is h) (elim (cases_lt i (length q.ends)) [
-  | inl inside ↦ calls q kept i inside first is shut fresh (free _)
-  | inr past ↦ rw (set_past q.ends i (record (end_at q i) { next = first }) past) kept
-])
-began q r i first act kept is shut fresh free h = cc
-
-woke : (q r : Queue) (i k : ℕ) (act : Act) → Kept 0 q → (end_at q i).next ≡ act → (act ≢ Rest → i < length q.ends) → cleared q i k act ≡ Some r → Kept 0 r
-woke q r i k Wake kept is inside h = rw (some_is h) (clears q i k kept is (inside (λ e. cc)) _ refl)
-woke q r i k act kept is inside h = cc
-
-rose : (q r : Queue) (i : ℕ) (act : Act) → Kept 0 q → (end_at q i).next ≡ act → (act ≢ Rest → i < length q.ends) → stirred q i act ≡ Some r → Kept 0 r
-rose q r i LookAgain kept is inside h = rw (some_is h) (rises q kept i (inside (λ e. cc)) _ is refl)
-rose q r i Park kept is inside h = rw (some_is h) (rises q kept i (inside (λ e. cc)) _ is refl)
-rose q r i Rest kept is inside h = rw (some_is h) (elim (cases_lt i (length q.ends)) [
-  | inl within ↦ dozes q kept i within is
-  | inr past ↦ rw (set_past q.ends i (record (end_at q i) { permit = false }) past) kept
-])
-rose q r i act kept is inside h = cc
-
-stepped : (q r : Queue) (s : Step) → Kept 0 q → step q s ≡ Some r → Kept 0 r
-stepped q r (Puts i) kept h = began q r i Push _ kept refl refl refl (λ b. refl) h
-stepped q r (Takes i) kept h = began q r i ReadMark _ kept refl refl refl (λ b. refl) h
-stepped q r (Closes i) kept h = began q r i SetMark _ kept refl refl refl (λ b. refl) h
-stepped q r (Makes i) kept h = acted q r i _ kept refl (within q i) h
-stepped q r (Clears i k) kept h = woke q r i k _ kept refl (within q i) h
-stepped q r (Stirs i) kept h = rose q r i _ kept refl (within q i) h
-stepped q r Taken kept h = taken q r _ refl kept h
-
-ran : (steps : List Step) (q r : Queue) → Kept 0 q → run q steps ≡ Some r → Kept 0 r
-ran [] q r kept h = rw (some_is h) kept
-ran (s ∷ steps) q r kept h = option_and_then_some (λ t. run t steps) (step q s) r h (λ t is rest. ran steps t r (stepped q t s kept is) rest)
+ran : (steps : List (ℕ × Queue)) (q r : Queue) → Kept 0 q → Run q steps r → Kept 0 r
+ran [] q r kept h = rw h kept
+ran ((i, p) ∷ steps) q r kept (inside, made, rest) = ran steps p r (stepped q p i kept inside made) rest
 
 start_each : (n k : ℕ) → end_at (start n) k ≡ resting
 start_each n k = elim (cases_lt k n) [

@@ -1,7 +1,7 @@
 -- How the ends of a queue sleep and wake. Part of the promises. Each thread has one end. First comes what an end is
 -- about to do, and what the others can see of it; then what each atomic act does, and which act follows by what it found.
 -- Acts of different ends come in any order.
-use Rattle.std.specs.Prelude.{◌≡◌, ◌⊎◌, ◌<◌, ◌≤◌, ◌+◌, ℕ, zero, suc, Bool, true, false, not, ◌&&◌, nat_lt, nat_le, if◌then◌else◌, List, [], ◌∷◌, length, replicate, get_or, slice_set, Option, Some, None, option_and_then, sum_by}
+use Rattle.std.specs.Prelude.{◌≡◌, ◌⊎◌, ◌<◌, ◌≤◌, ◌+◌, ℕ, zero, suc, Bool, true, false, not, ◌&&◌, nat_lt, nat_le, if◌then◌else◌, List, [], ◌∷◌, length, replicate, get_or, slice_set, sum_by}
 
 -- The next act of an end. `Rest`: it is in no call. `Wake`: it has a wake in hand, for an item in the queue, and reads
 -- the bits or clears one. `Unpark`: it unparks the ends from this number on, below that. `Look`: it looks at the queue,
@@ -54,7 +54,29 @@ with_end q i e = record q { ends = slice_set q.ends i e }
 abbrev pub goes_on : Queue → ℕ → Act → Queue
 goes_on q i act = with_end q i (record (end_at q i) { next = act })
 
--- Programs: what an end has become, and does next
+abbrev pub risen : Queue → ℕ → Bool → Queue
+risen q i permit = with_end q i (record (end_at q i) { next = Withdraw false; permit = permit })
+
+abbrev pub IsAt : Queue → ℕ → Act → Type 0
+IsAt q i act = (end_at q i).next ≡ act
+
+-- its bit was set, and it has not looked or slept since
+abbrev pub is_drowsy : Act → Bool
+is_drowsy LookAgain = true
+is_drowsy Park = true
+is_drowsy act = false
+
+-- its bit was set, and it has not withdrawn
+abbrev pub is_announced : Act → Bool
+is_announced (Withdraw found) = true
+is_announced act = is_drowsy act
+
+-- a call begins with one of these
+abbrev pub is_first : Act → Bool
+is_first Push = true
+is_first ReadMark = true
+is_first SetMark = true
+is_first act = false
 
 -- after a push it has a wake, unless it comes back for an item itself
 abbrev pub pushed : End → Standing → End
@@ -73,82 +95,45 @@ abbrev pub after_look : Bool → Act
 after_look true = Rest
 after_look false = SetBit
 
-abbrev pub after_unpark : ℕ → ℕ → Act
-after_unpark from below = if nat_lt from below then Unpark from below else Rest
-
 -- a look takes an item and goes on with `found`, or finds none and goes on with `vain`
 abbrev pub looked : Queue → ℕ → Act → Act → ℕ → Queue
 looked q i found vain zero = with_end q i (record (end_at q i) { next = vain; standing = Plain })
 looked q i found vain (suc items) = with_end (record q { items = items }) i (record (end_at q i) { next = found; standing = ComesBack })
 
-abbrev pub are_clear : List End → Bool
-are_clear [] = true
-are_clear (e ∷ ends) = not e.bit && are_clear ends
-
--- What the next act of the end i does, which is e
-
 abbrev pub with_permit : Queue → ℕ → Queue
 with_permit q k = with_end q k (record (end_at q k) { permit = true })
 
-abbrev pub after_act : Queue → ℕ → End → Act → Option Queue
-after_act q i e Rest = None
-after_act q i e Push = Some (with_end (record q { items = suc q.items }) i (pushed e e.standing))
-after_act q i e Wake = Some (if are_clear q.ends then goes_on q i Rest else q)
-after_act q i e (Unpark from below) = Some (goes_on (with_permit q from) i (after_unpark (suc from) below))
-after_act q i e ReadMark = Some (goes_on q i (Look q.closed))
-after_act q i e (Look closed) = Some (looked q i Rest (after_look closed) q.items)
-after_act q i e SetBit = Some (with_end q i (record e { next = LookAgain; bit = true }))
-after_act q i e LookAgain = Some (looked q i (Withdraw true) Park q.items)
-after_act q i e Park = if e.permit then Some (with_end q i (record e { next = Withdraw false; permit = false })) else None
-after_act q i e (Withdraw found) = Some (with_end q i (withdrawn e found e.bit))
-after_act q i e SetMark = Some (goes_on (record q { closed = true }) i (after_unpark 0 (length q.ends)))
+-- the end i gives the end k a permit, and goes on with the next one
+abbrev pub unparked : Queue → ℕ → ℕ → ℕ → Queue
+unparked q i k below = goes_on (with_permit q k) i (Unpark (suc k) below)
 
--- a call begins with this act
-abbrev pub begins : Queue → ℕ → Act → Act → Option Queue
-begins q i first Rest = Some (goes_on q i first)
-begins q i first act = None
+abbrev pub without_bit : Queue → ℕ → Queue
+without_bit q k = with_end q k (record (end_at q k) { bit = false })
 
--- the end i has a wake, and clears the bit of the end k
-abbrev pub cleared : Queue → ℕ → ℕ → Act → Option Queue
-cleared q i k Wake = Some
-    (if (end_at q k).bit then with_end (goes_on q i (Unpark k (suc k))) k (record (end_at q k) { bit = false }) else q)
-cleared q i k act = None
+-- An act of the end i makes r of q. It may rise without a look or a permit (`Rises`). In no call, a park with a time limit takes
+-- the permit (`Rests`). Somebody takes an item by a look of no program (`Takes`). What finds that it is too late to clear a bit
+-- changes nothing, and is no step
+pub data Step (q : Queue) (i : ℕ) (r : Queue) : Type 0 where
+  Begins : (first : Act) → is_first first ≡ true → IsAt q i Rest → r ≡ goes_on q i first → Step q i r
+  Pushes : IsAt q i Push → r ≡ with_end (record q { items = suc q.items }) i (pushed (end_at q i) (end_at q i).standing) → Step q i r
+  FindsNone : IsAt q i Wake → ((k : ℕ) → (end_at q k).bit ≡ false) → r ≡ goes_on q i Rest → Step q i r
+  Clears : (k : ℕ) → IsAt q i Wake → (end_at q k).bit ≡ true → r ≡ without_bit (goes_on q i (Unpark k (suc k))) k → Step q i r
+  Unparks : (k below : ℕ) → (k < below) × (k < length q.ends) → IsAt q i (Unpark k below) → r ≡ unparked q i k below → Step q i r
+  Ends : (k : ℕ) → IsAt q i (Unpark k k) → r ≡ goes_on q i Rest → Step q i r
+  ReadsMark : IsAt q i ReadMark → r ≡ goes_on q i (Look q.closed) → Step q i r
+  Looks : (closed : Bool) → IsAt q i (Look closed) → r ≡ looked q i Rest (after_look closed) q.items → Step q i r
+  SetsBit : IsAt q i SetBit → r ≡ with_end q i (record (end_at q i) { next = LookAgain; bit = true }) → Step q i r
+  LooksAgain : IsAt q i LookAgain → r ≡ looked q i (Withdraw true) Park q.items → Step q i r
+  Rises : (act : Act) (permit : Bool) → is_drowsy act ≡ true → IsAt q i act → r ≡ risen q i permit → Step q i r
+  Withdraws : (found : Bool) → IsAt q i (Withdraw found) → r ≡ with_end q i (withdrawn (end_at q i) found (end_at q i).bit) → Step q i r
+  SetsMark : IsAt q i SetMark → r ≡ goes_on (record q { closed = true }) i (Unpark 0 (length q.ends)) → Step q i r
+  Rests : IsAt q i Rest → r ≡ with_end q i (record (end_at q i) { permit = false }) → Step q i r
+  Takes : (items : ℕ) → q.items ≡ suc items → r ≡ record q { items = items } → Step q i r
 
--- park returns for no reason, or is left out; in no call, a park with a time limit takes the permit
-abbrev pub stirred : Queue → ℕ → Act → Option Queue
-stirred q i LookAgain = Some (goes_on q i (Withdraw false))
-stirred q i Park = Some (goes_on q i (Withdraw false))
-stirred q i Rest = Some (with_end q i (record (end_at q i) { permit = false }))
-stirred q i act = None
-
-abbrev pub fewer : Queue → ℕ → Option Queue
-fewer q zero = None
-fewer q (suc items) = Some (record q { items = items })
-
--- An end begins a put, a take or a close. It makes its next act; with a wake it clears a bit; or it stirs. Somebody takes
--- an item by a look of no program (`Taken`)
-pub data Step : Type 0 where
-  Puts : ℕ → Step
-  Takes : ℕ → Step
-  Closes : ℕ → Step
-  Makes : ℕ → Step
-  Clears : ℕ → ℕ → Step
-  Stirs : ℕ → Step
-  Taken : Step
-
-abbrev pub step : Queue → Step → Option Queue
-step q (Puts i) = begins q i Push (end_at q i).next
-step q (Takes i) = begins q i ReadMark (end_at q i).next
-step q (Closes i) = begins q i SetMark (end_at q i).next
-step q (Makes i) = after_act q i (end_at q i) (end_at q i).next
-step q (Clears i k) = cleared q i k (end_at q i).next
-step q (Stirs i) = stirred q i (end_at q i).next
-step q Taken = fewer q q.items
-
--- a list of steps, each of which can be made
-abbrev pub run : Queue → List Step → Option Queue
-run q [] = Some q
-run q (s ∷ steps) = option_and_then (λ (r : Queue). run r steps) (step q s)
+-- these steps, each of one of the ends, lead from q to r
+abbrev pub Run : Queue → List (ℕ × Queue) → Queue → Type 0
+Run q [] r = r ≡ q
+Run q ((i, p) ∷ steps) r = (i < length q.ends) × Step q i p × Run p steps r
 
 -- What holds
 
@@ -174,10 +159,7 @@ has_wake act = false
 
 -- its bit was set, and somebody cleared it
 abbrev pub was_woken : Bool → Act → Bool
-was_woken bit LookAgain = not bit
-was_woken bit Park = not bit
-was_woken bit (Withdraw found) = not bit
-was_woken bit act = false
+was_woken bit act = is_announced act && not bit
 
 abbrev pub one : Bool → ℕ
 one b = if b then 1 else 0
@@ -204,4 +186,4 @@ pub record NobodySleepsBesideWork (q : Queue) : Type 0 where
 
 -- for any number of ends, and any list of their steps
 abbrev pub NobodySleeps : Type 0
-NobodySleeps = (ends : ℕ) (steps : List Step) (q : Queue) → run (start ends) steps ≡ Some q → NobodySleepsBesideWork q
+NobodySleeps = (ends : ℕ) (steps : List (ℕ × Queue)) (q : Queue) → Run (start ends) steps q → NobodySleepsBesideWork q

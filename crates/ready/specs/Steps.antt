@@ -32,6 +32,9 @@ module _ {T : Type 0} where
   abbrev pub unused : ℕ → EndState T
   unused capacity = record { capacity = capacity; history = blank }
 
+  abbrev pub first_of : ℕ → EndState T
+  first_of capacity = record { capacity = capacity; history = opener }
+
   -- some state that meets the rule has these items in the queue, and this history of the end
   pub record Saw (history : History T) (items : List T) : Type 0 where
     pub views : List (History T)

@@ -1,13 +1,13 @@
 // The queue of free slots.
-ghost use Rattle.std.specs.{Prelude.{◌≡◌, ◌∷◌, ◌+◌, ◌-◌, ◌<◌, ◌≤◌, IfOk, OnOk, IfErr, OnErr, IfSome, IfNone, replicate}, Arc.arc_value};
-ghost use Rattle.crossbeam_queue.specs.Passes.{view, IsPassOf, IsSamePass, ruled_capacity};
-ghost use Rattle.ready.specs.Steps.{unused, opener, opened, in_order, HeldOnce, PutOne, TookOne};
+ghost use Rattle.std.specs.Prelude.{◌≡◌, ◌∷◌, ◌+◌, ◌-◌, ◌≤◌, IfOk, OnOk, IfErr, OnErr, IfSome, IfNone, replicate};
+ghost use Rattle.ready.specs.Steps.{first_of, in_order, opened, opener, unused, HeldOnce, PutOne, TookOne};
 
-use crate::rule::{Line, LinePass, another, pop, push};
+use crate::rule::LineEnd;
+use crate::steps::{Put, Source};
 use crate::ticket::Full;
 use std::alloc::{AllocError, Global};
 use std::marker::Model;
-use std::sync::{Arc, Wait};
+use std::sync::Wait;
 
 /// One thread's end of the queue of free slots. No thread sleeps on it.
 ///
@@ -15,25 +15,22 @@ use std::sync::{Arc, Wait};
 /// all that was ever put.
 #[derive(Drop)]
 pub struct FreeQueue {
-    line: Arc<Line<usize>>,
-    pass: LinePass<usize>,
-    ghost mine: { IsPassOf (arc_value line) pass },
+    end: LineEnd<usize>,
 }
 
 impl Model for FreeQueue {
-    ghost use Rattle.std.specs.{Prelude.ℕ, Arc.arc_value};
-    ghost use Rattle.crossbeam_queue.specs.Passes.{ruled_capacity};
+    ghost use Rattle.std.specs.Prelude.{ℕ};
     ghost use Rattle.ready.specs.Steps.{EndState};
 
     ghost Value = { EndState ℕ };
 
-    ghost view = { λ q. record { capacity = ruled_capacity (arc_value q.line); history = q.pass.me.0.client } };
+    ghost view = { λ q. q.end };
 }
 
 impl FreeQueue {
     /// Makes a queue and its ends. The first end has put `slots` slots, from `first` on, in order. This allocates all
     /// the memory that it ever uses, and fails only if there is not enough.
-    #[tactic(auto, using(crate::proofs::Moves::begins, crate::proofs::Moves::one_end_more))]
+    #[tactic(auto, using(crate::proofs::Moves::one_end_more))]
     pub fn new(
         rt: &impl Wait,
         alloc: Global,
@@ -45,20 +42,15 @@ impl FreeQueue {
         requires ends { (1 ≤ ends) × (ends ≤ 32) }
         ensures { IfOk result (λ all. all.items ≡ opened first slots ∷ replicate (ends - 1) (unused slots)) }
     {
-        let (line, mut pass) = Line::ruled(alloc, slots)?;
-        fill(rt, &line, &mut pass, first, slots);
-        // The further passes are made from one that has done nothing.
-        let mut next = another(&line, &mut pass);
-        let line = Arc::new(alloc, line)?;
+        let mut end = LineEnd::first(alloc, slots)?;
+        fill(rt, &mut end, first, slots);
+        // The further ends are made from one that has done nothing.
+        let mut next = end.another()?;
         let mut all = Vec::with_capacity(alloc, ends)?;
-        all.push(FreeQueue {
-            line: Arc::try_clone(&line)?,
-            pass,
-        })?;
+        all.push(FreeQueue { end })?;
         for _end in 1..ends {
-            let line = Arc::try_clone(&line)?;
-            let pass = another(&line, &mut next);
-            all.push(FreeQueue { line, pass })?;
+            let end = next.another()?;
+            all.push(FreeQueue { end })?;
         }
         Ok(all)
     }
@@ -71,7 +63,7 @@ impl FreeQueue {
         ensures unchanged { OnErr result (self.new ≡ self.old) }
         ensures capacity { self.new.capacity ≡ self.old.capacity }
     {
-        push(rt, &self.line, &mut self.pass, slot)
+        self.end.put(rt, slot)
     }
 
     /// Takes the slot at the front. None: the queue was empty at one moment during the call.
@@ -81,21 +73,19 @@ impl FreeQueue {
         ensures unchanged { IfNone result (self.new ≡ self.old) }
         ensures capacity { self.new.capacity ≡ self.old.capacity }
     {
-        pop(rt, &self.line, &mut self.pass)
+        self.end.look(rt)
     }
 }
 
-// Puts the slots in order. No other pass exists yet, so the queue has room for all of them.
-fn fill<R: Wait>(rt: &R, line: &Line<usize>, pass: &mut LinePass<usize>, first: usize, slots: usize)
+// Puts the slots in order. No other end exists yet, so the queue has room for all of them.
+fn fill<R: Wait>(rt: &R, end: &mut LineEnd<usize>, first: usize, slots: usize)
     requires few { first + slots ≤ 32768 }
-    requires pass { IsPassOf line.now pass.old }
-    requires room { ruled_capacity line.now ≡ slots }
-    requires alone { view pass.old ≡ opener }
-    ensures same { IsSamePass pass.old pass.new }
-    ensures filled { view pass.new ≡ record opener { put = in_order first slots } }
+    requires unused { end.old ≡ first_of slots }
+    ensures capacity { end.new.capacity ≡ slots }
+    ensures filled { end.new.history ≡ record opener { put = in_order first slots } }
 {
     for index in 0..slots {
-        match push(rt, line, pass, first + index) {
+        match end.put(rt, first + index) {
             Ok(()) => {}
             Err(_) => unreachable!(),
         }

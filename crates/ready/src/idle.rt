@@ -1,22 +1,26 @@
 // Which ends sleep, and how they are woken.
-ghost use Rattle.std.specs.Prelude.{◌≡◌, ◌≢◌, ◌<◌, ◌≤◌, IfSome, true, vec_len, All};
+ghost use Rattle.std.specs.Prelude.{◌≡◌, ◌≢◌, ◌<◌, IfErr, IfNone, IfOk, IfSome, OnErr, OnOk, true, All};
 
-use crate::flags::{AllBusy, Announced, ClosedMark, IdleBits, MarkSeen, Unpark, Wake, Woken};
-use crate::sleeper::{Awake, FoundEmpty, Sleeper};
-use crate::ticket::Ticket;
-use crossbeam_utils::sync::Unparker;
+use crate::flags::Unpark;
+use crate::steps::{
+    AllBusy, Announced, ClosedMark, Drained, IdleBits, InVain, Looked, MarkSeen, Put, Source, Wake,
+    Woken, look, push,
+};
+use crate::ticket::Full;
+use std::array;
 use std::sync::Wait;
+use std::thread::Parker;
+use std::time::Duration;
 
-/// The ends that are idle, and what wakes each of them.
+/// Up to 32 ends: which of them are idle, and what wakes each. Two threads may not share an end.
 #[derive(Drop)]
-pub(crate) struct IdleEnds<U = Unparker> {
+pub struct IdleEnds<U = Parker> {
     idle: IdleBits,
     mark: ClosedMark,
-    unparkers: Vec<U>,
-    ghost few: { vec_len unparkers ≤ 32 },
+    parkers: [U; 32],
 }
 
-/// Shows that a queue of tickets was closed: it was marked so, and then every end was woken. Only a close makes one.
+/// Shows that a queue was closed: it was marked so, and then every end was woken. Only a close makes one.
 #[derive(Drop)]
 pub struct Closed {
     seen: MarkSeen,
@@ -24,40 +28,75 @@ pub struct Closed {
 }
 
 impl IdleEnds {
-    pub(crate) fn new(unparkers: Vec<Unparker>) -> IdleEnds
-        requires { vec_len unparkers ≤ 32 }
-    {
+    /// The ends of an open queue, all awake.
+    pub fn new() -> IdleEnds {
         IdleEnds {
             idle: IdleBits::new(),
             mark: ClosedMark::new(),
-            unparkers,
+            parkers: array::from_fn(|_end| Parker::new()),
         }
     }
-}
 
-impl<U: Unpark> IdleEnds<U> {
-    pub(crate) fn mark(&self) -> MarkSeen {
-        self.mark.read()
-    }
-
-    pub(crate) fn announce(&self, sleeper: &Sleeper, empty: FoundEmpty) -> Announced
-        requires open { empty.0.closed ≢ true }
-        ensures { result.end ≡ sleeper.now.number }
+    /// Puts an item, and wakes an idle end for it. Who puts it does not come back for one.
+    pub fn put<T, L: Put<T>>(&self, rt: &impl Wait, line: &mut L, item: T) -> Result<(), Full<T>>
+        ensures put { OnOk result (L.did_put line.old item line.new) }
+        ensures given_back { IfErr result (λ full. full.0 ≡ item) }
+        ensures refused { OnErr result (L.refused line.old line.new) }
     {
-        sleeper.announce(&self.idle, empty)
+        if let Some(wake) = push(rt, line, item, false)? {
+            self.wake_one(rt, wake);
+        }
+        Ok(())
     }
 
-    /// Marks the end as awake, after its last look at the queue or its sleep, and gives back what the look found. If
-    /// the look found a ticket, and another thread had spent a wake on this end, the wake is passed on.
-    pub(crate) fn withdraw(
+    /// Looks until something is found, and sleeps while there is nothing.
+    pub fn take<L: Source>(
         &self,
         rt: &impl Wait,
-        awake: Awake,
-        found: Option<Ticket>,
-    ) -> Option<Ticket>
-        ensures { result ≡ found }
+        end: usize,
+        line: &mut L,
+    ) -> Result<L::Found, Drained>
+        requires { end < 32 }
+        ensures found { IfOk result (λ it. L.found (L.state line.old) it (L.state line.new)) }
+        ensures none { OnErr result ((L.state line.new ≡ L.state line.old) × L.held_none line.new) }
     {
-        if let Some(wake) = awake.withdraw(&self.idle) {
+        for _look in rt.forever() {
+            let found = match look(rt, self.mark.read(), line) {
+                Ok((it, _)) => Some(it),
+                Err(vain) => {
+                    if vain.was_closed() {
+                        return Err(vain.drained());
+                    }
+                    self.look_or_park(rt, end, line, vain)
+                }
+            };
+            if let Some(it) = found {
+                return Ok(it);
+            }
+        }
+        unreachable!()
+    }
+
+    // Announces that the end is idle, looks again, and parks if there is nothing. If it found something, and another thread
+    // had spent a wake on this end, the wake is passed on.
+    fn look_or_park<L: Source>(
+        &self,
+        rt: &impl Wait,
+        end: usize,
+        line: &mut L,
+        vain: InVain<MarkSeen>,
+    ) -> Option<L::Found>
+        requires end { end < 32 }
+        requires open { vain.0.closed ≢ true }
+        ensures found { IfSome result (λ it. L.found (L.state line.old) it (L.state line.new)) }
+        ensures none { IfNone result (L.state line.new ≡ L.state line.old) }
+    {
+        let announced = self.idle.announce(&mut (), end, vain);
+        let (found, looked) = match look(rt, announced, line) {
+            Ok((it, looked)) => (Some(it), looked),
+            Err(vain) => (None, vain.park(rt, &self.parkers)),
+        };
+        if let Some(wake) = self.idle.withdraw(&mut (), looked) {
             match found {
                 Some(_) => self.wake_one(rt, wake),
                 None => wake.take(&found),
@@ -66,6 +105,17 @@ impl<U: Unpark> IdleEnds<U> {
         found
     }
 
+    /// Rests, unless the queue is closed. No put ends that, since the end has not announced itself.
+    pub fn rest(&self, rt: &impl Wait, end: usize, time: Duration)
+        requires { end < 32 }
+    {
+        if !self.mark.read().is_closed() {
+            self.parkers[end].park_timeout(rt, time);
+        }
+    }
+}
+
+impl<U: Unpark> IdleEnds<U> {
     pub(crate) fn all_busy(&self) -> Option<AllBusy> {
         self.idle.all_busy(&mut ())
     }
@@ -78,9 +128,9 @@ impl<U: Unpark> IdleEnds<U> {
                 return;
             };
             if let Some(woken) = self.woken_of(idle) {
-                return woken.unpark(same, self.unparkers.as_slice());
+                return woken.unpark(same, &self.parkers);
             }
-            // All of these were woken for other tickets, or have withdrawn.
+            // All of these were woken for other items, or have withdrawn.
             wake = same;
         }
         unreachable!()
@@ -88,9 +138,9 @@ impl<U: Unpark> IdleEnds<U> {
 
     // Clears the first of these bits that is still set, and returns its end.
     fn woken_of(&self, idle: u64) -> Option<Woken>
-        ensures { IfSome result (λ woken. woken.end < vec_len self.now.unparkers) }
+        ensures { IfSome result (λ woken. woken.end < 32) }
     {
-        for end in 0..self.unparkers.len() {
+        for end in 0..32 {
             if idle & 1u64 << end != 0 {
                 if let Some(woken) = self.idle.wake(&mut (), end) {
                     return Some(woken);
@@ -101,21 +151,21 @@ impl<U: Unpark> IdleEnds<U> {
     }
 
     /// Sets the mark, and then wakes every end.
-    pub(crate) fn close(&self) -> Closed
-        ensures { All U.unparked self.now.unparkers.items }
+    pub fn close(&self) -> Closed
+        ensures { All U.unparked self.now.parkers }
     {
         let seen = self.mark.set();
-        self.wake_all(seen)
+        wake_all(seen, &self.parkers)
     }
+}
 
-    // Wakes every end, once the mark is set.
-    fn wake_all(&self, seen: MarkSeen) -> Closed
-        requires { seen.closed ≡ true }
-        ensures { All U.unparked self.now.unparkers.items }
-    {
-        for unparker in &self.unparkers {
-            unparker.give();
-        }
-        Closed { seen }
+// Wakes every end, once the mark is set.
+fn wake_all<U: Unpark>(seen: MarkSeen, parkers: &[U]) -> Closed
+    requires { seen.closed ≡ true }
+    ensures { All U.unparked parkers.now }
+{
+    for parker in parkers {
+        parker.give();
     }
+    Closed { seen }
 }

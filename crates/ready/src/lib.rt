@@ -32,19 +32,20 @@
 //!
 //! # Inside
 //!
-//! The order of these steps is kept by values that only the step before gives. A put that has pushed its ticket has a
-//! wake, unless its own end comes back (`End::push`: `wake`). A wake can be neither copied nor dropped (`Wake`): it
-//! unparks the one end whose bit was cleared for it (`Woken`), or one look found no bit (`look_for`). So an end is
-//! woken only once its ticket is in the queue, or `close` has set its mark (`wake_all`). `take` returns none only if it
-//! read that mark and then found the queue empty (`End::take`: `closed`, `empty`). An end announces that it is idle
-//! only if it read that the queue was open and then found it empty (`announce`: `open`), and parks once for each
-//! announcement, only after it found the queue empty again (`look_again`; `park`: `empty`, `mine`). Its next put counts
-//! on it to come back exactly if its last `take` gave a ticket and it has put nothing since (`End`: `same`,
-//! `comes_back`, `stays`). The word has no step but a read, and to set or clear bits at once (`Bits`): `withdraw` and
-//! `wake` make one such step, and say what it found (`cleared`), and `all_busy` returns Some exactly if its one look
-//! found no bit (`looked`). A close gives a value that only the mark and a wake of every end make ([`Closed`]). An end
-//! that withdraws gets back a wake that was spent on it: an end that found nothing takes the wake, and an end that found
-//! a ticket passes it on.
+//! [`IdleEnds`] has all of this for any place that items are put into ([`Put`]) and looked at ([`Source`]): the queue of
+//! tickets, and the queues of `log_queue` with the writer as their one end that takes.
+//!
+//! The order of the steps is kept by values that only the step before gives (`steps.rt`). A put that has put its item has a
+//! wake, unless its own end comes back (`push`: `wake`). A wake can be neither copied nor dropped (`Wake`): it unparks the
+//! one end whose bit was cleared for it (`Woken`), or one look found no bit (`look_for`). So an end is woken only once its
+//! item was put, or `close` has set its mark (`wake_all`). `take` returns none only if it read that mark and then looked
+//! in vain ([`Drained`]). An end announces that it is idle only if it read that the queue was open and then looked in vain
+//! (`announce`: `open`), and parks once for each announcement, only after it looked in vain again (`look`, `park`). Its next
+//! put counts on it to come back exactly if its last `take` gave a ticket and it has put nothing since (`End`: `wake`,
+//! `comes_back`, `stays`). The word has no step but a read, and to set or clear bits at once (`Bits`): `withdraw` and `wake`
+//! make one such step, and say what it found (`cleared`), and `all_busy` returns Some exactly if its one look found no bit
+//! (`looked`). A close gives a value that only the mark and a wake of every end make ([`Closed`]). An end that withdraws
+//! gets back a wake that was spent on it: an end that found nothing takes the wake, and one that found an item passes it on.
 #![tactic(auto)]
 
 mod end;
@@ -55,11 +56,11 @@ mod idle;
 pub mod laws;
 mod queue;
 mod rule;
-mod sleeper;
+mod steps;
 mod ticket;
 
-pub use flags::AllBusy;
 pub use free::FreeQueue;
-pub use idle::Closed;
+pub use idle::{Closed, IdleEnds};
 pub use queue::ReadyQueue;
+pub use steps::{AllBusy, Drained, Put, Source};
 pub use ticket::{Full, Ticket};

@@ -1,15 +1,12 @@
 // The queue of tickets.
-ghost use Rattle.std.specs.{Prelude.{◌≡◌, ◌<◌, ◌≤◌, IfOk, OnOk, IfErr, OnErr, IfSome, IfNone, replicate, vec_len}, Arc.arc_value};
-ghost use Rattle.crossbeam_queue.specs.Passes.{ruled_capacity};
+ghost use Rattle.std.specs.Prelude.{◌≡◌, ◌≤◌, IfOk, OnOk, IfErr, OnErr, IfSome, IfNone, replicate};
 ghost use Rattle.ready.specs.Steps.{unused, HeldOnce, PutOne, TookOne};
 
-use crate::end::{End, Shared};
-use crate::flags::AllBusy;
+use crate::end::End;
 use crate::idle::{Closed, IdleEnds};
-use crate::rule::{Line, another};
-use crate::sleeper::Sleeper;
+use crate::rule::LineEnd;
+use crate::steps::{AllBusy, Source};
 use crate::ticket::{Full, Ticket};
-use crossbeam_utils::sync::{Parker, Unparker};
 use std::alloc::{AllocError, Global};
 use std::marker::Model;
 use std::sync::{Arc, Wait};
@@ -24,41 +21,27 @@ pub struct ReadyQueue {
 }
 
 impl Model for ReadyQueue {
-    ghost use Rattle.std.specs.Arc.{arc_value};
-    ghost use Rattle.crossbeam_queue.specs.Passes.{ruled_capacity};
     ghost use Rattle.ready.specs.{declared.ticket.Ticket.Ticket, Steps.EndState};
 
     ghost Value = { EndState Ticket };
 
-    ghost view = { λ q. record { capacity = ruled_capacity (arc_value q.end.shared).line; history = q.end.pass.me.0.client } };
+    ghost view = { λ q. q.end.line };
 }
 
 impl ReadyQueue {
     /// Makes a queue for at most `capacity` tickets, and its ends. This allocates all the memory that it ever uses, and
     /// fails only if there is not enough.
-    #[tactic(auto, using(crate::proofs::Moves::begins))]
     pub fn new(alloc: Global, capacity: usize, ends: usize) -> Result<Vec<ReadyQueue>, AllocError>
         requires capacity { (1 ≤ capacity) × (capacity ≤ 32768) }
         requires ends { (1 ≤ ends) × (ends ≤ 32) }
         ensures { IfOk result (λ all. all.items ≡ replicate ends (unused capacity)) }
     {
-        let (mut parkers, unparkers) = signals(alloc, ends)?;
-        let (line, mut first) = Line::ruled(alloc, capacity)?;
-        let shared = Arc::new(
-            alloc,
-            Shared {
-                line,
-                ends: IdleEnds::new(unparkers),
-            },
-        )?;
+        let shared = Arc::new(alloc, IdleEnds::new())?;
+        let mut first = LineEnd::first(alloc, capacity)?;
         let mut all = Vec::with_capacity(alloc, ends)?;
-        while let Some(parker) = parkers.pop() {
-            let shared = Arc::try_clone(&shared)?;
-            let pass = another(&shared.line, &mut first);
-            let sleeper = Sleeper::new(parkers.len(), parker);
-            all.push(ReadyQueue {
-                end: End::new(shared, sleeper, pass),
-            })?;
+        for number in 0..ends {
+            let end = End::new(Arc::try_clone(&shared)?, first.another()?, number);
+            all.push(ReadyQueue { end })?;
         }
         Ok(all)
     }
@@ -73,7 +56,7 @@ impl ReadyQueue {
         ensures capacity { self.new.capacity ≡ self.old.capacity }
     {
         if let Some(wake) = self.end.push(rt, ticket)? {
-            self.end.shared.ends.wake_one(rt, wake);
+            self.end.ends.wake_one(rt, wake);
         }
         Ok(())
     }
@@ -85,7 +68,7 @@ impl ReadyQueue {
         ensures unchanged { IfNone result (self.new ≡ self.old) }
         ensures capacity { self.new.capacity ≡ self.old.capacity }
     {
-        self.end.try_take(rt)
+        self.end.line.look(rt)
     }
 
     /// Takes the ticket at the front, and sleeps until there is one. None: the queue was closed and empty.
@@ -100,27 +83,13 @@ impl ReadyQueue {
 
     /// Looks once for an end that sleeps in [`ReadyQueue::take`] or is about to. Some: there is none.
     pub fn all_busy(&self) -> Option<AllBusy> {
-        self.end.shared.ends.all_busy()
+        self.end.ends.all_busy()
     }
 
     /// From now on, `take` returns None at every end once the queue is empty. Wakes all ends that sleep.
     pub fn close(&mut self) -> Closed
         ensures { self.new ≡ self.old }
     {
-        self.end.shared.ends.close()
+        self.end.ends.close()
     }
-}
-
-// A parker for each end, and what unparks it.
-fn signals(alloc: Global, ends: usize) -> Result<(Vec<Parker>, Vec<Unparker>), AllocError>
-    ensures { IfOk result (λ both. (vec_len both.0 ≡ ends) × (vec_len both.1 ≡ ends)) }
-{
-    let mut parkers = Vec::with_capacity(alloc, ends)?;
-    let mut unparkers = Vec::with_capacity(alloc, ends)?;
-    for _end in 0..ends {
-        let parker = Parker::new(alloc)?;
-        unparkers.push(parker.unparker().clone()?)?;
-        parkers.push(parker)?;
-    }
-    Ok((parkers, unparkers))
 }

@@ -1,17 +1,18 @@
-// The queue rule as the rule of a queue of `crossbeam_queue`, and the steps on it.
-ghost use Rattle.std.specs.Prelude.{◌≡◌, OnOk, IfErr, OnErr, MatchOption};
-ghost use Rattle.crossbeam_queue.specs.Passes.{view, IsPassOf, IsSamePass, ruled_capacity};
-ghost use Rattle.ready.specs.Steps.{among_others, blank, HeldOnce, PutOne, TookOne};
+// The queue rule as the rule of a queue of `crossbeam_queue`, and one thread's end of such a queue.
+ghost use Rattle.std.specs.{Prelude.{◌≡◌, ◌≤◌, IfOk}, Arc.arc_value};
+ghost use Rattle.crossbeam_queue.specs.Passes.{IsPassOf};
+ghost use Rattle.ready.specs.Steps.{among_others, first_of, unused};
 
 use crate::history::History;
+use crate::steps::{Put, Source};
 use crate::ticket::Full;
 use crossbeam_queue::protocol::{Lesson, Outcome, Protocol, Split};
 use crossbeam_queue::{Pass, RuledArrayQueue};
-use std::sync::Wait;
+use std::alloc::{AllocError, Global};
+use std::marker::Model;
+use std::sync::{Arc, Wait};
 
 pub(crate) type Line<T> = RuledArrayQueue<T, History<T>, InPlaces>;
-
-pub(crate) type LinePass<T> = Pass<T, History<T>>;
 
 pub struct InPlaces;
 
@@ -23,29 +24,29 @@ impl<T> Protocol<T, History<T>> for InPlaces {
     ghost first = { opener };
 }
 
-pub struct Put;
+pub struct Putting;
 
-impl<T> Outcome<T, History<T>> for Put {
+impl<T> Outcome<T, History<T>> for Putting {
     ghost use Rattle.ready.specs.Steps.{PutOne};
 
     ghost then = { PutOne };
 }
 
-impl<T> Lesson<T, History<T>> for Put {
+impl<T> Lesson<T, History<T>> for Putting {
     ghost use Rattle.ready.specs.Steps.{Saw};
 
     ghost fact = { Saw };
 }
 
-pub struct Take;
+pub struct Taking;
 
-impl<T> Outcome<T, History<T>> for Take {
+impl<T> Outcome<T, History<T>> for Taking {
     ghost use Rattle.ready.specs.Steps.{TookOne};
 
     ghost then = { TookOne };
 }
 
-impl<T> Lesson<T, History<T>> for Take {
+impl<T> Lesson<T, History<T>> for Taking {
     ghost use Rattle.ready.specs.Steps.{Saw};
 
     ghost fact = { Saw };
@@ -61,41 +62,85 @@ impl<T> Split<History<T>> for NextEnd {
     ghost right = { λ v. blank };
 }
 
-/// Puts an item at the back. Full gives it back: the queue was full at one moment during the call.
-pub(crate) fn push<T, R: Wait>(
-    rt: &R,
-    line: &Line<T>,
-    pass: &mut LinePass<T>,
-    item: T,
-) -> Result<(), Full<T>>
-    requires { IsPassOf line.now pass.old }
-    ensures same { IsSamePass pass.old pass.new }
-    ensures put { OnOk result (PutOne (view pass.old) item (view pass.new)) }
-    ensures given_back { IfErr result (λ full. full.0 ≡ item) }
-    ensures full { OnErr result ((view pass.new ≡ view pass.old) × HeldOnce (ruled_capacity line.now) (view pass.old)) }
-{
-    match line.push_as::<Put, R>(rt, pass, item) {
-        Ok(()) => Ok(()),
-        Err(item) => Err(Full(item)),
+/// One thread's end of a queue.
+#[derive(Drop)]
+pub(crate) struct LineEnd<T> {
+    line: Arc<Line<T>>,
+    pass: Pass<T, History<T>>,
+    ghost mine: { IsPassOf (arc_value line) pass },
+}
+
+impl<T> Model for LineEnd<T> {
+    ghost use Rattle.std.specs.Arc.{arc_value};
+    ghost use Rattle.crossbeam_queue.specs.Passes.{ruled_capacity};
+    ghost use Rattle.ready.specs.Steps.{EndState};
+
+    ghost Value = { EndState T };
+
+    ghost view = { λ e. record { capacity = ruled_capacity (arc_value e.line); history = e.pass.me.0.client } };
+}
+
+impl<T: Drop> LineEnd<T> {
+    /// The first end of a new queue.
+    #[tactic(auto, using(crate::proofs::Moves::begins))]
+    pub(crate) fn first(alloc: Global, capacity: usize) -> Result<LineEnd<T>, AllocError>
+        requires { (1 ≤ capacity) × (capacity ≤ 32768) }
+        ensures { IfOk result (λ end. end ≡ first_of capacity) }
+    {
+        let (line, pass) = Line::ruled(alloc, capacity)?;
+        Ok(LineEnd {
+            line: Arc::new(alloc, line)?,
+            pass,
+        })
+    }
+
+    /// A further end, which has done nothing.
+    #[tactic(auto, using(crate::proofs::Moves::forks))]
+    pub(crate) fn another(&mut self) -> Result<LineEnd<T>, AllocError>
+        ensures same { self.new ≡ record self.old { history = among_others self.old.history } }
+        ensures new { IfOk result (λ end. end ≡ unused self.old.capacity) }
+    {
+        let pass = self.line.another::<NextEnd>(&mut self.pass);
+        Ok(LineEnd {
+            line: Arc::try_clone(&self.line)?,
+            pass,
+        })
     }
 }
 
-/// Takes the item at the front. None: the queue was empty at one moment during the call.
-pub(crate) fn pop<T, R: Wait>(rt: &R, line: &Line<T>, pass: &mut LinePass<T>) -> Option<T>
-    requires { IsPassOf line.now pass.old }
-    ensures same { IsSamePass pass.old pass.new }
-    ensures taken { MatchOption result ((view pass.new ≡ view pass.old) × HeldOnce 0 (view pass.old))
-        (λ item. TookOne (view pass.old) item (view pass.new)) }
-{
-    line.pop_as::<Take, R>(rt, pass)
+impl<T> Put<T> for LineEnd<T> {
+    ghost use Rattle.std.specs.Prelude.{◌≡◌};
+    ghost use Rattle.ready.specs.Steps.{HeldOnce, PutOne};
+
+    ghost did_put = { λ old item new. PutOne old.history item new.history × (new.capacity ≡ old.capacity) };
+
+    ghost refused = { λ old new. HeldOnce old.capacity old.history × (new ≡ old) };
+
+    /// Puts an item at the back. Full gives it back: the queue was full at one moment during the call.
+    fn put<R: Wait>(&mut self, rt: &R, item: T) -> Result<(), Full<T>> {
+        match self.line.push_as::<Putting, R>(rt, &mut self.pass, item) {
+            Ok(()) => Ok(()),
+            Err(item) => Err(Full(item)),
+        }
+    }
 }
 
-/// The pass of a further end, which has done nothing.
-#[tactic(auto, using(crate::proofs::Moves::forks))]
-pub(crate) fn another<T>(line: &Line<T>, pass: &mut LinePass<T>) -> LinePass<T>
-    requires { IsPassOf line.now pass.old }
-    ensures same { IsSamePass pass.old pass.new × (view pass.new ≡ among_others (view pass.old)) }
-    ensures new { IsPassOf line.now result × (view result ≡ blank) }
-{
-    line.another::<NextEnd>(pass)
+impl<T> Source for LineEnd<T> {
+    ghost use Rattle.std.specs.Prelude.{◌≡◌};
+    ghost use Rattle.ready.specs.Steps.{HeldOnce, TookOne};
+
+    type Found = T;
+
+    type State = LineEnd<T>;
+
+    ghost state = { λ e. e };
+
+    ghost found = { λ old item new. TookOne old.history item new.history × (new.capacity ≡ old.capacity) };
+
+    ghost held_none = { λ e. HeldOnce 0 e.history };
+
+    /// Takes the item at the front. None: the queue was empty at one moment during the call.
+    fn look<R: Wait>(&mut self, rt: &R) -> Option<T> {
+        self.line.pop_as::<Taking, R>(rt, &mut self.pass)
+    }
 }

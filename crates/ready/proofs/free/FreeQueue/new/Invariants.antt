@@ -1,11 +1,7 @@
-use Rattle.std.{proofs.Common.{◌≡◌, ◌∷◌, ◌-◌, replicate}, specs.Arc.arc_value}
-use Rattle.crossbeam_queue.specs.Passes.{IsPassOf, ruled_capacity}
+use Rattle.std.proofs.Common.{◌≡◌, ◌∷◌, ◌-◌, replicate}
 use Rattle.ready.specs.Steps.{unused, opened}
 use Rattle.ready.proofs.free.FreeQueue.new.Given as goal
 
 -- each end after the first has done nothing
 abbrev pub invariant-loop-end : goal.invariant-loop-end
-invariant-loop-end g l =
-    IsPassOf (arc_value l.line) l.next
-    × (ruled_capacity (arc_value l.line) ≡ l.slots)
-    × (l.all.items ≡ opened l.first l.slots ∷ replicate (l._end - 1) (unused l.slots))
+invariant-loop-end g l = (l.next.capacity ≡ l.slots) × (l.all.items ≡ opened l.first l.slots ∷ replicate (l._end - 1) (unused l.slots))

@@ -1,6 +1,6 @@
 use Rattle.std.proofs.Common.{take}
 use Rattle.std.specs.Prelude.{All}
-use Rattle.log_queue.proofs.sleeping.look.Given as goal
+use Rattle.log_queue.proofs.parked.are_empty.Given as goal
 
 -- the queues so far were empty
 abbrev pub invariant-loop-queue : goal.invariant-loop-queue
