@@ -1,19 +1,19 @@
-"""How threads sleep and are woken. Two of them stand still for a while before or after any of their atomic instructions: one that
-puts something, or falls asleep or wakes itself, and one that falls asleep or wakes. Then they go on in either order, and nothing
-waits while its thread sleeps."""
+"""How threads sleep and are woken. Two of them stand still for a while before or after any of their atomic instructions: one
+that puts something, falls asleep or wakes, and one that falls asleep or wakes. Then they go on in either order, and nothing waits
+while its thread sleeps."""
 
 import contextlib
 import errno
 import os
 import random
-import select
 import time
 
 from loopback import WAIT, Relay, echo, target, until
-from shared import MUCH, left_out, served
+from shared import MUCH, is_silent, left_out, served
 from tracing import ACCEPT4, CLOSE, EPOLL_WAIT, FUTEX, RECVFROM, SENDTO, SLEEP, SLEEPS, SYSCALL, halted
 
 TRIES = 48  # of each pair
+LAST = 8  # places of an end that falls asleep, from its last look before the announcement on
 MOST = 30_000  # instructions that a thread makes by single steps, at most
 SOON = 5  # seconds; whoever waits longer is not woken
 RESTARTS = -500  # answers below are of calls that go on (ERESTART_RESTARTBLOCK)
@@ -42,14 +42,16 @@ class Pair:
         for thread in threads:
             thread.halt()
 
-    def step(self, thread, stage, to=SLEEP):
+    def step(self, thread, stage, to=SLEEP, back=None):
         """Lets a thread make a part of this stage, which ends where it sleeps, or at this call; at first all of it. Each place
-        before or after an atomic instruction has its turn for the sleeper, the last first."""
+        before or after an atomic instruction has its turn for the sleeper, the last first, or the one so far before the end."""
         if stage not in self.places:
             self.places[stage] = 2 * thread.step(MOST, to) + 1
             return
         many = self.places[stage]
-        place = many - 1 - self.number // 2 % many if thread is self.sleeper else self.chance.randrange(many)
+        if back is None:
+            back = self.number // 2 % many if thread is self.sleeper else self.chance.randrange(many)
+        place = many - 1 - back
         thread.step(MOST, to, place // 2)
         thread.step(place % 2, to)
 
@@ -78,11 +80,9 @@ def pair(relay, putter, sleeper):
         yield Pair(relay, *found) if found else left_out("ptrace")
 
 
-def gives(reader, seconds=SOON):
-    """What can be read within so many seconds."""
-    waiting = select.poll()
-    waiting.register(reader, select.POLLIN)
-    return os.read(reader.fileno(), 4096) if waiting.poll(1000 * seconds) else None
+def gives(reader):
+    """What can be read soon."""
+    return None if is_silent(reader, SOON) else os.read(reader.fileno(), 4096)
 
 
 def read_all_of(connection, size):
@@ -176,25 +176,26 @@ def a_worker_beside_a_poller_that_puts_in_any_case():
 def a_worker_beside_another():
     relay = Relay(recorded=False, slots=64, workers=2, log="off")
     with pair(relay, *relay.named("worker", 2)) as both:
-        for number in range(TRIES if both else 0):
+        for number in range(LAST**2 if both else 0):
             if number % 5 == 0:
                 clients, ends = zip(much_moved(both), much_moved(both))
-            both.number, workers = number, both.chance.sample([both.putter, both.sleeper], 2)
+            both.number, workers = number, [both.putter, both.sleeper]
+            backs = dict(zip(workers, divmod(number, LAST)))
             both.sleep(*workers)
             send(clients)
             for worker in workers:
                 worker.run_to(SENDTO, lambda answer: answer > 0)
-            # Both fall asleep, or one does while the other wakes. Meanwhile the pollers put once more.
-            if number % 2:
-                both.sleep(workers[1])
-            for worker in workers[: 2 - number % 2]:
-                both.step(worker, "falls asleep")
+            for worker in workers:
+                both.step(worker, "falls asleep", back=backs[worker])
+            asleep = [worker for worker in workers if not backs[worker]]
+            both.sleep(*asleep)
             assert all([gives(end) for end in ends])
+            # Each of the two pollers puts once more, and who sleeps wakes.
             send(clients)
             time.sleep(0.005)
-            if number % 2:
-                workers[1].run_to(FUTEX, lambda answer: answer > RESTARTS)
-                both.step(workers[1], "wakes", RECVFROM)
+            for worker in asleep:
+                worker.run_to(FUTEX, lambda answer: answer > RESTARTS)
+                both.step(worker, "wakes", RECVFROM)
             both.go()
             assert all([gives(end) for end in ends]), (number, both.places)
             both.halt()
