@@ -1,14 +1,16 @@
 """What a relay records, beside the comparison that is made of each check."""
 
+import contextlib
 import os
 import pathlib
+import re
 import subprocess
 import tempfile
 import threading
 import time
 
 from loopback import WAIT, Relay, echo, in_thread, read_all, replay, send_and_shut, target, until
-from shared import LONGEST, asked, by_time, having, left_out, line_of, reset, told
+from shared import LONGEST, ask_once, asked, at_once, by_time, having, left_out, line_of, reset, told
 
 
 # refuses forward_overlooks_record: `forward` takes the option for a recording, and records nothing
@@ -87,6 +89,65 @@ def keeps_9999_recordings():
         assert having(Relay(1, **how).ended(), "record: ") == [kept]
         fault = [f"[ERROR relayd] record: {path}: entity already exists", "relayd: record: cannot be created"]
         assert Relay(1, **how).ended(1) == fault
+
+
+# refuses parts_grow_by_a_half: a part gets more bytes than it may have
+# refuses part_begins_in_a_line: a part begins in the middle of a line
+# refuses from_is_one_too_small: a part says that the greatest count before it is one less, and from_is_one_too_large: one more
+# refuses old_part_stays: the part before the last is not replaced
+def keeps_the_end_of_what_it_did_in_two_parts():
+    with tempfile.TemporaryDirectory() as folder:
+        old, last = names = [f"{folder}/relay.record.old", f"{folder}/relay.record"]
+        pathlib.Path(names[0]).write_text("relayd recording 1 of an earlier run")
+        relay = Relay(target(echo), options=("--record", last, "--record-size", "65536"), stop_after=1000, slots=8, idle=60)
+        are_over, most = threading.Event(), [0]
+
+        def look():
+            while not are_over.is_set():
+                with contextlib.suppress(FileNotFoundError):
+                    most.append(max(map(os.path.getsize, names)))
+
+        looking = in_thread(look)
+        at_once(*[lambda: [ask_once(relay) for _ in range(250)]] * 4)
+        relay.ended()
+        are_over.set()
+        assert not looking.result(WAIT) and 30_000 < max(most) <= 32_768
+        assert sorted(os.listdir(folder)) == ["relay.record", "relay.record.old"]
+        parts = [pathlib.Path(name).read_text() for name in names]
+        headers = [re.fullmatch(r"relayd recording 1 slots=8 .* from=(\d+)", part.partition("\n")[0]) for part in parts]
+        greatest = max(int(line.split()[1]) for line in parts[0].splitlines()[1:])
+        assert int(headers[0][1]) < int(headers[1][1]) == greatest and parts[1].endswith(" end\n") and len(parts[0]) > 32_000
+        both = pathlib.Path(folder, "both")
+        both.write_text("".join(parts))
+        known = set()
+        for path in (*names, both):
+            assert f"begins after count {headers[path == last][1]}: " in replay(path)
+            ends = [line.split(" opened_us=")[0] for line in replay(path, "--ends").splitlines()[1:]]
+            # Each is told as the log tells it; one that the older part has the end of not is open.
+            logged = {line.partition("] ")[2] for line in relay.told}
+            assert ends and all(line in logged or path == old and line.startswith("live ") for line in ends)
+            known.add(len(ends))
+        assert max(known) == len(replay(both, "--ends").splitlines()) - 1
+        both.write_text(parts[0] * 2)
+        done = subprocess.run([Relay.program, "replay", both], stderr=subprocess.PIPE, text=True)
+        assert done.returncode == 1 and ": this part does not follow the one before it\n" in done.stderr
+
+
+# refuses lost_file_ends_the_relay: a relay that can begin no part ends
+def serves_on_where_no_part_can_be_begun():
+    with tempfile.TemporaryDirectory() as folder:
+        os.mkdir(f"{folder}/a")
+        options = ("--record", f"{folder}/a/relay.record", "--record-size", "65536")
+        relay = Relay(target(echo), options=options, stop_after=100, log="warn")
+        os.rename(f"{folder}/a", f"{folder}/b")
+        for _ in range(100):
+            ask_once(relay)
+        assert relay.ended() == ["[WARN  relayd] record: No such file or directory (os error 2), so the recording ends here"]
+        assert os.path.getsize(f"{folder}/b/relay.record") <= 32_768 and "is a run" in replay(f"{folder}/b/relay.record")
+        for path, what in ("/dev/null", "is there, and is no file"), (f"{folder}/x", "is there, and is no recording"):
+            pathlib.Path(folder, "x.old").write_text("?")
+            fault = having(Relay(1, options=("--record", path, "--record-size", "65536")).ended(1), "record: ")
+            assert fault[0].endswith(what) and pathlib.Path(folder, "x.old").read_text() == "?" and os.path.exists("/dev/null")
 
 
 # refuses records_wait_half_a_second: records are written once in half a second

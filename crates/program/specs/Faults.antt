@@ -1,7 +1,7 @@
 -- What a settings file sets, or what is wrong with it, by its bytes. Part of the promises.
 use Rattle.std.specs.{Prelude.{ℕ, ◌<◌, ◌≤◌, List, length, ◌≡◌, ◌⊎◌}, declared.io.ErrorKind.{ErrorKind, TheVariants.OutOfMemory}}
 use Rattle.settings.specs.{Document.{IsSettingsOf, IsFaultOf}, declared.{fields.Settings.Settings, faults.SettingsFault.SettingsFault}}
-use Rattle.program.specs.declared.faults.{ConfigFault.ConfigFault, ProgramFault.{ProgramFault, TheVariants.{Config, Argument, Seconds, NoNumber, Connection, Timeline}}, ArgumentsFault.{ArgumentsFault, TheVariants.{NoMemory, NotText}}}
+use Rattle.program.specs.declared.faults.{ConfigFault.ConfigFault, ProgramFault.{ProgramFault, TheVariants.{Config, Argument, Number, NoNumber, Connection, Timeline}}, ArgumentsFault.{ArgumentsFault, TheVariants.{NoMemory, NotText}}}
 use Rattle.settings.specs.declared.faults.SettingsFault.TheVariants as settings
 use Rattle.program.specs.declared.faults.ConfigFault.TheVariants as config
 
@@ -35,7 +35,7 @@ argument_fault fault = Config fault
 -- 2 if the command line is refused, else 1
 abbrev pub status_of : ProgramFault → ℕ
 status_of (Argument fault) = 2
-status_of (Seconds option) = 2
+status_of (Number option) = 2
 status_of (NoNumber option) = 2
 status_of Connection = 2
 status_of Timeline = 2

@@ -1,8 +1,8 @@
 -- What a relay needs to start: how many connections a process has descriptors for, and when a relay is its own target.
 -- Part of the promises.
-use Rattle.std.specs.{Prelude.{◌≡◌, ◌⊎◌, ℕ, ◌+◌, ◌*◌, ◌≤◌, Bool, true, List, [], ◌∷◌, slice_index, ℤ, pos, false}, Fs.{asks_read, asks_write, asks_append}, declared.fs.options.OpenOptions.OpenOptions}
+use Rattle.std.specs.{Prelude.{◌≡◌, ◌⊎◌, ℕ, ◌+◌, ◌-◌, ◌*◌, ◌/◌, ◌^◌, ◌≤◌, Option, Some, None, Bool, true, List, [], ◌∷◌, slice_index, ℤ, pos, false}, Fs.{asks_read, asks_write, asks_append}, declared.fs.options.OpenOptions.OpenOptions}
 use Rattle.settings.specs.{Addresses.SocketAddress, Pollers.pollers_for}
-use Rattle.program.specs.declared.{extras.SecondsOption.{SecondsOption, TheVariants.{Stats, ConnectTimeout, Keepalive}}, standard_streams.StandardStream.{StandardStream, TheVariants.{Input, Output, Errors}}}
+use Rattle.program.specs.declared.{extras.NumberOption.{NumberOption, TheVariants.{Stats, ConnectTimeout, Keepalive, RecordSize}}, standard_streams.StandardStream.{StandardStream, TheVariants.{Input, Output, Errors}}}
 
 -- how many more descriptors this many slots and workers need: two for each slot, and two for each poller
 abbrev pub needed : ℕ → ℕ → ℕ
@@ -35,13 +35,23 @@ abbrev pub IsOfMany : SocketAddress → Type 0
 IsOfMany a =
     (a.0 ≡ 255 ∷ 255 ∷ 255 ∷ 255 ∷ []) ⊎ ((224 ≤ slice_index a.0 0) × (slice_index a.0 0 ≤ 239))
 
--- The options whose values are numbers of seconds.
+-- The options whose values are numbers: of seconds, and of the bytes of a recording.
 
--- the most seconds that an option may have
-abbrev pub most : SecondsOption → ℕ
+-- the least number that an option may have, and the greatest
+abbrev pub least : NumberOption → ℕ
+least RecordSize = 65536
+least _ = 1
+
+abbrev pub most : NumberOption → ℕ
 most Stats = 86400
 most ConnectTimeout = 3600
 most Keepalive = 32767
+most RecordSize = 4294967295
+
+-- the most bytes of each file that is recorded into: half of what all may have, or the greatest number of 64 bits
+abbrev pub most_of_part : Option ℕ → ℕ
+most_of_part (Some size) = size / 2
+most_of_part None = 2 ^ 64 - 1
 
 -- The standard streams, and what stands in for one that was closed when the program started.
 

@@ -8,7 +8,7 @@ use crate::constants::{DONE, FAULT, USAGE};
 use crate::extras::{Extras, extras_of};
 use crate::faults::{ArgumentsFault, ProgramFault};
 use crate::logging::{direct_log, starting_filter};
-use crate::recording_file::{create, find_place};
+use crate::recording_file::{RecordFiles, create, find_place};
 use crate::replaying_file::replay;
 use crate::starting::{foresee, look_at_addresses, prepare, warn_of_short_time, warn_of_silence};
 use crate::stats_file::find_file;
@@ -72,7 +72,7 @@ fn find_no_text(rt: &impl Env) -> Option<usize> {
 /// carried out then, and nothing listens.
 ///
 /// `serve` serves on a bound socket, with the process's own handle: only this handle can start a thread. It is given
-/// the other options and the file to record into, if there is one, and returns true if it could print where the relay
+/// the other options and the files to record into, if there are any, and returns true if it could print where the relay
 /// listens. `player` plays a recording, and `simulator` runs a script.
 pub fn act<R, S, P: Replay, M: Simulate, I: Read + IsTerminal, O: Write, E: Write>(
     rt: &R,
@@ -88,7 +88,7 @@ pub fn act<R, S, P: Replay, M: Simulate, I: Read + IsTerminal, O: Write, E: Writ
 where
     R: AllocGlobal + Env + Files + Eprint + Net + Copy + Drop,
     R::File: AsRawFd,
-    S: Fn(Settings, Bound, Extras, Option<R::File>) -> Result<bool, ServerFault>,
+    S: Fn(Settings, Bound, Extras, Option<RecordFiles<R>>) -> Result<bool, ServerFault>,
     requires { S.IsAlwaysCallable serve.now }
     ensures status { IsCarriedOut result ⊎ (result ≡ 2) }
     ensures unread { result ≡ 2 → I.remaining reader.new ≡ I.remaining reader.old }
@@ -149,7 +149,7 @@ fn carry_out<R, S, P: Replay, M: Simulate, L: Log, I: Read, O: Write>(
 where
     R: AllocGlobal + Env + Files + Eprint + Net + Copy + Drop,
     R::File: AsRawFd,
-    S: Fn(Settings, Bound, Extras, Option<R::File>) -> Result<bool, ServerFault>,
+    S: Fn(Settings, Bound, Extras, Option<RecordFiles<R>>) -> Result<bool, ServerFault>,
     requires { S.IsAlwaysCallable serve.now }
     ensures done { IfOk result (λ status. IsCarriedOut status) }
     ensures unread { IfErr result (λ fault. status_of fault ≡ 2 → I.remaining reader.new ≡ I.remaining reader.old) }
@@ -249,7 +249,7 @@ fn run<R, S, L: Log>(rt: &R, log: &L, relay: &Relay<'_>, serve: &S) -> Result<u8
 where
     R: AllocGlobal + Env + Files + Eprint + Net + Copy + Drop,
     R::File: AsRawFd,
-    S: Fn(Settings, Bound, Extras, Option<R::File>) -> Result<bool, ServerFault>,
+    S: Fn(Settings, Bound, Extras, Option<RecordFiles<R>>) -> Result<bool, ServerFault>,
     requires { S.IsAlwaysCallable serve.now }
     ensures { IfOk result (λ status. status ≡ 0) }
 {
@@ -259,16 +259,19 @@ where
     let log = direct_log(rt, starting_filter(settings.log));
     warn_of_short_time(&log, settings.idle, extras.patience);
     look_at_addresses(&log, &settings)?;
-    let place = find_place(rt, &log, relay.record)?;
+    let in_parts = extras.record_size.is_some();
+    let place = find_place(rt, &log, relay.record, in_parts)?;
     extras.stats_file = find_file(rt, &log, relay.stats_file)?;
     let bound = match bind(&log, &settings) {
         Ok(bound) => bound,
         Err(fault) => return Err(ProgramFault::Server(fault)),
     };
-    let files = u64::from(relay.record.is_some()) + u64::from(relay.stats_file.is_some());
-    let settings = prepare(rt, &log, settings, files)?;
-    let file = create(rt, &log, relay.record, place)?;
-    match serve(settings, bound, extras, file) {
+    let more = u64::from(relay.record.is_some())
+        + u64::from(in_parts)
+        + u64::from(relay.stats_file.is_some());
+    let settings = prepare(rt, &log, settings, more)?;
+    let files = create(rt, &log, relay.record, place, in_parts)?;
+    match serve(settings, bound, extras, files) {
         Ok(true) => Ok(DONE),
         Ok(false) => Err(ProgramFault::Write),
         Err(fault) => Err(ProgramFault::Server(fault)),

@@ -163,6 +163,8 @@ enum Form {
     FlagAlone(&'static [&'static str]),
     /// `--NAME` and a number of seconds.
     Seconds,
+    /// `--NAME` and a number of bytes, only together with the argument of this name.
+    Bytes(&'static str),
     /// `-c` or `--NAME` and a file, which is required.
     NeededFile,
     /// A file alone, which is required.
@@ -182,6 +184,7 @@ impl Form {
             Form::Flag | Form::FlagAlone(_) => &[],
             Form::Value(names) | Form::ValueAlone(names, _) => names,
             Form::Seconds => &["SECONDS"],
+            Form::Bytes(_) => &["BYTES"],
             Form::NeededFile | Form::File => &["FILE"],
         }
     }
@@ -195,6 +198,12 @@ const RECORD: ArgumentRow = ArgumentRow {
     name: "record",
     form: Form::Value(&["FILE"]),
     help: "Record into this file what each thread does, but no bytes",
+};
+
+const RECORD_SIZE: ArgumentRow = ArgumentRow {
+    name: "record-size",
+    form: Form::Bytes("record"),
+    help: "Keep only the end of the recording, in FILE and FILE.old of so many bytes together, 65536 to 4294967295",
 };
 
 const STATS: ArgumentRow = ArgumentRow {
@@ -293,6 +302,7 @@ static COMMANDS: [CommandRow; 5] = [
         settings: true,
         arguments: &[
             RECORD,
+            RECORD_SIZE,
             STATS,
             STATS_FILE,
             UNTIL_EOF,
@@ -310,6 +320,7 @@ static COMMANDS: [CommandRow; 5] = [
             CONFIG,
             LEVEL,
             RECORD,
+            RECORD_SIZE,
             STATS,
             STATS_FILE,
             UNTIL_EOF,
@@ -398,6 +409,10 @@ fn argument_of<'a>(alloc: Global, row: ArgumentRow) -> Result<Arg<'a>, AllocErro
         Form::NeededFile => argument.long(row.name).short('c'),
         // A negative number is refused as out of range, not as an unknown option.
         Form::Seconds => argument.long(row.name).allow_negative_numbers(true),
+        Form::Bytes(with) => {
+            let argument = argument.long(row.name).allow_negative_numbers(true);
+            argument.requires_arg(with)?
+        }
         Form::ValueAlone(_, others) | Form::FlagAlone(others) => {
             not_with(argument.long(row.name), others)?
         }

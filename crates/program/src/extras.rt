@@ -1,6 +1,6 @@
 //! The options of a relay that are no settings.
 ghost use Rattle.std.specs.Prelude.{◌≡◌, ◌⊎◌, ◌≤◌, IfOk, IfErr, IfSome};
-ghost use Rattle.program.specs.{Starting.most, Faults.status_of};
+ghost use Rattle.program.specs.{Starting.{least, most, most_of_part}, Faults.status_of};
 
 use crate::faults::ProgramFault;
 use crate::forwarding::whole_number;
@@ -26,6 +26,20 @@ pub struct Extras {
     pub patience: Patience,
     /// The log has each client at level info, as it comes and as it goes.
     pub log_clients: bool,
+    /// The most bytes of a recording, 65,536 to 4,294,967,295, which is then kept in two parts. None: as many as come.
+    pub record_size: Option<u32>,
+}
+
+impl Extras {
+    /// The most bytes of a file that is recorded into.
+    pub fn most_of_part(&self) -> u64
+        ensures { result ≡ most_of_part self.now.record_size }
+    {
+        match self.record_size {
+            Some(size) => u64::from(size) / 2,
+            None => u64::MAX,
+        }
+    }
 }
 
 /// The options that [`Extras`] is made of, as they were typed.
@@ -36,34 +50,54 @@ pub(crate) struct TypedExtras<'a> {
     connect_timeout: Option<&'a str>,
     keepalive: Option<&'a str>,
     log_clients: bool,
+    record_size: Option<&'a str>,
 }
 
 impl<'a> TypedExtras<'a> {
     pub(crate) fn of(matches: &ArgMatches<'a>) -> TypedExtras<'a> {
         TypedExtras {
-            stats: matches.get_str(SecondsOption::Stats.name()),
+            stats: matches.get_str(NumberOption::Stats.name()),
+            record_size: matches.get_str(NumberOption::RecordSize.name()),
             until_eof: matches.get_flag("until-eof"),
-            connect_timeout: matches.get_str(SecondsOption::ConnectTimeout.name()),
-            keepalive: matches.get_str(SecondsOption::Keepalive.name()),
+            connect_timeout: matches.get_str(NumberOption::ConnectTimeout.name()),
+            keepalive: matches.get_str(NumberOption::Keepalive.name()),
             log_clients: matches.get_flag("log-clients"),
         }
     }
 }
 
-/// An option whose value is a number of seconds.
+/// An option whose value is a number: of seconds, or of bytes.
 #[derive(Clone, Copy, Debug)]
-pub enum SecondsOption {
+pub enum NumberOption {
     Stats,
     ConnectTimeout,
     Keepalive,
+    RecordSize,
 }
 
-impl SecondsOption {
+impl NumberOption {
     fn name(self) -> &'static str {
         match self {
-            SecondsOption::Stats => "stats",
-            SecondsOption::ConnectTimeout => "connect-timeout",
-            SecondsOption::Keepalive => "keepalive",
+            NumberOption::Stats => "stats",
+            NumberOption::ConnectTimeout => "connect-timeout",
+            NumberOption::Keepalive => "keepalive",
+            NumberOption::RecordSize => "record-size",
+        }
+    }
+
+    fn unit(self) -> Unit {
+        match self {
+            NumberOption::RecordSize => Unit::Bytes,
+            _ => Unit::Seconds,
+        }
+    }
+
+    fn least(self) -> u32
+        ensures { result ≡ least self }
+    {
+        match self {
+            NumberOption::RecordSize => 65_536,
+            _ => 1,
         }
     }
 
@@ -71,14 +105,15 @@ impl SecondsOption {
         ensures { result ≡ most self }
     {
         match self {
-            SecondsOption::Stats => 86_400,
-            SecondsOption::ConnectTimeout => 3_600,
-            SecondsOption::Keepalive => 32_767,
+            NumberOption::Stats => 86_400,
+            NumberOption::ConnectTimeout => 3_600,
+            NumberOption::Keepalive => 32_767,
+            NumberOption::RecordSize => u32::MAX,
         }
     }
 }
 
-impl fmt::Display for SecondsOption {
+impl fmt::Display for NumberOption {
     fn fmt<W: fmt::Write>(&self, f: &mut fmt::Formatter<W>) -> fmt::Result {
         f.write_str(self.name())
     }
@@ -90,54 +125,56 @@ pub(crate) fn extras_of(log: &impl Log, typed: TypedExtras<'_>) -> Result<Extras
     ensures stats { IfOk result (λ extras. IfSome extras.stats (λ n. (1 ≤ n) × (n ≤ 86400))) }
     ensures connect { IfOk result (λ extras. IfSome extras.patience.connect (λ n. (1 ≤ n) × (n ≤ 3600))) }
     ensures keepalive { IfOk result (λ extras. IfSome extras.patience.keepalive (λ n. (1 ≤ n) × (n ≤ 32767))) }
+    ensures size { IfOk result (λ extras. IfSome extras.record_size (λ n. (65536 ≤ n) × (n ≤ 4294967295))) }
     ensures refused { IfErr result (λ fault. status_of fault ≡ 2) }
 {
-    let stats = seconds_of(log, SecondsOption::Stats, typed.stats)?;
-    let connect = seconds_of(log, SecondsOption::ConnectTimeout, typed.connect_timeout)?;
-    let keepalive = seconds_of(log, SecondsOption::Keepalive, typed.keepalive)?;
+    let stats = number_of(log, NumberOption::Stats, typed.stats)?;
+    let connect = number_of(log, NumberOption::ConnectTimeout, typed.connect_timeout)?;
+    let keepalive = number_of(log, NumberOption::Keepalive, typed.keepalive)?;
+    let record_size = number_of(log, NumberOption::RecordSize, typed.record_size)?;
     Ok(Extras {
         stats,
         stats_file: None,
         until_eof: typed.until_eof,
         patience: Patience { connect, keepalive },
         log_clients: typed.log_clients,
+        record_size,
     })
 }
 
-fn seconds_of(
+fn number_of(
     log: &impl Log,
-    option: SecondsOption,
+    option: NumberOption,
     typed: Option<&str>,
 ) -> Result<Option<u32>, ProgramFault>
-    ensures range { IfOk result (λ seconds. IfSome seconds (λ n. (1 ≤ n) × (n ≤ most option))) }
-    ensures refused { IfErr result (λ fault. (fault ≡ ProgramFault.Seconds option) ⊎ (fault ≡ ProgramFault.NoNumber option)) }
+    ensures range { IfOk result (λ number. IfSome number (λ n. (least option ≤ n) × (n ≤ most option))) }
+    ensures refused { IfErr result (λ fault. (fault ≡ ProgramFault.Number option) ⊎ (fault ≡ ProgramFault.NoNumber option)) }
 {
     let Some(text) = typed else {
         return Ok(None);
     };
     match whole_number(text) {
-        Some(seconds) if seconds >= 1 && seconds <= i64::from(option.most()) => {
-            Ok(Some(seconds as u32))
-        }
+        Some(number) if number >= i64::from(option.least()) && number <= i64::from(option.most()) =>
+            { Ok(Some(number as u32)) }
         number => {
             log_wrong(log, option, text);
             Err(match number {
-                Some(_) => ProgramFault::Seconds(option),
+                Some(_) => ProgramFault::Number(option),
                 None => ProgramFault::NoNumber(option),
             })
         }
     }
 }
 
-fn log_wrong(log: &impl Log, option: SecondsOption, text: &str) {
-    let (word, most) = (TypedWord(text), option.most());
+fn log_wrong(log: &impl Log, option: NumberOption, text: &str) {
+    let (word, least, most) = (TypedWord(text), option.least(), option.most());
     let name = format_args!("options: --{option} {word}");
     if has_leading_zero(text) {
         log_error(log, &name, &format_args!("{text} has a leading zero"));
-    } else if let Some(bare) = Unit::Seconds.without(text, 1, most) {
+    } else if let Some(bare) = option.unit().without(text, least, most) {
         log_error(log, &name, &bare);
     } else {
-        let wanted = format_args!("a whole number from 1 to {most} is wanted");
+        let wanted = format_args!("a whole number from {least} to {most} is wanted");
         log_error(log, &name, &wanted);
     }
 }

@@ -2,7 +2,7 @@ ghost use Rattle.std.specs.{Prelude.◌≡◌, IoError.error_kind};
 ghost use Rattle.program.specs.{Faults.{settings_fault, argument_fault, status_of, arguments_fault}, declared.faults.{ConfigFault.TheVariants.NoMemory, ProgramFault.TheVariants.Config}};
 
 use crate::constants::{FAULT, USAGE};
-use crate::extras::SecondsOption;
+use crate::extras::NumberOption;
 use input::ScriptFault;
 use records::ReplayFault;
 use relay_log::ServerFault;
@@ -24,12 +24,12 @@ pub enum ProgramFault {
     /// An argument of the command line has a value that its setting does not take.
     #[error(transparent)]
     Argument(SettingsFault),
-    /// This option has a value that is no number of seconds in its range.
+    /// This option has a value that is no number in its range.
     #[error("options: {0}: out of range")]
-    Seconds(SecondsOption),
+    Number(NumberOption),
     /// This option has a value that is no whole number, or one with leading zeros.
     #[error("options: {0}: wrong kind")]
-    NoNumber(SecondsOption),
+    NoNumber(NumberOption),
     /// `--script` has a value that names no connection.
     #[error("options: script: wrong kind")]
     Connection,
@@ -96,7 +96,7 @@ impl ProgramFault {
     {
         match self {
             ProgramFault::Argument(_)
-            | ProgramFault::Seconds(_)
+            | ProgramFault::Number(_)
             | ProgramFault::NoNumber(_)
             | ProgramFault::Connection
             | ProgramFault::Timeline => USAGE,

@@ -31,9 +31,10 @@ pub mod until_eof;
 mod usage;
 
 pub use acting::{act, report_arguments_fault};
-pub use extras::{Extras, SecondsOption};
+pub use extras::{Extras, NumberOption};
 pub use faults::{ArgumentsFault, ConfigFault, ProgramFault, arguments};
 pub use logging::starting_filter;
+pub use recording_file::RecordFiles;
 pub use standard_streams::{hold_closed, report_unheld};
 pub use starting::{foresee, log_start, prepare, print_listening};
 pub use stats_file::{Replacing, StatsFile};

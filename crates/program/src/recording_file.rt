@@ -8,10 +8,12 @@ use crate::streams::{FileName, Unopened, log_error, log_text};
 use libc::net as system;
 use libc::types::pollfd;
 use log::{Level, Log};
+use records::Parts;
 use settings::EndOfLine;
 use std::alloc::{AllocError, Global};
 use std::fs::{self, File, OpenOptions};
-use std::io::{self, ErrorKind, Read};
+use std::io::{self, BufWriter, ErrorKind, Read, Write};
+use std::mem;
 use std::os::fd::AsRawFd;
 use std::os::unix::fs::FileTypeExt;
 use std::rt::Files;
@@ -20,6 +22,9 @@ use std::rt::Files;
 pub(crate) const FIRST_WORDS: [u8; 17] = *b"relayd recording ";
 
 const MOST_KEPT: u32 = 9_999;
+
+/// The bytes that are gathered for one write(2).
+const MAX_WRITE: usize = 65_536;
 
 /// The error of writing to a folder (errno(3)).
 pub(crate) const EISDIR: i32 = 21;
@@ -44,6 +49,44 @@ pub(crate) enum Place<F> {
     Other,
 }
 
+/// The file that is recorded into. With names it can be followed by others.
+#[derive(Drop)]
+pub struct RecordFiles<R: Files> {
+    rt: R,
+    file: BufWriter<R::File>,
+    names: Option<Names>,
+}
+
+/// The path of the last file, and that of the one before it.
+#[derive(Drop)]
+struct Names {
+    path: String,
+    old: String,
+}
+
+impl<R: Files + Drop> Parts for RecordFiles<R> {
+    fn add(&mut self, bytes: &[u8]) -> io::Result<()> {
+        self.file.write_all(bytes)
+    }
+
+    /// The file becomes the one before the last, in place of the one that was (rename(2)). Without names there is no next
+    /// file.
+    fn begin_next(&mut self) -> io::Result<()> {
+        self.file.flush()?;
+        let Some(names) = &self.names else {
+            return Err(io::Error::from(ErrorKind::Unsupported));
+        };
+        fs::rename(&self.rt, names.path.as_str(), names.old.as_str())?;
+        let file = how_to_open(false).open(&self.rt, names.path.as_str())?;
+        drop(mem::replace(self.file.get_mut(), file));
+        Ok(())
+    }
+
+    fn flush(&mut self) -> io::Result<()> {
+        self.file.flush()
+    }
+}
+
 impl From<io::Error> for Unmade {
     fn from(error: io::Error) -> Unmade {
         Unmade::System(error)
@@ -58,11 +101,13 @@ impl From<AllocError> for Unmade {
 
 /// What is at the path to record into, if one is given. Refuses with `Record`, and logs the cause, if nothing can be
 /// recorded there: it cannot be looked at, or is a file that is neither empty nor a recording, a pipe that nobody
-/// reads, a folder, or a link to nothing. Nothing is made or moved.
+/// reads, a folder, or a link to nothing; or, for a recording `in_parts`, if it is no file by itself, or its second name
+/// is of anything but an empty file or a recording. Nothing is made or moved.
 pub(crate) fn find_place<R: AllocGlobal + Files>(
     rt: &R,
     log: &impl Log,
     path: Option<&str>,
+    in_parts: bool,
 ) -> Result<Place<R::File>, ProgramFault>
 where
     R::File: AsRawFd,
@@ -71,29 +116,98 @@ where
     let Some(path) = path else {
         return Ok(Place::Nothing);
     };
-    match place_at(rt, path) {
+    if in_parts {
+        look_at_old(rt, log, path)?;
+    }
+    match look_at(rt, path, in_parts) {
         Ok(place) => Ok(place),
         Err(why) => Err(refused(log, "record", path, why, ProgramFault::Record)),
     }
 }
 
+/// Refuses what has the second name of a recording in parts, if it may not be replaced.
+fn look_at_old<R: AllocGlobal + Files>(
+    rt: &R,
+    log: &impl Log,
+    path: &str,
+) -> Result<(), ProgramFault>
+where
+    R::File: AsRawFd,
+    ensures { IfErr result (λ fault. status_of fault ≡ 1) }
+{
+    let old = format!(in rt.alloc(); "{path}{OLD}")?;
+    match look_at(rt, old.as_str(), true) {
+        Ok(_) => Ok(()),
+        Err(why) => Err(refused(log, "record", old.as_str(), why, ProgramFault::Record)),
+    }
+}
+
+/// What is at a path. Of a recording in parts it must be a file by itself, since it will be renamed.
+fn look_at<R: Files>(rt: &R, path: &str, in_parts: bool) -> Result<Place<R::File>, Unmade>
+where
+    R::File: AsRawFd,
+{
+    if in_parts {
+        match fs::symlink_metadata(rt, path) {
+            Ok(found) if !found.is_file() && !found.is_dir() => {
+                return Err(Unmade::Taken("is there, and is no file"));
+            }
+            _ => {}
+        }
+    }
+    place_at(rt, path)
+}
+
+/// What is behind the name of a recording in parts, in the name of the part before the last.
+const OLD: &str = ".old";
+
 /// Opens the file at a path to record into, if one is given, where this was found. Refuses with `Record`, and logs the
 /// cause, if it cannot be opened. Refuses with `NoMemory`.
-pub(crate) fn create<R: AllocGlobal + Files>(
+pub(crate) fn create<R: AllocGlobal + Files + Copy + Drop>(
     rt: &R,
     log: &impl Log,
     path: Option<&str>,
     place: Place<R::File>,
-) -> Result<Option<R::File>, ProgramFault>
+    in_parts: bool,
+) -> Result<Option<RecordFiles<R>>, ProgramFault>
     ensures { IfErr result (λ fault. status_of fault ≡ 1) }
 {
     let Some(path) = path else {
         return Ok(None);
     };
-    match open_new(rt, log, path, place) {
-        Ok(file) => Ok(Some(file)),
+    let made = match names_of(rt.alloc(), path, in_parts) {
+        Ok(names) => files_at(rt, log, path, place, names),
+        Err(error) => Err(Unmade::from(error)),
+    };
+    match made {
+        Ok(files) => Ok(Some(files)),
         Err(why) => Err(refused(log, "record", path, why, ProgramFault::Record)),
     }
+}
+
+fn names_of(alloc: Global, path: &str, in_parts: bool) -> Result<Option<Names>, AllocError> {
+    if !in_parts {
+        return Ok(None);
+    }
+    let old = format!(in alloc; "{path}{OLD}")?;
+    let path = format!(in alloc; "{path}")?;
+    Ok(Some(Names { path, old }))
+}
+
+fn files_at<R: AllocGlobal + Files + Copy + Drop>(
+    rt: &R,
+    log: &impl Log,
+    path: &str,
+    place: Place<R::File>,
+    names: Option<Names>,
+) -> Result<RecordFiles<R>, Unmade> {
+    let file = open_new(rt, log, path, place)?;
+    let file = BufWriter::with_capacity(rt.alloc(), MAX_WRITE, file)?;
+    Ok(RecordFiles {
+        rt: *rt,
+        file,
+        names,
+    })
 }
 
 /// Logs the cause by the option's name, and returns the fault; `NoMemory` if memory ran out.

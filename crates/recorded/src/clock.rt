@@ -174,7 +174,8 @@ fn add_windows(
     acts: &[Numbered],
 ) -> Result<(), AllocError> {
     let mut from = 0;
-    let mut is_first = true;
+    // In a file that follows other parts, what was read before the first act may be in these.
+    let mut is_first = recording.header.from.is_none();
     for numbered in acts {
         let (line, record) = (numbered.line, &numbered.record);
         let to = record.before;

@@ -1,6 +1,6 @@
 //! A relay's recording that was read ([`Recording`]), and whether threads can have done what it says.
 //!
-//! `reading` reads the file into the lists of `recording`, and `order` finds where they are no longer complete. What
+//! `reading` reads the file into the lists of `recording`, but for what `beginning` leaves out, and `order` finds where they are no longer complete. What
 //! no thread does is refused: two acts at once (`order`), a turn that read no second (`clock`), an act that has no
 //! place in its round (`round`), more turns at once than threads (`threads`), a read of which nobody heard (`reads`).
 //! `rounds` finds what was posted when: for reports, and in sweeps.
@@ -9,6 +9,7 @@
 #![tactic(auto)]
 
 mod account;
+mod beginning;
 mod clock;
 mod order;
 mod reading;
@@ -20,10 +21,11 @@ mod threads;
 mod times;
 
 pub use account::{Account, Half, Waits};
+pub use beginning::LeftOut;
 pub use clock::{Clock, times_of};
 pub use dispatch::OWN_BUDGET;
 pub use order::put_in_order;
-pub use reading::{Sizes, Take, read, read_each};
+pub use reading::{Rest, Sizes, Take, read, read_each};
 pub use reads::check_reads;
 pub use recording::{Last, Numbered, Recording, begun_before};
 pub use round::check_rounds;

@@ -31,11 +31,16 @@ pub fn put_in_order(recording: &mut Recording) -> Result<(), ReplayFault> {
 
 /// Sets `whole` to the first count that no record has, and returns the first count of a lost record.
 fn find_lost(recording: &mut Recording) -> Result<Option<u64>, ReplayFault> {
-    let counts = counts_of(recording)?;
+    let mut counts = counts_of(recording)?;
     check_counts(recording, counts.as_slice())?;
-    recording.whole = first_missing(counts.as_slice()) as u64;
+    let base = recording.base();
+    for count in counts.as_mut_slice().iter_mut() {
+        *count = count.saturating_sub(base);
+    }
+    recording.whole = base.saturating_add(first_missing(counts.as_slice()) as u64);
     let begun = begun(recording)?;
-    Ok(first_lost(counts.as_slice(), begun.as_slice()))
+    let lost = first_lost(counts.as_slice(), begun.as_slice());
+    Ok(lost.map(|lost| base.saturating_add(lost)))
 }
 
 /// Refuses two acts at once at a slot, or of a poller, and lines that do not follow their counts.
@@ -76,9 +81,10 @@ fn check_counts(recording: &Recording, counts: &[u64]) -> Result<(), ReplayFault
     Ok(())
 }
 
-/// All counts, in order. The time and the reports of a poll have those of the poll.
+/// All counts from `Recording::base` up, in order. The time and the reports of a poll have those of the poll.
 fn counts_of(recording: &Recording) -> Result<Vec<u64>, AllocError> {
     let mut counts = Vec::new(recording.alloc);
+    counts.extend_from_slice(recording.early.as_slice())?;
     for at in 0..recording.lists.len() {
         for numbered in recording.list(at) {
             let record = &numbered.record;
@@ -120,16 +126,29 @@ fn first_missing(counts: &[u64]) -> usize
 }
 
 /// For each list the least count that an act can have which may have begun, and not ended, when the relay was stopped.
-/// In order; `u64::MAX` for a list without one.
+/// In order, and less what is before `Recording::base`; `u64::MAX` for a list without one.
 fn begun(recording: &Recording) -> Result<Vec<u64>, AllocError> {
     let mut begun = vec![in recording.alloc; u64::MAX; recording.lists.len()]?;
     if !matches!(recording.last, Last::Ended) {
         for (at, count) in begun.iter_mut().enumerate() {
             *count = next_begun(recording, at);
         }
+        begin_early(recording, begun.as_mut_slice());
     }
     begun.sort_unstable();
     Ok(begun)
+}
+
+/// Where a file follows other parts, each worker may be in a turn of a slot of which nothing stays.
+fn begin_early(recording: &Recording, begun: &mut [u64]) {
+    let mut workers = recording.header.workers;
+    for (at, count) in begun.iter_mut().enumerate() {
+        let is_slot = at < recording.header.slots && recording.list(at).is_empty();
+        if recording.header.from.is_some() && is_slot && workers > 0 {
+            *count = 0;
+            workers -= 1;
+        }
+    }
 }
 
 /// The least count that an act of this list without a record can have: after the last act of a poller, which may wait
@@ -138,7 +157,8 @@ fn next_begun(recording: &Recording, at: usize) -> u64 {
     let is_poller = at >= recording.header.slots && at < recording.lists.len().saturating_sub(1);
     match recording.list(at).last() {
         Some(last) if is_poller || is_of_turn(&last.record.act) => {
-            last.record.after.saturating_add(1)
+            let next = last.record.after.saturating_add(1);
+            next.saturating_sub(recording.base())
         }
         None if is_poller => 0,
         _ => u64::MAX,
@@ -229,7 +249,7 @@ fn follows(last: &Numbered, next: &Numbered) -> bool
         || is_of_wait(&next.act) && last.before == next.before && last.after == next.after
 }
 
-fn is_of_wait(act: &Act) -> bool
+pub(crate) fn is_of_wait(act: &Act) -> bool
     ensures { result ≡ is_of_wait act.now }
 {
     matches!(act, Act::Poller(_, Polling::Time(_) | Polling::Reported(_)))

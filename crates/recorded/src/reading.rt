@@ -1,8 +1,10 @@
 //! A recording is read line by line, so that its text is never all in memory.
+use crate::beginning::{Beginning, LeftOut, Omitted};
 use crate::recording::{Recording, split_of};
 use dispatch::Split;
 use records::{
-    Act, Header, MAX_RECORD, Made, Polling, Record, ReplayFault, Wrong, read_header, read_line,
+    Act, Header, MAX_RECORD, Made, Polling, Record, ReplayFault, Wrong, is_header, read_header,
+    read_line,
 };
 use std::alloc::{AllocError, Global};
 use std::io::Read;
@@ -23,6 +25,18 @@ pub trait Take {
 
     /// The record of the line with this number was read.
     fn take(&mut self, line: u64, record: Record) -> Result<(), AllocError>;
+
+    /// This record was read, and is left out, since the file follows other parts of its recording.
+    fn leave_out(&mut self, record: Record) -> Result<(), AllocError>;
+}
+
+/// What was not handed on of a file.
+#[derive(Clone, Copy)]
+pub struct Rest {
+    /// The number of the last line, if it is cut off.
+    pub cut: Option<u64>,
+    /// What is left out of a file that follows other parts of its recording.
+    pub left_out: Option<LeftOut>,
 }
 
 /// The sizes of a relay, and how it deals its slots.
@@ -39,6 +53,10 @@ struct Lines {
     /// Whether the record `end` or `full` was read.
     is_over: bool,
     number: u64,
+    /// The greatest count so far, also of the parts before.
+    greatest: u64,
+    /// Of a file that follows other parts.
+    late: Option<(Beginning, Omitted)>,
 }
 
 /// Makes a recording of what was read.
@@ -60,6 +78,13 @@ impl Take for Whole {
             None => Ok(()),
         }
     }
+
+    fn leave_out(&mut self, record: Record) -> Result<(), AllocError> {
+        match &mut self.recording {
+            Some(recording) => recording.leave_out(&record),
+            None => Ok(()),
+        }
+    }
 }
 
 /// Reads a recording to its end. Refuses with `Broken` the first line that is none of a recording.
@@ -68,10 +93,10 @@ pub fn read<R: Read>(alloc: Global, reader: &mut R) -> Result<Recording, ReplayF
         alloc,
         recording: None,
     };
-    let cut = read_each(alloc, reader, &mut whole)?;
+    let rest = read_each(alloc, reader, &mut whole)?;
     match whole.recording {
         Some(mut recording) => {
-            recording.cut = cut;
+            recording.rest = rest;
             Ok(recording)
         }
         None => Err(fault_of(alloc, 1, wanted(FIRST))),
@@ -81,18 +106,21 @@ pub fn read<R: Read>(alloc: Global, reader: &mut R) -> Result<Recording, ReplayF
 /// What is wanted of a file's first line.
 const FIRST: &str = "a recording begins with relayd recording 1";
 
-/// Hands on each record of a file. Returns the number of the last line if it is cut off. Refuses with `Broken` the first
-/// line that is none of a recording.
+/// Hands on each record of a file. Where it has several parts, one behind the other, each must follow the one before it; if
+/// the first follows others, what these may have the beginning of is left out. Refuses with
+/// `Broken` the first line that is none of a recording.
 pub fn read_each<R: Read, T: Take>(
     alloc: Global,
     reader: &mut R,
     taker: &mut T,
-) -> Result<Option<u64>, ReplayFault> {
+) -> Result<Rest, ReplayFault> {
     let mut lines = Lines {
         alloc,
         sizes: None,
         is_over: false,
         number: 1,
+        greatest: 0,
+        late: None,
     };
     let mut buffer = vec![in alloc; 0u8; CHUNK]?;
     let mut line = Vec::new(alloc);
@@ -100,10 +128,9 @@ pub fn read_each<R: Read, T: Take>(
     if lines.sizes.is_none() {
         return Err(fault_of(alloc, lines.number, wanted(FIRST)));
     }
-    Ok(if line.is_empty() {
-        None
-    } else {
-        Some(lines.number)
+    Ok(Rest {
+        cut: (!line.is_empty()).then_some(lines.number),
+        left_out: lines.left_out(),
     })
 }
 
@@ -150,15 +177,20 @@ impl Lines {
         match self.sizes {
             None => match sizes_of(line) {
                 Ok(sizes) => {
-                    self.sizes = Some(sizes);
+                    self.begin(sizes)?;
                     taker.begin(sizes)?;
                 }
                 Err(wrong) => return Err(fault_of(alloc, number, wrong)),
             },
+            Some(sizes) if is_header(line) && !self.is_over => {
+                if let Err(wrong) = self.join(&sizes.header, line) {
+                    return Err(fault_of(alloc, number, wrong));
+                }
+            }
             Some(sizes) => match record_of(&sizes, self.is_over, line) {
                 Ok(record) => {
                     self.is_over = matches!(record.act, Act::Ended | Act::Full);
-                    taker.take(number, record)?;
+                    self.hand_on(record, taker)?;
                 }
                 Err(wrong) => return Err(fault_of(alloc, number, wrong)),
             },
@@ -166,6 +198,61 @@ impl Lines {
         self.number = number.saturating_add(1);
         Ok(())
     }
+}
+
+impl Lines {
+    fn begin(&mut self, sizes: Sizes) -> Result<(), AllocError> {
+        self.sizes = Some(sizes);
+        if let Some(from) = sizes.header.from {
+            self.greatest = from;
+            self.late = Some((
+                Beginning::new(self.alloc, sizes, from)?,
+                Omitted::new(self.alloc, sizes, from)?,
+            ));
+        }
+        Ok(())
+    }
+
+    /// The header of another part, which must follow what was read.
+    fn join<'a>(&self, first: &Header, line: &'a [u8]) -> Result<(), Wrong<'a>> {
+        let header = read_header(line)?;
+        if !are_of_one(first, &header) {
+            return Err(wanted("a part of the same recording is wanted"));
+        }
+        match header.from {
+            Some(from) if from == self.greatest => Ok(()),
+            _ => Err(wanted("this part does not follow the one before it")),
+        }
+    }
+
+    fn hand_on<T: Take>(&mut self, record: Record, taker: &mut T) -> Result<(), AllocError> {
+        self.greatest = self.greatest.max(record.after);
+        if let Some((beginning, omitted)) = &mut self.late {
+            if !beginning.keeps(&record) {
+                omitted.count(&record);
+                return taker.leave_out(record);
+            }
+        }
+        taker.take(self.number, record)
+    }
+
+    fn left_out(&self) -> Option<LeftOut> {
+        match &self.late {
+            Some((_, omitted)) => Some(omitted.so_far),
+            None => None,
+        }
+    }
+}
+
+/// Whether two relays have the same sizes.
+fn are_of_one(one: &Header, other: &Header) -> bool {
+    one.slots == other.slots
+        && one.pollers == other.pollers
+        && one.workers == other.workers
+        && one.ring == other.ring
+        && one.budget == other.budget
+        && one.idle == other.idle
+        && one.proxy == other.proxy
 }
 
 /// The header of a first line, and how that relay deals its slots.

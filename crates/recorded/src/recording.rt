@@ -2,7 +2,8 @@
 ghost use Rattle.std.specs.Prelude.{◌≡◌};
 ghost use Rattle.recorded.specs.Sequences.{records_at, records_of};
 
-use crate::reading::{fault_of, wanted};
+use crate::order::is_of_wait;
+use crate::reading::{Rest, fault_of, wanted};
 use dispatch::Split;
 use records::{Act, Header, Polling, Record, ReplayFault};
 use settings::pollers_for;
@@ -43,8 +44,10 @@ pub struct Recording {
     pub whole: u64,
     /// How many records after the first lost one are left out.
     pub left_out: usize,
-    /// The last line, if it is cut off.
-    pub cut: Option<u64>,
+    /// The counts of records that are left out, since the file follows other parts.
+    pub early: Vec<u64>,
+    /// What is not in the lists.
+    pub rest: Rest,
 }
 
 /// How the slots are dealt in a relay of these sizes, if there is such a relay.
@@ -79,7 +82,11 @@ impl Recording {
             failed: None,
             whole: 0,
             left_out: 0,
-            cut: None,
+            early: Vec::new(alloc),
+            rest: Rest {
+                cut: None,
+                left_out: None,
+            },
         })
     }
 
@@ -100,6 +107,27 @@ impl Recording {
             Some(second) => add(self.lists.as_mut_slice(), second, Numbered { line, record }),
             None => Ok(()),
         }
+    }
+
+    /// The first count that the file can have all records of: 0, if it follows no other part.
+    pub fn base(&self) -> u64 {
+        match self.header.from {
+            Some(from) => from.saturating_add(1),
+            None => 0,
+        }
+    }
+
+    /// A record that is left out has these counts.
+    pub(crate) fn leave_out(&mut self, record: &Record) -> Result<(), AllocError> {
+        if is_of_wait(&record.act) {
+            return Ok(());
+        }
+        for count in [record.before, record.after] {
+            if count >= self.base() {
+                self.early.push(count)?;
+            }
+        }
+        Ok(())
     }
 
     fn lists_of(&self, act: &Act) -> (usize, Option<usize>) {

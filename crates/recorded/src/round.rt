@@ -100,6 +100,8 @@ impl Round<'_> {
         if let Name::End(token) = name {
             match self.opened.get(token.slot()) {
                 Some(opened) if token.generation() == *opened && !self.is_closed(token) => {}
+                // It was opened in a part before this file.
+                Some(0) if self.recording.header.from.is_some() => {}
                 _ => return Ok(Some("what is reported was not open when the wait began")),
             }
         }

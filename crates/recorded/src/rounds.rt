@@ -46,7 +46,7 @@ pub fn find_posts(recording: &Recording, clock: &Clock) -> Result<Vec<Vec<Post>>
             poller,
             poll: None,
             missing: 0,
-            swept: Swept::at(clock.between(0, next_count(recording.poller(poller), 0))),
+            swept: Swept::before(recording, clock, next_count(recording.poller(poller), 0)),
         };
         rounds.find(posts.as_mut_slice())?;
     }
@@ -180,6 +180,18 @@ impl Swept {
             certain: (first, last),
             since: None,
         }
+    }
+
+    /// The first act of a poller has this count before it. In a file that follows other parts it may have made sweeps, or
+    /// begun, at any time before.
+    fn before(recording: &Recording, clock: &Clock, count: u64) -> Swept {
+        let (first, last) = clock.between(0, count);
+        let first = if recording.header.from.is_some() {
+            0
+        } else {
+            first
+        };
+        Swept::at((first, last))
     }
 
     /// A round read a second between these two, and makes its posts from this count on: a sweep, if the limit has

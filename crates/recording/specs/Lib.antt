@@ -1,3 +1,4 @@
 -- The crate's definitions.
 pub mod Lending
+pub mod Lines
 pub mod Records

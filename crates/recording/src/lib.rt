@@ -19,6 +19,7 @@
 
 mod clock;
 mod front;
+mod lines;
 mod queue;
 mod recorder;
 mod wire;
@@ -26,6 +27,7 @@ mod writing;
 
 pub use clock::{RecordedClock, RecordedGate};
 pub use front::{RecordedFront, record_all};
+pub use lines::Lines;
 pub use queue::{MAX_RECORDS, QUEUES, QueueSink, RecordQueue};
 pub use recorder::{Recorder, Sink};
 pub use wire::RecordedWire;

@@ -22,9 +22,6 @@ pub const MAX_RECORDS: usize = 131_072;
 /// The most records of one queue that are written before the next queue is looked at.
 pub(crate) const MAX_RUN: usize = 256;
 
-/// The bytes that are gathered for one write(2).
-pub(crate) const MAX_WRITE: usize = 65_536;
-
 /// How long the writer rests after it found records, so that those who record meanwhile need not wake it.
 pub(crate) fn soon() -> Duration {
     Duration::from_millis(2)

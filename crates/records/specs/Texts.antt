@@ -1,5 +1,5 @@
 -- The lines of a recording, without their line feeds. Part of the promises.
-use Rattle.std.specs.{Prelude.{ℕ, Bool, if◌then◌else◌, List, ◌++◌, codes}, Fmt.decimal}
+use Rattle.std.specs.{Prelude.{ℕ, Bool, if◌then◌else◌, List, [], ◌++◌, Option, Some, None, codes}, Fmt.decimal}
 use Rattle.token.specs.{Names.EndName, Kinds.kind_name, Sides.side_name, declared.name.Name.Name}
 use Rattle.records.specs.declared.{act.{Record.Record, Act.{Act, TheVariants.{Poller, Second, Begin, End, Wire, Ended, Full}}, Polling.Polling, Accepted.Accepted, Opening.Opening, Made.Made, Answer.Answer}, header.Header.Header}
 use Rattle.token.specs.declared.name.Name.TheVariants as name
@@ -72,9 +72,14 @@ record_text r = decimal r.before ++ (codes " " ++ (decimal r.after ++ (codes " "
 abbrev pub yes_or_no : Bool → List ℕ
 yes_or_no so = if so then codes "yes" else codes "no"
 
+-- where a part begins: behind this count
+abbrev pub from_text : Option ℕ → List ℕ
+from_text (Some n) = codes " from=" ++ decimal n
+from_text None = []
+
 abbrev pub header_text : Header → List ℕ
 header_text h =
     codes "relayd recording 1 slots=" ++ (decimal h.slots ++ (codes " pollers=" ++ (decimal h.pollers
     ++ (codes " workers=" ++ (decimal h.workers ++ (codes " ring=" ++ (decimal h.ring
     ++ (codes " budget=" ++ (decimal h.budget ++ (codes " idle=" ++ (decimal h.idle
-    ++ (codes " proxy=" ++ yes_or_no h.proxy))))))))))))
+    ++ (codes " proxy=" ++ (yes_or_no h.proxy ++ from_text h.from)))))))))))))

@@ -1,6 +1,6 @@
 //! The first line of a recording.
 ghost use Rattle.std.specs.Prelude.{Some};
-ghost use Rattle.records.specs.Texts.{header_text};
+ghost use Rattle.records.specs.Texts.{from_text, header_text};
 
 use crate::act::yes_or_no;
 use crate::reading::{Wrong, end, number_after, one_of, said, word};
@@ -24,6 +24,8 @@ pub struct Header {
     pub idle: u64,
     /// Whether each target is first sent a line with the addresses of its client's connection.
     pub proxy: bool,
+    /// Of a recording in parts: the greatest count in the parts before this one. None: this is the first.
+    pub from: Option<u64>,
 }
 
 impl Display for Header {
@@ -32,11 +34,26 @@ impl Display for Header {
     fn fmt<W: fmt::Write>(&self, f: &mut fmt::Formatter<W>) -> fmt::Result {
         let (slots, pollers, workers) = (self.slots, self.pollers, self.workers);
         let (ring, budget, idle) = (self.ring, self.budget, self.idle);
-        let proxy = yes_or_no(self.proxy);
+        let (proxy, from) = (yes_or_no(self.proxy), FromText(self.from));
         write!(
             f,
-            "relayd recording 1 slots={slots} pollers={pollers} workers={workers} ring={ring} budget={budget} idle={idle} proxy={proxy}"
+            "relayd recording 1 slots={slots} pollers={pollers} workers={workers} ring={ring} budget={budget} idle={idle} proxy={proxy}{from}"
         )
+    }
+}
+
+/// Prints where a part begins, if it is not the first.
+#[derive(Clone, Copy)]
+struct FromText(Option<u64>);
+
+impl Display for FromText {
+    ghost output = { λ text. Some (from_text text.0) };
+
+    fn fmt<W: fmt::Write>(&self, f: &mut fmt::Formatter<W>) -> fmt::Result {
+        match self.0 {
+            Some(from) => write!(f, " from={from}"),
+            None => Ok(()),
+        }
     }
 }
 
@@ -56,12 +73,13 @@ static PROXY: [(&str, bool); 2] = [("proxy=yes", true), ("proxy=no", false)];
 ///
 /// It refuses a line of another form, and sizes that no relay has: 0 or over 4,096 slots, 0 or over 16 pollers or
 /// workers, a ring of 0 or over 65,536 bytes, a budget of 0 or over 1,024 calls, and an idle limit of over 86,400
-/// seconds.
+/// seconds; and another word than `from=N` behind the sizes, where N is any number below 2^64.
 pub fn read_header(line: &[u8]) -> Result<Header, Wrong<'_>> {
     let words = &mut Pieces::new(line, b' ');
     begin(words)?;
     let [slots, pollers, workers, ring, budget, idle] = sizes(words)?;
     let proxy = one_of(words, &PROXY, "proxy=yes or proxy=no is wanted")?;
+    let from = from(words)?;
     end(words)?;
     Ok(Header {
         slots,
@@ -71,7 +89,23 @@ pub fn read_header(line: &[u8]) -> Result<Header, Wrong<'_>> {
         budget,
         idle: idle as u64,
         proxy,
+        from,
     })
+}
+
+/// Whether this line begins as a recording does.
+pub fn is_header(line: &[u8]) -> bool {
+    line.starts_with(b"relayd recording ")
+}
+
+fn from<'a>(words: &mut Pieces<'a>) -> Result<Option<u64>, Wrong<'a>> {
+    let Some(word) = words.next() else {
+        return Ok(None);
+    };
+    match number_after("from=", word) {
+        Some(from) => Ok(Some(from as u64)),
+        None => said(None, word, "from=N is wanted, or the end of the line"),
+    }
 }
 
 /// The words with which every recording begins.

@@ -4,19 +4,21 @@
 //! count just before and just after the act. Both print themselves as their line, without its line feed and without
 //! taking memory; [`read_header`] and [`read_line`] read the lines. Of bytes a record has only the number.
 //!
-//! A [`Replay`] plays a whole recording.
+//! [`Parts`] are the files of a recording. A [`Replay`] plays a whole recording.
 //!
 //! `docs/FORMATS.md` describes the lines; `specs/Texts.antt` has them as definitions.
 #![tactic(auto)]
 
 mod act;
 mod header;
+mod parts;
 mod printing;
 mod reading;
 mod replay;
 
 pub use act::{Accepted, Act, Answer, Made, Opening, Polling, Record};
-pub use header::{Header, read_header};
+pub use header::{Header, is_header, read_header};
+pub use parts::Parts;
 pub use printing::MAX_RECORD;
 pub use reading::{Wrong, read_line};
 pub use replay::{Outcome, Replay, ReplayFault, Wanted};

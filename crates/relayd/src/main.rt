@@ -9,13 +9,12 @@ use lent::{Announcing, MonotonicClock};
 use log::Logged;
 use log_queue::Queued;
 use program::logging::{self, Errors, Until};
-use program::{Extras, report_unheld, telling, until_eof};
+use program::{Extras, RecordFiles, report_unheld, telling, until_eof};
 use replaying::OnMachine;
 use script::Simulator;
 use server::{Bound, Lent, ServerFault};
 use settings::Settings;
 use std::cell::Cell;
-use std::fs::File;
 use std::process::ExitCode;
 use std::sync::atomic::AtomicBool;
 use std::sync::atomic::Ordering::SeqCst;
@@ -33,10 +32,10 @@ fn main(rt: HostRuntime) -> ExitCode {
         inner: rt.stderr(),
         is_stuck: &is_stuck,
     };
-    let serve = |settings: Settings, bound: Bound, extras: Extras, file: Option<File>| -> Result<
-        bool,
-        ServerFault,
-    > {
+    let serve = |settings: Settings, bound: Bound, extras: Extras, files: Option<
+        RecordFiles<HostRuntime>,
+    >| -> Result<bool, ServerFault> {
+        let most = extras.most_of_part();
         let queue = logging::start(rt)?;
         // Set at level off once all threads run: only the cause of a fault that ends the relay is logged then.
         let is_off = AtomicBool::new(false);
@@ -65,7 +64,15 @@ fn main(rt: HostRuntime) -> ExitCode {
             patience: extras.patience,
             log_clients: extras.log_clients,
         };
-        let served = server::serve_recorded(&logged, rt.alloc(), &settings, bound, lent, file);
+        let served = server::serve_recorded(
+            &logged,
+            rt.alloc(),
+            &settings,
+            bound,
+            lent,
+            files,
+            most,
+        );
         telling::tell_last(rt, teller, &queue);
         is_stuck.set(!logging::finish(&rt, &queue));
         served.into_result()?;

@@ -2,7 +2,7 @@
 //! asked whether the records are those of a run.
 use crate::entry::Entry;
 use crate::moments::Moments;
-use crate::writing::{flush, write_text};
+use crate::writing::{flush, write_left_out, write_text};
 use recorded::{Sizes, Take, read_each};
 use records::{Act, Opening, Polling, Record, ReplayFault};
 use std::alloc::{AllocError, Global};
@@ -40,7 +40,8 @@ pub(crate) fn write_ends<R: Read, W: Write>(
         moments: None,
         failed: None,
     };
-    read_each(alloc, input, &mut ends)?;
+    let rest = read_each(alloc, input, &mut ends)?;
+    write_left_out(output, alloc, "", rest.left_out)?;
     let (failed, now) = (ends.failed, ends.now());
     for place in ends.places.as_mut_slice().iter_mut() {
         place.close(failed, now)?;
@@ -103,6 +104,13 @@ impl Take for Ends {
                 }
             }
             _ => {}
+        }
+        Ok(())
+    }
+
+    fn leave_out(&mut self, record: Record) -> Result<(), AllocError> {
+        if let Some(moments) = &mut self.moments {
+            moments.take(&record);
         }
         Ok(())
     }

@@ -132,7 +132,8 @@ fn write_outcome<W: Write>(
         }
         (Some(Flaw::NoMemory), _, _) | (_, None, _) | (_, _, None) => Err(ReplayFault::NoMemory),
         (Some(flaw), Some(flawed), Some(machine)) => {
-            write_flaw(output, results.wanted, flawed, flaw, machine)?;
+            let left_out = recording.rest.left_out;
+            write_flaw(output, results.wanted, flawed, flaw, machine, left_out)?;
             Ok(Outcome::NoRun)
         }
     }

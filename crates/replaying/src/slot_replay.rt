@@ -87,6 +87,17 @@ impl State {
         moved: 0,
     };
 
+    /// The slot before its first act. In a file that follows other parts, connections may have been there.
+    fn before(from: Option<u64>, first: &Act) -> State {
+        match (from, first) {
+            (Some(_), Act::Poller(_, Polling::Open(_, generation, _))) => State {
+                generation: generation.saturating_sub(1),
+                ..State::NEW
+            },
+            _ => State::NEW,
+        }
+    }
+
     fn has(&self, token: Token) -> bool {
         match self.phase {
             Phase::Free => false,
@@ -122,7 +133,7 @@ impl<'a> SlotReplay<'a> {
                 reports: posts_at(findings.posts, slot),
                 sweeps: posts_at(findings.posts, findings.recording.at_poller(poller)),
             },
-            state: State::NEW,
+            state: State::before(findings.recording.header.from, &first.record.act),
             last: first,
             posted,
             before: None,

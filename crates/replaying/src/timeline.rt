@@ -1,7 +1,7 @@
 //! What was done for one connection, record by record, and what its rings held.
 use crate::entry::Entry;
 use crate::moments::Moments;
-use crate::writing::{flush, not_there, write_text};
+use crate::writing::{flush, not_there, write_left_out, write_text};
 use recorded::{Sizes, Take, read_each};
 use records::{Act, Opening, Polling, Record, ReplayFault};
 use std::alloc::{AllocError, Global};
@@ -19,7 +19,8 @@ struct Course {
     generation: u64,
     has_lead: bool,
     slots: usize,
-    /// The generation of the last connection that was opened in the slot.
+    /// The generations of the first connection and of the last one that were opened in the slot.
+    first: Option<u64>,
     last: Option<u64>,
     /// Each record, and its time.
     records: Vec<(Record, u64)>,
@@ -43,15 +44,18 @@ pub(crate) fn write_timeline<R: Read, W: Write>(
         generation,
         has_lead: false,
         slots: 0,
+        first: None,
         last: None,
         records: Vec::new(alloc),
         moments: None,
         failed: None,
     };
-    read_each(alloc, input, &mut course)?;
+    let rest = read_each(alloc, input, &mut course)?;
     if course.records.is_empty() {
-        return Err(not_there(alloc, course.slots, slot, generation, course.last));
+        let there = course.first.zip(course.last);
+        return Err(not_there(alloc, course.slots, slot, generation, there));
     }
+    write_left_out(output, alloc, "", rest.left_out)?;
     course
         .records
         .sort_by_key(|timed: &(Record, u64)| timed.0.before)?;
@@ -90,6 +94,11 @@ impl Take for Course {
         }
         Ok(())
     }
+
+    fn leave_out(&mut self, record: Record) -> Result<(), AllocError> {
+        self.time_of(&record);
+        Ok(())
+    }
 }
 
 impl Course {
@@ -105,6 +114,7 @@ impl Course {
     /// Whether the connection itself is opened.
     fn open(&mut self, slot: usize, generation: u64) -> bool {
         if slot == self.slot {
+            self.first = self.first.or(Some(generation));
             self.last = Some(generation);
         }
         slot == self.slot && generation == self.generation

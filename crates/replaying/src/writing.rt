@@ -2,7 +2,7 @@
 use crate::machine::{Flaw, Machine};
 use crate::results::{Flawed, Results, Whose};
 use crate::slot_replay::Phase;
-use recorded::{Numbered, Recording};
+use recorded::{LeftOut, Numbered, Recording};
 use records::{Act, Opening, Polling, ReplayFault, Wanted};
 use std::alloc::{AllocError, Global};
 use std::io::Write;
@@ -18,25 +18,56 @@ pub(crate) fn write_results<W: Write>(
     recording: &Recording,
 ) -> Result<(), ReplayFault> {
     match (results.wanted, &results.machine) {
-        (Wanted::Script(_, _), Some(machine)) => write_script(output, machine),
+        (Wanted::Script(_, _), Some(machine)) => {
+            write_left_out(output, recording.alloc, "# ", recording.rest.left_out)?;
+            write_script(output, machine)
+        }
         (Wanted::Script(slot, generation), None) => {
-            let last = recording.slot(slot).iter().rev().find_map(opened);
+            let records = recording.slot(slot);
+            let first = records.iter().find_map(opened);
+            let last = records.iter().rev().find_map(opened);
             let slots = recording.header.slots;
-            Err(not_there(recording.alloc, slots, slot, generation, last))
+            Err(not_there(recording.alloc, slots, slot, generation, first.zip(last)))
         }
         _ => write(output, totals(results, recording)),
     }
 }
 
-/// The fault of a recording that has no such connection. `last`: the generation of the last one that was opened in the slot.
+/// Writes a line that says what is left out of a file that follows other parts of its recording. `mark` stands before it.
+pub(crate) fn write_left_out<W: Write>(
+    output: &mut W,
+    alloc: Global,
+    mark: &'static str,
+    left_out: Option<LeftOut>,
+) -> Result<(), ReplayFault> {
+    let mut page = Page::new(alloc);
+    put_early(&mut page, mark, left_out);
+    write(output, page)
+}
+
+fn put_early(page: &mut Page, mark: &'static str, left_out: Option<LeftOut>) {
+    let Some(left_out) = left_out else {
+        return;
+    };
+    page.put(&[
+        Piece::Text(mark),
+        Piece::Named("begins after count ", left_out.from),
+        Piece::Named(": ", left_out.records),
+        Piece::Named(" records, of ", left_out.connections),
+        Piece::Text(" connections, are left out\n"),
+    ]);
+}
+
+/// The fault of a recording that has no such connection. `there`: the generations of the first one and of the last one
+/// that were opened in the slot.
 pub(crate) fn not_there(
     alloc: Global,
     slots: usize,
     slot: usize,
     generation: u64,
-    last: Option<u64>,
+    there: Option<(u64, u64)>,
 ) -> ReplayFault {
-    match cause_not_there(alloc, slots, slot, generation, last) {
+    match cause_not_there(alloc, slots, slot, generation, there) {
         Ok(cause) => ReplayFault::Unknown(cause),
         Err(error) => ReplayFault::from(error),
     }
@@ -47,18 +78,18 @@ fn cause_not_there(
     slots: usize,
     slot: usize,
     generation: u64,
-    last: Option<u64>,
+    there: Option<(u64, u64)>,
 ) -> Result<String, AllocError> {
-    let there = opened_in(alloc, slots, slot, last).finish()?;
+    let there = opened_in(alloc, slots, slot, there).finish()?;
     let there = there.as_str();
     format!(in alloc; "{slot}.{generation} is not there: {there}")
 }
 
 /// Which connections were opened in a slot.
-fn opened_in(alloc: Global, slots: usize, slot: usize, last: Option<u64>) -> Page {
+fn opened_in(alloc: Global, slots: usize, slot: usize, there: Option<(u64, u64)>) -> Page {
     let mut page = Page::new(alloc);
-    let last = match last {
-        Some(last) => last,
+    let (first, last) = match there {
+        Some(there) => there,
         None if slot < slots => {
             page.put(&[Piece::Text("nothing was opened in that slot (--ends lists all)")]);
             return page;
@@ -70,7 +101,8 @@ fn opened_in(alloc: Global, slots: usize, slot: usize, last: Option<u64>) -> Pag
     };
     page.put(&[
         Piece::Named("slot ", slot as u64),
-        Piece::Named(" has generations 1 to ", last),
+        Piece::Named(" has generations ", first),
+        Piece::Named(" to ", last),
         Piece::Text(" (--ends lists all)"),
     ]);
     page
@@ -92,11 +124,13 @@ pub(crate) fn write_flaw<W: Write>(
     flawed: &Flawed,
     flaw: Flaw,
     machine: &Machine,
+    left_out: Option<LeftOut>,
 ) -> Result<(), ReplayFault> {
     if matches!(wanted, Wanted::Totals) {
-        return write(output, in_words(flawed, flaw, machine)?);
+        return write(output, in_words(flawed, flaw, machine, left_out)?);
     }
     write(output, first_line(flawed, flaw, machine)?)?;
+    write_left_out(output, machine.alloc, "# ", left_out)?;
     write_script(output, machine)?;
     let mut page = Page::new(machine.alloc);
     if let Some(event) = &machine.refused {
@@ -136,18 +170,19 @@ pub(crate) fn flush<W: Write>(output: &mut W) -> Result<(), ReplayFault> {
 
 fn totals(results: &Results, recording: &Recording) -> Page {
     let mut page = Page::new(recording.alloc);
-    put_totals(&mut page, results);
+    put_totals(&mut page, results, recording.rest.left_out);
     put_left_out(&mut page, recording);
     page
 }
 
-fn put_totals(page: &mut Page, results: &Results) {
+fn put_totals(page: &mut Page, results: &Results, left_out: Option<LeftOut>) {
     page.put(&[
         Piece::Number(results.connections),
         Piece::Text(" connections, "),
         Piece::Number(results.counts.sum()),
         Piece::Text(" events: each is a run of the machine\n"),
     ]);
+    put_early(page, "", left_out);
     if matches!(results.wanted, Wanted::Steps) {
         results.counts.put_lines(page);
     }
@@ -162,7 +197,7 @@ fn put_totals(page: &mut Page, results: &Results) {
 }
 
 fn put_left_out(page: &mut Page, recording: &Recording) {
-    if let Some(line) = recording.cut {
+    if let Some(line) = recording.rest.cut {
         page.put(&[Piece::Named("line ", line), Piece::Text(" is cut off\n")]);
     }
     if recording.left_out > 0 {
@@ -212,7 +247,12 @@ fn put_whose(page: &mut Page, whose: Whose) {
 }
 
 /// Whose record fits nowhere, which it is, the one before it, why, and what could stand there.
-fn in_words(flawed: &Flawed, flaw: Flaw, machine: &Machine) -> Result<Page, AllocError> {
+fn in_words(
+    flawed: &Flawed,
+    flaw: Flaw,
+    machine: &Machine,
+    left_out: Option<LeftOut>,
+) -> Result<Page, AllocError> {
     let mut page = Page::new(machine.alloc);
     match flawed.whose {
         Whose::Poller(poller) => page.put(&[Piece::Named("poller ", poller as u64)]),
@@ -222,6 +262,7 @@ fn in_words(flawed: &Flawed, flaw: Flaw, machine: &Machine) -> Result<Page, Allo
         ]),
     }
     page.put(&[Piece::Text(": this is no run of the machine\n")]);
+    put_early(&mut page, "", left_out);
     if let Some(before) = &flawed.before {
         page.put(&[Piece::Text("after")]);
         page = with_record(page, machine.alloc, before)?;

@@ -9,13 +9,12 @@ use os::set_thread_name;
 use recording::{
     QueueSink, RecordQueue, RecordedClock, RecordedGate, Recorder, record_all, write_records,
 };
-use records::Header;
+use records::{Header, Parts};
 use relay_log::log_no_thread;
 use settings::{Settings, calls_for};
 use sockets::{Bound, Dial, Forwarding, Patience, Stop, open_all};
 use statistics::Statistics;
 use std::alloc::{AllocError, Global};
-use std::io::Write;
 use std::net::Net;
 use std::sync::{Arc, Mutex, Wait};
 use std::thread::{self, Threads};
@@ -66,14 +65,14 @@ pub fn serve<
     serve_into(rt, alloc, settings, bound, lent, None)
 }
 
-/// Serves as [`serve`] does. If there is a file, what each thread does is recorded into it until the server ends; the
-/// last line then says that all is recorded. A thread of its own writes the file, and the call returns once all is
-/// written. If records come faster than that thread writes, or the file cannot be written, the recording ends, a
-/// warning is logged, and the server serves on. The recording may also refuse to begin, with `NoMemory` or `Threads`.
+/// Serves as [`serve`] does. If there are files, what each thread does is recorded into them until the server ends, each
+/// of at most `most` bytes; the last line then says that all is recorded. A thread of its own writes them, and the
+/// call returns once all is written. If records come faster than that thread writes, or a file cannot be written, the
+/// recording ends, a warning is logged, and the server serves on. The recording may also refuse to begin, with `NoMemory` or `Threads`.
 pub fn serve_recorded<
     G: Gate + Sync,
     C: Clock + Sync,
-    W: Write + Send + Drop,
+    P: Parts + Send,
     R: Net + Dial + Wait + Threads + Log + time::Clock + Sync,
 >(
     rt: &R,
@@ -81,9 +80,10 @@ pub fn serve_recorded<
     settings: &Settings,
     bound: Bound,
     lent: Lent<'_, G, C>,
-    file: Option<W>,
+    files: Option<P>,
+    most: u64,
 ) -> Outcome {
-    let Some(file) = file else {
+    let Some(files) = files else {
         return serve(rt, alloc, settings, bound, lent);
     };
     let split = split_of(settings);
@@ -93,10 +93,10 @@ pub fn serve_recorded<
     };
     let recording = Recording {
         rt,
-        alloc,
         queue,
         header: header_of(settings, split),
-        file: Mutex::new(Some(file)),
+        most,
+        files: Mutex::new(Some(files)),
     };
     let queue = &recording.queue;
     serve_beside(
@@ -106,29 +106,29 @@ pub fn serve_recorded<
 }
 
 #[derive(Drop)]
-struct Recording<'a, W, R> {
+struct Recording<'a, P, R> {
     rt: &'a R,
-    alloc: Global,
     queue: RecordQueue,
     header: Header,
-    /// The file, until the thread that writes it has begun.
-    file: Mutex<Option<W>>,
+    most: u64,
+    /// The files, until the thread that writes them has begun.
+    files: Mutex<Option<P>>,
 }
 
-impl<W: Write + Drop, R: Wait + Log> Recording<'_, W, R> {
-    /// Writes the file, in its own thread.
+impl<P: Parts, R: Wait + Log> Recording<'_, P, R> {
+    /// Writes the files, in its own thread.
     fn write(&self) {
         set_thread_name(b"record");
-        let file = self.file.lock(self.rt).take();
-        if let Some(file) = file {
-            write_records(self.rt, self.alloc, &self.queue, self.header, file);
+        let files = self.files.lock(self.rt).take();
+        if let Some(files) = files {
+            write_records(self.rt, &self.queue, self.header, self.most, files);
         }
     }
 }
 
-fn serve_beside<W, R, S>(recording: &Recording<'_, W, R>, serve: S) -> Outcome
+fn serve_beside<P, R, S>(recording: &Recording<'_, P, R>, serve: S) -> Outcome
 where
-    W: Write + Send + Drop,
+    P: Parts + Send,
     R: Wait + Threads + Log + Sync,
     S: FnOnce() -> Outcome + Drop,
     requires { S.IsAlwaysCallable serve }
@@ -244,6 +244,7 @@ fn header_of(settings: &Settings, split: Split) -> Header {
         budget: calls_for(settings.budget),
         idle: u64::from(settings.idle),
         proxy: settings.proxy,
+        from: None,
     }
 }
 

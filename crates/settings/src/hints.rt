@@ -11,11 +11,12 @@ use strsim::jaro;
 const MAX_NAME: usize = 16;
 
 /// The options of `relayd run` that are no settings, and whether a value comes behind them.
-static OPTIONS: [(&str, bool); 7] = [
+static OPTIONS: [(&str, bool); 8] = [
     ("connect-timeout", true),
     ("keepalive", true),
     ("log-clients", false),
     ("record", true),
+    ("record-size", true),
     ("stats", true),
     ("stats-file", true),
     ("until-eof", false),

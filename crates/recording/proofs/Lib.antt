@@ -1,0 +1,2 @@
+-- The crate's lemmas.
+pub mod Filling

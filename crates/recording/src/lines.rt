@@ -1,0 +1,124 @@
+//! Which line of a recording goes into which of its files.
+ghost use Rattle.std.specs.Prelude.{◌≡◌, ◌≤◌, ◌+◌, ◌∷◌, [], List, OnOk, IfOk, length, max};
+ghost use Rattle.records.specs.{Parts.{Adds, Are}, declared.act.Record.Record};
+ghost use Rattle.recording.specs.Lines.{Holds, header_line, line_of};
+
+use arrayvec::ArrayString;
+use records::{Header, MAX_RECORD, Parts, Record};
+use std::fmt::Write as _;
+use std::io::{self, ErrorKind};
+
+const MAX_LINE: usize = MAX_RECORD + 1;
+
+const MAX_HEADER: usize = 256;
+
+/// The least room that a file may have.
+const LEAST: u64 = 1_024;
+
+/// Puts the lines of a recording into its files, each of which begins with a header. A line that has no room in a file
+/// begins the next one.
+#[derive(Drop)]
+pub struct Lines<P> {
+    parts: P,
+    header: Header,
+    /// The most bytes of a file, and how many the last one has.
+    most: u64,
+    length: u64,
+    /// The greatest count of all records.
+    greatest: u64,
+    ghost enough: { 1024 ≤ most },
+}
+
+impl<P: Parts> Lines<P> {
+    /// Puts the header into the first file, which is there and empty. A file gets at most `most` bytes, or 1,024 if that
+    /// is more.
+    pub fn begin(parts: P, header: Header, most: u64) -> io::Result<Lines<P>>
+        ensures held { IfOk result (λ l. Are (P.texts parts) ([] ∷ []) → Holds header l.most [] (P.texts l.parts) l.length l.greatest) }
+        ensures header { IfOk result (λ l. l.header ≡ header) }
+        ensures most { IfOk result (λ l. l.most ≡ max most 1024) }
+    {
+        let text = header_line(&header)?;
+        let mut lines = Lines {
+            parts,
+            header,
+            most: most.max(LEAST),
+            length: 0,
+            greatest: 0,
+        };
+        lines.add(text.as_str().as_bytes())?;
+        Ok(lines)
+    }
+
+    /// Puts the line of a record after the others.
+    pub fn put(&mut self, record: &Record) -> io::Result<()>
+        ensures held { OnOk result ((records : List Record)
+            → Holds self.old.header self.old.most records (P.texts self.old.parts) self.old.length self.old.greatest
+            → Holds self.new.header self.new.most (record.now ∷ records) (P.texts self.new.parts) self.new.length self.new.greatest) }
+        ensures same { (self.new.header ≡ self.old.header) × (self.new.most ≡ self.old.most) }
+    {
+        let line = line_of(record)?;
+        self.make_room(line.len() as u64)?;
+        self.add(line.as_str().as_bytes())?;
+        self.greatest = self.greatest.max(record.after);
+        Ok(())
+    }
+
+    /// Begins the next file, if the last one has no room for so many bytes.
+    fn make_room(&mut self, length: u64) -> io::Result<()>
+        requires { length ≤ 256 }
+        ensures held { OnOk result ((records : List Record)
+            → Holds self.old.header self.old.most records (P.texts self.old.parts) self.old.length self.old.greatest
+            → Holds self.new.header self.new.most records (P.texts self.new.parts) self.new.length self.new.greatest) }
+        ensures room { OnOk result (self.new.length + length ≤ self.new.most) }
+        ensures same { (self.new.header ≡ self.old.header) × (self.new.most ≡ self.old.most) × (self.new.greatest ≡ self.old.greatest) }
+    {
+        if length <= self.most.saturating_sub(self.length) && self.length <= self.most {
+            return Ok(());
+        }
+        let text = header_line(&Header {
+            from: Some(self.greatest),
+            ..self.header
+        })?;
+        self.parts.begin_next()?;
+        self.length = 0;
+        self.add(text.as_str().as_bytes())?;
+        Ok(())
+    }
+
+    /// Adds this to the last file.
+    fn add(&mut self, bytes: &[u8]) -> io::Result<()>
+        requires { self.old.length + length bytes.now ≤ self.old.most }
+        ensures added { OnOk result (Adds bytes.now (P.texts self.old.parts) (P.texts self.new.parts)) }
+        ensures length { self.new.length ≡ self.old.length + length bytes.now }
+        ensures same { (self.new.header ≡ self.old.header) × (self.new.most ≡ self.old.most) × (self.new.greatest ≡ self.old.greatest) }
+    {
+        self.length += bytes.len() as u64;
+        self.parts.add(bytes)
+    }
+
+    /// What was put can be read once this returns.
+    pub(crate) fn flush(&mut self) -> io::Result<()> {
+        self.parts.flush()
+    }
+}
+
+/// The line of a header.
+fn header_line(header: &Header) -> io::Result<ArrayString<MAX_HEADER>>
+    ensures { IfOk result (λ text. text.bytes ≡ header_line header.now) }
+{
+    let mut text = ArrayString::<MAX_HEADER>::new();
+    match writeln!(text, "{header}") {
+        Ok(()) => Ok(text),
+        Err(_) => Err(io::Error::from(ErrorKind::WriteZero)),
+    }
+}
+
+fn line_of(record: &Record) -> io::Result<ArrayString<MAX_LINE>>
+    ensures { IfOk result (λ line. line.bytes ≡ line_of record.now) }
+{
+    let mut line = ArrayString::<MAX_LINE>::new();
+    match writeln!(line, "{record}") {
+        Ok(()) => Ok(line),
+        Err(_) => Err(io::Error::from(ErrorKind::WriteZero)),
+    }
+}

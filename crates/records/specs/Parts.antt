@@ -1,0 +1,24 @@
+-- The texts of the files of a recording, where they are known: the last file is the first of the list. Part of the promises.
+use Rattle.std.specs.Prelude.{◌≡◌, ℕ, List, [], ◌∷◌, ◌++◌, Option, Some, None}
+
+-- the texts are known to be these
+abbrev pub Are : Option (List (List ℕ)) → List (List ℕ) → Type 0
+Are (Some texts) expected = texts ≡ expected
+Are None expected = Unit {0}
+
+-- these bytes are at the end of the last text
+abbrev pub add_to : List ℕ → List (List ℕ) → List (List ℕ)
+add_to bytes [] = bytes ∷ []
+add_to bytes (text ∷ texts) = (text ++ bytes) ∷ texts
+
+abbrev pub Adds : List ℕ → Option (List (List ℕ)) → Option (List (List ℕ)) → Type 0
+Adds bytes (Some old) new = Are new (add_to bytes old)
+Adds bytes None new = new ≡ None
+
+abbrev pub Begins : Option (List (List ℕ)) → Option (List (List ℕ)) → Type 0
+Begins (Some old) new = Are new ([] ∷ old)
+Begins None new = new ≡ None
+
+abbrev pub Stays : Option (List (List ℕ)) → Option (List (List ℕ)) → Type 0
+Stays (Some old) new = Are new old
+Stays None new = new ≡ None
