@@ -53,7 +53,7 @@ test-program: build
 	@tests/relay/run $(PROGRAM)
 	@tests/packages $(PROGRAM)
 
-## make test-drill    plays the server beside the modelled machine; part of the gate
+## make test-drill    plays the server's threads step by step, in memory; part of the gate
 test-drill: build
 	@.ci/build drill
 	@tests/drill/run

@@ -30,8 +30,8 @@ in which nothing has happened: lists are empty, workers idle, directions have no
 
 `recordings` has the acts of recordings. They get the counts from 0 up, but for one with counts before it, which has those;
 times and reports get those of their poll. A last one that ends with `\` has no line feed. After `rests:`, in place of
-`begins:`, all has come to rest when the relay is stopped; after `scripts:` the script of 0.1 is wanted, which WANTED `too
-long` says that it is for `sim`.
+`begins:`, all has come to rest when the relay is stopped; after `scripts:` the script of 0.1 is wanted, which is WANTED, or
+`too long` for `sim`.
 WANTED is `N connections; LINES`, lines of the output, or `WHOSE: ACT: WHY` of an act that can stand nowhere, or
 `malformed: CAUSE`, which has the act in place of its line.
 
@@ -282,6 +282,8 @@ def is_told(wanted, text, status, output, errors):
     if wanted == "too long":
         warning = f"[WARN  relayd] output: the script has {len(output)} bytes, and relayd sim takes at most 1048576\n"
         return (status, errors) == (0, warning.encode()) and len(output) > 1_048_576
+    if wanted.startswith("world "):
+        return (status, output.decode(), errors) == (0, wanted.replace(" | ", "\n") + "\n", b"")
     if wanted.startswith("malformed: "):
         return is_malformed(wanted[11:], text, status, output, errors)
     first, *lines = output.decode().split("\n")

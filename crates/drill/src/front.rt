@@ -1,48 +1,50 @@
+//! Where a poller's connections and reports come from.
 ghost use Rattle.std.specs.Prelude.{◌≡◌, ◌≤◌, true, vec_len, vec_capacity};
 
-use crate::outside::OutsideCell;
-use crate::wire::EndWire;
+use crate::stage::StageCell;
+use crate::wire::StageWire;
 use dispatch::{Front, MAX_BATCH, Opened, Route, Unopened, Waiting};
-use kernel_model::Accepting;
 use log::Log;
 use std::alloc::{AllocError, Global};
 use std::io::{self, ErrorKind};
 use std::net::SocketAddr;
-use token::{Name, Token};
+use token::Token;
 
-/// A poller's front over modelled kernels: those of the machines of its slots and its listener.
+/// A poller's front.
 #[derive(Drop)]
-pub struct KernelFront {
-    outside: OutsideCell,
+pub struct StageFront {
+    alloc: Global,
+    stage: StageCell,
     poller: usize,
-    /// The numbers that the last poll gave.
+    /// The numbers that the last wait reported.
     reported: Vec<u64>,
-    /// For how many milliseconds the last poll would have waited.
+    /// For how many milliseconds the last wait would have waited.
     waited: u64,
     listening: bool,
     pub ghost few: { vec_len reported ≤ 256 },
     pub ghost room: { 256 ≤ vec_capacity reported },
 }
 
-impl KernelFront {
+impl StageFront {
     /// Makes a front that has reported nothing.
-    pub fn new(
-        alloc: Global,
-        outside: OutsideCell,
-        poller: usize,
-    ) -> Result<KernelFront, AllocError> {
-        Ok(KernelFront {
-            outside,
+    pub fn new(alloc: Global, stage: StageCell, poller: usize) -> Result<StageFront, AllocError> {
+        Ok(StageFront {
+            alloc,
+            stage,
             poller,
             reported: Vec::with_capacity(alloc, MAX_BATCH)?,
             waited: 0,
             listening: true,
         })
     }
+
+    fn note(&self, line: Result<String, AllocError>) {
+        self.stage.with((), |stage| stage.note(line));
+    }
 }
 
-/// Puts the names' numbers into two empty lists, [`MAX_BATCH`] at most.
-fn fill(batch: &mut Vec<u64>, reported: &mut Vec<u64>, names: &[Name])
+/// Puts numbers into two empty lists, [`MAX_BATCH`] at most.
+fn fill(batch: &mut Vec<u64>, reported: &mut Vec<u64>, numbers: &[u64])
     requires batch { (vec_len batch.old ≡ 0) × (MAX_BATCH ≤ vec_capacity batch.old) }
     requires reported { (vec_len reported.old ≡ 0) × (MAX_BATCH ≤ vec_capacity reported.old) }
     requires same { batch.old.items ≡ reported.old.items }
@@ -50,81 +52,73 @@ fn fill(batch: &mut Vec<u64>, reported: &mut Vec<u64>, names: &[Name])
     ensures batch { (vec_len batch.new ≤ MAX_BATCH) × (vec_capacity batch.new ≡ vec_capacity batch.old) }
     ensures reported { (vec_len reported.new ≤ MAX_BATCH) × (vec_capacity reported.new ≡ vec_capacity reported.old) }
 {
-    for name in names {
+    for number in numbers {
         if batch.len() < MAX_BATCH && reported.len() < MAX_BATCH {
-            batch.push_reserved(name.number());
-            reported.push_reserved(name.number());
+            batch.push_reserved(*number);
+            reported.push_reserved(*number);
         }
     }
 }
 
-impl Front for KernelFront {
+impl Front for StageFront {
     ghost seen = { λ f. record { reported = f.reported.items; failed = true; waited = f.waited; longest = 0; listens = f.listening } };
 
-    type Client = EndWire;
+    type Client = StageWire;
 
-    type Target = EndWire;
+    type Target = StageWire;
 
-    type Waker = OutsideCell;
+    type Waker = StageCell;
 
     /// Never waits: no report could come while the only thread waits.
     fn poll(&mut self, batch: &mut Vec<u64>, wait: Waiting) -> io::Result<()> {
         self.waited = wait.millis(0);
         batch.clear();
         self.reported.clear();
-        let (in_use, poller) = (Err(io::Error::from(ErrorKind::Other)), self.poller);
-        let names = self.outside.with(in_use, |outside| outside.poll(poller))?;
-        fill(batch, &mut self.reported, names.as_slice());
+        let (in_use, poller) = (Err(ErrorKind::Other), self.poller);
+        let numbers = self.stage.with(in_use, |stage| stage.poll(poller))?;
+        fill(batch, &mut self.reported, numbers.as_slice());
         Ok(())
     }
 
-    fn accept(&mut self) -> io::Result<EndWire> {
-        let (shared, poller) = (self.outside.share()?, self.poller);
-        let kind = match shared.with(Accepting::Starved, |outside| outside.accept(poller)) {
-            Accepting::Accepted => return Ok(EndWire::new(shared, None, true)),
-            Accepting::Blocked => ErrorKind::WouldBlock,
-            Accepting::Again => ErrorKind::ConnectionAborted,
-            Accepting::Starved => ErrorKind::Other,
-        };
-        Err(io::Error::from(kind))
+    fn accept(&mut self) -> io::Result<StageWire> {
+        let (stage, poller) = (self.stage.share()?, self.poller);
+        stage.with(Err(ErrorKind::Other), |stage| stage.accept(poller))?;
+        Ok(StageWire::new(self.alloc, stage, None, true))
     }
 
-    fn lacked_memory(&mut self) {}
+    fn lacked_memory(&mut self) {
+        self.note(format!(in self.alloc; "a lack of memory is told"));
+    }
 
     fn stop_listening(&mut self) {
         self.listening = false;
-        let poller = self.poller;
-        self.outside
-            .with((), |outside| outside.stop_listening(poller));
     }
 
     fn open<N: Log>(
         &mut self,
         _rt: &N,
-        client: &mut EndWire,
+        client: &mut StageWire,
         client_token: Token,
         target_token: Token,
-    ) -> Result<Opened<EndWire>, Unopened> {
-        let shared = self.outside.share().or(Err(Unopened::Connect))?;
-        let poller = self.poller;
-        shared.with(Err(Unopened::Connect), |outside| {
-            outside.open(poller, client_token, target_token)
-        })?;
+    ) -> Result<Opened<StageWire>, Unopened> {
+        let (alloc, poller) = (self.alloc, self.poller);
+        let stage = self.stage.share().or(Err(Unopened::Connect))?;
+        stage.with(
+            Err(Unopened::Connect),
+            |stage| stage.open(poller, client_token),
+        )?;
         client.open(client_token);
         Ok(Opened {
-            target: EndWire::new(shared, Some(target_token), false),
-            route: Route {
-                client: None,
-                accepted: None,
-            },
+            target: StageWire::new(alloc, stage, Some(target_token), false),
+            route: Route::UNTOLD,
         })
     }
 
-    fn wake(waker: &OutsideCell, slot: usize) {
-        waker.with((), |outside| outside.wake(slot));
+    fn wake(waker: &StageCell, slot: usize) {
+        waker.with((), |stage| stage.wake(slot));
     }
 
-    fn peer(client: &EndWire) -> Option<SocketAddr> {
-        client.peer()
+    fn peer(_client: &StageWire) -> Option<SocketAddr> {
+        None
     }
 }

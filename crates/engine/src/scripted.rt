@@ -1,4 +1,4 @@
-//! A wire that gives written answers, for tests and the drill.
+//! A wire that gives written answers, for tests.
 ghost use Rattle.std.specs.{Prelude.{◌≡◌, ◌≤◌, Some, [], ◌++◌, take, drop, length, vec_len, IfOk, IfErr}, IoError.error_kind};
 ghost use Rattle.engine.specs.{Classes.{class_by, counted}, Wires.bytes_of};
 

@@ -1,5 +1,5 @@
 //! The header of a world's script, and the line of an event, as the crate `script_text` reads them. No clause says
-//! what is written: in tests, `sim` reads what a drill or a recording has written.
+//! what is written: in tests, `sim` reads what a replay has written.
 
 use crate::page::{Page, Piece, put_all};
 use crate::word::word_of;
