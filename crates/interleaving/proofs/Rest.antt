@@ -1,6 +1,5 @@
 -- Left alone, the threads come to rest: each step leaves a sound state, which the relay's own steps make lighter.
-pub mod Replies
-pub mod Kernels
+pub mod Weights
 pub mod Acts
 pub mod Stops
 use Rattle.std.{proofs.{Common.{Bool, List, None, Some, [], ap, arith, false, if◌then◌else◌, length, not, refl, slice_get, suc, true, zero, ℕ, ◌&&◌, ◌++◌, ◌+◌, ◌-◌, ◌*◌, ◌==◌, ◌∙◌, ◌∷◌, ◌≡◌, ◌≤◌, ◌<◌, ltb-true, nat_le, nat_lt}, lemmas.{Bool.{and_parts}, Option.{option_and_then_some}, List.{length-replicate}}}, specs.{Cmp.{first_so, second_so}, List.list_all}}
@@ -11,7 +10,7 @@ use Rattle.world.{proofs.Headline.Ends.Pairs.Holders.{Turns, turns_after, Events
 use Rattle.interleaving.specs.{Likeness.{EveryInterleavingIsARun, IsARun, NoActInVain}, Threads.{Act, open_slot, Accept, Acts as DoesAct, Begin, Calls, Connect, Deliver, Drop, Network, Open, Poll, Spurious, Step, Sweep, System, Thread, Tick, Vanish, delivers, goes_on, is_over, poller_rests, posted, resting, rests, run, start, step, watched_of}, Rest.{LeftAloneItEnds, LeftAloneItRests, is_own, weight}}
 use Rattle.interleaving.proofs.Runs.{run_on}
 use Acts.{Fine, Known, Sound, acts_fine, begins_fine, calls_fine, goes, known, posted_weighs}
-use Kernels.{polled, not_so}
+use Weights.{polled}
 use Stops.{counted_after, no_batch, no_client, no_clients, no_program, no_queue, no_tickets, still}
 use Rattle.kernel_model.specs.Kernel as kernel
 use Rattle.token.specs.declared.name.Name.TheVariants as name
@@ -28,10 +27,8 @@ module _ {l : Limits} {st : System} (s : Sound l st) where
   other : {next : System} → Sound l next → Fine l st false next
   other sound = record { sound = sound; lighter = λ own. absurd (cc) }
 
-  abbrev Lighter : System → Type 0
-  Lighter next = weight next + 1 ≤ weight st
-
-  accepts : st.accepted ≡ false → nat_lt 0 st.kernel.backlog ≡ true → Lighter (record st { accepted = true; kernel = record st.kernel { backlog = st.kernel.backlog - 1 } })
+  accepts : st.accepted ≡ false → nat_lt 0 st.kernel.backlog ≡ true
+      → weight (record st { accepted = true; kernel = record st.kernel { backlog = st.kernel.backlog - 1 } }) + 1 ≤ weight st
   accepts none some = by _ _ _ _ _ _ st.kernel.backlog _ (rw none refl) (ltb-true 0 st.kernel.backlog some)
     where
       by : (e x c y f r b n : ℕ) → n ≡ 0 → 0 < b → ((e + (x + (1 + c) * (b - 1))) + ((y + (f + c * 1)) + r)) + 1 ≤ (e + (x + (1 + c) * b)) + ((y + (f + c * n)) + r)
@@ -47,10 +44,6 @@ module _ {l : Limits} {st : System} (s : Sound l st) where
       by : (b : Bool) → Fine l st true (record (if b then posted st n.generation else st) { batch = rest })
       by true = record { sound = assumption s; lighter = λ own. rw is (omega (arith, posted_weighs st n.generation)) }
       by false = record { sound = assumption s; lighter = λ own. rw is (omega arith) }
-
-  -- a thread at rest has begun nothing
-  rested : {X : Type 0} → poller_rests st ≡ true → (t : Thread) → slice_get st.threads 0 ≡ Some t → t.todo ≡ open_slot → X
-  rested may t at opens = let over : is_over t.todo ≡ true = rw at at may in absurd (cc)
 
   -- any step
 
@@ -72,7 +65,8 @@ module _ {l : Limits} {st : System} (s : Sound l st) where
   fine each nothing (Accept Starved) = kept_when _ _ (λ may. kept_some (other s))
   fine each nothing Drop = kept_guard _ _ (λ may.
       let free : false ≡ true → 1 ≤ st.free = λ yes. absurd (cc) in
-      let begun : (t : Thread) → slice_get st.threads 0 ≡ Some t → t.todo ≡ open_slot → false ≡ true = rested (first_so (poller_rests st) _ may) in
+      let begun : (t : Thread) → slice_get st.threads 0 ≡ Some t → t.todo ≡ open_slot → false ≡ true =
+      λ t at opens. (let over : is_over t.todo ≡ true = rw at at (first_so (poller_rests st) _ may) in absurd (cc)) in
       record { sound = assumption (s, free, begun); lighter = λ own. rw (second_so (poller_rests st) st.accepted may) (omega arith) })
   fine each nothing (Poll names) = kept_when (poller_rests st && (length st.batch == 0)) _ (λ may. kept_over _ (kernel.poll st.kernel names.items) (kept_guard _ _ (λ can.
       let parts = and_parts (are_among st.kernel.queue names.items) (are_distinct names.items) (second_so (nat_le (length names.items) 256) _ can) in

@@ -4,7 +4,7 @@
 use Rattle.std.specs.{List.list_all, Prelude.{◌≡◌, ℕ, ◌+◌, ◌*◌, ◌<◌, ◌≤◌, Bool, true, false, not, ◌&&◌, nat_lt, nat_le, if◌then◌else◌, List, [], ◌∷◌, length, slice_get, Option, Some, None, ◌⊎◌}}
 use Rattle.token.specs.{declared.direction.Direction.Direction, Names.last_generation, Sides.{destination, opposite}}
 use Rattle.flow.specs.Stream.{Stream, waiting}
-use Rattle.kernel_model.specs.{declared.{reply.Reply.Reply, accepting.Accepting.{Accepting, TheVariants.{Accepted, Blocked, Again, Starved}}}, Kernel.{KernelState, Registered}}
+use Rattle.kernel_model.specs.{declared.{reply.Reply.Reply, accepting.Accepting.{Accepting, TheVariants.{Accepted, Blocked}}}, Kernel.{KernelState, Registered}}
 use Rattle.relay_core.specs.{declared.flags.Flags.Flags, Pairs.{PairState, stream_of, is_joined, fresh}, Order.is_drained}
 use Rattle.claims.specs.Words.{some_wait, one}
 use Rattle.world.specs.{declared.{connection.Connection.Connection, limits.Limits.Limits}, Due.{due, movable}, Support.total}
@@ -18,8 +18,7 @@ use Rattle.kernel_model.specs.declared.reply.Reply.TheVariants as reply
 abbrev pub is_settled : Accepting → Bool
 is_settled Accepted = true
 is_settled Blocked = true
-is_settled Again = false
-is_settled Starved = false
+is_settled reply = false
 
 -- the call was not interrupted
 abbrev pub is_answered : Reply → Bool

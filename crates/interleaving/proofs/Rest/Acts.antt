@@ -7,7 +7,7 @@ use Rattle.token.specs.{Names.{EndName, last_generation}, declared.{side.Side.{S
 use Rattle.world.{proofs.Headline.Ends.Pairs.Holders.{Events.Lists.{Kept, at_one, kept_at, kept_bind, kept_map, kept_none, kept_some, kept_when, opened_here, opened_other, total-set}, Turns}, specs.{Calls.{called, descriptor}, Headline.{end_of}, Slots.{SlotState, WorkerState}, States.State, Steps.{connection_at, is_worn, token_of}, declared.{connection.Connection.Connection, limits.Limits.Limits}}}
 use Rattle.interleaving.specs.{Likeness.{Adopted, Emptied, Entered, Goes, HasClosed, HasOut, HasRetired, Holds, IsHalfOpen, IsHolder, IsSettled, Leaves, Like, Opens, Placed, Posted, Registered as IsRegistered, Rests, Stage, Stays, ThreadLike, Tries, Finds, machine_of, opened_slot}, Threads.{Act, Call, again, ended, open_slot, plan, quiet, turn, System, Thread, acts, begun, calls, goes_on, heard, planned, posted, registering, released, taken_out, taking, with_thread}, Rest.{calls_left, calls_to_come, is_answered, kernel_weight, pair_weight, poller_weight, post_weight, program_weight, slot_weight, spent_weight, thread_weight, ticket_weight, weight}}
 use Rattle.kernel_model.specs.Kernel as kernel
-use Rattle.interleaving.proofs.{Runs.{count_free, Programs.{PairCall, by_plan, chosen}}, Rest.{Replies.{four_left, some_left, rest_most, rest_weight, calls_answered}, Kernels.{both_opened, both_closed}}}
+use Rattle.interleaving.proofs.{Runs.{count_free, Programs.{PairCall, by_plan, chosen}}, Rest.Weights.{four_left, some_left, rest_most, rest_weight, calls_answered, both_opened, both_closed}}
 
 -- Which programs there are
 
@@ -236,7 +236,6 @@ module _ {l : Limits} {st : System} (s : Sound l st) (i : ℕ) (t : Thread) (the
       goes _ _ refl (assumption s) (λ e. refl) (not_opening (t.left - 1) (expired st.second st.limits.idle line.connection.pair)) (λ settled.
       let a = kept_at (called st.second (record { kernel = st.kernel; connection = c }) r) line replied (calls_answered st.second (record { kernel = st.kernel; connection = c }) r settled) in
       rw (is, has, a.queue, a.backlog) (omega (arith, a.lighter t.left, planned_weighs st t (t.left - 1) line.connection)))))
-  calls_fine r Nothing is = kept_none
   calls_fine r _ is = kept_none
 
   pub begins_fine : (most : ℕ) (tickets : List ℕ) → st.tickets ≡ tickets → t.todo ≡ [] → Kept (Fine l st (nat_le 4 most)) (begun st i most tickets)

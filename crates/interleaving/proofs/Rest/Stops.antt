@@ -7,7 +7,7 @@ use Rattle.relay_core.specs.{Calls.side_of, Order.next_call, declared.call.Call.
 use Rattle.world.{proofs.Headline.Ends.Pairs.Holders.{Events.{Happens, Ticks, holds_after, Lists.{get-set_other, total_none}}, SlotOk, Turns, facts, worker_closes, worker_holds}, specs.{Calls.{OpenConnection, descriptor}, Due.{due, due_place, has_ticket}, Headline.{ListenerHolds}, Slots.{SlotState, WorkerState, is_by_worker, is_held}, States.{State, opening, resting as idle_worker}, Steps.{token_of}, Support.{one, total, worker_tickets}, declared.{actors.Holder.{Holder, TheVariants.{By, Free, Nobody}}, connection.Connection.Connection, event.Event.Event, limits.Limits.Limits}}}
 unfoldable use Rattle.world.specs.Calls.{called}
 use Rattle.interleaving.specs.{Likeness.{IsHalfOpen, IsSettled, Like, Settled, machine_of}, Threads.{Accept, Act, Acts as DoesAct, Begin, Calls, Deliver, Drop, Poll, System, Thread, acts, ended, is_over, open_slot, poller_rests, registering, resting}, Rest.{HasStopped}}
-use Rattle.interleaving.proofs.{Runs.{stage_acts, Programs.{rests_like, some_there}}, Rest.{Acts.{Known, Nothing, Opening, Adopting, Calling, Ending, Sound}, Kernels.same_self}}
+use Rattle.interleaving.proofs.{Runs.{stage_acts, Programs.{rests_like, some_there}}, Rest.{Acts.{Known, Nothing, Opening, Calling, Ending, Sound}, Weights.same_self}}
 use Rattle.kernel_model.specs.Kernel as kernel
 use Rattle.kernel_model.specs.declared.reply.Reply.TheVariants as reply
 use Rattle.world.specs.Runs as machine_runs
@@ -61,7 +61,6 @@ module _ {l : Limits} {st : System} (sound : Sound l st) (stopped : HasStopped s
         let b = some_there (end_at st.kernel.ends c.ends.target) (out.open_ends Target) in
         let none = no_act {todo = ended} is in
         closes_on st.kernel c.ends a.0 b.0 a.1 b.1 (sound.apart c.ends out.ends) (mapped _ (kernel.close_both st.kernel c.ends) (rw out.out at none)))
-    no_program Adopting is = let none = no_act is in cc
     no_program known is = let none = no_act is in cc
 
   -- The poller and the tickets
