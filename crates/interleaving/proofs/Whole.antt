@@ -112,10 +112,7 @@ one_reported queue b = grind (arith, length-append {A = Name})
 
 -- a client that connects at the slot
 connects_weigh : (st : System) → Kept (λ (q : System). slot.weight q ≤ slot.weight st + ((1 + client_weight st.limits) + 17)) (alone.step st alone.Connect)
-connects_weigh st = kept_over _ (kernel.connect_in st.kernel) (kept_guard _ _ (λ few. sums _ _ _ _ _ _ (one_reported st.kernel.queue st.kernel.armed)))
-  where
-    sums : (e q q' c b r : ℕ) → q' ≤ q + 1 → (e + (17 * q' + (1 + c) * (b + 1))) + r ≤ ((e + (17 * q + (1 + c) * b)) + r) + ((1 + c) + 17)
-    sums e q q' c b r more = omega arith
+connects_weigh st = kept_over _ (kernel.connect_in st.kernel) (kept_guard _ _ (λ few. omega (arith, one_reported st.kernel.queue st.kernel.armed)))
 
 -- One step
 

@@ -46,14 +46,11 @@ some_left p call next = by (either p call next)
     by (Second none at) = some (passes_on p p.turn) (passes_on p (opposite p.turn)) _ (λ none also. has_one p (opposite p.turn) call at also)
 
 -- and at most four
-few : (f : Flags) → flags_up f ≤ 2
-few f = grind arith
-
 pub four_left : (p : PairState) → calls_left p ≤ 4
-four_left p = most (passes_on p p.turn) (passes_on p (opposite p.turn)) _ (omega (arith, few p.client, few p.target))
+four_left p = most (passes_on p p.turn) (passes_on p (opposite p.turn)) p.client p.target
   where
-    most : (first second : Bool) (n : ℕ) → n ≤ 4 → left_by first second n ≤ 4
-    most first second n least = grind arith
+    most : (first second : Bool) (f g : Flags) → left_by first second (flags_up f + flags_up g) ≤ 4
+    most first second f g = grind arith
 
 -- A call that would block
 

@@ -284,9 +284,8 @@ module _ {st : System} {p : SlotState} {workers : List WorkerState} (set : Settl
 
   delivers_all : (batch : List Name) → st.batch ≡ batch → Kept (Follows [] (exchange st.word (posts st batch)) world Deliver) (delivers st batch)
   delivers_all [] is = kept_none
-  delivers_all (name.Listener ∷ rest) is = kept_some (alone (settled_frame set) (event.Poll polling.Deliver) (λ more. rw is))
-  delivers_all (name.Waker ∷ rest) is = kept_some (alone (settled_frame set) (event.Poll polling.Deliver) (λ more. rw is))
   delivers_all (name.End n ∷ rest) is = kept_some (delivers_end n rest is (cases_eq n.slot 0) (st.entry == n.generation) refl)
+  delivers_all (n ∷ rest) is = kept_some (alone (settled_frame set) (event.Poll polling.Deliver) (λ more. rw is))
 
   pub reports : Kept (Follows [] (exchange st.word (kind_in st Deliver)) world Deliver) (step st Deliver)
   reports = kept_when (poller_rests st) _ (λ b. delivers_all st.batch refl)

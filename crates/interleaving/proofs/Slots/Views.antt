@@ -112,9 +112,8 @@ taken_here test ts c is s own most =
 
 pub fewer_names : (s : ℕ) (rs : List Report) → length (names_at s rs) ≤ length rs
 fewer_names s [] = omega arith
-fewer_names s (Listener ∷ rs) = let h = fewer_names s rs in omega arith
-fewer_names s (Waker ∷ rs) = let h = fewer_names s rs in omega arith
 fewer_names s (Of t n ∷ rs) = let h = fewer_names s rs in grind (arith, nat_tests)
+fewer_names s (r ∷ rs) = let h = fewer_names s rs in omega arith
 
 -- what a poll may give is queued at each slot, once
 pub record Queued (s : ℕ) (queue : List Name) (rs : List Report) : Type 0 where
