@@ -16,6 +16,7 @@ pub trait Put<T> {
 
     ghost refused: { Self → Self → Type 0 };
 
+    /// Puts an item. Full gives it back.
     fn put<R: Wait>(&mut self, rt: &R, item: T) -> Result<(), Full<T>>
         ensures put { OnOk result (did_put self.old item self.new) }
         ensures given_back { IfErr result (λ full. full.0 ≡ item) }
@@ -35,6 +36,7 @@ pub trait Source {
     /// What clauses say of it.
     type State;
 
+    /// Looks once. None: it held nothing at one moment.
     fn look<R: Wait>(&mut self, rt: &R) -> Option<Self::Found>
         ensures found { IfSome result (λ it. found (state self.old) it (state self.new)) }
         ensures none { IfNone result ((state self.new ≡ state self.old) × held_none self.new) };

@@ -1,9 +1,9 @@
 //! A relay's recording that was read ([`Recording`]), and whether threads can have done what it says.
 //!
-//! `reading` reads the file into the lists of `recording`, but for what `beginning` leaves out, and `order` finds where they are no longer complete. What
-//! no thread does is refused: two acts at once (`order`), a turn that read no second (`clock`), an act that has no
-//! place in its round (`round`), more turns at once than threads (`threads`), a read of which nobody heard (`reads`).
-//! `rounds` finds what was posted when: for reports, and in sweeps.
+//! `reading` reads the file into the lists of `recording`, but for what `beginning` leaves out, and `order` finds where
+//! they are no longer complete. What no thread does is refused: two acts at once (`order`), a turn that read no second
+//! (`clock`), an act that has no place in its round (`round`), more turns at once than threads (`threads`), a read of
+//! which nobody heard (`reads`). `rounds` finds what was posted when: for reports, and in sweeps.
 //!
 //! An [`Account`] is what a connection has come to, by its records alone, in a few numbers, and [`Times`] is when.
 #![tactic(auto)]

@@ -68,7 +68,8 @@ pub fn serve<
 /// Serves as [`serve`] does. If there are files, what each thread does is recorded into them until the server ends, each
 /// of at most `most` bytes; the last line then says that all is recorded. A thread of its own writes them, and the
 /// call returns once all is written. If records come faster than that thread writes, or a file cannot be written, the
-/// recording ends, a warning is logged, and the server serves on. The recording may also refuse to begin, with `NoMemory` or `Threads`.
+/// recording ends, a warning is logged, and the server serves on. The recording may also refuse to begin, with
+/// `NoMemory` or `Threads`.
 pub fn serve_recorded<
     G: Gate + Sync,
     C: Clock + Sync,

@@ -174,8 +174,8 @@ IsLeft (Ok worked.Quiet) pair = outcome_of pair ≡ turn.Quiet
 IsLeft result pair = outcome_of pair ≡ turn.Again
 
 -- A turn that is Gone found no connection of the ticket's generation, and put back what it found. One that got its slot and is
--- not Gone found the ticket's own, played it after it took these notes, and put it back or closed it; one that is refused, since its seat is worn, put
--- it back, as one that answers Again. A busy turn does not look
+-- not Gone found the ticket's own, played it after it took these notes, and put it back or closed it; one that is refused, since
+-- its seat is worn, put it back, as one that answers Again. A busy turn does not look
 abbrev pub Handles : {C T : Type 0} → Playing C T → ℕ → Ticket → Result Worked ServerFault → Handled C T → Type 0
 Handles plays notes ticket (Ok worked.Busy) h = Unit {0}
 Handles plays notes ticket (Ok worked.Gone) h = IfSome h.found (λ berth. berth.pair.generation ≢ ticket.generation) × (h.left ≡ h.found)
