@@ -54,7 +54,7 @@ test-program: build
 	@tests/packages $(PROGRAM)
 
 ## make test-drill    plays the server's threads step by step, in memory; part of the gate
-test-drill: build
+test-drill:
 	@.ci/build drill
 	@tests/drill/run
 
