@@ -109,9 +109,6 @@ module _ (core : CoreLaws) (laws : EveryInterleavingIsARun) (l : Limits) (alone 
 pub comes_to_rest : CoreLaws → EveryInterleavingIsARun → LeftAloneItEnds
 comes_to_rest core laws l before own st next alone ran are led = (went core laws l alone before own st next ran (from_start core laws l alone before st ran) led).1 are
 
-not_movable : (b : Bool) (d : Bool) → (b ≡ true → d ≡ true) → d ≡ false → b ≡ false
-not_movable b d so none = grind arith
-
 pub at_rest : CoreLaws → EveryInterleavingIsARun → LeftAloneItRests
 at_rest core laws l steps st alone some below four ran stopped =
     let r = laws l steps st alone ran in
@@ -133,5 +130,5 @@ at_rest core laws l steps st alone some below four ran stopped =
       clients = no_clients sound stopped some over accepted last.waits st.free refl;
       notes = last.notes;
       due = last.due;
-      movable = λ s. not_movable (movable r.world s) (due r.world s) (r.holds.due s) (last.due s);
+      movable = λ s. let due = r.holds.due s in let none = last.due s in grind arith;
     }

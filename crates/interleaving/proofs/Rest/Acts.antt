@@ -150,20 +150,16 @@ planned_weighs st t left c =
     omega (arith, plan_weighs left p (record c { pair = p }) refl, same.0, same.1)
   where
     by : (b : Bool) → let p = if b then timed_out c.pair else c.pair in (pair_weight p ≡ pair_weight c.pair) × (rest_weight left p ≤ rest_weight left c.pair)
-    by true = (refl, (rest_most left c.pair).0)
-    by false = (refl, omega arith)
+    by b = let most = rest_most left c.pair in grind arith
 
 heard_weighs : (notes : ℕ) (c : Connection) → pair_weight (heard notes c).pair ≤ pair_weight c.pair + 4
 heard_weighs notes c = grind arith
 
-one_more : (b : Bool) (tickets : List ℕ) (g : ℕ) → length (if b then tickets ++ g ∷ [] else tickets) ≤ length tickets + 1
-one_more b tickets g = grind (arith, length-append {A = ℕ})
-
 pub posted_weighs : (st : System) (g : ℕ) → slot_weight (posted st g) ≤ slot_weight st + post_weight
-posted_weighs st g = omega (arith, one_more (wakes st.word) st.tickets g)
+posted_weighs st g = grind (arith, length-append {A = ℕ})
 
 released_weighs : (st : System) (g : ℕ) → slot_weight (released st g) ≤ slot_weight st + ticket_weight
-released_weighs st g = omega (arith, one_more (some_wait st.word.pending) st.tickets g)
+released_weighs st g = grind (arith, length-append {A = ℕ})
 
 -- A step of one thread
 

@@ -213,10 +213,7 @@ count names q = total (λ x. one (has x names)) q
 -- a name that is not among others counts beside them
 counts_beside : (n : Name) (ns q : List Name) → has n ns ≡ false → count ns q + total (λ x. one (same n x)) q ≤ count (n ∷ ns) q
 counts_beside n ns [] other = omega arith
-counts_beside n ns (x ∷ q) other = by (has x ns) (same n x) (same x n) _ _ _ (λ it. let is = same_is n x it in rw (← is) (other, same_self n)) (counts_beside n ns q other)
-  where
-    by : (a b c : Bool) (k m j : ℕ) → (b ≡ true → (a ≡ false) × (c ≡ true)) → k + m ≤ j → (one a + k) + (one b + m) ≤ one (c || a) + j
-    by a b c k m j apart rest = grind arith
+counts_beside n ns (x ∷ q) other = let rest = counts_beside n ns q other in let is = same_is n x in grind (arith, same_self)
 
 counts_once : (n : Name) (q : List Name) → has n q ≡ true → 1 ≤ total (λ x. one (same n x)) q
 counts_once n [] h = absurd (cc)
@@ -255,9 +252,8 @@ with_one ends d r =
 pub both_opened : (k : KernelState) (client target : EndName) → sockets (kernel.open_both k client target).value.ends ≤ sockets k.ends
 both_opened k client target =
     let first = (kernel.open_end k client).value in
-    let one = with_one k.ends (lowest_free k.ends) (record { token = client; socket = opened client.side }) in
     let two = with_one first.ends (lowest_free first.ends) (record { token = target; socket = opened target.side }) in
-    omega arith
+    omega (arith, with_one k.ends (lowest_free k.ends) (record { token = client; socket = opened client.side }))
 
 -- A closing
 
