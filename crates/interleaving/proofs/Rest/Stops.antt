@@ -120,18 +120,6 @@ counted st e q h _ = omega (arith, length-set {A = WorkerState})
 pub counted_after : (l : Limits) (events : List Event) (w : State) → machine_runs.run (opening l) events ≡ Some w → length w.workers ≡ w.limits.workers
 counted_after l events w ran = holds_after (λ (q : State). length q.workers ≡ q.limits.workers) counted (opening l) w events (length-replicate {A = WorkerState} l.workers idle_worker) ran
 
-nobody_holds : (h : Holder) (has : Bool) → one (is_by_worker h && has) ≡ 0 → one (is_by_worker h && not has) ≡ 0 → is_by_worker h ≡ false
-nobody_holds h has a b = grind arith
-
-nothing_in : (xs : List ℕ) → one (is_nonempty xs) ≡ 0 → length xs ≡ 0
-nothing_in xs none = grind (arith, nat_tests)
-
-without : (o : Option Connection) → not (is_some o) ≡ true → option_map (λ (c : Connection). c.ends) o ≡ None
-without o none = grind arith
-
-nobody_waits : (n : ℕ) → (n == 0) || (false || false) ≡ true → n ≡ 0
-nobody_waits n h = grind (arith, nat_tests)
-
 -- nothing is due, no note waits but in a slot without a connection, and no client where the accept flag is down
 pub record Still (st : System) (w : State) : Type 0 where
   pub due : (s : ℕ) → due w s ≡ false
@@ -145,7 +133,7 @@ module _ {l : Limits} (st : System) (sound : Sound l st) (over : (i : ℕ) (t : 
   settled_still p workers set turns listens count = record {
     due = not_due;
     notes = by p.holder refl (rw tickets at ok.tickets);
-    waits = λ down. nobody_waits st.kernel.backlog (rw (batch, queue) at (listens down));
+    waits = λ down. let none = rw (batch, queue) at (listens down) in grind (arith, nat_tests);
   }
     where
       idle : workers ≡ replicate (length workers) idle_worker
@@ -159,7 +147,10 @@ module _ {l : Limits} (st : System) (sound : Sound l st) (over : (i : ℕ) (t : 
       ok = turns.each 0 p refl
 
       holder : is_by_worker p.holder ≡ false
-      holder = nobody_holds p.holder (is_some p.connection) (sym ok.holding ∙ none (worker_holds 0) refl) (sym ok.closing ∙ none (worker_closes 0) refl)
+      holder =
+          let holds = sym ok.holding ∙ none (worker_holds 0) refl in
+          let closes = sym ok.closing ∙ none (worker_closes 0) refl in
+          grind arith
 
       not_due : (s : ℕ) → due (machine_of st p st.entry st.tickets workers) s ≡ false
       not_due zero = lies p.connection
@@ -170,9 +161,9 @@ module _ {l : Limits} (st : System) (sound : Sound l st) (over : (i : ℕ) (t : 
       not_due (suc s) = refl
 
       by : (h : Holder) → p.holder ≡ h → 0 + (0 + total (worker_tickets 0) workers) ≡ one (not (is_held p.holder) && is_nonempty p.notes) → (st.word.pending ≡ 0) ⊎ (st.ends ≡ None)
-      by Nobody is made = let now = rw is at made in inl (rw set.word (nothing_in p.notes (omega (arith, none (worker_tickets 0) refl))))
+      by Nobody is made = let now = rw is at made in inl (rw set.word (let zero : one (is_nonempty p.notes) ≡ 0 = omega (arith, none (worker_tickets 0) refl) in grind (arith, nat_tests)))
       by (By j) is made = cc (holder)
-      by Free is made = inr (set.ends ∙ without p.connection (rw is at ok.shape))
+      by Free is made = inr (set.ends ∙ (let no = rw is at ok.shape in grind arith))
 
   pub still : (w : State) → Like st w → Turns w → ListenerHolds w → length w.workers ≡ w.limits.workers → Still st w
   still w (IsSettled p workers is set) turns listens count = rw is (settled_still p workers set (rw is at turns) (rw is at listens) (rw is at count))
