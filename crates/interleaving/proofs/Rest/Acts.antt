@@ -105,9 +105,6 @@ pub record Fine (l : Limits) (st : System) (own : Bool) (next : System) : Type 0
 abbrev others_weight : System → ℕ
 others_weight st = kernel_weight st.limits st.kernel + (poller_weight st + slot_weight st)
 
-one_end : (ends : List (Option Registered)) {d e : ℕ} (a b : Registered) → end_at ends d ≡ Some a → end_at ends e ≡ Some b → d ≡ e → a ≡ b
-one_end ends a b at also same = cc (ap (end_at ends) same)
-
 two_ends : (k : KernelState) (client target : EndName) → client.side ≡ Client → target.side ≡ Target
     → (kernel.open_both k client target).told.client ≢ (kernel.open_both k client target).told.target
 two_ends k client target this that same =
@@ -115,7 +112,7 @@ two_ends k client target this that same =
     let a : Registered = record { token = client; socket = opened client.side } in
     let b : Registered = record { token = target; socket = opened target.side } in
     let still = opened_other first.ends (lowest_free k.ends) b (opened_here k.ends a) in
-    let both = one_end (kernel.open_both k client target).value.ends a b still (opened_here first.ends b) same in
+    let both : a ≡ b = cc (still, opened_here first.ends b, ap (end_at (kernel.open_both k client target).value.ends) same) in
     let sides : Client ≡ Target = sym this ∙ (ap (λ (r : Registered). r.token.side) both ∙ that) in
     cc
 
@@ -127,12 +124,6 @@ side_is side g n is = grind (arith, common_steps)
 spent_none : (left : ℕ) → spent_weight left 0 ≡ 0
 spent_none left = grind (arith, nat_tests)
 
-spent_full : (left : ℕ) → 4 ≤ left → spent_weight left 4 ≡ 0
-spent_full left four = grind (arith, nat_tests)
-
-spent_all : (left n : ℕ) → left ≡ 0 → 1 ≤ n → spent_weight left n ≡ post_weight
-spent_all left n none some = grind (arith, nat_tests)
-
 spent_more : (left m n : ℕ) → m ≤ n → spent_weight left m ≤ spent_weight left n
 spent_more left m n more = grind (arith, nat_tests)
 
@@ -140,7 +131,8 @@ spent_more left m n more = grind (arith, nat_tests)
 plan_weighs : (left : ℕ) (p : PairState) (c : Connection) → c.pair ≡ p → program_weight (plan left p) + spent_weight left (calls_to_come (plan left p) (Some c)) ≤ rest_weight left p
 plan_weighs left p c is = by_plan (λ todo. program_weight todo + spent_weight left (calls_to_come todo (Some c)) ≤ rest_weight left p) left p
     (λ live none. rw live (omega (arith, spent_none left)))
-    (λ live call next spent. rw live (omega (arith, spent_none left, spent_all left (calls_left p) (eqb-true left 0 spent) (some_left p call next))))
+    (λ live call next spent. let some = some_left p call next in let full : spent_weight left (calls_left p) ≡ post_weight = grind (arith, nat_tests) in
+    rw live (omega (arith, spent_none left)))
     (λ live call next more. rw (live, is) (omega arith)) (λ over. rw over (omega (arith, spent_none left)))
 
 planned_weighs : (st : System) (t : Thread) (left : ℕ) (c : Connection) → thread_weight (planned st t left c) ≤ rest_weight left c.pair + pair_weight c.pair
@@ -151,9 +143,6 @@ planned_weighs st t left c =
   where
     by : (b : Bool) → let p = if b then timed_out c.pair else c.pair in (pair_weight p ≡ pair_weight c.pair) × (rest_weight left p ≤ rest_weight left c.pair)
     by b = let most = rest_most left c.pair in grind arith
-
-heard_weighs : (notes : ℕ) (c : Connection) → pair_weight (heard notes c).pair ≤ pair_weight c.pair + 4
-heard_weighs notes c = grind arith
 
 pub posted_weighs : (st : System) (g : ℕ) → slot_weight (posted st g) ≤ slot_weight st + post_weight
 posted_weighs st g = grind (arith, length-append {A = ℕ})
@@ -183,8 +172,9 @@ module _ {l : Limits} {st : System} (s : Sound l st) (i : ℕ) (t : Thread) (the
   takes : (c : Connection) → t.out ≡ Some c → t.todo ≡ drop 2 turn → some_wait st.word.pending ≡ true → Fine l st true (taking st i t [] (Some c))
   takes c has is some =
       let c' = heard st.word.pending c in
+      let flags : pair_weight c'.pair ≤ pair_weight c.pair + 4 = grind arith in
       goes _ _ refl (assumption s) (λ e. refl) (not_opening t.left (expired st.second st.limits.idle c'.pair)) (λ yes. rw (is, has)
-      (omega (arith, ap one some, planned_weighs st t t.left c', (rest_most t.left c'.pair).1, spent_more t.left (calls_left c'.pair) 4 (four_left c'.pair), heard_weighs st.word.pending c)))
+      (omega (arith, ap one some, planned_weighs st t t.left c', (rest_most t.left c'.pair).1, spent_more t.left (calls_left c'.pair) 4 (four_left c'.pair))))
 
   gives : t.generation ≡ st.entry → t.todo ≡ drop 2 ended → (b : Bool) → is_worn t.generation ≡ b
       → Fine l st true (with_thread (if b then st else record st { free = suc st.free }) i (goes_on t []))
@@ -237,4 +227,5 @@ module _ {l : Limits} {st : System} (s : Sound l st) (i : ℕ) (t : Thread) (the
   pub begins_fine : (most : ℕ) (tickets : List ℕ) → st.tickets ≡ tickets → t.todo ≡ [] → Kept (Fine l st (nat_le 4 most)) (begun st i most tickets)
   begins_fine most [] is rest = kept_none
   begins_fine most (g ∷ tickets) is rest =
-      kept_some (goes _ _ refl (assumption s) (λ e. refl) (λ e. cc) (λ four. rw (is, rest) (omega (arith, spent_full most (leb-true 4 most four)))))
+      kept_some (goes _ _ refl (assumption s) (λ e. refl) (λ e. cc) (λ four.
+      let full : spent_weight most 4 ≡ 0 = grind (arith, nat_tests) in rw (is, rest) (omega arith)))

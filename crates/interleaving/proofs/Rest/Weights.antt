@@ -140,9 +140,6 @@ pub record Called (l next : OpenConnection) : Type 0 where
   pub queue : next.kernel.queue ≡ l.kernel.queue
   pub backlog : next.kernel.backlog ≡ l.kernel.backlog
 
-there_is : (ends : List (Option Registered)) (d : ℕ) (r : Registered) → end_at ends d ≡ Some r → slice_get ends d ≡ Some (Some r)
-there_is ends d r at = grind (arith, common_steps)
-
 -- of what was unread, the bytes that were read are gone
 read_off : (l : OpenConnection) (p : PairState) (call : Call) (r : Reply) (value : answer.AnswerValue) (old : Registered) (socket : EndState) → told_of l call r ≡ Some value
     → end_at l.kernel.ends (descriptor l.connection.ends (side_of call)) ≡ Some old → end_after p call r old.socket ≡ Some socket
@@ -167,7 +164,8 @@ module _ (now : ℕ) (l : OpenConnection) (r : Reply) (call : Call) (next : next
   less value told =
       let d = descriptor l.connection.ends (side_of call) in
       let off = read_off l l.connection.pair call r value old socket told there replied in
-      omega (arith, total-set socket_weight l.kernel.ends d (Some old) (Some (record old { socket = socket })) (there_is l.kernel.ends d old there))
+      let at : slice_get l.kernel.ends d ≡ Some (Some old) = grind (arith, common_steps) in
+      omega (arith, total-set socket_weight l.kernel.ends d (Some old) (Some (record old { socket = socket })) at)
 
   lighter : (value : answer.AnswerValue) → told_of l call r ≡ Some value → fits l.connection.pair call value ≡ true → is_answered r ≡ true → Called l (line value)
   lighter answer.Blocked told fit settled =
