@@ -1,0 +1,4 @@
+-- The crate's lemmas.
+mod Drawing
+mod Pictures
+mod Times
