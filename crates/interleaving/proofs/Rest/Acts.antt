@@ -1,6 +1,6 @@
 -- What a thread does leaves a sound state, which its own steps make lighter: each act of its program, and each call.
-use Rattle.std.{proofs.{Common.{Bool, List, None, Option, Some, [], ap, arith, drop, false, if◌then◌else◌, inl, inr, length, refl, slice_get, slice_set, subst, suc, sym, true, zero, ℕ, ◌++◌, ◌+◌, ◌-◌, ◌∙◌, ◌∷◌, ◌≡◌, ◌≢◌, ◌≤◌, ◌<◌, ◌⊎◌, eq-eqb, eqb-true, leb-false, leb-true, length-append, nat_le}, lemmas.{Grind.common_steps, List.length-set, Bool.{cases_eq, Decides.nat_tests}}}, specs.{Prelude.{IsSome}}}
-use Rattle.claims.specs.Words.{WordState, some_wait, wakes, one}
+use Rattle.std.{proofs.{Common.{Bool, List, None, Option, Some, [], ap, arith, drop, false, if◌then◌else◌, inl, inr, length, refl, slice_get, slice_set, subst, suc, sym, true, zero, ℕ, ◌+◌, ◌-◌, ◌∙◌, ◌∷◌, ◌≡◌, ◌≢◌, ◌≤◌, ◌<◌, ◌⊎◌, eq-eqb, leb-false, length-append, nat_le}, lemmas.{Grind.common_steps, List.length-set, Bool.{cases_eq, Decides.nat_tests}}}, specs.{Prelude.{IsSome}}}
+use Rattle.claims.specs.Words.{WordState, some_wait, one}
 use Rattle.kernel_model.specs.{Ends.opened, Kernel.{KernelState, Registered, end_at, lowest_free}, declared.{both.Descriptors.Descriptors, reply.Reply.Reply}}
 use Rattle.relay_core.specs.{Order.next_call, Pairs.{PairState}, Idle.{is_overdue, expired, timed_out}}
 use Rattle.token.specs.{Names.{EndName, last_generation}, declared.{side.Side.{Side, TheVariants.{Client, Target}}}}
@@ -112,7 +112,7 @@ two_ends k client target this that same =
     let a : Registered = record { token = client; socket = opened client.side } in
     let b : Registered = record { token = target; socket = opened target.side } in
     let still = opened_other first.ends (lowest_free k.ends) b (opened_here k.ends a) in
-    let both : a ≡ b = cc (still, opened_here first.ends b, ap (end_at (kernel.open_both k client target).value.ends) same) in
+    let both : a ≡ b = cc (still, opened_here first.ends b) in
     let sides : Client ≡ Target = sym this ∙ (ap (λ (r : Registered). r.token.side) both ∙ that) in
     cc
 

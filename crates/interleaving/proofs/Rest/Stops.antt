@@ -1,5 +1,5 @@
 -- Where no step of the relay's own can be made, nothing is half way, and nothing is left to do.
-use Rattle.std.{proofs.{Common.{List, None, Option, Some, Vec, [], ap, arith, drop, false, get_or, is_some, inl, inr, length, not, refl, replicate, slice_get, slice_set, subst, suc, sym, true, zero, Bool, ℕ, ◌&&◌, ◌||◌, ◌+◌, ◌==◌, ◌∙◌, ◌∷◌, ◌≡◌, ◌≢◌, ◌≤◌, ◌<◌, ◌⊎◌, le-leb, lt-ltb, option_map}, lemmas.{List.{length-set, length-replicate}, Bool.Decides.nat_tests, Option.slice_get-get_or}}, specs.{Global.{Global}, List.list_any, Option.{option_flatten}}}
+use Rattle.std.{proofs.{Common.{List, None, Option, Some, Vec, [], ap, arith, drop, false, get_or, inl, inr, length, not, refl, replicate, slice_get, slice_set, subst, suc, sym, true, zero, Bool, ℕ, ◌&&◌, ◌+◌, ◌∙◌, ◌∷◌, ◌≡◌, ◌≢◌, ◌≤◌, ◌<◌, ◌⊎◌, le-leb, lt-ltb, option_map}, lemmas.{List.{length-set, length-replicate}, Bool.Decides.nat_tests, Option.slice_get-get_or}}, specs.{Global.{Global}, List.list_any, Option.{option_flatten}}}
 use denote.RawPtr.{null_ptr}
 use Rattle.token.specs.{Names.{last_generation}, declared.{kind.Kind.TheVariants.{Reset}, name.Name.Name, side.Side.{Side, TheVariants.{Client, Target}}}}
 use Rattle.kernel_model.specs.{Ends.is_nonempty, Kernel.{KernelState, Registered, end_at}, declared.{accepting.Accepting.TheVariants.{Accepted}, both.Descriptors.Descriptors}}

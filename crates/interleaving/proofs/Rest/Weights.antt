@@ -1,5 +1,5 @@
 -- What a call with its reply, a poll, an opening and a closing make of what pairs and the kernel weigh, and of the calls that are left.
-use Rattle.std.proofs.{Common.{Bool, List, None, Option, Some, [], ◌∷◌, true, false, not, if◌then◌else◌, arith, length, refl, zero, suc, ℕ, ◌||◌, ◌*◌, ◌+◌, ◌-◌, ◌≡◌, ◌≤◌, slice_get, slice_set}, lemmas.{Grind.common_steps, Bool.{and_parts, Decides.nat_tests}, List.Sums.{length-filter, count_by-le-length}}}
+use Rattle.std.proofs.{Common.{Bool, List, None, Option, Some, [], ◌∷◌, true, false, not, if◌then◌else◌, arith, length, refl, zero, suc, ℕ, ◌*◌, ◌+◌, ◌-◌, ◌≡◌, ◌≤◌, slice_get, slice_set}, lemmas.{Grind.common_steps, Bool.{and_parts, Decides.nat_tests}, List.Sums.{length-filter, count_by-le-length}}}
 use Rattle.token.specs.{Names.EndName, Sides.opposite, declared.{direction.Direction.{Direction}, name.Name.Name}}
 use Rattle.kernel_model.specs.{Ends.{EndState, opened}, Kernel.{KernelState, Registered, end_at, lowest_free, with_end}, Names.{are_among, are_distinct, has, same, without_names}, Outcome.Told, declared.{both.{Descriptors.Descriptors, Sockets.Sockets}, reply.Reply.Reply}}
 use Rattle.relay_core.{proofs.Pairs.{asked_is_possible}, specs.{Calls.{direction_of, side_of}, Order.{call_for, next_call}, declared.flags.Flags.Flags, Pairs.{PairState, flags_of, is_live, verdict}, Replies.{after, fits}, declared.call.Call.{Call, TheVariants.{Join, Read, Shut, Write}}}}
