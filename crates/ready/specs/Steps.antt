@@ -80,16 +80,11 @@ in_order first slots = map (λ (place : ℕ). (place, first + place)) (range_wit
 abbrev pub opened : ℕ → ℕ → EndState ℕ
 opened first slots = record { capacity = slots; history = record blank { put = in_order first slots } }
 
--- One step on the bits of the idle ends: the bits that were read; or those set or cleared, and all bits before
+-- One step on a word of bits: the bits that were read; or those set or cleared, and all bits before
 pub data BitStep : Type 0 where
   ReadBits : ℕ → BitStep
   SetBits : ℕ → ℕ → BitStep
   ClearedBits : ℕ → ℕ → BitStep
-
--- one step on the mark of a closed queue: whether it was set, or that it was set
-pub data MarkStep : Type 0 where
-  ReadMark : Bool → MarkStep
-  SetMark : MarkStep
 
 -- the bit of an end
 abbrev pub bit_of : ℕ → ℕ

@@ -1,9 +1,9 @@
 // The words that the ends of a queue share, and all atomic steps on them. These are sequentially consistent, as are those
 // of the queues: all threads see them in one order.
-ghost use Rattle.ready.specs.Steps.{BitStep, ReadBits, SetBits, ClearedBits, MarkStep, ReadMark, SetMark};
+ghost use Rattle.ready.specs.Steps.{BitStep, ReadBits, SetBits, ClearedBits};
 
+use std::sync::atomic::AtomicU64;
 use std::sync::atomic::Ordering::SeqCst;
-use std::sync::atomic::{AtomicBool, AtomicU64};
 use std::thread::Parker;
 
 /// A word of bits that threads share. Each method is one step, and there are no others. So no thread reads the bits in
@@ -44,32 +44,6 @@ impl Bits for AtomicU64 {
 
     fn clear(&self, _acts: &mut (), bits: u64) -> u64 {
         self.fetch_and(!bits, SeqCst)
-    }
-}
-
-/// A mark that threads share. It is only read and set. The trait leaves open what a step does.
-pub trait Mark {
-    // This step, with its answer, was made on this mark.
-    ghost did: { MarkStep → Self → Type 0 };
-
-    /// Returns whether the mark is set.
-    fn read(&self) -> bool
-        ensures { did (ReadMark result) self.now };
-
-    /// Sets the mark.
-    fn set(&self)
-        ensures { did SetMark self.now };
-}
-
-impl Mark for AtomicBool {
-    ghost did = { λ _ _. Unit {0} };
-
-    fn read(&self) -> bool {
-        self.load(SeqCst)
-    }
-
-    fn set(&self) {
-        self.store(true, SeqCst);
     }
 }
 

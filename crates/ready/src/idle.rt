@@ -61,14 +61,10 @@ impl IdleEnds {
         ensures none { OnErr result ((L.state line.new ≡ L.state line.old) × L.held_none line.new) }
     {
         for _look in rt.forever() {
-            let found = match look(rt, self.mark.read(), line) {
+            let found = match look(rt, self.mark.read(&mut ()), line) {
                 Ok((it, _)) => Some(it),
-                Err(vain) => {
-                    if vain.was_closed() {
-                        return Err(vain.drained());
-                    }
-                    self.look_or_park(rt, end, line, vain)
-                }
+                Err(vain) if vain.was_closed() => return Err(vain.drained()),
+                Err(vain) => self.look_or_park(rt, end, line, vain),
             };
             if let Some(it) = found {
                 return Ok(it);
@@ -109,7 +105,7 @@ impl IdleEnds {
     pub fn rest(&self, rt: &impl Wait, end: usize, time: Duration)
         requires { end < 32 }
     {
-        if !self.mark.read().is_closed() {
+        if !self.mark.read(&mut ()).is_closed() {
             self.parkers[end].park_timeout(rt, time);
         }
     }
@@ -154,7 +150,7 @@ impl<U: Unpark> IdleEnds<U> {
     pub fn close(&self) -> Closed
         ensures { All U.unparked self.now.parkers }
     {
-        let seen = self.mark.set();
+        let seen = self.mark.set(&mut ());
         wake_all(seen, &self.parkers)
     }
 }

@@ -1,12 +1,12 @@
 // How ends sleep, and who wakes them: each step gives the value that the next one asks for, and nothing else makes it. A
 // comment at each atomic step names the one that it pairs with.
 ghost use Rattle.std.specs.Prelude.{◌≡◌, ◌≢◌, ◌<◌, ◌↔◌, ℕ, IsNone, IsSome, IsTrue, IfErr, IfNone, IfOk, IfSome, OnErr, OnOk, None, length, slice_get, true, not};
-ghost use Rattle.ready.specs.Steps.{ReadBits, SetBits, ClearedBits, ReadMark, SetMark, bit_of, has_bit};
+ghost use Rattle.ready.specs.Steps.{ReadBits, SetBits, ClearedBits, bit_of, has_bit};
 
-use crate::flags::{Bits, Mark, Unpark};
+use crate::flags::{Bits, Unpark};
 use crate::ticket::Full;
 use std::sync::Wait;
-use std::sync::atomic::{AtomicBool, AtomicU64};
+use std::sync::atomic::AtomicU64;
 use std::thread::Parker;
 
 /// What items are put into. The trait leaves open what that is.
@@ -256,32 +256,32 @@ impl<W: Bits> IdleBits<W> {
     }
 }
 
-/// The mark of a closed queue. It is never taken back.
+/// The mark of a closed queue: a word, which becomes 1. It is never taken back.
 #[derive(Drop)]
-pub(crate) struct ClosedMark<M = AtomicBool>(M);
+pub(crate) struct ClosedMark<W = AtomicU64>(W);
 
 impl ClosedMark {
     pub(crate) fn new() -> ClosedMark {
-        ClosedMark(AtomicBool::new(false))
+        ClosedMark(AtomicU64::new(0))
     }
 }
 
-impl<M: Mark> ClosedMark<M> {
-    pub(crate) fn read(&self) -> MarkSeen
-        ensures { M.did (ReadMark result.closed) self.now.0 }
+impl<W: Bits> ClosedMark<W> {
+    pub(crate) fn read(&self, acts: &mut W::Acts) -> MarkSeen
+        ensures { (bits : ℕ) × W.did (ReadBits bits) self.now.0 acts.old acts.new × (IsTrue result.closed ↔ bits ≡ 1) }
     {
         // Pairs with `set`. If the mark were read after the look at the queue, an item that was put between the look
         // and the close would be left.
-        let closed = self.0.read();
+        let closed = self.0.read(acts) == 1;
         MarkSeen { closed }
     }
 
-    pub(crate) fn set(&self) -> MarkSeen
+    pub(crate) fn set(&self, acts: &mut W::Acts) -> MarkSeen
         ensures closed { result.closed ≡ true }
-        ensures set { M.did SetMark self.now.0 }
+        ensures set { (before : ℕ) × W.did (SetBits 1 before) self.now.0 acts.old acts.new }
     {
         // Pairs with `read`. If the ends were woken first, one could look, find no mark and sleep forever.
-        self.0.set();
+        self.0.set(acts, 1);
         MarkSeen { closed: true }
     }
 }
