@@ -1,6 +1,8 @@
 """What a replay says of the connections of a relay that still runs, while they hang."""
 
+import collections
 import contextlib
+import json
 import re
 import socket
 import time
@@ -29,6 +31,35 @@ def is_told(relay, *wanted):
     return until(says)
 
 
+def drawn(relay):
+    """The names on each track of its trace, in order. Times do not fall along a track, a slice lies in the one around it, and
+    each arrow leads from a slice to one that is not earlier."""
+    named, tracks, arrows = {}, collections.defaultdict(list), collections.defaultdict(list)
+    for event in json.loads(replay(relay.record, "--trace"))["traceEvents"]:
+        track = event["pid"], event.get("tid")
+        if event["ph"] == "M":
+            named[track] = event["args"]["name"]
+        elif event["ph"] in ("X", "i"):
+            tracks[track].append((event["ts"], event["ts"] + event.get("dur", 0), event["name"]))
+        else:
+            arrows[event["id"]].append((event["ph"] + event.get("bp", ""), event["ts"], track))
+    for slices in tracks.values():
+        around = []
+        for at, end, name in slices:
+            while around and around[-1] <= at:
+                around.pop()
+            assert at <= end and not (around and around[-1] < end), name
+            around.append(end)
+        assert slices == sorted(slices, key=lambda it: it[0])
+    for cause, effect in arrows.values():
+        assert cause[0] == "s" and effect[0] == "fe" and cause[1] <= effect[1]
+        assert all(any(at <= ts <= end for at, end, _ in tracks[track]) for _, ts, track in (cause, effect))
+    # Each turn has an arrow from its track to its slot's.
+    turns = sum(name.startswith("turn ") for slices in tracks.values() for *_, name in slices)
+    assert sum(cause[2][0] == 2 and effect[2][0] == 3 for cause, effect in arrows.values()) == turns / 2 > 0
+    return {named[track]: [name for *_, name in slices] for track, slices in tracks.items()}
+
+
 # refuses waits_of_the_other_side: of two sides that may send, the one that sent last is waited for
 def tells_whom_a_connection_waits_for():
     if not Relay.records:
@@ -51,6 +82,9 @@ def tells_whom_a_connection_waits_for():
         first, *_, before, last = replay(relay.record, "--timeline", f"{slot}.1").splitlines()
         assert f" open {slot}.1 ok ring=0,0 at_us=" in first and re.fullmatch(line + TIMES, last)
         assert re.search(" ring=[^ ]*", last)[0] + " at_us=" in before
+    for slot, call in enumerate(("target read", "client write", "client read", "target read")):
+        calls = [name for name in drawn(relay)[f"slot {slot}"] if name.startswith(call)]
+        assert calls[-1].endswith(" blocked")
     # Each goes on: what was sent arrives, and nobody is waited for longer than needed.
     silent_target[1].sendall(b"!")
     assert silent_target[0].recv(1) == b"!"
@@ -69,6 +103,7 @@ def tells_that_a_target_does_not_answer():
             client.sendall(b"?")
             assert is_told(relay, r"live s=0 g=1 connected=no up=0 down=0 ring=1,0 ended=-,- waits=target-answers")
             assert " connect_us=- first_us=" in replay(relay.record, "--ends")
+            assert drawn(relay)["slot 0"][-1] == "target settle"
 
 
 def times(relay):

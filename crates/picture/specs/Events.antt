@@ -173,5 +173,6 @@ pub record IsPictureOf (p : Picture) (old new : Option (List ℕ)) : Type 0 wher
   pub turns : List TurnMade
   pub in_order : AreInOrder (all_turns p.clock.last 0 p.slots.items) turns
   pub lines : List ℕ
-  pub events : AreLines (poller_tracks p.clock 0 p.pollers.items ++ (slot_tracks p.clock 0 p.slots.items ++ lane_events p.clock [] turns)) lines
+  pub events :
+      AreLines (poller_tracks p.clock 0 p.pollers.items ++ (slot_tracks p.clock 0 p.slots.items ++ lane_events p.clock [] turns)) lines
   pub written : Appends old new (opening ++ (lines ++ codes "\n]}\n"))

@@ -15,6 +15,8 @@ pub enum Wanted {
     Ends,
     /// The records of the connection of this slot and generation, and what waits in its rings after each.
     Timeline(usize, u64),
+    /// A picture of all records, for a viewer of traces.
+    Trace,
     /// The script of the connection of this slot and generation.
     Script(usize, u64),
 }
@@ -22,8 +24,8 @@ pub enum Wanted {
 /// Whether a recording is of runs of the machine.
 #[derive(Clone, Copy, PartialEq, Eq)]
 pub enum Outcome {
-    /// What was played is of runs: each slot and each listener, or with `Script` its slot alone, and nothing with `Ends`
-    /// and `Timeline`. What was wanted is written.
+    /// What was played is of runs: each slot and each listener, or with `Script` its slot alone, and nothing with `Ends`,
+    /// `Timeline` and `Trace`. What was wanted is written.
     Run,
     /// A slot or a listener is not of runs. Written are the first record that fits nowhere, and the script up to
     /// there.

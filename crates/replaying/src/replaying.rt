@@ -11,6 +11,7 @@ use crate::results::{Flawed, Results, Whose};
 use crate::slot_replay::{Findings, SlotReplay};
 use crate::timeline::write_timeline;
 use crate::writing::{flush, write_flaw, write_results};
+use picture::write_picture;
 use recorded::{
     Clock, Last, Recording, check_reads, check_rounds, check_threads, find_posts, put_in_order,
     read, times_of,
@@ -25,12 +26,12 @@ use world::{Lead, Limits};
 pub struct OnMachine;
 
 impl Replay for OnMachine {
-    /// Reads a recording, and replays it; for `Ends` and `Timeline` it reads it alone. With `rests`, or after the record
-    /// `end`, no slot may have anything left to do. This is not asked after a failed wait for reports, which ends a relay
-    /// early; nor by `rests` alone, if records are missing or were left out: they may have done the rest. Refuses with
-    /// `Read` if the reader gives an error, `Broken` if a line is malformed or no relay acts in that order, `Unknown` if it
-    /// lacks the connection that is wanted, `Write`, and `NoMemory`. No clause covers this call. After a refusal a part of
-    /// the outcome may be written.
+    /// Reads a recording, and replays it; for `Ends`, `Timeline` and `Trace` it reads it alone. With `rests`, or after the
+    /// record `end`, no slot may have anything left to do. This is not asked after a failed wait for reports, which ends a
+    /// relay early; nor by `rests` alone, if records are missing or were left out: they may have done the rest. Refuses
+    /// with `Read` if the reader gives an error, `Broken` if a line is malformed or no relay acts in that order, `Unknown`
+    /// if it lacks the connection that is wanted, `Write`, and `NoMemory`. No clause covers this call. After a refusal a
+    /// part of the outcome may be written.
     fn replay<R: Read, W: Write>(
         &self,
         alloc: Global,
@@ -44,6 +45,7 @@ impl Replay for OnMachine {
             Wanted::Timeline(slot, generation) => {
                 write_timeline(alloc, input, slot, generation, output)?;
             }
+            Wanted::Trace => write_picture(alloc, input, output)?,
             _ => return replay_read(alloc, input, wanted, rests, output),
         }
         Ok(Outcome::Run)
