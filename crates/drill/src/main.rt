@@ -1,14 +1,14 @@
 //! Plays scripts on a server in memory, as the repository's `tests/drill/README.md` says: one thread makes the steps of
 //! the server's threads, and prints what they do.
 //!
-//! `script.rt` reads the steps. `server.rt` makes the server and its threads' steps. `stage.rt` is what the server's
+//! `script.rt` reads the steps. `played.rt` makes the server and its threads' steps. `stage.rt` is what the server's
 //! calls reach in place of a system: what is planned for them, and the text of what they did. `front.rt` is a poller's
 //! front and `wire.rt` a socket; both pass their calls on to the stage.
 #![tactic(auto)]
 
 mod front;
+mod played;
 mod script;
-mod server;
 mod stage;
 mod wire;
 

@@ -1,5 +1,5 @@
 //! Reads a script, and has each of its steps made.
-use crate::server::Server;
+use crate::played::Server;
 use crate::stage::{Answer, Point, StageCell};
 use dispatch::Unopened;
 use engine::error_of;
