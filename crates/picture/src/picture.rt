@@ -69,23 +69,32 @@ impl Take for Taken {
     fn take(&mut self, line: u64, record: Record) -> Result<(), AllocError> {
         self.keep(&Numbered { line, record })
     }
+
+    fn leave_out(&mut self, record: Record) -> Result<(), AllocError> {
+        self.keep_time(&record)
+    }
 }
 
 impl Taken {
     fn keep(&mut self, numbered: &Numbered) -> Result<(), AllocError> {
         let after = numbered.record.after;
         self.last = u64::max(self.last, after);
-        if let Act::Poller(poller, did) = &numbered.record.act {
-            if let Polling::Time(micros) = did {
-                let (count, micros) = (after, *micros);
-                add(&mut self.waits, Wait { count, micros })?;
-            }
+        self.keep_time(&numbered.record)?;
+        if let Act::Poller(poller, _) = &numbered.record.act {
             add_to(self.pollers.as_mut_slice(), *poller, *numbered)?;
         }
         match slot_of(&numbered.record.act) {
             Some(slot) => add_to(self.slots.as_mut_slice(), slot, *numbered),
             None => Ok(()),
         }
+    }
+
+    fn keep_time(&mut self, record: &Record) -> Result<(), AllocError> {
+        if let Act::Poller(_, Polling::Time(micros)) = &record.act {
+            let (count, micros) = (record.after, *micros);
+            add(&mut self.waits, Wait { count, micros })?;
+        }
+        Ok(())
     }
 }
 
