@@ -33,14 +33,14 @@ def is_told(relay, *wanted):
 
 def drawn(relay):
     """The names on each track of its trace, in order. Times do not fall along a track, a slice lies in the one around it, and
-    each arrow leads from a slice to one that is not earlier."""
+    each arrow leads from a slice to one that is not earlier. Times are tenths of a microsecond."""
     named, tracks, arrows = {}, collections.defaultdict(list), collections.defaultdict(list)
     for event in json.loads(replay(relay.record, "--trace"))["traceEvents"]:
         track = event["pid"], event.get("tid")
         if event["ph"] == "M":
             named[track] = event["args"]["name"]
         elif event["ph"] in ("X", "i"):
-            tracks[track].append((event["ts"], event["ts"] + event.get("dur", 0), event["name"]))
+            tracks[track].append((event["ts"], round(event["ts"] + event.get("dur", 0), 1), event["name"]))
         else:
             arrows[event["id"]].append((event["ph"] + event.get("bp", ""), event["ts"], track))
     for slices in tracks.values():
