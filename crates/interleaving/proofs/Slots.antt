@@ -15,7 +15,7 @@ use Rattle.interleaving.specs.Threads as alone
 pub record Reached (server : Server) (m : Many) : Type 0 where
   pub same : m.server ≡ server
   pub own : ℕ → List alone.Step
-  pub leads : (s : ℕ) → alone.run (alone.start (one_slot server.limits)) (own s) ≡ Some (slot_of m s)
+  pub leads : (s : ℕ) → alone.run (alone.start (one_slot server.limits s)) (own s) ≡ Some (slot_of m s)
   pub apart : Apart m
   pub fronts : FrontsHold m
 
@@ -44,7 +44,7 @@ module _ (law : EveryInterleavingIsARun) (server : Server) (inside : (s : ℕ) �
   pub between : (m : Many) → Reached server m → Between m
   between m r = record {
     inside = λ s. rw r.same (inside s);
-    one_ticket = λ s. (law (one_slot server.limits) (r.own s) (slot_of m s) refl (r.leads s)).nothing.one_ticket;
+    one_ticket = λ s. (law (one_slot server.limits s) (r.own s) (slot_of m s) refl (r.leads s)).nothing.one_ticket;
     apart = r.apart;
     fronts = r.fronts;
   }
@@ -93,7 +93,8 @@ module _ (law : EveryInterleavingIsARun) (server : Server) (inside : (s : ℕ) �
           own = (w.each s).own;
           sees = (w.each s).sees;
           leads = (w.each s).leads;
-          run = law (one_slot server.limits) (w.each s).own (slot_of m s) refl (w.each s).leads;
+          run = law (one_slot server.limits s) (w.each s).own (slot_of m s) refl (w.each s).leads;
+          lead = λ g. refl;
         };
         pollers = λ p. let f = m.fronts p in let h = r.fronts p in record {
           listener = waits f.listens f.flag f.armed (m.backlog == 0) (f.reported || list_any is_listener f.batch) h.listener;

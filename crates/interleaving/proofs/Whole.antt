@@ -4,8 +4,8 @@ use Rattle.claims.specs.Words.{one}
 use Rattle.kernel_model.specs.{Kernel.reported, Names.{has, without_names}, declared.accepting.Accepting.{Accepting, TheVariants.{Accepted, Blocked, Again, Starved}}}
 use Rattle.token.specs.declared.name.Name.{Name, TheVariants.Listener as listener_name}
 use Rattle.world.{proofs.Headline.Ends.Pairs.Holders.Events.Lists.{Kept, kept_at, kept_guard, kept_map, kept_none, kept_over, kept_some, kept_when, total_le, total_push}, specs.{Calls.when, States.numbers_below, Support.total}}
-use Rattle.interleaving.specs.{Threads.{System}, Likeness.EveryInterleavingIsARun, Rest.{LeftAloneItEnds, client_weight}, Slots.{Deed, Front, Many, Report, Of, Listener, Waker, Server, Taken, Ticket, Step, Poll, Deliver, Accept, Drop, Open, Begin, Put, Acts, Calls, Sees, answered, are_queued, besides, deed, delivering, first_of, in_hand, is_listener, makes, may, may_accept, names_at, one_slot, opening, polled, rank_at, rests, run, set, shared, slot_of, start, step, steps_at, suits, tickets_at, with_front, written}, Whole.{ServersComeToRest, accepted_weight, front_weight, hand_weight, is_own, is_waker, report_weight, weight, wakes}}
-use Rattle.interleaving.proofs.{Runs.{run_on}, Slots.{Reached, between, first, goes, reach, Shared.{next}, Steps.{Next}, Views.{Found, found, queued, set_here, set_there}}, Rest.Weights.{not_so, polled as left_queue}}
+use Rattle.interleaving.specs.{Threads.{System}, Likeness.EveryInterleavingIsARun, Rest.{LeftAloneItEnds, client_weight, most}, Slots.{Deed, Front, Many, Report, Of, Listener, Waker, Server, Taken, Ticket, Step, Poll, Deliver, Accept, Drop, Open, Begin, Put, Acts, Calls, Sees, answered, are_queued, besides, deed, delivering, first_of, in_hand, is_listener, makes, may, may_accept, names_at, one_slot, opening, polled, rank_at, rests, run, set, shared, slot_of, start, step, steps_at, suits, tickets_at, with_front, written}, Whole.{ServersComeToRest, accepted_weight, front_weight, hand_weight, is_own, is_waker, report_weight, weight, wakes}}
+use Rattle.interleaving.proofs.{Runs.{run_on}, Slots.{Reached, between, first, goes, reach, Shared.{next}, Steps.{Next}, Views.{Found, found, queued, set_here, set_there}}, Rest.Weights.{most_at, not_so, polled as left_queue}}
 use Rattle.interleaving.specs.Threads as alone
 use Rattle.interleaving.specs.Rest as slot
 use Rattle.kernel_model.specs.Kernel as kernel
@@ -169,7 +169,7 @@ module _ (law : EveryInterleavingIsARun) (ends : LeftAloneItEnds) (server : Serv
       -- by one own step of the slot
       one_lighter : list_all slot.is_own d.own ≡ true → length d.own ≡ 1 → slots_of n + 1 ≤ slots_of m + 0
       one_lighter are one_step =
-          let less = ends (one_slot server.limits) (r.own d.slot) d.own (slot_of m d.slot) q refl (r.leads d.slot) are ran in
+          let less = ends (one_slot server.limits d.slot) (r.own d.slot) d.own (slot_of m d.slot) q refl (r.leads d.slot) are ran in
           slots_lighter 1 0 (omega (arith, less, one_step))
 
       -- it makes at most one ticket
@@ -214,10 +214,10 @@ module _ (law : EveryInterleavingIsARun) (ends : LeftAloneItEnds) (server : Serv
       where
         opened : (q : System) → alone.run (slot_of m s) opening ≡ Some q → slot.weight q + 3 ≤ slot.weight (slot_of m s) + ((1 + client_weight m.server.limits) + 17)
         opened q ran = option_and_then_some (λ (st : System). alone.run st (drop 1 opening)) (alone.step (slot_of m s) alone.Connect) q ran (λ st is rest.
-            let before = run_on (r.own s) (alone.Connect ∷ []) (alone.start (one_slot server.limits)) (slot_of m s) (r.leads s) ∙ rw is refl in
-            let less = ends (one_slot server.limits) (r.own s ++ alone.Connect ∷ []) (drop 1 opening) st q refl before refl rest in
+            let before = run_on (r.own s) (alone.Connect ∷ []) (alone.start (one_slot server.limits s)) (slot_of m s) (r.leads s) ∙ rw is refl in
+            let less = ends (one_slot server.limits s) (r.own s ++ alone.Connect ∷ []) (drop 1 opening) st q refl before refl rest in
             let more = kept_at (alone.step (slot_of m s) alone.Connect) st is (connects_weigh (slot_of m s)) in
-            omega (arith, less, more))
+            omega (arith, less, more, most_at (most length) m.server.limits.lead.own s []))
 
     -- a report of the batch
     delivers : (p : ℕ) → p < m.server.limits.workers → (batch : List Report) → (m.fronts p).batch ≡ batch → Kept (Lighter (Deliver p)) (makes m (Deliver p) (delivering p batch))

@@ -1,13 +1,13 @@
 -- Left alone, the threads come to rest. Part of the promises. A state has a weight, a number that each step of the
 -- relay's own makes smaller. What a step uses up weighs more than all that it may bring about: so each weight is 1, for
 -- the step, and the weight of what may come of it.
-use Rattle.std.specs.{List.list_all, Prelude.{◌≡◌, ℕ, ◌+◌, ◌*◌, ◌<◌, ◌≤◌, Bool, true, false, not, ◌&&◌, nat_lt, nat_le, if◌then◌else◌, List, [], ◌∷◌, length, slice_get, Option, Some, None, ◌⊎◌}}
+use Rattle.std.specs.{List.list_all, Prelude.{◌≡◌, ℕ, ◌+◌, ◌*◌, ◌<◌, ◌≤◌, Bool, true, false, not, ◌&&◌, nat_lt, nat_le, max, if◌then◌else◌, List, [], ◌∷◌, length, slice_get, Option, Some, None, ◌⊎◌}}
 use Rattle.token.specs.{declared.direction.Direction.Direction, Names.last_generation, Sides.{destination, opposite}}
 use Rattle.flow.specs.Stream.{Stream, waiting}
 use Rattle.kernel_model.specs.{declared.{reply.Reply.Reply, accepting.Accepting.{Accepting, TheVariants.{Accepted, Blocked}}}, Kernel.{KernelState, Registered}}
 use Rattle.relay_core.specs.{declared.flags.Flags.Flags, Pairs.{PairState, stream_of, is_joined, fresh}, Order.is_drained}
 use Rattle.claims.specs.Words.{some_wait, one}
-use Rattle.world.specs.{declared.{connection.Connection.Connection, limits.Limits.Limits}, Due.{due, movable}, Support.total}
+use Rattle.world.specs.{declared.{connection.Connection.Connection, limits.Limits.Limits}, Due.{due, movable}, Leads.LeadTable, Support.total}
 use Rattle.interleaving.specs.Likeness.{IsARun}
 use Rattle.interleaving.specs.Threads.{Act, TakeNotes, Call, Post, Release, Register, open_slot, System, Thread, Step, Accept, Drop, Poll, Deliver, Open, Begin, Acts, Calls, start, step, run}
 use Rattle.kernel_model.specs.declared.reply.Reply.TheVariants as reply
@@ -130,9 +130,19 @@ thread_weight t = program_weight t.todo + (spent_weight t.left (calls_to_come t.
 
 -- The whole
 
--- an accepted client: it is opened, by the step that begins this and by each act of it, with a fresh connection
+-- the greatest of these numbers, or 0
+abbrev pub most : {X : Type 0} → (X → ℕ) → List X → ℕ
+most f [] = 0
+most f (x ∷ xs) = max (f x) (most f xs)
+
+-- how long the longest lead is
+abbrev pub longest : LeadTable → ℕ
+longest l = max (length l.others) (most (most length) l.own)
+
+-- an accepted client: it is opened, by the step that begins this and by each act of it, with a fresh connection, of which
+-- each byte of the lead is to go out
 abbrev pub client_weight : Limits → ℕ
-client_weight l = 2 + (total act_weight open_slot + pair_weight (fresh 0 0 l.ring 0 l.lead))
+client_weight l = 2 + (total act_weight open_slot + (pair_weight (fresh 0 0 l.ring 0 []) + move_weight * longest l.lead))
 
 -- a name in the queue is polled, and then delivered; a client that waits is accepted
 abbrev pub kernel_weight : Limits → KernelState → ℕ

@@ -1,18 +1,18 @@
 -- A server of many slots and pollers, and the law that each of its slots can be looked at alone. Part of the promises.
 -- What is done at a slot is a step of `System`, which has one slot (`Threads.antt`). Here is only what slots share.
-use Rattle.std.specs.{Prelude.{◌≡◌, ◌≢◌, ℕ, ◌+◌, ◌-◌, ◌<◌, ◌≤◌, ◌==◌, Bool, true, false, not, ◌&&◌, ◌||◌, nat_lt, nat_le, if◌then◌else◌, List, [], ◌∷◌, ◌++◌, length, map, drop, slice_get, Option, Some, None, option_map, option_and_then, unwrap_or, IfSome, Vec}, Global.Global, Option.is_none, List.list_any}
+use Rattle.std.specs.{Prelude.{◌≡◌, ◌≢◌, ℕ, ◌+◌, ◌-◌, ◌<◌, ◌≤◌, ◌==◌, Bool, true, false, not, ◌&&◌, ◌||◌, nat_lt, nat_le, if◌then◌else◌, List, [], ◌∷◌, ◌++◌, length, map, drop, get_or, slice_get, Option, Some, None, option_map, option_and_then, unwrap_or, IfSome, Vec}, Global.Global, Option.is_none, List.list_any}
 use Rattle.token.specs.declared.{side.Side.Side, name.Name.Name}
 use Rattle.kernel_model.specs.{declared.{reply.Reply.Reply, accepting.Accepting.{Accepting, TheVariants.{Accepted, Blocked, Again, Starved}}}, Outcome.guard, Names.{has, without_names}}
-use Rattle.world.specs.{declared.{limits.Limits.Limits, event.Change.Change}, Calls.when}
+use Rattle.world.specs.{declared.{limits.Limits.Limits, event.Change.Change}, Calls.when, Leads.lead_at}
 use Rattle.interleaving.specs.{Threads.{System, rests_at}, Likeness.IsARun}
 use Rattle.world.specs.declared.event.Reported.TheVariants as reported
 use Rattle.interleaving.specs.Threads as alone
 
 -- The server
 
--- The limits are those of each slot, but for `slots`, of which there are so many, and `workers`, the number of all
--- threads, pollers' and others. `owner` says which thread is a slot's poller, and `share` how many connections that
--- thread may open in all
+-- The limits are those of each slot, but for `slots`, of which there are so many; `workers`, the number of all threads,
+-- pollers' and others; and the leads, which are by slot. `owner` says which thread is a slot's poller, and `share` how
+-- many connections that thread may open in all
 pub record Server : Type 0 where
   pub limits : Limits
   pub owner : ℕ → ℕ
@@ -56,8 +56,9 @@ pub record Many : Type 0 where
 
 -- One slot of it
 
-abbrev pub one_slot : Limits → Limits
-one_slot l = record l { slots = 1 }
+-- its limits: the slot's leads are those of slot 0, the only one there
+abbrev pub one_slot : Limits → ℕ → Limits
+one_slot l s = record l { slots = 1; lead = record l.lead { own = get_or l.lead.own s [] ∷ [] } }
 
 -- the number that a thread has at the slots of a poller: the poller is the first, in exchange with thread 0
 abbrev pub rank : ℕ → ℕ → ℕ
@@ -80,7 +81,7 @@ tickets_at s (t ∷ rest) = if t.slot == s then t.generation ∷ tickets_at s re
 -- the slot alone: its place, with what the slots share. No client waits there, since one connects just before it is opened
 abbrev pub slot_of : Many → ℕ → System
 slot_of m s = record (m.places s) {
-  limits = one_slot m.server.limits;
+  limits = one_slot m.server.limits s;
   flag = true;
   accepted = false;
   batch = names_at s (m.fronts (m.server.owner s)).batch;
@@ -92,7 +93,7 @@ abbrev pub start : Server → Many
 start server = record {
   server = server;
   backlog = 0;
-  places = λ s. alone.start (one_slot server.limits);
+  places = λ s. alone.start (one_slot server.limits s);
   fronts = λ p. record { listens = true; flag = true; armed = false; reported = false; accepted = false; opened = 0; batch = [] };
   tickets = [];
   busy_at = λ i. 0;
@@ -324,12 +325,13 @@ SeesAll m s (x ∷ xs) own = (first : List alone.Step) × (rest : List alone.Ste
 
 -- What the slot s sees of the server's steps leads `System`, of one slot, from its start to that slot as it is. So it is
 -- a run of the machine, of which the headline holds. Its calls, exchanges, arrivals, polls and ticks are the server's
--- there, in order, since its steps are
+-- there, in order, since its steps are; and each connection has its own lead there
 pub record StandsApart (server : Server) (steps : List Step) (m : Many) (s : ℕ) : Type 0 where
   pub own : List alone.Step
   pub sees : SeesAll (start server) s steps own
-  pub leads : alone.run (alone.start (one_slot server.limits)) own ≡ Some (slot_of m s)
-  pub run : IsARun (one_slot server.limits) own (slot_of m s)
+  pub leads : alone.run (alone.start (one_slot server.limits s)) own ≡ Some (slot_of m s)
+  pub run : IsARun (one_slot server.limits s) own (slot_of m s)
+  pub lead : (g : ℕ) → lead_at (one_slot server.limits s).lead 0 g ≡ lead_at server.limits.lead s g
 
 -- While a client waits and the poller listens, its accept flag is up, or a report of the listener is queued for it or in
 -- its batch. And it has opened no more than its share

@@ -6,9 +6,9 @@ use Rattle.token.specs.{declared.{side.Side.{Side, TheVariants.{Client, Target}}
 use Rattle.kernel_model.specs.{declared.{reply.Reply.Reply, watched.Watched.Watched, accepting.Accepting.{Accepting, TheVariants.{Accepted, Blocked, Again, Starved}}, both.{Descriptors.Descriptors, Sockets.Sockets}}, Outcome.{guard, Told}, Kernel.KernelState}
 use Rattle.relay_core.specs.{Pairs.{PairState, fresh, noted, verdict, is_live}, Order.next_call, Idle.expired}
 use Rattle.claims.specs.Words.{WordState, word_after, wakes, some_wait}
-use Rattle.world.specs.{declared.{connection.Connection.Connection, limits.Limits.Limits, past.Past.Past, event.{Change.Change, Reported.Reported}}, Calls.{when, OpenConnection, descriptor, called}, Steps.{change_at, token_of, is_worn}}
-pub use Rattle.dispatch.specs.Acts.{Act, Claim, TakeOut, TakeNotes, Call, PutIn, Post, Release, Close, Retire, Give, Register, Adopt, Enter, Discard, Settle, PutTicket}
-use Rattle.dispatch.specs.Acts.{gone_turn, quiet_turn, again_turn, ended_turn}
+use Rattle.world.specs.{declared.{connection.Connection.Connection, limits.Limits.Limits, past.Past.Past, event.{Change.Change, Reported.Reported}}, Calls.{when, OpenConnection, descriptor, called}, Leads.lead_at, Steps.{change_at, token_of, is_worn}}
+pub use Rattle.dispatch.specs.Acts.{Act, Claim, TakeOut, TakeNotes, Call, Play, PutIn, Post, Release, Close, Retire, Give, Register, Adopt, Enter, Discard, Settle, PutTicket}
+use Rattle.dispatch.specs.Acts.{busy_turn, gone_turn, quiet_turn, again_turn, ended_turn}
 use Rattle.token.specs.declared.name.Name.TheVariants as name
 use Rattle.kernel_model.specs.declared.watched.Watched.TheVariants as watched
 use Rattle.kernel_model.specs.Kernel as kernel
@@ -54,12 +54,14 @@ seen (Settle ∷ acts) = seen acts
 seen (PutTicket ∷ acts) = seen acts
 seen (act ∷ acts) = act ∷ seen acts
 
--- the acts of the server's turns, without calls, are these programs; and so are those of its opening
+-- The acts of the server's turns and of its opening are these programs. `Play` stands for the calls that `plan` adds one by
+-- one. If another connection was found, which never happens, it is put back; a slot that had its last generation is not given
 pub record ProgramsAreThese : Type 0 where
-  pub gone : (woke : Bool) → seen (gone_turn false woke) ≡ Claim ∷ TakeOut ∷ gone
-  pub quiet : (woke : Bool) → seen (quiet_turn woke) ≡ turn ++ quiet
-  pub again : (woke : Bool) → seen (again_turn woke) ≡ turn ++ again
-  pub ended : seen (ended_turn true) ≡ turn ++ ended
+  pub busy : busy_turn ≡ Claim ∷ []
+  pub gone : (other woke : Bool) → seen (gone_turn other woke) ≡ Claim ∷ TakeOut ∷ (if other then PutIn ∷ gone else gone)
+  pub quiet : (woke : Bool) → seen (quiet_turn woke) ≡ turn ++ Play ∷ quiet
+  pub again : (woke : Bool) → seen (again_turn woke) ≡ turn ++ Play ∷ again
+  pub ended : (given : Bool) → seen (ended_turn given) ≡ turn ++ Play ∷ (if given then ended else Close ∷ Retire ∷ [])
   pub opening : server.open_slot ≡ open_slot
 
 -- What the threads share
@@ -233,7 +235,7 @@ registered st i t rest free g told = with_thread
     (record st { kernel = told.value; accepted = false; free = free; ends = Some told.told })
     i (record t {
       generation = g;
-      out = Some (record { pair = fresh 0 g st.limits.ring st.second st.limits.lead; ends = told.told });
+      out = Some (record { pair = fresh 0 g st.limits.ring st.second (lead_at st.limits.lead 0 g); ends = told.told });
       todo = rest;
     })
 
@@ -257,6 +259,7 @@ after_act st i t Claim rest = Some (claimed st i t rest)
 after_act st i t TakeOut rest = Some (taken_out st i t rest st.place)
 after_act st i t TakeNotes rest = Some (taking st i t rest t.out)
 after_act st i t Call rest = None
+after_act st i t Play rest = None
 after_act st i t PutIn rest = Some (put_in st i t rest)
 after_act st i t Post rest = Some (with_thread (posted st t.generation) i (goes_on t rest))
 after_act st i t Release rest = Some (with_thread (released st t.generation) i (goes_on t rest))

@@ -52,8 +52,8 @@ pub fn left_alone_it_rests()
 
 /// Each slot of a server can be looked at alone. For each list of steps of a server, of any number of slots and with any
 /// split of them among its pollers, and for each slot: what it has seen of these steps is a run of the threads at one
-/// slot, which leads to that slot as it is. So it is a run of the machine. And while a client waits, each poller that
-/// listens has its accept flag up, or a report of the listener on its way to it.
+/// slot, which leads to that slot as it is. So it is a run of the machine, where each connection has its own lead. And
+/// while a client waits, each poller that listens has its accept flag up, or a report of the listener on its way to it.
 pub fn slots_stand_apart()
     ensures { SlotsStandApart }
 {

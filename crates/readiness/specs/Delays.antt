@@ -144,9 +144,11 @@ MissesNothing w = w.reads ≡ false → w.told ≡ false → IsCovered w
 
 -- for every run from the opening of a connection, whatever was passed on before
 
+-- each run of a wire is that of a socket to which bytes, ends and errors come late
 abbrev pub WiresAreDelayed : Type 0
 WiresAreDelayed = (side : Side) (told : Bool) (steps : List Step) (w : Way) → run (opening side told) steps ≡ Some w
     → IsDelayed (opening side told) w steps side
 
+-- after each run the wire has missed nothing
 abbrev pub WiresMissNothing : Type 0
 WiresMissNothing = (side : Side) (told : Bool) (steps : List Step) (w : Way) → run (opening side told) steps ≡ Some w → MissesNothing w

@@ -44,6 +44,7 @@ fresh slot generation capacity now lead = record {
   moved = now;
 }
 
+-- the stream of this direction
 abbrev pub stream_of : PairState → Direction → Stream
 stream_of p Up = p.up
 stream_of p Down = p.down
@@ -88,6 +89,7 @@ verdict_of (Some fault) both_shut = Failed fault
 verdict_of None true = Done
 verdict_of None false = Live
 
+-- what has become of the connection
 abbrev pub verdict : PairState → Verdict
 verdict p = verdict_of p.failure (p.up.shut && p.down.shut)
 

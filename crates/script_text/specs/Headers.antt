@@ -2,7 +2,7 @@
 -- that is not skipped.
 use Rattle.std.specs.{Prelude.{ℕ, ◌≤◌, nat_lt, nat_le, ◌&&◌, if◌then◌else◌, List, [], ◌∷◌, codes, length, Option, Some, None, option_map, option_and_then}, Str.bytes_eq}
 use Rattle.token.specs.Names.{last_generation}
-use Rattle.world.specs.{declared.limits.Limits.Limits, States.IsWithinLimits}
+use Rattle.world.specs.{declared.limits.Limits.Limits, Leads.{LeadTable, for_all}, States.IsWithinLimits}
 use Rattle.script_text.specs.{declared.header.Header.{Header, TheVariants.{Flow, World}}, Texts.{words_of, value_after, bytes_after, Found, word_then, if_last}}
 
 -- `KEY=N` with N from 1 to `most`
@@ -30,12 +30,12 @@ abbrev pub IsWithin : Header → Type 0
 IsWithin (Flow ring) = IsRing ring
 IsWithin (World limits) = IsWithinLimits limits
 
--- these bytes, if a lead may have as many
-abbrev pub short_enough : List ℕ → Option (List ℕ)
-short_enough bytes = if nat_le (length bytes) 107 then Some bytes else None
+-- these bytes for all connections, if a lead may have as many
+abbrev pub short_enough : List ℕ → Option LeadTable
+short_enough bytes = if nat_le (length bytes) 107 then Some (for_all bytes) else None
 
 -- `lead=HEX`, the bytes that each target is sent before those of its client, 1 to 107 of them
-abbrev pub lead_of : List ℕ → Option (List ℕ)
+abbrev pub lead_of : List ℕ → Option LeadTable
 lead_of word = option_and_then short_enough (bytes_after (codes "lead=") word)
 
 -- what the first word says; if it says no such thing, the word stays, and the value is `otherwise`
@@ -53,7 +53,7 @@ abbrev pub with_extras : Limits → List (List ℕ) → Option Limits
 with_extras sizes words =
     let generation = optional generation_of 0 words in
     let idle = optional idle_of 0 generation.words in
-    let lead = optional lead_of [] idle.words in
+    let lead = optional lead_of (for_all []) idle.words in
     if_last (record sizes { generation = generation.value; idle = idle.value; lead = lead.value }) lead.words
 
 -- `slots=S workers=W ring=R budget=B`, and the rest
@@ -61,7 +61,7 @@ abbrev pub limits_of : List (List ℕ) → Option Limits
 limits_of =
     word_then (size_of (codes "slots=") 64) (λ slots. word_then (size_of (codes "workers=") 16) (λ workers.
     word_then ring_of (λ ring. word_then (size_of (codes "budget=") 1024) (λ budget.
-    with_extras (record { slots = slots; workers = workers; ring = ring; budget = budget; generation = 0; idle = 0; lead = [] })))))
+    with_extras (record { slots = slots; workers = workers; ring = ring; budget = budget; generation = 0; idle = 0; lead = for_all [] })))))
 
 abbrev pub lone_ring : List (List ℕ) → Option ℕ
 lone_ring = word_then ring_of (λ ring. if_last ring)

@@ -1,7 +1,7 @@
 // Reads the header: the first line of a script that is not skipped.
 ghost use Rattle.std.specs.Prelude.{◌≡◌, ◌≤◌, ◌<◌, [], unwrap_or, IfSome, IfOk, option_and_then};
 ghost use Rattle.token.specs.Names.{last_generation};
-ghost use Rattle.world.specs.States.{IsWithinLimits};
+ghost use Rattle.world.specs.{Leads.for_all, States.IsWithinLimits};
 ghost use Rattle.script_text.specs.{Texts.{first_as, Reads, Takes, bytes_of}, Headers.{size_of, generation_of, ring_of, idle_of, lead_of, short_enough, optional, with_extras, limits_of, header_of, IsRing, IsWithin}};
 
 use crate::readers::{
@@ -137,7 +137,7 @@ fn idle(words: &mut Pieces<'_>) -> Option<u64>
 
 /// As `generation`, for `lead=HEX`.
 fn lead(words: &mut Pieces<'_>) -> Option<Lead>
-    ensures { optional lead_of [] words.old ≡ record { value = unwrap_or result []; words = words.new } }
+    ensures { optional lead_of (for_all []) words.old ≡ record { value = unwrap_or result (for_all []); words = words.new } }
 {
     let lead = short_bytes(words.peek()?.strip_prefix(b"lead=")?)?;
     words.next();

@@ -48,6 +48,7 @@ pub record Wired (S : Type 0) : Type 0 where
 abbrev pub unset : Patience
 unset = record { connect = None; keepalive = None }
 
+-- this patience, without the limit for connecting
 abbrev pub unlimited : Patience → Patience
 unlimited patience = record patience { connect = None }
 
@@ -58,12 +59,15 @@ fresh_wire joined peer = record { tally = tally joined 0 0; sending = waiting; r
 abbrev pub promptly : Socket → Socket
 promptly socket = record socket { sending = prompt }
 
+-- this socket, reported under this name
 abbrev pub under : EndName → Socket → Socket
 under name socket = record socket { watched = Some name }
 
+-- this socket, with this patience
 abbrev pub patient : Patience → Socket → Socket
 patient patience socket = record socket { patience = patience }
 
+-- at most the name changed under which the socket is reported
 abbrev pub SameButWatched : Socket → Socket → Type 0
 SameButWatched old new = new ≡ record old { watched = new.watched }
 

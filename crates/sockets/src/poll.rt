@@ -396,6 +396,12 @@ impl<R: Dial> Front for Sockets<'_, R> {
 
     type Waker = Arc<Wakers>;
 
+    /// Waits for reports as its round asks: not at all, for a millisecond, or for as long as this front ever waits
+    /// (epoll_wait(2)): 100 ms for each poller, 200 ms at least and 1.6 s at most. Then the batch has the numbers that
+    /// were reported, 256 at most, and after an error none.
+    ///
+    /// After a brief wait without a report the front leaves no client, and after a long one it no longer lacks memory.
+    /// A wait that a signal ends gives an error, too, but does not count as failed. It allocates no memory.
     fn poll(&mut self, batch: &mut Vec<u64>, wait: Waiting) -> io::Result<()>
         requires room { MAX_BATCH ≤ vec_capacity batch.old }
         ensures most { vec_len batch.new ≤ MAX_BATCH }

@@ -6,7 +6,7 @@ use Rattle.token.specs.{declared.{kind.Kind.Kind, side.Side.{Side, TheVariants.{
 use Rattle.flow.specs.Stream.{Stream}
 use Rattle.kernel_model.specs.{declared.{both.Sockets.Sockets, reply.Reply.Reply}, Ends.EndState, Kernel.{Registered, end_at}, Names.has}
 use Rattle.relay_core.specs.{declared.{call.Call.Call, verdict.{Fault.{Fault, TheVariants.{Broken, Idle}}, Verdict.TheVariants.{Done, Failed}}}, Calls.{side_of, kind_of}, Pairs.{stream_of, verdict}, Order.next_call}
-use Rattle.world.specs.{declared.{connection.Connection.Connection, actors.Doing.{Doing, TheVariants.{Tries, Holds}}, event.{Event.Event, Change.TheVariants.Arrive}, limits.Limits.Limits, past.Past.Past}, Slots.{SlotState, WorkerState}, States.{State, opening}, Calls.descriptor, Steps.{step, connection_at}, Runs.run, Due.{movable, due}}
+use Rattle.world.specs.{declared.{connection.Connection.Connection, actors.Doing.{Doing, TheVariants.{Tries, Holds}}, event.{Event.Event, Change.TheVariants.Arrive}, limits.Limits.Limits, past.Past.Past}, Leads.lead_at, Slots.{SlotState, WorkerState}, States.{State, opening}, Calls.descriptor, Steps.{step, connection_at}, Runs.run, Due.{movable, due}}
 use Rattle.token.specs.declared.name.Name.TheVariants as name
 use Rattle.kernel_model.specs.declared.reply.Reply.TheVariants as reply
 use Rattle.world.specs.declared.event.Event.TheVariants as event
@@ -37,9 +37,9 @@ given st (e ∷ es) s g side = given_by st s g side e ++ unwrap_or (option_map (
 -- preamble `before` is sent before these
 
 -- what the target is sent before the client's bytes; the client is sent nothing before the target's bytes
-abbrev pub preamble : Limits → Direction → List ℕ
-preamble l Up = l.lead
-preamble l Down = []
+abbrev pub preamble : Limits → ℕ → ℕ → Direction → List ℕ
+preamble l s g Up = lead_at l.lead s g
+preamble l s g Down = []
 
 -- the preamble and then the arrived bytes are the sent bytes, then the rest of the preamble, then the ring, then the
 -- unread bytes
@@ -62,8 +62,11 @@ pub record DirectionHolds (before gave : List ℕ) (stream : Stream) (x y : EndS
 pub record ConnectionHolds (first st : State) (events : List Event) (s : ℕ) (c : Connection) : Type 0 where
   pub open_ends : (side : Side) → IsSome (end_of st c side)
   pub directions : (d : Direction) (x y : Registered) → end_of st c (source d) ≡ Some x → end_of st c (destination d) ≡ Some y
-      → DirectionHolds (preamble first.limits d) (given first events s c.pair.generation (source d)) (stream_of c.pair d) x.socket y.socket
+      → DirectionHolds (preamble first.limits s c.pair.generation d) (given first events s c.pair.generation (source d))
+      (stream_of c.pair d) x.socket y.socket
 
+-- Of each connection in a slot, in each direction: the preamble and the arrived bytes are the sent bytes, the rest of the
+-- preamble, the ring and the unread bytes. An end was passed on only after every byte
 abbrev pub BytesAndEndsHold : State → State → List Event → Type 0
 BytesAndEndsHold first st events = (s : ℕ) (c : Connection) → connection_at st s ≡ Some c → ConnectionHolds first st events s c
 
@@ -74,7 +77,7 @@ socket_of ends Target = ends.target
 
 -- the preamble of a direction, and then the bytes that were given to its source
 abbrev pub all_to_send : State → List Event → ℕ → ℕ → Direction → List ℕ
-all_to_send first events s g d = preamble first.limits d ++ given first events s g (source d)
+all_to_send first events s g d = preamble first.limits s g d ++ given first events s g (source d)
 
 -- in each direction of a closed connection, the sent bytes are a beginning of all that there was to send; if the
 -- connection was done, they are all of it
@@ -83,9 +86,11 @@ pub record ClosedHolds (first : State) (events : List Event) (p : Past) : Type 0
       × (all_to_send first events p.slot p.generation d ≡ (socket_of p.ends (destination d)).taken ++ rest)
   pub all : p.verdict ≡ Done → (d : Direction) → all_to_send first events p.slot p.generation d ≡ (socket_of p.ends (destination d)).taken
 
+-- of each closed connection: what was sent is the beginning of preamble and given bytes, or all of them if it was done
 abbrev pub ClosedHold : State → State → List Event → Type 0
 ClosedHold first st events = (i : ℕ) (p : Past) → slice_get st.past i ≡ Some p → ClosedHolds first events p
 
+-- this holds of each event, in the state in which it happens
 abbrev pub Throughout : (State → Event → Type 0) → State → List Event → Type 0
 Throughout Each st [] = Unit {0}
 Throughout Each st (e ∷ es) = Each st e × ((q : State) → step st e ≡ Some q → Throughout Each q es)
@@ -206,6 +211,7 @@ pub record FailuresHold (first st : State) (events : List Event) : Type 0 where
 
 -- No lost edge
 
+-- whatever could move is due to be tried
 abbrev pub DueHolds : State → Type 0
 DueHolds st = (s : ℕ) → movable st s ≡ true → due st s ≡ true
 
@@ -223,5 +229,6 @@ pub record HeadlineHolds (l : Limits) (events : List Event) (st : State) : Type 
   pub due : DueHolds st
   pub listener : ListenerHolds st
 
+-- the headline holds after every list of allowed events
 abbrev pub EveryRunHolds : Type 0
 EveryRunHolds = (l : Limits) (events : List Event) (st : State) → run (opening l) events ≡ Some st → HeadlineHolds l events st

@@ -6,7 +6,7 @@ inside : (n m : ℕ) (xs ys : List ℕ) → n ≡ m → xs ≡ ys → ◌≡◌ 
 inside n m xs ys e f = rw (e, f) refl
 
 -- the bytes alone determine the array and the length
-pub given_back : (len : ℕ) (bytes : List ℕ) → IsPadded len bytes
+pub given_back : (len : ℕ) (bytes : List ℕ) (p : IsPadded len bytes)
     → ◌≡◌ {A = Inside} (record { bytes = padded (take len bytes); len = length (take len bytes) }) (record { bytes = bytes; len = len })
 given_back len bytes p =
     let room : len ≤ length bytes = (let whole : length bytes ≡ 107 = p.whole in let within : len ≤ 107 = p.within in omega arith) in

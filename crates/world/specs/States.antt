@@ -23,6 +23,7 @@ pub record State : Type 0 where
   pub workers : List WorkerState
   pub past : List Past
 
+-- the limits that a header may have
 pub record IsWithinLimits (l : Limits) : Type 0 where
   pub slots : (1 ≤ l.slots) × (l.slots ≤ 64)
   pub workers : (1 ≤ l.workers) × (l.workers ≤ 16)
@@ -44,6 +45,7 @@ unused generation = record { generation = generation; connection = None; holder 
 abbrev pub resting : WorkerState
 resting = record { doing = Idle; hand = [] }
 
+-- the world in which nothing has happened yet
 abbrev pub opening : Limits → State
 opening l = record {
   limits = l;

@@ -4,7 +4,7 @@ use Rattle.std.specs.{Prelude.{ℕ, ◌+◌, ◌-◌, ◌==◌, Bool, true, fals
 use Rattle.token.specs.{declared.{side.Side.{Side, TheVariants.{Client, Target}}, name.Name.Name}, Names.{EndName, last_generation}}
 use Rattle.kernel_model.specs.{declared.{reply.Reply.Reply, watched.Watched.Watched, accepting.Accepting.{Accepting, TheVariants.{Accepted, Blocked, Again, Starved}}, both.{Descriptors.Descriptors, Sockets.Sockets}}, Outcome.{guard, Told}, Ends.is_nonempty, Kernel.KernelState}
 use Rattle.relay_core.specs.{Pairs.{fresh, noted, verdict, is_live}, Order.next_call, Idle.{is_overdue, timed_out}}
-use Rattle.world.specs.{declared.{connection.Connection.Connection, limits.Limits.Limits, actors.{Ticket.Ticket, Holder.TheVariants.{Nobody, By, Free as IsFree}, Doing.{Doing, TheVariants.{Idle, Tries, Holds, Closed, Retired}}}, event.{Event.Event, Change.{Change, TheVariants.{Arrive, Fin, Reset, Room}}, Reported.Reported, Listening.Listening, Polling.Polling, Act.Act}}, Slots.{SlotState, WorkerState, is_held}, States.State, Calls.{when, OpenConnection, descriptor, called}}
+use Rattle.world.specs.{declared.{connection.Connection.Connection, limits.Limits.Limits, actors.{Ticket.Ticket, Holder.TheVariants.{Nobody, By, Free as IsFree}, Doing.{Doing, TheVariants.{Idle, Tries, Holds, Closed, Retired}}}, event.{Event.Event, Change.{Change, TheVariants.{Arrive, Fin, Reset, Room}}, Reported.Reported, Listening.Listening, Polling.Polling, Act.Act}}, Leads.lead_at, Slots.{SlotState, WorkerState, is_held}, States.State, Calls.{when, OpenConnection, descriptor, called}}
 use Rattle.token.specs.declared.name.Name.TheVariants as name
 use Rattle.kernel_model.specs.declared.watched.Watched.TheVariants as watched
 use Rattle.kernel_model.specs.Kernel as kernel
@@ -85,7 +85,7 @@ token_of s side g = guard (nat_le s 32767 && (nat_le 1 g && nat_le g last_genera
 abbrev pub opened_place : ℕ → ℕ → Limits → ℕ → Descriptors → SlotState
 opened_place s g l now ends = record {
   generation = g;
-  connection = Some (record { pair = fresh s g l.ring now l.lead; ends = ends });
+  connection = Some (record { pair = fresh s g l.ring now (lead_at l.lead s g); ends = ends });
   holder = Nobody;
   notes = g ∷ [];
 }

@@ -61,6 +61,7 @@ EdgesHold st = (s : ℕ) (p : SlotState) (c : Connection) (side : Side) (x : Reg
     → slice_get st.slots s ≡ Some p → p.connection ≡ Some c → end_of st c side ≡ Some x
     → EndCovered (flags_of c.pair side) x.socket (has_report st (record { slot = s; side = side; generation = c.pair.generation }) p.notes)
 
+-- what `DueHolds` depends on: tickets, rest, the table, and that no flag is down without cover
 pub record SupportHolds (st : State) : Type 0 where
   pub tickets : TicketsHold st
   pub rest : RestHolds st

@@ -6,7 +6,7 @@ ghost use Rattle.world.specs.{CoreLaws.CoreLaws, Headline.EveryRunHolds};
 use relay_core::laws;
 
 /// What [`crate::replay`] promises of its world, but for `support`, holds after every list of events that can happen,
-/// from the opening world with any limits.
+/// from the opening world with any limits, also if each connection has a lead of its own.
 pub fn every_run_holds()
     ensures { EveryRunHolds }
 {

@@ -1,6 +1,6 @@
 // The bytes that a target is sent before the client's.
 ghost use Rattle.std.specs.Prelude.{◌≡◌, ◌<◌, ◌≤◌, length, Some, None};
-ghost use Rattle.world.specs.Leads.{padded};
+ghost use Rattle.world.specs.Leads.{for_all, padded};
 
 use flow::Flow;
 use std::marker::Model;
@@ -8,7 +8,8 @@ use std::marker::Model;
 /// The most bytes that a lead has.
 const MAX: usize = Flow::MAX_LEAD;
 
-/// The bytes that the target of each connection is sent before the client's own: 0 to 107. Contracts see their list.
+/// The bytes that each target is sent before its client's own: 0 to 107, the same for all connections. Contracts see
+/// `LeadTable`, since the laws are about runs in which each connection may have its own, too.
 #[derive(Clone, Copy)]
 pub struct Lead {
     bytes: [u8; MAX],
@@ -16,17 +17,16 @@ pub struct Lead {
 }
 
 impl Model for Lead {
-    ghost use Rattle.std.specs.Prelude.{ℕ, List, length, take};
+    ghost use Rattle.std.specs.Prelude.{length, take};
+    ghost use Rattle.world.specs.Leads.{IsPadded, LeadTable, for_all, padded};
 
-    ghost Value = { List ℕ };
+    ghost Value = { LeadTable };
 
-    ghost use Rattle.world.specs.Leads.{IsPadded, padded};
-
-    ghost view = { λ l. take l.len l.bytes };
+    ghost view = { λ l. for_all (take l.len l.bytes) };
 
     ghost invariant = { λ l. IsPadded l.len l.bytes };
 
-    ghost inverse = { λ bytes. record { bytes = padded bytes; len = length bytes } };
+    ghost inverse = { λ l. record { bytes = padded l.others; len = length l.others } };
 
     ghost use Rattle.world.specs.LeadLaws.{given_back};
 
@@ -42,7 +42,7 @@ impl Lead {
 
     /// The lead that has these bytes, or `None` if there are more than 107.
     pub fn new(bytes: &[u8]) -> Option<Lead>
-        ensures short { length bytes.now ≤ 107 → result ≡ Some bytes.now }
+        ensures short { length bytes.now ≤ 107 → result ≡ Some (for_all bytes.now) }
         ensures long { 107 < length bytes.now → result ≡ None }
     {
         if bytes.len() > MAX {
@@ -56,7 +56,7 @@ impl Lead {
 
     /// Its bytes.
     pub fn as_slice(&self) -> &[u8]
-        ensures bytes { result.now ≡ self.now }
+        ensures bytes { self.now ≡ for_all result.now }
         ensures short { length result.now ≤ 107 }
     {
         &self.bytes[..self.len]

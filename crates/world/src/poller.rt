@@ -18,7 +18,7 @@ impl World {
     ghost use Rattle.std.specs.Prelude.{◌≡◌, ◌<◌, length, slice_get, Some, IfOk, IsErrOf, IsTrue};
     ghost use Rattle.kernel_model.specs.{Outcome.Meets, Kernel.open_both};
     ghost use Rattle.relay_core.specs.Pairs.{fresh};
-    ghost use Rattle.world.specs.{Memory.{becomes_note, batch_length, grows, polling_allocates}, States.is_entry, Steps.{opened_world, opening_of, delivered, delivered_at, deliver, sweep, batched, put_by_poller, post_at, polled}};
+    ghost use Rattle.world.specs.{Leads.lead_at, Memory.{becomes_note, batch_length, grows, polling_allocates}, States.is_entry, Steps.{opened_world, opening_of, delivered, delivered_at, deliver, sweep, batched, put_by_poller, post_at, polled}};
 
     pub(crate) fn poll(&mut self, event: &Polling) -> Result<(), Refusal>
         ensures event { Meets (polled self.old event.now) self.old self.new result }
@@ -100,7 +100,7 @@ impl World {
     }
 
     fn fresh_pair(&self, slot: usize, generation: u64) -> Result<Pair, AllocError>
-        ensures { IfOk result (λ pair. pair ≡ fresh slot generation self.now.limits.ring self.now.second self.now.limits.lead) }
+        ensures { IfOk result (λ pair. pair ≡ fresh slot generation self.now.limits.ring self.now.second (lead_at self.now.limits.lead slot generation)) }
     {
         Pair::new(
             self.alloc,

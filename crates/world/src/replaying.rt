@@ -20,7 +20,7 @@ use std::alloc::Global;
 ///
 /// - In each direction of a connection in a slot, the preamble and then the bytes that arrived are, in this order: the
 ///   sent bytes, the rest of the preamble, the bytes in the ring, the unread bytes. If the end of input was passed on,
-///   that was after every byte (`bytes`). The preamble is the lead of the limits on the way to the target, and empty
+///   that was after every byte (`bytes`). The preamble is the connection's lead on the way to the target, and empty
 ///   on the way back. In each direction of a closed connection, the sent bytes are a prefix of the preamble and the
 ///   bytes that arrived, and all of these if the connection was done (`closed`).
 /// - No connection was tried on a note or a ticket of another generation (`own`).

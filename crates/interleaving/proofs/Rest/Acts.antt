@@ -7,7 +7,7 @@ use Rattle.token.specs.{Names.{EndName, last_generation}, declared.{side.Side.{S
 use Rattle.world.{proofs.Headline.Ends.Pairs.Holders.{Events.Lists.{Kept, at_one, kept_at, kept_bind, kept_map, kept_none, kept_some, kept_when, opened_here, opened_other, total-set}, Turns}, specs.{Calls.{called, descriptor}, Headline.{end_of}, Slots.{SlotState, WorkerState}, States.State, Steps.{connection_at, is_worn, token_of}, declared.{connection.Connection.Connection, limits.Limits.Limits}}}
 use Rattle.interleaving.specs.{Likeness.{Adopted, Emptied, Entered, Goes, HasClosed, HasOut, HasRetired, Holds, IsHalfOpen, IsHolder, IsSettled, Leaves, Like, Opens, Placed, Posted, Registered as IsRegistered, Rests, Stage, Stays, ThreadLike, Tries, Finds, machine_of, opened_slot}, Threads.{Act, Call, again, ended, open_slot, plan, quiet, turn, System, Thread, acts, begun, calls, goes_on, heard, planned, posted, registering, released, taken_out, taking, with_thread}, Rest.{calls_left, calls_to_come, is_answered, kernel_weight, pair_weight, poller_weight, post_weight, program_weight, slot_weight, spent_weight, thread_weight, ticket_weight, weight}}
 use Rattle.kernel_model.specs.Kernel as kernel
-use Rattle.interleaving.proofs.{Runs.{count_free, Programs.{PairCall, by_plan, chosen}}, Rest.Weights.{four_left, some_left, rest_most, rest_weight, calls_answered, both_opened, both_closed}}
+use Rattle.interleaving.proofs.{Runs.{count_free, Programs.{PairCall, by_plan, chosen}}, Rest.Weights.{four_left, some_left, rest_most, rest_weight, calls_answered, both_opened, both_closed, fresh_weighs}}
 
 -- Which programs there are
 
@@ -191,7 +191,8 @@ module _ {l : Limits} {st : System} (s : Sound l st) (i : ℕ) (t : Thread) (the
   registers first is (suc free) some = kept_when st.accepted _ (λ accepted. kept_bind _ (token_of 0 Client (st.entry + 1)) (λ client one. kept_map _ (token_of 0 Target (st.entry + 1)) (λ target two.
       let differ = two_ends st.kernel client target (side_is Client (st.entry + 1) client one) (side_is Target (st.entry + 1) target two) in
       goes _ _ refl (record { limits = s.limits; apart = λ e at same. differ (cc); some_free = λ yes. absurd (cc); unworn = λ below more. s.unworn below (omega arith) })
-      (λ later. absurd (later first)) (λ e. cc) (λ yes. rw (is, accepted) (omega (arith, both_opened st.kernel client target))))))
+      (λ later. absurd (later first)) (λ e. cc) (λ yes. rw (is, accepted)
+      (omega (arith, both_opened st.kernel client target, fresh_weighs st.limits.lead 0 (st.entry + 1) st.limits.ring st.second))))))
 
   pub acts_fine : {todo : List Act} → Known st i t todo → t.todo ≡ todo → Finds st.word st.place t.generation todo → Kept (Fine l st true) (acts st i t todo)
   acts_fine Nothing is find = kept_none

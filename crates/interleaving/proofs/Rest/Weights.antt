@@ -1,12 +1,12 @@
 -- What a call with its reply, a poll, an opening and a closing make of what pairs and the kernel weigh, and of the calls that are left.
-use Rattle.std.proofs.{Common.{Bool, List, None, Option, Some, [], ◌∷◌, true, false, not, if◌then◌else◌, arith, length, refl, zero, suc, ℕ, ◌*◌, ◌+◌, ◌-◌, ◌≡◌, ◌≤◌, slice_get, slice_set}, lemmas.{Grind.common_steps, Bool.{and_parts, Decides.nat_tests}, List.Sums.{length-filter, count_by-le-length}}}
+use Rattle.std.proofs.{Common.{Bool, List, None, Option, Some, [], ◌∷◌, true, false, not, if◌then◌else◌, arith, length, refl, zero, suc, get_or, length-append, max, ℕ, ◌*◌, ◌+◌, ◌-◌, ◌≡◌, ◌≤◌, slice_get, slice_set}, lemmas.{Grind.common_steps, Bool.{and_parts, Decides.nat_tests}, List.Sums.{length-filter, count_by-le-length}}}
 use Rattle.token.specs.{Names.EndName, Sides.opposite, declared.{direction.Direction.{Direction}, name.Name.Name}}
 use Rattle.kernel_model.specs.{Ends.{EndState, opened}, Kernel.{KernelState, Registered, end_at, lowest_free, with_end}, Names.{are_among, are_distinct, has, same, without_names}, Outcome.Told, declared.{both.{Descriptors.Descriptors, Sockets.Sockets}, reply.Reply.Reply}}
-use Rattle.relay_core.{proofs.Pairs.{asked_is_possible}, specs.{Calls.{direction_of, side_of}, Order.{call_for, next_call}, declared.flags.Flags.Flags, Pairs.{PairState, flags_of, is_live, verdict}, Replies.{after, fits}, declared.call.Call.{Call, TheVariants.{Join, Read, Shut, Write}}}}
+use Rattle.relay_core.{proofs.Pairs.{asked_is_possible}, specs.{Calls.{direction_of, side_of}, Order.{call_for, next_call}, declared.flags.Flags.Flags, Pairs.{PairState, flags_of, fresh, is_live, verdict}, Replies.{after, fits}, declared.call.Call.{Call, TheVariants.{Join, Read, Shut, Write}}}}
 use Rattle.claims.specs.Words.{one}
-use Rattle.world.{proofs.Headline.Ends.Pairs.Holders.Events.{end_after, Lists.{Kept, kept_at, kept_bind, kept_map, kept_over, kept_when, same_end_is, total-set, total_push}}, specs.{Calls.{OpenConnection, descriptor, made, told_of}, Support.total, declared.limits.Limits.Limits}}
+use Rattle.world.{proofs.Headline.Ends.Pairs.Holders.Events.{end_after, Lists.{Kept, kept_at, kept_bind, kept_map, kept_over, kept_when, same_end_is, total-set, total_push}}, specs.{Calls.{OpenConnection, descriptor, made, told_of}, Leads.{LeadTable, lead_at}, Support.total, declared.limits.Limits.Limits}}
 unfoldable use Rattle.world.specs.Calls.{called}
-use Rattle.interleaving.specs.Rest.{calls_left, end_weight, flags_up, is_answered, kernel_weight, move_weight, moves_left, pair_weight, passes_on, post_weight, socket_weight, spent_weight}
+use Rattle.interleaving.specs.Rest.{calls_left, end_weight, flags_up, is_answered, kernel_weight, longest, most, move_weight, moves_left, pair_weight, passes_on, post_weight, socket_weight, spent_weight}
 use Rattle.kernel_model.specs.Kernel as kernel
 use Rattle.token.specs.declared.name.Name.TheVariants as name
 use Rattle.relay_core.specs.Replies as answer
@@ -231,7 +231,17 @@ parted names (x ∷ q) = let rest = parted names q in grind arith
 pub polled : (names q : List Name) → are_among q names ≡ true → are_distinct names ≡ true → length (without_names names q) + length names ≤ length q
 polled names q among distinct = omega (arith, counted names q among distinct, parted names q)
 
--- An opening: two ends with nothing unread
+-- An opening: a connection that has its lead to send, and two ends with nothing unread
+
+-- no element has more than the greatest number
+pub most_at : {X : Type 0} (f : X → ℕ) (xs : List X) (i : ℕ) (d : X) → f (get_or xs i d) ≤ max (f d) (most f xs)
+most_at f [] i d = omega arith
+most_at f (x ∷ xs) zero d = omega arith
+most_at f (x ∷ xs) (suc i) d = omega (arith, most_at f xs i d)
+
+pub fresh_weighs : (l : LeadTable) (s g ring now : ℕ) → pair_weight (fresh s g ring now (lead_at l s g)) ≤ pair_weight (fresh 0 0 ring 0 []) + move_weight * longest l
+fresh_weighs l s g ring now =
+    omega (arith, length-append (lead_at l s g) [], most_at length (get_or l.own s []) g l.others, most_at (most length) l.own s [])
 
 abbrev sockets : List (Option Registered) → ℕ
 sockets ends = total socket_weight ends

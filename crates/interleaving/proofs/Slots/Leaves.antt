@@ -1,6 +1,6 @@
 -- What a step of `System` leaves as it is, when the accept flag is up and no client is accepted, as in a slot of a server.
 use Rattle.std.{proofs.{Common.{Bool, List, None, Option, Some, [], ap, append-nil, arith, drop, false, if◌then◌else◌, nat_lt, not, option_and_then, refl, slice_get, slice_set, sym, true, zero, suc, ℕ, ◌&&◌, ◌++◌, ◌+◌, ◌==◌, ◌∙◌, ◌∷◌, ◌≡◌}}}
-use Rattle.interleaving.specs.{Threads.{Act, Call, Claim, TakeOut, TakeNotes, Release, Post, Close, Give, Register, Adopt, Accept, Acts, Begin, Calls, Connect, Deliver, Network, Open, Spurious, Step, Sweep, System, Thread, Tick, Vanish, acts, after_act, begun, calls, delivers, goes_on, open_slot, poller_rests, posted, registering, rests, run, step, taken_out, taking, watched_of, with_thread}, Slots.{opening}}
+use Rattle.interleaving.specs.{Threads.{Act, Call, Play, Claim, TakeOut, TakeNotes, Release, Post, Close, Give, Register, Adopt, Accept, Acts, Begin, Calls, Connect, Deliver, Network, Open, Spurious, Step, Sweep, System, Thread, Tick, Vanish, acts, after_act, begun, calls, delivers, goes_on, open_slot, poller_rests, posted, registering, rests, run, step, taken_out, taking, watched_of, with_thread}, Slots.{opening}}
 use Rattle.kernel_model.specs.{Kernel.KernelState, declared.{reply.Reply.Reply, accepting.Accepting.TheVariants.Accepted}}
 use Rattle.token.specs.{declared.{name.Name.Name, side.Side.{Side, TheVariants.{Client, Target}}}}
 use Rattle.claims.specs.Words.{some_wait, wakes}
@@ -69,6 +69,7 @@ module _ (k : ℕ) (st : System) where
   leaves_act t TakeOut rest none = kept_some (leaves_out t rest st.place)
   leaves_act t TakeNotes rest none = kept_some (leaves_notes t rest t.out)
   leaves_act t Call rest none = kept_none
+  leaves_act t Play rest none = kept_none
   leaves_act t Post rest none = kept_some (brought _ _ (wakes st.word) t.generation refl refl refl refl)
   leaves_act t Release rest none = kept_some (brought _ _ (some_wait st.word.pending) t.generation refl refl refl refl)
   leaves_act t Close rest none = kept_bind _ t.out (λ c is. kept_map _ (kernel.close_both st.kernel c.ends) (λ told is. moved _ _ refl refl refl refl))

@@ -74,7 +74,8 @@ module _ (m : Many) (x : Step) (d : Deed) (n : Many) (q : System) where
     pub common : common q ≡ common (slot_of m d.slot)
 
   done_here : Done → slot_of n d.slot ≡ q
-  done_here done = viewed n d.slot q (done.places d.slot ∙ set_here m.places d.slot q) (ap (λ (s : Server). one_slot s.limits) done.server ∙ sym (ap (λ (c : Limits × (Bool × Bool)). c.0) done.common))
+  done_here done = viewed n d.slot q (done.places d.slot ∙ set_here m.places d.slot q) (ap (λ (o : Server). one_slot o.limits d.slot) done.server
+      ∙ sym (ap (λ (c : Limits × (Bool × Bool)). c.0) done.common))
       (sym (ap (λ (c : Limits × (Bool × Bool)). c.1.0) done.common)) (sym (ap (λ (c : Limits × (Bool × Bool)). c.1.1) done.common))
       (ap (λ (s : Server). names_at d.slot (n.fronts (s.owner d.slot)).batch) done.server ∙ done.names_here) done.tickets_here
 

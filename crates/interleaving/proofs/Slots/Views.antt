@@ -15,7 +15,7 @@ set_there f i j x other = rw (ne_eqb j i other) refl
 -- Views
 
 -- the view of a slot, by its place and what it shares
-pub viewed : (m : Many) (s : ℕ) (q : System) → m.places s ≡ q → one_slot m.server.limits ≡ q.limits → true ≡ q.flag → false ≡ q.accepted
+pub viewed : (m : Many) (s : ℕ) (q : System) → m.places s ≡ q → one_slot m.server.limits s ≡ q.limits → true ≡ q.flag → false ≡ q.accepted
     → names_at s (m.fronts (m.server.owner s)).batch ≡ q.batch → tickets_at s m.tickets ≡ q.tickets → slot_of m s ≡ q
 viewed m s q p l f a b t = rw (p, l, b, t) (by q.flag q.accepted f a)
   where

@@ -27,7 +27,7 @@ or_more a b c more h = grind arith
 better : {past next : History} {st q : State} {s : ℕ} {p : SlotState} → Quiet s past next → Better st q s → PlaceOk past st s p → PlaceOk next q s p
 better {past} {next} {st} {q} {s} {p} quiet f ok = record {
   entry = f.table ∙ ok.entry;
-  later = λ g side younger. quiet g side ∙ (ok.later g side younger ∙ same_before side f.limits);
+  later = λ g side younger. quiet g side ∙ (ok.later g side younger ∙ same_before s g side f.limits);
   connection = λ c here. (let k = ok.connection c here in record {
     generation = k.generation;
     ends = k.ends;
@@ -186,7 +186,7 @@ noted_ok : {past : History} {st q : State} {s : ℕ} {p : SlotState} (g : ℕ) �
     → PlaceOk past st s p → PlaceOk past q s (with_note p g)
 noted_ok {q} {s} {p} g table limits ends ok = record {
   entry = rw table ok.entry;
-  later = λ g side younger. ok.later g side younger ∙ same_before side limits;
+  later = λ g side younger. ok.later g side younger ∙ same_before s g side limits;
   connection = λ c here. (let k = ok.connection c here in
       renewed k ends refl refl (pair_more k.pair (λ side. refl) (λ side h. or_right _ _ (nonempty_more p.notes (g ∷ []) refl))));
 }
@@ -240,9 +240,9 @@ with_client k s g = with_end k.ends (lowest_free k.ends) (registered s g Client 
 fresh_direction : (gave : List ℕ) (ring : ℕ) (lead : List ℕ) (x y : Side) → gave ≡ lead → DirectionOk gave (empty_stream ring lead) (opened x) (opened y)
 fresh_direction gave ring lead x y same = grind (arith, append-nil lead, append-nil (lead ++ []))
 
-fresh_pair : {h : Side → List ℕ} {r : Side → Bool} (s g : ℕ) (l : Limits) (now : ℕ) → ((side : Side) → h side ≡ before l side)
-    → PairOk h r (fresh s g l.ring now l.lead) (record { client = opened Client; target = opened Target })
-fresh_pair {h} s g l now same = grind (arith, fresh_direction (h Client) l.ring l.lead Client Target, fresh_direction (h Target) l.ring [] Target Client)
+fresh_pair : {h : Side → List ℕ} {r : Side → Bool} (s g : ℕ) (l : Limits) (now : ℕ) → ((side : Side) → h side ≡ before l s g side)
+    → PairOk h r (fresh s g l.ring now (lead_at l.lead s g)) (record { client = opened Client; target = opened Target })
+fresh_pair {h} s g l now same = grind (arith, fresh_direction (h Client) l.ring (lead_at l.lead s g) Client Target, fresh_direction (h Target) l.ring [] Target Client)
 
 fresh_keeps : {past : History} {st : State} (s g : ℕ) (p : SlotState) → slice_get st.slots s ≡ Some p → slice_get st.table s ≡ Some g → AllOk past st
     → AllOk past (fresh_world st s (g + 1))
@@ -259,7 +259,7 @@ fresh_keeps {st = st} s g p here entry all =
       entry = get-set_same st.table s g (g + 1) entry;
       later = λ h side younger. slot.later h side (omega arith);
       connection = λ c is. (let this : record {
-        pair = fresh s (g + 1) st.limits.ring st.second st.limits.lead;
+        pair = fresh s (g + 1) st.limits.ring st.second (lead_at st.limits.lead s (g + 1));
         ends = record { client = lowest_free st.kernel.ends; target = lowest_free (with_client st.kernel s (g + 1)) };
       } ≡ c = cc in
           rw (← this) (record {
@@ -423,7 +423,10 @@ was_in laws {st} tables (Opens s g old first lies entry) i p here = one_was i p 
   connection = λ c this.
       let is = tables s old lies in
       let same : old.generation ≡ g = cc in
-      let both : record { pair = fresh s (g + 1) st.limits.ring st.second st.limits.lead; ends = (open_both st.kernel (token_at s Client (g + 1)) (token_at s Target (g + 1))).told } ≡ c = cc in
+      let both : record {
+        pair = fresh s (g + 1) st.limits.ring st.second (lead_at st.limits.lead s (g + 1));
+        ends = (open_both st.kernel (token_at s Client (g + 1)) (token_at s Target (g + 1))).told;
+      } ≡ c = cc in
       inr (rw (← both) (record { live = refl; moved = refl; older = omega arith }));
 }) here
 was_in laws tables (Delivers n old first entry lies) i p here = one_was i p lies (keeps_connection lies) here
@@ -542,9 +545,9 @@ module _ (laws : CoreLaws) where
 -- From the opening world on, where each connection is to send its preamble, and nothing came yet
 
 abbrev history : Limits → List Event → History
-history l events = after_run (λ s g side. before l side) (opening l) events
+history l events = after_run (before l) (opening l) events
 
-opening_ok : (l : Limits) → Whole (λ s g side. before l side) (opening l)
+opening_ok : (l : Limits) → Whole (before l) (opening l)
 opening_ok l = record {
   ends = record {
     each = λ s p here. rw (← get-replicate l.slots s (unused l.generation) p here) (record {
@@ -556,8 +559,8 @@ opening_ok l = record {
   closed = λ i e here. absurd (cc);
 }
 
-preamble_is : (l : Limits) (d : Direction) → before l (source d) ≡ preamble l d
-preamble_is l d = grind arith
+preamble_is : (l : Limits) (s g : ℕ) (d : Direction) → before l s g (source d) ≡ preamble l s g d
+preamble_is l s g d = grind arith
 
 direction_holds : (first gave : List ℕ) {s : Stream} {x y : EndState} → DirectionOk (first ++ gave) s x y → DirectionHolds first gave s x y
 direction_holds first gave {s} {x} {y} ok = record {
@@ -580,8 +583,8 @@ module _ (laws : CoreLaws) (l : Limits) (events : List Event) (st : State) (ran 
       let here = lies_in (slice_get st.slots s) c at_s in
       let ok = (reached.ends.each s here.place here.there).connection c here.connection in record {
         open_ends = λ side. rw (ok.there side) refl;
-        directions = λ d x y at_x at_y. rw (ok.generation, its_end ok (source d) x at_x, its_end ok (destination d) y at_y, ← preamble_is l d)
-            (direction_holds (before l (source d)) (given (opening l) events s here.place.generation (source d)) (ok.pair.directions d));
+        directions = λ d x y at_x at_y. rw (ok.generation, its_end ok (source d) x at_x, its_end ok (destination d) y at_y, ← preamble_is l s here.place.generation d)
+            (direction_holds (before l s here.place.generation (source d)) (given (opening l) events s here.place.generation (source d)) (ok.pair.directions d));
       }
 
   pub edges_hold : EdgesHold st
@@ -591,4 +594,5 @@ module _ (laws : CoreLaws) (l : Limits) (events : List Event) (st : State) (ran 
   pub closed_hold : ClosedHold (opening l) st events
   closed_hold i p here =
       let ok = reached.closed i p here in
-      record { beginning = λ d. rw (← preamble_is l d) (ok.beginning d); all = λ done d. rw (← preamble_is l d) (ok.all done d) }
+      let is = preamble_is l p.slot p.generation in
+      record { beginning = λ d. rw (← is d) (ok.beginning d); all = λ done d. rw (← is d) (ok.all done d) }

@@ -12,13 +12,13 @@ abbrev pub History : Type 0
 History = ℕ → ℕ → Side → List ℕ
 
 -- the preamble of the direction whose source a side is
-abbrev pub before : Limits → Side → List ℕ
-before l Client = l.lead
-before l Target = []
+abbrev pub before : Limits → ℕ → ℕ → Side → List ℕ
+before l s g Client = lead_at l.lead s g
+before l s g Target = []
 
 -- the same limits have the same preambles
-pub same_before : {l m : Limits} (side : Side) → m ≡ l → before l side ≡ before m side
-same_before side same = ap (λ (k : Limits). before k side) (sym same)
+pub same_before : {l m : Limits} (s g : ℕ) (side : Side) → m ≡ l → before l s g side ≡ before m s g side
+same_before s g side same = ap (λ (k : Limits). before k s g side) (sym same)
 
 -- these bytes are the sent bytes, then all that wait, then the unread bytes
 abbrev pub KeepsAll : List ℕ → Stream → EndState → EndState → Type 0
@@ -56,7 +56,7 @@ pub record EndsOk (past : History) (st : State) (s g : ℕ) (notes : List ℕ) (
 -- a slot: the poller's table has its generation, a later one has its preamble alone, and its connection is in order
 pub record PlaceOk (past : History) (st : State) (s : ℕ) (p : SlotState) : Type 0 where
   pub entry : slice_get st.table s ≡ Some p.generation
-  pub later : (g : ℕ) (side : Side) → p.generation < g → past s g side ≡ before st.limits side
+  pub later : (g : ℕ) (side : Side) → p.generation < g → past s g side ≡ before st.limits s g side
   pub connection : (c : Connection) → p.connection ≡ Some c → EndsOk past st s p.generation p.notes c
 
 pub record AllOk (past : History) (st : State) : Type 0 where
