@@ -33,38 +33,12 @@ impl Count for AtomicU64 {
     }
 }
 
-/// How many lines were left out since the last `take`.
-#[derive(Drop)]
-pub(crate) struct Missing<C = AtomicU64>(C);
-
-impl Missing {
-    pub(crate) fn none() -> Missing {
-        Missing(AtomicU64::new(0))
-    }
-}
-
-impl<C: Count> Missing<C> {
-    /// Counts a line that was left out.
-    pub(crate) fn add(&self)
-        ensures { C.did Added self.now.0 }
-    {
-        self.0.add();
-    }
-
-    /// How many lines were left out since the last call.
-    pub(crate) fn take(&self) -> u64
-        ensures { C.did (Taken result) self.now.0 }
-    {
-        self.0.take()
-    }
-}
-
 /// A line that was left out is put by being counted.
 #[derive(Drop)]
-pub(crate) struct Counted<'a>(pub(crate) &'a Missing);
+pub(crate) struct Counted<'a, C>(pub(crate) &'a C);
 
-impl Put<()> for Counted<'_> {
-    ghost did_put = { λ _ _ _. Unit {0} };
+impl<C: Count> Put<()> for Counted<'_, C> {
+    ghost did_put = { λ old _ _. C.did Added old.0.now };
 
     ghost refused = { λ _ _. ⊥ };
 

@@ -15,7 +15,7 @@
 //! [`ParkedQueue`] is what the log and a recording have in common: bounded queues for a thread that writes. The thread
 //! sleeps as an end of the ready queue does (`IdleEnds` of `ready`), whose law says that nobody sleeps beside work. It
 //! ends only after it found the queues closed and then empty ([`Drained`]). A line that was taken cannot be dropped
-//! unwritten (`Unwritten`). `Missing` counts lines left out.
+//! unwritten (`Unwritten`). One that is left out is put by being counted (`Counted`).
 #![tactic(auto)]
 
 mod left_out;

@@ -1,6 +1,6 @@
 //! One line of the log, in a fixed number of bytes.
 ghost use Rattle.std.specs.Prelude.{◌≡◌, ◌↔◌, ◌<◌, ◌≤◌, ◌++◌, ◌+◌, ◌-◌, Some, true, false, [], length, take, IsOk, IsTrue};
-ghost use Rattle.log_queue.specs.Lines.{LineState, IsFirst, IsCut, IsAdded, shown, left_out_text, ending as ending_of};
+ghost use Rattle.log_queue.specs.Lines.{LineState, IsCut, IsAdded, shown, left_out_text};
 
 use crate::limits::MAX_LINE;
 use arrayvec::ArrayString;
@@ -44,8 +44,8 @@ impl LogLine {
         if self.is_cut || self.text.try_push_str(text).is_ok() {
             return;
         }
-        self.text
-            .push_str(first_of(text, self.text.remaining_capacity()));
+        let end = text.floor_char_boundary(self.text.remaining_capacity());
+        self.text.push_str(&text[..end]);
         self.is_cut = true;
     }
 
@@ -55,12 +55,6 @@ impl LogLine {
     {
         self.text.as_bytes().starts_with(start.as_bytes())
     }
-}
-
-fn first_of(text: &str, most: usize) -> &str
-    ensures { IsFirst most text.now result.now }
-{
-    &text[..text.floor_char_boundary(most)]
 }
 
 /// A line that was taken from the queue. It can be neither copied nor dropped, so it is written.
@@ -96,16 +90,7 @@ impl Display for LogLine {
 
     fn fmt<W: Write>(&self, f: &mut fmt::Formatter<W>) -> fmt::Result {
         f.write_str(self.text.as_str())?;
-        f.write_str(ending(self.is_cut))
-    }
-}
-
-fn ending(is_cut: bool) -> &'static str
-    ensures { result.now ≡ ending_of is_cut }
-{
-    match is_cut {
-        true => "...",
-        false => "",
+        f.write_str(if self.is_cut { "..." } else { "" })
     }
 }
 

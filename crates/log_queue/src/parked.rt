@@ -1,11 +1,12 @@
 //! Queues for a thread that writes, and sleeps while there is nothing to write. It is the one end that takes, of the ends of
 //! `ready`.
-ghost use Rattle.std.specs.Prelude.{◌≡◌, ◌<◌, map, true, All};
+ghost use Rattle.std.specs.Prelude.{◌≡◌, ◌<◌, map, true, All, ℕ, List};
 ghost use Rattle.crossbeam_queue.specs.Passes.{queue_capacity};
+ghost use Rattle.log_queue.specs.Lines.{Added};
 
-use crate::left_out::{Counted, Missing};
+use crate::left_out::{Count, Counted};
 use crossbeam_queue::ArrayQueue;
-use ready::{Drained, Full, IdleEnds, Put, Source};
+use ready::{Drained, Full, IdleEnds, Put, Source, Spent};
 use std::marker::Model;
 use std::sync::Wait;
 use std::time::Duration;
@@ -28,9 +29,6 @@ pub trait Drain {
 }
 
 impl<T: Drop, const QUEUES: usize> Model for ParkedQueue<T, QUEUES> {
-    ghost use Rattle.std.specs.Prelude.{ℕ, List, map};
-    ghost use Rattle.crossbeam_queue.specs.Passes.{queue_capacity};
-
     ghost Value = { List ℕ };
 
     ghost view = { λ parked. map queue_capacity parked.queues };
@@ -79,8 +77,6 @@ struct Drains<'w, 'q, W, Q> {
 }
 
 impl<W: Drain, Q: Line> Source for Drains<'_, '_, W, Q> {
-    ghost use Rattle.std.specs.Prelude.{All};
-
     ghost state = { λ _. tt };
 
     ghost found = { λ _ _ _. Unit {0} };
@@ -124,19 +120,24 @@ impl<T: Drop, const QUEUES: usize> ParkedQueue<T, QUEUES> {
     }
 
     /// Puts an item into the queue `at`, and wakes the writer if it sleeps. A writer that has just found items looks
-    /// again by itself, so most items cost no system call. Returns false if there was no room.
-    pub fn put(&self, rt: &impl Wait, at: usize, item: T) -> bool
+    /// again by itself, so most items cost no system call. None: there was no room.
+    pub fn put(&self, rt: &impl Wait, at: usize, item: T) -> Option<Spent>
         requires { at < QUEUES }
     {
         match self.ends.put(rt, &mut Back(&self.queues[at]), item) {
-            Ok(()) => true,
-            Err(Full(_item)) => false,
+            Ok(spent) => Some(spent),
+            Err(Full(_item)) => None,
         }
     }
 
-    /// Counts an item that was left out.
-    pub(crate) fn count(&self, rt: &impl Wait, missing: &Missing) {
-        let _ = self.ends.put(rt, &mut Counted(missing), ());
+    /// Counts an item that was left out, and wakes the writer if it sleeps.
+    pub(crate) fn count<C: Count>(&self, rt: &impl Wait, count: &C) -> Spent
+        ensures { C.did Added count.now }
+    {
+        match self.ends.put(rt, &mut Counted(count), ()) {
+            Ok(spent) => spent,
+            Err(_) => unreachable!(),
+        }
     }
 
     /// Takes the oldest item of the queue `at`.

@@ -1,16 +1,16 @@
 //! The queue of the log's lines.
 ghost use Rattle.std.specs.Prelude.{◌≡◌, [], ◌∷◌, IfOk};
 
-use crate::left_out::Missing;
+use crate::left_out::Count;
 use crate::limits::MAX_LINES;
 use crate::line::{LogLine, Unwritten};
 use crate::parked::ParkedQueue;
 use crate::sink::Form;
 use crossbeam_queue::ArrayQueue;
-use ready::Drained;
+use ready::{Drained, Spent};
 use std::alloc::{AllocError, Global};
 use std::sync::Wait;
-use std::sync::atomic::{AtomicBool, Ordering};
+use std::sync::atomic::{AtomicBool, AtomicU64, Ordering};
 
 /// At most [`MAX_LINES`] finished lines, oldest first, between the threads that log and the one that writes.
 #[derive(Drop)]
@@ -18,7 +18,7 @@ pub struct LogQueue {
     pub(crate) lines: ParkedQueue<LogLine, 1>,
     form: Form,
     /// Lines that found the queue full, and were not logged as left out yet.
-    left_out: Missing,
+    left_out: AtomicU64,
     is_written: AtomicBool,
 }
 
@@ -34,7 +34,7 @@ impl LogQueue {
         Ok(LogQueue {
             lines: ParkedQueue::new([ArrayQueue::new(alloc, MAX_LINES)?]),
             form,
-            left_out: Missing::none(),
+            left_out: AtomicU64::new(0),
             is_written: AtomicBool::new(false),
         })
     }
@@ -44,19 +44,17 @@ impl LogQueue {
         self.form
     }
 
-    /// Puts a line after the others, or counts it if the queue is full.
-    pub fn put(&self, rt: &impl Wait, line: LogLine) {
-        if !self.lines.put(rt, 0, line) {
-            self.lines.count(rt, &self.left_out);
+    /// Puts a line after the others, or counts it if the queue is full, and wakes the writer if it sleeps.
+    pub fn put(&self, rt: &impl Wait, line: LogLine) -> Spent {
+        match self.lines.put(rt, 0, line) {
+            Some(spent) => spent,
+            None => self.lines.count(rt, &self.left_out),
         }
     }
 
     /// Takes the oldest line, to be written.
     pub(crate) fn take(&self, rt: &impl Wait) -> Option<Unwritten> {
-        match self.lines.take(rt, 0) {
-            Some(line) => Some(Unwritten::new(line)),
-            None => None,
-        }
+        self.lines.take(rt, 0).map(Unwritten::new)
     }
 
     /// How many lines were left out since the last call.

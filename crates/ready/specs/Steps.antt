@@ -29,6 +29,7 @@ module _ {T : Type 0} where
   abbrev pub after_take : History T → ℕ → T → History T
   after_take h place item = record h { taken = h.taken ++ (place, item) ∷ [] }
 
+  -- an end that has put and taken nothing
   abbrev pub unused : ℕ → EndState T
   unused capacity = record { capacity = capacity; history = blank }
 

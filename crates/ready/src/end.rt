@@ -4,7 +4,7 @@ ghost use Rattle.ready.specs.Steps.{HeldOnce, PutOne, TookOne};
 
 use crate::idle::IdleEnds;
 use crate::rule::LineEnd;
-use crate::steps::{Drained, Source, Wake, push};
+use crate::steps::{Drained, Put, Spent};
 use crate::ticket::{Full, Ticket};
 use std::sync::{Arc, Wait};
 
@@ -32,23 +32,28 @@ impl End {
         }
     }
 
-    // Puts a ticket, and returns the wake that it needs. None: this end will come back for a ticket itself.
-    pub(crate) fn push(
+    // Puts a ticket, and wakes an end for it. None: this end will come back for a ticket itself.
+    pub(crate) fn put(
         &mut self,
         rt: &impl Wait,
         ticket: Ticket,
-    ) -> Result<Option<Wake>, Full<Ticket>>
+    ) -> Result<Option<Spent>, Full<Ticket>>
         ensures put { OnOk result (PutOne self.old.line.history ticket self.new.line.history) }
-        ensures wake { IfOk result (λ wake. IsNone wake ↔ IsTrue self.old.comes_back) }
+        ensures wakes { IfOk result (λ spent. IsNone spent ↔ IsTrue self.old.comes_back) }
         ensures given_back { IfErr result (λ full. full.0 ≡ ticket) }
         ensures full { OnErr result (HeldOnce self.old.line.capacity self.old.line.history) }
         ensures unchanged { OnErr result ((self.new.line ≡ self.old.line) × (self.new.comes_back ≡ self.old.comes_back)) }
         ensures comes_back { OnOk result (self.new.comes_back ≡ false) }
         ensures same { (self.new.line.capacity ≡ self.old.line.capacity) × (self.new.number ≡ self.old.number) }
     {
-        let wake = push(rt, &mut self.line, ticket, self.comes_back)?;
+        let spent = if self.comes_back {
+            self.line.put(rt, ticket)?;
+            None
+        } else {
+            Some(self.ends.put(rt, &mut self.line, ticket)?)
+        };
         self.comes_back = false;
-        Ok(wake)
+        Ok(spent)
     }
 
     // An error shows that the queue was closed, and then found empty.

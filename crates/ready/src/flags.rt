@@ -2,7 +2,7 @@
 // of the queues: all threads see them in one order.
 ghost use Rattle.ready.specs.Steps.{BitStep, ReadBits, SetBits, ClearedBits};
 
-use std::sync::atomic::AtomicU64;
+use std::sync::atomic::AtomicU32;
 use std::sync::atomic::Ordering::SeqCst;
 use std::thread::Parker;
 
@@ -17,32 +17,32 @@ pub trait Bits {
     type Acts;
 
     /// Returns the bits.
-    fn read(&self, acts: &mut Self::Acts) -> u64
+    fn read(&self, acts: &mut Self::Acts) -> u32
         ensures { did (ReadBits result) self.now acts.old acts.new };
 
     /// Sets these bits. Returns the bits before.
-    fn set(&self, acts: &mut Self::Acts, bits: u64) -> u64
+    fn set(&self, acts: &mut Self::Acts, bits: u32) -> u32
         ensures { did (SetBits bits result) self.now acts.old acts.new };
 
     /// Clears these bits. Returns the bits before.
-    fn clear(&self, acts: &mut Self::Acts, bits: u64) -> u64
+    fn clear(&self, acts: &mut Self::Acts, bits: u32) -> u32
         ensures { did (ClearedBits bits result) self.now acts.old acts.new };
 }
 
-impl Bits for AtomicU64 {
+impl Bits for AtomicU32 {
     ghost did = { λ _ _ _ _. Unit {0} };
 
     type Acts = ();
 
-    fn read(&self, _acts: &mut ()) -> u64 {
+    fn read(&self, _acts: &mut ()) -> u32 {
         self.load(SeqCst)
     }
 
-    fn set(&self, _acts: &mut (), bits: u64) -> u64 {
+    fn set(&self, _acts: &mut (), bits: u32) -> u32 {
         self.fetch_or(bits, SeqCst)
     }
 
-    fn clear(&self, _acts: &mut (), bits: u64) -> u64 {
+    fn clear(&self, _acts: &mut (), bits: u32) -> u32 {
         self.fetch_and(!bits, SeqCst)
     }
 }

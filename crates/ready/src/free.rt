@@ -1,6 +1,6 @@
 // The queue of free slots.
-ghost use Rattle.std.specs.Prelude.{◌≡◌, ◌∷◌, ◌+◌, ◌-◌, ◌≤◌, IfOk, OnOk, IfErr, OnErr, IfSome, IfNone, replicate};
-ghost use Rattle.ready.specs.Steps.{first_of, in_order, opened, opener, unused, HeldOnce, PutOne, TookOne};
+ghost use Rattle.std.specs.Prelude.{◌≡◌, ◌∷◌, ◌+◌, ◌-◌, ◌≤◌, IfOk, OnOk, IfErr, OnErr, IfSome, IfNone, replicate, ℕ};
+ghost use Rattle.ready.specs.Steps.{first_of, in_order, opened, opener, unused, HeldOnce, PutOne, TookOne, EndState};
 
 use crate::rule::LineEnd;
 use crate::steps::{Put, Source};
@@ -19,9 +19,6 @@ pub struct FreeQueue {
 }
 
 impl Model for FreeQueue {
-    ghost use Rattle.std.specs.Prelude.{ℕ};
-    ghost use Rattle.ready.specs.Steps.{EndState};
-
     ghost Value = { EndState ℕ };
 
     ghost view = { λ q. q.end };

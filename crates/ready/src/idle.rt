@@ -1,10 +1,10 @@
 // Which ends sleep, and how they are woken.
-ghost use Rattle.std.specs.Prelude.{◌≡◌, ◌≢◌, ◌<◌, IfErr, IfNone, IfOk, IfSome, OnErr, OnOk, true, All};
+ghost use Rattle.std.specs.Prelude.{◌≡◌, ◌≢◌, ◌<◌, IfErr, IfNone, IfOk, IfSome, IsSomeAnd, OnErr, OnOk, slice_get, true, All};
 
 use crate::flags::Unpark;
 use crate::steps::{
-    AllBusy, Announced, ClosedMark, Drained, IdleBits, InVain, Looked, MarkSeen, Put, Source, Wake,
-    Woken, look, push,
+    ClosedMark, Drained, IdleBits, InVain, MarkSeen, Put, Source, Spent, Wake, look, push,
+    was_closed,
 };
 use crate::ticket::Full;
 use std::array;
@@ -15,7 +15,7 @@ use std::time::Duration;
 /// Up to 32 ends: which of them are idle, and what wakes each. Two threads may not share an end.
 #[derive(Drop)]
 pub struct IdleEnds<U = Parker> {
-    idle: IdleBits,
+    pub(crate) idle: IdleBits,
     mark: ClosedMark,
     parkers: [U; 32],
 }
@@ -37,18 +37,6 @@ impl IdleEnds {
         }
     }
 
-    /// Puts an item, and wakes an idle end for it. Who puts it does not come back for one.
-    pub fn put<T, L: Put<T>>(&self, rt: &impl Wait, line: &mut L, item: T) -> Result<(), Full<T>>
-        ensures put { OnOk result (L.did_put line.old item line.new) }
-        ensures given_back { IfErr result (λ full. full.0 ≡ item) }
-        ensures refused { OnErr result (L.refused line.old line.new) }
-    {
-        if let Some(wake) = push(rt, line, item, false)? {
-            self.wake_one(rt, wake);
-        }
-        Ok(())
-    }
-
     /// Looks until something is found, and sleeps while there is nothing.
     pub fn take<L: Source>(
         &self,
@@ -61,13 +49,17 @@ impl IdleEnds {
         ensures none { OnErr result ((L.state line.new ≡ L.state line.old) × L.held_none line.new) }
     {
         for _look in rt.forever() {
-            let found = match look(rt, self.mark.read(&mut ()), line) {
-                Ok((it, _)) => Some(it),
-                Err(vain) if vain.was_closed() => return Err(vain.drained()),
-                Err(vain) => self.look_or_park(rt, end, line, vain),
+            let vain = match look(rt, self.mark.read(&mut ()), line) {
+                Ok((it, _)) => return Ok(it),
+                Err(vain) => vain,
             };
-            if let Some(it) = found {
-                return Ok(it);
+            match was_closed(vain) {
+                Ok(drained) => return Err(drained),
+                Err(vain) => {
+                    if let Some(it) = self.look_or_park(rt, end, line, vain) {
+                        return Ok(it);
+                    }
+                }
             }
         }
         unreachable!()
@@ -87,18 +79,18 @@ impl IdleEnds {
         ensures found { IfSome result (λ it. L.found (L.state line.old) it (L.state line.new)) }
         ensures none { IfNone result (L.state line.new ≡ L.state line.old) }
     {
-        let announced = self.idle.announce(&mut (), end, vain);
-        let (found, looked) = match look(rt, announced, line) {
-            Ok((it, looked)) => (Some(it), looked),
-            Err(vain) => (None, vain.park(rt, &self.parkers)),
-        };
-        if let Some(wake) = self.idle.withdraw(&mut (), looked) {
-            match found {
-                Some(_) => self.wake_one(rt, wake),
-                None => wake.take(&found),
+        match look(rt, self.idle.announce(&mut (), end, vain), line) {
+            Ok((it, looked)) => {
+                if let Some(wake) = self.idle.withdraw(&mut (), looked) {
+                    self.wake_one(rt, wake);
+                }
+                Some(it)
+            }
+            Err(vain) => {
+                self.idle.park(&mut (), vain, rt, &self.parkers);
+                None
             }
         }
-        found
     }
 
     /// Rests, unless the queue is closed. No put ends that, since the end has not announced itself.
@@ -112,38 +104,34 @@ impl IdleEnds {
 }
 
 impl<U: Unpark> IdleEnds<U> {
-    pub(crate) fn all_busy(&self) -> Option<AllBusy> {
-        self.idle.all_busy(&mut ())
+    /// Puts an item, and then wakes the idle end with the lowest number for it, if any is idle. Who puts it does not come
+    /// back for one.
+    pub fn put<T, L: Put<T>>(&self, rt: &impl Wait, line: &mut L, item: T) -> Result<Spent, Full<T>>
+        ensures put { OnOk result (L.did_put line.old item line.new) }
+        ensures woken { IfOk result (λ spent. IfSome spent.0 (λ end. IsSomeAnd (slice_get self.now.parkers end) U.unparked)) }
+        ensures given_back { IfErr result (λ full. full.0 ≡ item) }
+        ensures refused { OnErr result (L.refused line.old line.new) }
+    {
+        let wake = push(rt, line, item)?;
+        Ok(self.wake_one(rt, wake))
     }
 
-    /// Wakes the idle end with the lowest number, if any is idle.
-    pub(crate) fn wake_one(&self, rt: &impl Wait, owed: Wake) {
+    fn wake_one(&self, rt: &impl Wait, owed: Wake) -> Spent
+        ensures { IfSome result.0 (λ end. IsSomeAnd (slice_get self.now.parkers end) U.unparked) }
+    {
         let mut wake = owed;
         for _look in rt.forever() {
-            let Some((idle, same)) = self.idle.look_for(&mut (), wake) else {
-                return;
+            let (end, same) = match self.idle.look_for(&mut (), wake) {
+                Ok(found) => found,
+                Err(spent) => return spent,
             };
-            if let Some(woken) = self.woken_of(idle) {
-                return woken.unpark(same, &self.parkers);
-            }
-            // All of these were woken for other items, or have withdrawn.
-            wake = same;
+            wake = match self.idle.wake(&mut (), end, same, &self.parkers) {
+                Ok(spent) => return spent,
+                // It was woken for another item, or has withdrawn.
+                Err(same) => same,
+            };
         }
         unreachable!()
-    }
-
-    // Clears the first of these bits that is still set, and returns its end.
-    fn woken_of(&self, idle: u64) -> Option<Woken>
-        ensures { IfSome result (λ woken. woken.end < 32) }
-    {
-        for end in 0..32 {
-            if idle & 1u64 << end != 0 {
-                if let Some(woken) = self.idle.wake(&mut (), end) {
-                    return Some(woken);
-                }
-            }
-        }
-        None
     }
 
     /// Sets the mark, and then wakes every end.

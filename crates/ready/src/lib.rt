@@ -36,16 +36,15 @@
 //! tickets, and the queues of `log_queue` with the writer as their one end that takes.
 //!
 //! The order of the steps is kept by values that only the step before gives (`steps.rt`). A put that has put its item has a
-//! wake, unless its own end comes back (`push`: `wake`). A wake can be neither copied nor dropped (`Wake`): it unparks the
-//! one end whose bit was cleared for it (`Woken`), or one look found no bit (`look_for`). So an end is woken only once its
-//! item was put, or `close` has set its mark (`wake_all`). `take` returns none only if it read that mark and then looked
-//! in vain ([`Drained`]). An end announces that it is idle only if it read that the queue was open and then looked in vain
-//! (`announce`: `open`), and parks once for each announcement, only after it looked in vain again (`look`, `park`). Its next
-//! put counts on it to come back exactly if its last `take` gave a ticket and it has put nothing since (`End`: `wake`,
-//! `comes_back`, `stays`). The word has no step but a read, and to set or clear bits at once (`Bits`): `withdraw` and `wake`
-//! make one such step, and say what it found (`cleared`), and `all_busy` returns Some exactly if its one look found no bit
-//! (`looked`). A close gives a value that only the mark and a wake of every end make ([`Closed`]). An end that withdraws
-//! gets back a wake that was spent on it: an end that found nothing takes the wake, and one that found an item passes it on.
+//! wake (`push`), unless its own end comes back (`End`: `wakes`). A wake can be neither copied nor dropped (`Wake`): it unparks
+//! the one end whose bit it cleared (`wake`), or one look found no bit (`look_for`); each gives [`Spent`], which a put returns.
+//! So an end is woken only once its item was put, or `close` has set its mark (`wake_all`). `take` returns none only if it read
+//! that mark and then looked in vain ([`Drained`]). An end announces that it is idle only if it read that the queue was open
+//! and then looked in vain (`announce`: `open`), and parks once for each announcement, only after it looked in vain again
+//! (`look`, `park`). Its next put counts on it to come back exactly if its last `take` gave a ticket and it has put nothing
+//! since (`End`: `wakes`, `comes_back`, `stays`). The word has no step but a read, and to set or clear bits at once (`Bits`),
+//! and each says what it found (`cleared`, `looked`). A close gives a value that only the mark and a wake of every end make
+//! ([`Closed`]). An end that found an item passes a wake on that was spent on it (`withdraw`); one that slept looks again.
 #![tactic(auto)]
 
 mod end;
@@ -62,5 +61,5 @@ mod ticket;
 pub use free::FreeQueue;
 pub use idle::{Closed, IdleEnds};
 pub use queue::ReadyQueue;
-pub use steps::{AllBusy, Drained, Put, Source};
+pub use steps::{AllBusy, Drained, Put, Source, Spent};
 pub use ticket::{Full, Ticket};

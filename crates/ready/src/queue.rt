@@ -1,6 +1,7 @@
 // The queue of tickets.
 ghost use Rattle.std.specs.Prelude.{◌≡◌, ◌≤◌, IfOk, OnOk, IfErr, OnErr, IfSome, IfNone, replicate};
-ghost use Rattle.ready.specs.Steps.{unused, HeldOnce, PutOne, TookOne};
+ghost use Rattle.ready.specs.Steps.{unused, HeldOnce, PutOne, TookOne, EndState};
+ghost use Rattle.ready.specs.declared.ticket.Ticket.{Ticket};
 
 use crate::end::End;
 use crate::idle::{Closed, IdleEnds};
@@ -21,8 +22,6 @@ pub struct ReadyQueue {
 }
 
 impl Model for ReadyQueue {
-    ghost use Rattle.ready.specs.{declared.ticket.Ticket.Ticket, Steps.EndState};
-
     ghost Value = { EndState Ticket };
 
     ghost view = { λ q. q.end.line };
@@ -55,9 +54,7 @@ impl ReadyQueue {
         ensures unchanged { OnErr result (self.new ≡ self.old) }
         ensures capacity { self.new.capacity ≡ self.old.capacity }
     {
-        if let Some(wake) = self.end.push(rt, ticket)? {
-            self.end.ends.wake_one(rt, wake);
-        }
+        self.end.put(rt, ticket)?;
         Ok(())
     }
 
@@ -83,7 +80,7 @@ impl ReadyQueue {
 
     /// Looks once for an end that sleeps in [`ReadyQueue::take`] or is about to. Some: there is none.
     pub fn all_busy(&self) -> Option<AllBusy> {
-        self.end.ends.all_busy()
+        self.end.ends.idle.all_busy(&mut ())
     }
 
     /// From now on, `take` returns None at every end once the queue is empty. Wakes all ends that sleep.

@@ -1,7 +1,9 @@
 // The queue rule as the rule of a queue of `crossbeam_queue`, and one thread's end of such a queue.
-ghost use Rattle.std.specs.{Prelude.{◌≡◌, ◌≤◌, IfOk}, Arc.arc_value};
-ghost use Rattle.crossbeam_queue.specs.Passes.{IsPassOf};
-ghost use Rattle.ready.specs.Steps.{among_others, first_of, unused};
+ghost use Rattle.std.specs.Prelude.{◌≡◌, ◌≤◌, IfOk};
+ghost use Rattle.std.specs.Arc.{arc_value};
+ghost use Rattle.crossbeam_queue.specs.Passes.{IsPassOf, ruled_capacity};
+ghost use Rattle.ready.specs.Steps.{among_others, first_of, unused, PutOne, opener, Saw, TookOne, blank, EndState, HeldOnce};
+ghost use Rattle.ready.specs.Rule.{QueueRule};
 
 use crate::history::History;
 use crate::steps::{Put, Source};
@@ -17,8 +19,6 @@ pub(crate) type Line<T> = RuledArrayQueue<T, History<T>, InPlaces>;
 pub struct InPlaces;
 
 impl<T> Protocol<T, History<T>> for InPlaces {
-    ghost use Rattle.ready.specs.{Rule.QueueRule, Steps.opener};
-
     ghost holds = { QueueRule };
 
     ghost first = { opener };
@@ -27,36 +27,26 @@ impl<T> Protocol<T, History<T>> for InPlaces {
 pub struct Putting;
 
 impl<T> Outcome<T, History<T>> for Putting {
-    ghost use Rattle.ready.specs.Steps.{PutOne};
-
     ghost then = { PutOne };
 }
 
 impl<T> Lesson<T, History<T>> for Putting {
-    ghost use Rattle.ready.specs.Steps.{Saw};
-
     ghost fact = { Saw };
 }
 
 pub struct Taking;
 
 impl<T> Outcome<T, History<T>> for Taking {
-    ghost use Rattle.ready.specs.Steps.{TookOne};
-
     ghost then = { TookOne };
 }
 
 impl<T> Lesson<T, History<T>> for Taking {
-    ghost use Rattle.ready.specs.Steps.{Saw};
-
     ghost fact = { Saw };
 }
 
 pub struct NextEnd;
 
 impl<T> Split<History<T>> for NextEnd {
-    ghost use Rattle.ready.specs.Steps.{among_others, blank};
-
     ghost left = { among_others };
 
     ghost right = { λ v. blank };
@@ -71,10 +61,6 @@ pub(crate) struct LineEnd<T> {
 }
 
 impl<T> Model for LineEnd<T> {
-    ghost use Rattle.std.specs.Arc.{arc_value};
-    ghost use Rattle.crossbeam_queue.specs.Passes.{ruled_capacity};
-    ghost use Rattle.ready.specs.Steps.{EndState};
-
     ghost Value = { EndState T };
 
     ghost view = { λ e. record { capacity = ruled_capacity (arc_value e.line); history = e.pass.me.0.client } };
@@ -109,9 +95,6 @@ impl<T: Drop> LineEnd<T> {
 }
 
 impl<T> Put<T> for LineEnd<T> {
-    ghost use Rattle.std.specs.Prelude.{◌≡◌};
-    ghost use Rattle.ready.specs.Steps.{HeldOnce, PutOne};
-
     ghost did_put = { λ old item new. PutOne old.history item new.history × (new.capacity ≡ old.capacity) };
 
     ghost refused = { λ old new. HeldOnce old.capacity old.history × (new ≡ old) };
@@ -126,9 +109,6 @@ impl<T> Put<T> for LineEnd<T> {
 }
 
 impl<T> Source for LineEnd<T> {
-    ghost use Rattle.std.specs.Prelude.{◌≡◌};
-    ghost use Rattle.ready.specs.Steps.{HeldOnce, TookOne};
-
     type Found = T;
 
     type State = LineEnd<T>;

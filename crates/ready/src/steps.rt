@@ -1,12 +1,13 @@
 // How ends sleep, and who wakes them: each step gives the value that the next one asks for, and nothing else makes it. A
 // comment at each atomic step names the one that it pairs with.
-ghost use Rattle.std.specs.Prelude.{◌≡◌, ◌≢◌, ◌<◌, ◌↔◌, ℕ, IsNone, IsSome, IsTrue, IfErr, IfNone, IfOk, IfSome, OnErr, OnOk, None, length, slice_get, true, not};
+ghost use Rattle.std.specs.Prelude.{◌≡◌, ◌≢◌, ◌<◌, ◌↔◌, ℕ, IsErr, IsOk, IsSome, IsSomeAnd, IsTrue, IfErr, IfNone, IfOk, IfSome, OnErr, OnOk, None, Some, length, slice_get, true, not};
+ghost use Rattle.std.specs.Int.{trailing_zeros, w32};
 ghost use Rattle.ready.specs.Steps.{ReadBits, SetBits, ClearedBits, bit_of, has_bit};
 
 use crate::flags::{Bits, Unpark};
 use crate::ticket::Full;
 use std::sync::Wait;
-use std::sync::atomic::AtomicU64;
+use std::sync::atomic::AtomicU32;
 use std::thread::Parker;
 
 /// What items are put into. The trait leaves open what that is.
@@ -44,15 +45,12 @@ pub trait Source {
 
 /// A bit for each end. It is set while the end has parked or is about to, and nobody has woken it yet.
 #[derive(Drop)]
-pub(crate) struct IdleBits<W = AtomicU64>(W);
+pub(crate) struct IdleBits<W = AtomicU32>(W);
 
 /// Shows that one look found no end idle. Only [`IdleBits::all_busy`] makes one, and it cannot be copied: each needs a
 /// look of its own.
 #[derive(Drop)]
-pub struct AllBusy {
-    bits: u64,
-    ghost none: { bits ≡ 0 },
-}
+pub struct AllBusy(());
 
 /// An end that has announced that it is idle. Only [`IdleBits::announce`] makes one. It can be neither copied nor
 /// dropped, so each announcement is withdrawn once.
@@ -62,14 +60,12 @@ pub(crate) struct Announced {
 }
 
 /// The duty to wake an idle end for an item that was put. Only [`push`] makes one, and [`IdleBits::withdraw`] if another
-/// thread has spent a wake on the caller's end. A wake can be neither copied nor dropped. It ends once it has woken an
-/// end, once a look found no end idle, or once the end that it woke looks again.
+/// thread has spent a wake on the caller's end. A wake can be neither copied nor dropped: it is `Spent`.
 pub(crate) struct Wake(());
 
-/// An end whose bit was cleared to wake it. Only [`IdleBits::wake`] makes one. It can be neither copied nor dropped.
-pub(crate) struct Woken {
-    end: usize,
-}
+/// A wake was spent after its item was put: this end was unparked for it, or one look found no end idle.
+#[derive(Drop)]
+pub struct Spent(Option<usize>);
 
 /// Whether the queue was closed when a step read or set the mark. Only such a step makes one. It cannot be copied.
 #[derive(Drop)]
@@ -92,20 +88,14 @@ pub struct Drained {
     ghost closed: { seen.closed ≡ true },
 }
 
-/// Puts an item, and returns the wake that it needs. None: the end that puts it comes back for one.
-pub(crate) fn push<T, L: Put<T>>(
-    rt: &impl Wait,
-    line: &mut L,
-    item: T,
-    comes_back: bool,
-) -> Result<Option<Wake>, Full<T>>
+/// Puts an item, and returns the wake that it needs.
+pub(crate) fn push<T, L: Put<T>>(rt: &impl Wait, line: &mut L, item: T) -> Result<Wake, Full<T>>
     ensures put { OnOk result (L.did_put line.old item line.new) }
-    ensures wake { IfOk result (λ wake. IsNone wake ↔ IsTrue comes_back) }
     ensures given_back { IfErr result (λ full. full.0 ≡ item) }
     ensures refused { OnErr result (L.refused line.old line.new) }
 {
     line.put(rt, item)?;
-    Ok(if comes_back { None } else { Some(Wake(())) })
+    Ok(Wake(()))
 }
 
 /// Looks, after the step that gave `after`.
@@ -118,63 +108,27 @@ pub(crate) fn look<A, L: Source>(
     ensures none { OnErr result ((L.state line.new ≡ L.state line.old) × L.held_none line.new) }
     ensures after { IfErr result (λ vain. vain.0 ≡ after) }
 {
-    let found = line.look(rt);
-    match found {
+    match line.look(rt) {
         Some(it) => Ok((it, Looked(after))),
         None => Err(InVain(after)),
     }
 }
 
-impl InVain<MarkSeen> {
-    /// Whether the queue was closed before the look.
-    pub(crate) fn was_closed(&self) -> bool
-        ensures { result ≡ self.now.0.closed }
-    {
-        self.0.closed
-    }
-
-    /// The look was in vain though the queue was closed before.
-    pub(crate) fn drained(self) -> Drained
-        requires closed { self.0.closed ≡ true }
-    {
-        Drained { seen: self.0 }
-    }
-}
-
-impl InVain<Announced> {
-    /// Sleeps until this end is woken. `parkers` has one for each end, in order.
-    pub(crate) fn park(self, rt: &impl Wait, parkers: &[Parker]) -> Looked<Announced>
-        requires { self.0.end < length parkers.now }
-    {
-        let InVain(announced) = self;
-        parkers[announced.end].park(rt);
-        Looked(announced)
-    }
-}
-
-impl Wake {
-    /// Spends the wake on the caller's end, which was woken, has found nothing, and looks again.
-    pub(crate) fn take<F>(self, _found: &Option<F>)
-        requires { _found.now ≡ None }
-    {
-        let Wake(()) = self;
-    }
-}
-
-impl Woken {
-    /// Unparks the end. `parkers` has one for each end, in order.
-    pub(crate) fn unpark<U: Unpark>(self, wake: Wake, parkers: &[U])
-        requires { self.end < length parkers.now }
-        ensures { IfSome (slice_get parkers.now self.end) U.unparked }
-    {
-        let (Wake(()), Woken { end }) = (wake, self);
-        parkers[end].give();
+/// After a look in vain. Ok: the queue was closed before it.
+pub(crate) fn was_closed(vain: InVain<MarkSeen>) -> Result<Drained, InVain<MarkSeen>>
+    ensures open { IfErr result (λ vain. vain.0.closed ≢ true) }
+{
+    let InVain(seen) = vain;
+    if seen.closed {
+        Ok(Drained { seen })
+    } else {
+        Err(InVain(seen))
     }
 }
 
 impl IdleBits {
     pub(crate) fn new() -> IdleBits {
-        IdleBits(AtomicU64::new(0))
+        IdleBits(AtomicU32::new(0))
     }
 }
 
@@ -193,7 +147,7 @@ impl<W: Bits> IdleBits<W> {
     {
         // Pairs with `look_for`. A put pushes and then reads the bits; an end sets its bit and then looks. So one of
         // the two sees the other's step. If the end looked first, it could park although a put came in between.
-        self.0.set(acts, 1u64 << end);
+        self.0.set(acts, 1u32 << end);
         Announced { end }
     }
 
@@ -206,40 +160,67 @@ impl<W: Bits> IdleBits<W> {
         // Pairs with `wake`: only one of the two finds the bit set. If both could, nobody would pass that wake on, and
         // the other put's item would wait until this end comes back, while a third end sleeps.
         let Looked(Announced { end }) = looked;
-        let bit = 1u64 << end;
+        let bit = 1u32 << end;
         let was_woken = self.0.clear(acts, bit) & bit == 0;
         if was_woken { Some(Wake(())) } else { None }
     }
 
-    /// Clears the bit of an end that must be woken. None: the bit was clear already.
-    pub(crate) fn wake(&self, acts: &mut W::Acts, end: usize) -> Option<Woken>
-        requires { end < 32 }
-        ensures cleared { (before : ℕ) × W.did (ClearedBits (bit_of end) before) self.now.0 acts.old acts.new
-            × (IsSome result ↔ IsTrue (has_bit end before)) }
-        ensures end { IfSome result (λ woken. woken.end ≡ end) }
+    /// Parks an end that has looked in vain since it announced itself, and then clears its bit. The end looks again, so a
+    /// wake that another thread spent on it is used up.
+    pub(crate) fn park(
+        &self,
+        acts: &mut W::Acts,
+        vain: InVain<Announced>,
+        rt: &impl Wait,
+        parkers: &[Parker],
+    )
+        requires { vain.0.end < length parkers.now }
+        ensures cleared { (before : ℕ) × W.did (ClearedBits (bit_of vain.0.end) before) self.now.0 acts.old acts.new }
     {
-        // Pairs with `withdraw`, and with itself: if two puts woke one end, one of their items would be left.
-        let bit = 1u64 << end;
-        if self.0.clear(acts, bit) & bit != 0 {
-            Some(Woken { end })
-        } else {
-            None
-        }
+        let InVain(Announced { end }) = vain;
+        parkers[end].park(rt);
+        self.0.clear(acts, 1u32 << end);
     }
 
-    /// Looks once. Returns the bits and the wake if a bit is set. Otherwise the wake ends here: no end is idle.
-    pub(crate) fn look_for(&self, acts: &mut W::Acts, wake: Wake) -> Option<(u64, Wake)>
-        ensures looked { (bits : ℕ) × W.did (ReadBits bits) self.now.0 acts.old acts.new × (IsNone result ↔ bits ≡ 0)
-            × IfSome result (λ found. found.0 ≡ bits) }
+    /// Clears the bit of an end, and spends the wake on it: it is unparked. The wake is returned if the bit was clear
+    /// already. `parkers` has one for each end, in order.
+    pub(crate) fn wake<U: Unpark>(
+        &self,
+        acts: &mut W::Acts,
+        end: usize,
+        wake: Wake,
+        parkers: &[U],
+    ) -> Result<Spent, Wake>
+        requires { (end < 32) × (end < length parkers.now) }
+        ensures cleared { (before : ℕ) × W.did (ClearedBits (bit_of end) before) self.now.0 acts.old acts.new
+            × (IsOk result ↔ IsTrue (has_bit end before)) }
+        ensures unparked { IfOk result (λ spent. (spent.0 ≡ Some end) × IsSomeAnd (slice_get parkers.now end) U.unparked) }
+    {
+        // Pairs with `withdraw`, and with itself: if two puts woke one end, one of their items would be left.
+        let bit = 1u32 << end;
+        if self.0.clear(acts, bit) & bit == 0 {
+            return Err(wake);
+        }
+        let Wake(()) = wake;
+        parkers[end].give();
+        Ok(Spent(Some(end)))
+    }
+
+    /// Looks once. Returns the lowest end whose bit is set, and the wake; or the wake is spent, since no end is idle.
+    pub(crate) fn look_for(&self, acts: &mut W::Acts, wake: Wake) -> Result<(usize, Wake), Spent>
+        ensures looked { (bits : ℕ) × W.did (ReadBits bits) self.now.0 acts.old acts.new × (IsErr result ↔ bits ≡ 0)
+            × IfOk result (λ found. found.0 ≡ trailing_zeros w32 bits) }
+        ensures end { IfOk result (λ found. found.0 < 32) }
+        ensures none { IfErr result (λ spent. spent.0 ≡ None) }
     {
         // Pairs with `announce`. An end that sets its bit after this looks at the queue later, and finds what was
         // pushed.
         let bits = self.0.read(acts);
         if bits != 0 {
-            return Some((bits, wake));
+            return Ok((bits.trailing_zeros() as usize, wake));
         }
         let Wake(()) = wake;
-        None
+        Err(Spent(None))
     }
 
     /// Looks once. Some: no bit is set.
@@ -248,21 +229,17 @@ impl<W: Bits> IdleBits<W> {
     {
         // Pairs with nothing: an end may announce itself right after. So who keeps an item has to come back to it.
         let bits = self.0.read(acts);
-        if bits == 0 {
-            Some(AllBusy { bits })
-        } else {
-            None
-        }
+        if bits == 0 { Some(AllBusy(())) } else { None }
     }
 }
 
 /// The mark of a closed queue: a word, which becomes 1. It is never taken back.
 #[derive(Drop)]
-pub(crate) struct ClosedMark<W = AtomicU64>(W);
+pub(crate) struct ClosedMark<W = AtomicU32>(W);
 
 impl ClosedMark {
     pub(crate) fn new() -> ClosedMark {
-        ClosedMark(AtomicU64::new(0))
+        ClosedMark(AtomicU32::new(0))
     }
 }
 
