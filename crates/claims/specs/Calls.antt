@@ -19,6 +19,7 @@ abbrev pub ReleaseChange : ℕ → SeatState → Released → SeatState → Type
 ReleaseChange slot old ReleaseWakes new = Adds slot (exchange.Release true ∷ []) old new
 ReleaseChange slot old ReleaseQuiet new = Adds slot (exchange.Release false ∷ []) old new × ((account_at old slot).known ≡ 0)
 
+-- the answer is Adopted only if the caller does not hold the slot
 abbrev pub AdoptChange : ℕ → SeatState → AdoptAnswer → SeatState → Type 0
 AdoptChange slot old Adopted new = (pending : ℕ) × Adds slot (exchange.Adopted pending ∷ []) old new × HoldsNot old slot
 AdoptChange slot old NotFree new = Adds slot (exchange.NotFree ∷ []) old new

@@ -3,9 +3,11 @@
 use Rattle.std.specs.Prelude.{◌≡◌, ◌↔◌, ℕ, ◌+◌, ◌<◌, ◌≤◌, ◌⊎◌, true, false, List, map, replicate, All, sum_by, if◌then◌else◌, slice_index, slice_index_or}
 use Rattle.claims.specs.{declared.view.{Account.Account, View.View}, Words.{one, some_wait, word_of, WordState}, Views.{blank, column}, Rule.ClaimRule, Seats.{SeatState, view_of}}
 
+-- from the first number to the second, both included
 abbrev pub IsWithin : ℕ → ℕ → ℕ → Type 0
 IsWithin low high n = (low ≤ n) × (n ≤ high)
 
+-- below the first number, or above the second
 abbrev pub IsOutside : ℕ → ℕ → ℕ → Type 0
 IsOutside low high n = (n < low) ⊎ (high < n)
 

@@ -27,9 +27,11 @@ account_at s slot = account_of (trace_at s slot)
 abbrev pub posts_of : SeatState → ℕ
 posts_of s = sum_by (λ a. a.posted) (accounts_of (view_of s))
 
+-- the seat holds this slot
 abbrev pub Holds : SeatState → ℕ → Type 0
 Holds s slot = (account_at s slot).holds ≡ true
 
+-- the seat does not hold this slot
 abbrev pub HoldsNot : SeatState → ℕ → Type 0
 HoldsNot s slot = (account_at s slot).holds ≡ false
 

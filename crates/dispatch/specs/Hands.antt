@@ -9,6 +9,7 @@ pub record HandState : Type 0 where
   pub slots : List ℕ
   pub capacity : ℕ
 
+-- a hand that has nothing
 abbrev pub empty_hand : ℕ → HandState
 empty_hand capacity = record { tickets = []; slots = []; capacity = capacity }
 

@@ -5,6 +5,7 @@ use Rattle.ready.specs.{declared.{history.History.History, ticket.Ticket.Ticket}
 use Rattle.dispatch.specs.{Hands.HandState, declared.shared.Own.Own}
 
 module _ {T : Type 0} where
+  -- what an end has put, and then what is still in hand
   abbrev pub outgoing : History T → List T → List T
   outgoing history hand = map (λ (put : ℕ × T). put.1) history.put ++ hand
 

@@ -8,6 +8,7 @@ use Rattle.relay_log.specs.declared.cause.Cause.{Cause}
 use Rattle.dispatch.specs.declared.front.{Waiting.{Waiting, TheVariants.{No, Brief, Long}}, Unaccepted.{Unaccepted, TheVariants.{Again, Blocked, Starved}}, Unopened.{Unopened, TheVariants.{Connect, Register}}}
 use Rattle.relay_log.specs.declared.cause.Cause.TheVariants as cause
 
+-- what a front shows of its last wait for reports, and whether it listens
 pub record Seen : Type 0 where
   -- what the last wait for reports gave
   pub reported : List ℕ

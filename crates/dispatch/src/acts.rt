@@ -2,14 +2,16 @@ use crate::front::{Front, Opened, Settle, Unopened};
 use crate::places::{Berth, Occupied, Places};
 use crate::shared::Shared;
 use claims::{Adopted, ClaimSeat, Claimed, Claims, Posted, Released};
+use engine::{Moment, Turn, turn_with};
 use log::Log;
 use ready::{FreeQueue, Full, ReadyQueue, Ticket};
+use relay_core::MAX_READ;
 use statistics::Event;
 use std::sync::Wait;
 use token::Token;
 
 /// The acts of a thread at a slot's word, and those that hand on the slot or its ticket. Each act but `enter` is one
-/// call on what all threads share. A turn and an opening are generic over this trait, so that their clauses can say
+/// call on what all threads share. Turns, rounds and openings are generic over this trait, so that their clauses can say
 /// which acts they make, in which order: a proof has `made ..` only from a call. The server's `()` makes each act and
 /// nothing else.
 pub trait Acts {
@@ -114,14 +116,18 @@ pub trait Acts {
 
 /// The acts of a thread with a slot's connection.
 pub trait Moves<F: Front>: Acts {
-    ghost use Rattle.std.specs.Prelude.{◌≡◌, ◌<◌, ℕ, Option, Some, None, IfSome, IsNone, IfOk, IfErr, OnOk, OnErr};
+    ghost use Rattle.std.specs.Prelude.{◌≡◌, ◌<◌, ◌≤◌, ℕ, Option, Some, None, IfSome, IsNone, IfOk, IfErr, OnOk, OnErr};
     ghost use Rattle.claims.specs.Seats.{Holds};
+    ghost use Rattle.engine.specs.Turns.{outcome_of, IsServed, IsTurn};
     ghost use Rattle.statistics.specs.declared.event.Event.{Event};
     ghost use Rattle.dispatch.specs.declared.places.Berth.{Berth};
     ghost use Rattle.dispatch.specs.Acts as act;
 
     // The last act took this connection out of its place, or found none there.
     ghost found: { Option (Berth F.Client F.Target) → Self → Type 0 };
+
+    // The last act had the sockets of a connection do something. What it was, and what it has become.
+    ghost played: { Berth F.Client F.Target → Berth F.Client F.Target → Self → Type 0 };
 
     // The last act put this connection into its place, or closed it.
     ghost moved: { Berth F.Client F.Target → Self → Type 0 };
@@ -172,9 +178,28 @@ pub trait Moves<F: Front>: Acts {
         ensures made { Self.made act.PutIn slot self.old self.new }
         ensures moved { moved berth.value self.new };
 
+    /// [`turn_with`] of a slot's connection, on its two wires.
+    fn play(
+        &mut self,
+        slot: usize,
+        berth: &mut Berth<F::Client, F::Target>,
+        budget: usize,
+        moment: Moment,
+        buffer: &mut [u8; MAX_READ],
+    ) -> Turn
+        requires least { 1 ≤ budget }
+        requires most { budget ≤ 1024 }
+        ensures made { Self.made act.Play slot self.old self.new }
+        ensures played { played berth.old berth.new self.new }
+        ensures outcome { result ≡ outcome_of berth.new.pair }
+        ensures run { IsTurn budget moment.second moment.limit berth.old.pair berth.new.pair
+            (IsServed F.Client.told F.Client.does moment.second berth.old.client berth.new.client)
+            (IsServed F.Target.told F.Target.does moment.second berth.old.target berth.new.target) };
+
     /// [`Settle::settle`] of both sockets of a slot's connection.
     fn settle(&mut self, slot: usize, berth: &mut Berth<F::Client, F::Target>)
         ensures made { Self.made act.Settle slot self.old self.new }
+        ensures played { played berth.old berth.new self.new }
         ensures pair { berth.new.pair ≡ berth.old.pair }
         ensures client { F.Client.settled berth.new.client }
         ensures target { F.Target.settled berth.new.target };
@@ -251,6 +276,8 @@ impl<F: Front> Moves<F> for () {
 
     ghost found = { λ _ _. Unit {0} };
 
+    ghost played = { λ _ _ _. Unit {0} };
+
     ghost counted = { λ _ _ _. Unit {0} };
 
     fn register<N: Log>(
@@ -287,6 +314,25 @@ impl<F: Front> Moves<F> for () {
         ensures { Unit {0} }
     {
         places.put_in(rt, seat, slot, berth)
+    }
+
+    #[inline(always)]
+    fn play(
+        &mut self,
+        _slot: usize,
+        berth: &mut Berth<F::Client, F::Target>,
+        budget: usize,
+        moment: Moment,
+        buffer: &mut [u8; MAX_READ],
+    ) -> Turn {
+        turn_with(
+            &mut berth.pair,
+            &mut berth.client,
+            &mut berth.target,
+            budget,
+            moment,
+            buffer,
+        )
     }
 
     fn settle(&mut self, _slot: usize, berth: &mut Berth<F::Client, F::Target>) {

@@ -24,7 +24,7 @@ pub struct Shared<F: Front, A = ()> {
     pub places: Places<F::Client, F::Target, A>,
     /// What ends a poller's wait for reports.
     pub waker: F::Waker,
-    /// The most calls that one turn makes, 1 to 1,024.
+    /// The most calls that one turn makes, 1 to 1,024. A server's is 4 or more.
     pub budget: usize,
     /// Where connections are counted, with a place for each slot; None if they are not.
     pub statistics: Option<Arc<Statistics>>,

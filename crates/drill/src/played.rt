@@ -203,7 +203,8 @@ fn step_poller<R: Wait + Log>(
     match thread.step(&context) {
         Ok(()) => false,
         Err(ended) => {
-            thread.finish(&context, ended);
+            let owner = thread.number;
+            thread.finish(&context, owner, ended);
             set.note_end("poller", number);
             true
         }
@@ -225,7 +226,8 @@ fn step_worker<R: Wait + Log>(
     match thread.step(&context) {
         Ok(()) => false,
         Err(ended) => {
-            thread.finish(&context, ended);
+            let owner = thread.number;
+            thread.finish(&context, owner, ended);
             set.note_end("worker", number);
             true
         }

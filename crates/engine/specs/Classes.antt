@@ -41,6 +41,7 @@ class_by call joined error =
     else if may_wait call && would_wait joined error then class.Blocked
     else class.Failed (kind_of_error error)
 
+-- what this error of this call means, if the socket is known to be connected or not
 abbrev pub class_of : Call → Bool → ErrorKind → Class
 class_of call = class_by (kind_of call)
 

@@ -14,6 +14,7 @@ outcome (verdict.Failed fault) next = turn.Failed
 outcome verdict.Live (Some call) = turn.Again
 outcome verdict.Live None = turn.Quiet
 
+-- what a turn answers that leaves this pair
 abbrev pub outcome_of : PairState → Turn
 outcome_of p = outcome (verdict p) (next_call p)
 

@@ -7,7 +7,7 @@ use Rattle.dispatch.{proofs.{Holding.{posts_still, woke_behind_post}, Outgoing.t
 use Rattle.ready.specs.{declared.ticket.Ticket.Ticket, Steps.EndState}
 use Rattle.relay_log.specs.declared.faults.ServerFault.{ServerFault}
 use Rattle.token.specs.Names.{last_generation}
-use Rattle.turns.specs.{declared.{terms.Terms.Terms, worker.Worked.Worked}, Turns.{answer_by, answer_of, if_posted, ActsLeft, Handled, Handles, Handling, IsLeft, Leaving, Playing, PlaysAt, PlaysBy, Serves, WasHeld, TurnInOrder, program, acts_of, AtWork, TicketsKept, SlotGiven, SlotsKept, HandPut, TurnDone, TurnRest, LeftSlot, TurnMade, NoOwnTurn, marks_after}, Shares.{AreShared, IsLight, OneShared, Passed, Stays}}
+use Rattle.turns.specs.{declared.{terms.Terms.Terms, worker.Worked.Worked}, Turns.{answer_by, answer_of, if_posted, noted_by, ActsLeft, Handled, Handles, Handling, IsLeft, StaysAs, Leaving, Playing, PlaysAt, PlaysBy, Serves, WasHeld, TurnInOrder, program, acts_of, AtWork, TicketsKept, SlotGiven, SlotsKept, HandPut, TurnDone, TurnRest, LeftSlot, TurnMade, NoOwnTurn, marks_after}, Shares.{AreShared, IsLight, OneShared, Passed, Stays}}
 use Rattle.claims.specs.declared.answers.Posted.TheVariants as posted
 use Rattle.turns.specs.declared.worker.Worked.TheVariants as worked
 use Rattle.dispatch.specs.Acts as act
@@ -77,15 +77,15 @@ pub firsts : (r : Answer) → WasHeld r → (found noted notes g : ℕ) (other w
     → (Held found ∷ drop 1 (program r 0 noted woke) ≡ program r found noted woke)
     × (Take notes ∷ drop 2 (program r 0 noted woke) ≡ drop 1 (program r 0 notes woke))
     × (acts_of r g other woke ≡ act.Claim ∷ drop 1 (acts_of r g other woke))
+    × (drop 1 (acts_of r g other woke) ≡ act.TakeOut ∷ drop 2 (acts_of r g other woke))
 firsts (Ok worked.Busy) held found noted notes g other woke = absurd held
-firsts _ held found noted notes g other woke = (refl, refl, refl)
+firsts _ held found noted notes g other woke = (refl, refl, refl, refl)
 
 -- of one whose connection is due again
-pub again_firsts : (spent : Bool) (g : ℕ) (other woke : Bool) → let r = answer_of (if_posted worked.Again spent) in
-    (drop 2 (acts_of r g other woke) ≡ act.TakeNotes ∷ drop 3 (acts_of r g other woke))
-    × (drop 3 (acts_of r g other woke) ≡ act.PutIn ∷ drop 4 (acts_of r g other woke))
-again_firsts true g other woke = (refl, refl)
-again_firsts false g other woke = (refl, refl)
+pub again_first : (spent : Bool) (g : ℕ) (other woke : Bool) → let r = answer_of (if_posted worked.Again spent) in
+    drop 4 (acts_of r g other woke) ≡ act.PutIn ∷ drop 5 (acts_of r g other woke)
+again_first true g other woke = refl
+again_first false g other woke = refl
 
 module _ {S : Type 0} {made : Made S} {t : Ticket} {a c : Own} {from mid to : S} where
   pub act_first : {r : Answer} {other : Bool} {e n : ℕ} {one : Act}
@@ -93,23 +93,6 @@ module _ {S : Type 0} {made : Made S} {t : Ticket} {a c : Own} {from mid to : S}
       → made one t.slot from mid → TurnRest made t r other e (suc n) a c mid to → TurnRest made t r other e n a c from to
   act_first next first rest =
       record { noted = rest.noted; woke = rest.woke; held = rest.held; done = rest.done; acts = rw (next rest.woke) (mid, first, rest.acts) }
-
-  -- the notes were taken, and then the turn came to its end
-  pub played_then : {r : Answer} {notes : ℕ} {b : Own}
-      → ((woke : Bool) → drop 2 (acts_of r t.generation false woke) ≡ act.TakeNotes ∷ drop 3 (acts_of r t.generation false woke))
-      → made act.TakeNotes t.slot from mid → Adds t.slot (Take notes ∷ []) a.seat b.seat → Still a b
-      → TurnRest made t r false 2 3 b c mid to → (Played : ℕ → Type 0) → Played notes
-      → (rest : TurnRest made t r false 1 2 a c from to) × Played rest.noted
-  played_then {r} {notes} next first adds same rest Played played = (
-    record {
-      noted = notes;
-      woke = rest.woke;
-      held = rest.held;
-      done = rw (firsts r rest.held 0 rest.noted notes 0 false rest.woke).1 at (done_after (Take notes ∷ []) adds refl same rest.done);
-      acts = rw (next rest.woke) (mid, first, rest.acts);
-    },
-    played,
-  )
 
 -- acts that put no connection in, and close none, are known as they are
 
@@ -124,7 +107,7 @@ gives_as moved made left slot true from to acts = acts
 gives_as moved made left slot false from to acts = acts
 
 pub due_as : {S C T : Type 0} (moved : Berth C T → S → Type 0) (made : Made S) (left : Option (Berth C T)) {t : Ticket} {a b : Own} {from to : S} (spent : Bool)
-    → let r = answer_of (if_posted worked.Again spent) in TurnRest made t r false 2 4 a b from to → TurnRest (Leaving moved made left) t r false 2 4 a b from to
+    → let r = answer_of (if_posted worked.Again spent) in TurnRest made t r false 2 5 a b from to → TurnRest (Leaving moved made left) t r false 2 5 a b from to
 due_as moved made left {t} {to = to} true rest = record {
   noted = rest.noted;
   woke = rest.woke;
@@ -134,83 +117,141 @@ due_as moved made left {t} {to = to} true rest = record {
 }
 due_as moved made left false rest = record { noted = rest.noted; woke = rest.woke; held = tt; done = rest.done; acts = rest.acts }
 
--- What a turn did with the connection, and its acts from the look into the place on
+-- What a turn did with the connection, and its acts from the take of its notes on
 
-module _ {S C T : Type 0} (found : Option (Berth C T) → S → Type 0) (moved : Berth C T → S → Type 0) (made : Made S) (t : Ticket)
-    (old new : Berth C T) (from mid to : S) where
-  own_acts : (w : Worked) (spent woke : Bool) → let r = answer_of (if_posted w spent) in WasHeld r → (w ≡ worked.Gone → ⊥)
-      → ActsLeft (Leaving moved made (Some new)) t r 2 false woke mid to → made act.TakeOut t.slot from mid → found (Some old) mid
-      → ActsLeft (Handling found moved made (record { found = Some old; left = Some new })) t r 1 true woke from to
-  own_acts worked.Busy spent woke held own acts out is = absurd held
-  own_acts worked.Gone spent woke held own acts out is = absurd (own refl)
-  own_acts worked.Quiet spent true held own acts out is = (mid, (out, is), acts)
-  own_acts worked.Quiet spent false held own acts out is = (mid, (out, is), acts)
-  own_acts worked.Again false woke held own acts out is = (mid, (out, is), acts)
-  own_acts worked.Again true true held own acts out is = (mid, (out, is), acts)
-  own_acts worked.Again true false held own acts out is = (mid, (out, is), acts)
-  own_acts worked.Ended spent woke held own acts out is = by_last (nat_lt t.generation last_generation) refl where
-    by_last : (given : Bool) → nat_lt t.generation last_generation ≡ given
-        → ActsLeft (Handling found moved made (record { found = Some old; left = Some new })) t (Ok worked.Ended) 1 true woke from to
-    by_last true less = rw less (mid, (out, is), rw less at acts)
-    by_last false less = rw less (mid, (out, is), rw less at acts)
+module _ {S C T : Type 0} (found : Option (Berth C T) → S → Type 0) (played : Berth C T → Berth C T → S → Type 0)
+    (moved : Berth C T → S → Type 0) (made : Made S) (t : Ticket) (h : Handled C T) where
+  -- the connection is put in or closed
+  ends_acts : (from to : S) (w : Worked) (spent woke : Bool) → let r = answer_of (if_posted w spent) in (w ≡ worked.Gone → ⊥) → (w ≡ worked.Quiet → ⊥)
+      → WasHeld r → ActsLeft (Leaving moved made h.left) t r 4 false woke from to → ActsLeft (Handling found played moved made h) t r 4 true woke from to
+  ends_acts from to worked.Busy spent woke own loud held acts = absurd held
+  ends_acts from to worked.Gone spent woke own loud held acts = absurd (own refl)
+  ends_acts from to worked.Quiet spent woke own loud held acts = absurd (loud refl)
+  ends_acts from to worked.Again false woke own loud held acts = acts
+  ends_acts from to worked.Again true true own loud held acts = acts
+  ends_acts from to worked.Again true false own loud held acts = acts
+  ends_acts from to worked.Ended spent woke own loud held acts = by_last (nat_lt t.generation last_generation) refl where
+    by_last : (given : Bool) → nat_lt t.generation last_generation ≡ given → ActsLeft (Handling found played moved made h) t (Ok worked.Ended) 4 true woke from to
+    by_last true less = rw less (rw less at acts)
+    by_last false less = rw less (rw less at acts)
 
-module _ {C T : Type 0} (plays : Playing C T) (notes : ℕ) (t : Ticket) (old new : Berth C T) where
-  own_handled : (w : Worked) (spent : Bool) → let r = answer_of (if_posted w spent) in (w ≡ worked.Gone → ⊥)
-      → old.pair.generation ≡ t.generation → plays notes old new → IsLeft (Ok w) new.pair → Handles plays notes t r (record { found = Some old; left = Some new })
-  own_handled worked.Busy spent own same played left = tt
-  own_handled worked.Gone spent own same played left = absurd (own refl)
-  own_handled worked.Quiet spent own same played left = (old, new, refl, refl, same, played, left)
-  own_handled worked.Again true own same played left = (old, new, refl, refl, same, played, left)
-  own_handled worked.Again false own same played left = (old, new, refl, refl, same, played, left)
-  own_handled worked.Ended spent own same played left = (old, new, refl, refl, same, played, left)
+  -- the notes were taken, and the calls made
+  own_acts : (from mid then to : S) (w : Worked) (spent woke : Bool) → let r = answer_of (if_posted w spent) in (w ≡ worked.Gone → ⊥) → WasHeld r
+      → ActsLeft (Handling found played moved made h) t r 4 true woke then to → made act.TakeNotes t.slot from mid → made act.Play t.slot mid then
+      → IfSome h.played (λ both. played both.0 both.1 then) → ActsLeft (Handling found played moved made h) t r 2 true woke from to
+  own_acts from mid then to worked.Busy spent woke own held acts taken called is = absurd held
+  own_acts from mid then to worked.Gone spent woke own held acts taken called is = absurd (own refl)
+  own_acts from mid then to worked.Quiet spent woke own held acts taken called is = (mid, taken, (then, (called, is), acts))
+  own_acts from mid then to worked.Again false woke own held acts taken called is = (mid, taken, (then, (called, is), acts))
+  own_acts from mid then to worked.Again true woke own held acts taken called is = (mid, taken, (then, (called, is), acts))
+  own_acts from mid then to worked.Ended spent woke own held acts taken called is = (mid, taken, (then, (called, is), acts))
+
+module _ {S C T : Type 0} (found : Option (Berth C T) → S → Type 0) (played : Berth C T → Berth C T → S → Type 0)
+    (moved : Berth C T → S → Type 0) (made : Made S) {t : Ticket} (h : Handled C T) {a c : Own} {from to : S} where
+  pub ends_then : (w : Worked) (spent : Bool) → let r = answer_of (if_posted w spent) in (w ≡ worked.Gone → ⊥) → (w ≡ worked.Quiet → ⊥)
+      → TurnRest (Leaving moved made h.left) t r false 2 4 a c from to → TurnRest (Handling found played moved made h) t r true 2 4 a c from to
+  ends_then w spent own loud rest = record {
+    noted = rest.noted;
+    woke = rest.woke;
+    held = rest.held;
+    done = rest.done;
+    acts = ends_acts found played moved made t h from to w spent rest.woke own loud rest.held rest.acts;
+  }
+
+  -- its sockets send what they held back, and then it is put in
+  pub settles_then : {mid : S} → made act.Settle t.slot from mid → IfSome h.settled (λ both. played both.0 both.1 mid)
+      → TurnRest (Leaving moved made h.left) t (Ok worked.Quiet) false 2 5 a c mid to → TurnRest (Handling found played moved made h) t (Ok worked.Quiet) true 2 4 a c from to
+  settles_then {mid} sent is rest =
+      record { noted = rest.noted; woke = rest.woke; held = tt; done = rest.done; acts = by rest.woke rest.acts } where
+        by : (woke : Bool) → ActsLeft (Leaving moved made h.left) t (Ok worked.Quiet) 5 false woke mid to
+            → ActsLeft (Handling found played moved made h) t (Ok worked.Quiet) 4 true woke from to
+        by true acts = (mid, (sent, is), acts)
+        by false acts = (mid, (sent, is), acts)
+
+-- what a turn did with the ticket's own connection, of which this is what `settled` was
+abbrev pub own_of : {C T : Type 0} → ℕ → Berth C T → Berth C T → Berth C T → Option (Berth C T × Berth C T) → Handled C T
+own_of notes old now new settled =
+    record { found = Some old; played = Some (record old { pair = noted_by notes old.pair }, now); settled = settled; left = Some new }
+
+module _ {C T : Type 0} (plays : Playing C T) (notes : ℕ) (t : Ticket) (old now new : Berth C T) (settled : Option (Berth C T × Berth C T)) where
+  own_handled : (w : Worked) (spent : Bool) → let r = answer_of (if_posted w spent) in let h = own_of notes old now new settled in
+      (w ≡ worked.Gone → ⊥) → old.pair.generation ≡ t.generation → plays notes old now → StaysAs (Ok w) h now new → IsLeft (Ok w) new.pair
+      → Handles plays notes t r h
+  own_handled worked.Busy spent own same played stays left = tt
+  own_handled worked.Gone spent own same played stays left = absurd (own refl)
+  own_handled worked.Quiet spent own same played stays left = (old, now, new, refl, refl, refl, same, played, stays, left)
+  own_handled worked.Again true own same played stays left = (old, now, new, refl, refl, refl, same, played, stays, left)
+  own_handled worked.Again false own same played stays left = (old, now, new, refl, refl, refl, same, played, stays, left)
+  own_handled worked.Ended spent own same played stays left = (old, now, new, refl, refl, refl, same, played, stays, left)
 
 -- what it was after the claim
 abbrev pub Found : {S C T : Type 0} → (Handled C T → Made S) → Playing C T → Ticket → Answer → Own → Own → S → S → Type 0
 Found made plays t r a c from to = (h : Handled _ _) × (rest : TurnRest (made h) t r (is_some h.found) 1 1 a c from to) × Handles plays rest.noted t r h
 
-module _ {S C T : Type 0} (found : Option (Berth C T) → S → Type 0) (moved : Berth C T → S → Type 0) (made : Made S) (plays : Playing C T)
-    {t : Ticket} {a c : Own} {from mid to : S} where
+module _ {S C T : Type 0} (found : Option (Berth C T) → S → Type 0) (played : Berth C T → Berth C T → S → Type 0)
+    (moved : Berth C T → S → Type 0) (made : Made S) (plays : Playing C T) {t : Ticket} {a c : Own} {from mid to : S} where
+  -- the notes of the ticket's own connection were taken, its calls were made, and then the turn came to its end
+  pub played_then : (w : Worked) (spent : Bool) {notes : ℕ} {old now new : Berth C T} (settled : Option (Berth C T × Berth C T)) {b : Own} {then : S}
+      → let r = answer_of (if_posted w spent) in let h = own_of notes old now new settled in
+      (w ≡ worked.Gone → ⊥) → old.pair.generation ≡ t.generation → made act.TakeNotes t.slot from mid → made act.Play t.slot mid then
+      → played (record old { pair = noted_by notes old.pair }) now then → Adds t.slot (Take notes ∷ []) a.seat b.seat → Still a b
+      → TurnRest (Handling found played moved made h) t r true 2 4 b c then to → plays notes old now → StaysAs (Ok w) h now new → IsLeft (Ok w) new.pair
+      → (h : Handled C T) × (h.found ≡ Some old)
+      × (rest : TurnRest (Handling found played moved made h) t r (is_some h.found) 1 2 a c from to) × Handles plays rest.noted t r h
+  played_then w spent {notes} {old} {now} {new} settled {b} {then} own same taken called is adds none rest ran stays left = (
+    own_of notes old now new settled,
+    refl,
+    record {
+      noted = notes;
+      woke = rest.woke;
+      held = rest.held;
+      done = rw (firsts (answer_of (if_posted w spent)) rest.held 0 rest.noted notes 0 false rest.woke).1
+          at (done_after (Take notes ∷ []) adds refl none rest.done);
+      acts = own_acts found played moved made t (own_of notes old now new settled) from mid then to w spent rest.woke own rest.held rest.acts taken called is;
+    },
+    own_handled plays notes t old now new settled w spent own same ran stays left,
+  )
+
   -- the ticket's connection was in the place
-  pub own_found : (w : Worked) (spent : Bool) (old new : Berth C T) → let r = answer_of (if_posted w spent) in (w ≡ worked.Gone → ⊥)
-      → old.pair.generation ≡ t.generation → IsLeft (Ok w) new.pair → made act.TakeOut t.slot from mid → found (Some old) mid
-      → (rest : TurnRest (Leaving moved made (Some new)) t r false 1 2 a c mid to) → plays rest.noted old new
-      → Found (Handling found moved made) plays t r a c from to
-  own_found w spent old new own same left out is rest played = (
-    record { found = Some old; left = Some new },
+  pub own_found : {r : Answer} (h : Handled C T) {old : Berth C T} → h.found ≡ Some old → made act.TakeOut t.slot from mid → found (Some old) mid
+      → (rest : TurnRest (Handling found played moved made h) t r (is_some h.found) 1 2 a c mid to) → Handles plays rest.noted t r h
+      → Found (Handling found played moved made) plays t r a c from to
+  own_found {r} h is out taken rest handles = (
+    h,
     record {
       noted = rest.noted;
       woke = rest.woke;
       held = rest.held;
       done = rest.done;
-      acts = own_acts found moved made t old new from mid to w spent rest.woke rest.held own rest.acts out is;
+      acts = rw (firsts r rest.held 0 0 0 t.generation (is_some h.found) rest.woke).3 (mid, (out, rw is taken), rest.acts);
     },
-    own_handled plays rest.noted t old new w spent own same played left,
+    handles,
   )
 
   -- the place was empty
   pub none_found : made act.TakeOut t.slot from mid → found None mid → TurnRest made t (Ok worked.Gone) false 1 2 a c mid to
-      → Found (Handling found moved made) plays t (Ok worked.Gone) a c from to
+      → Found (Handling found played moved made) plays t (Ok worked.Gone) a c from to
   none_found out is rest = (
-    record { found = None; left = None },
+    record { found = None; played = None; settled = None; left = None },
     record { noted = rest.noted; woke = rest.woke; held = tt; done = rest.done; acts = left rest.woke rest.acts },
     (tt, refl),
   ) where
     left : (woke : Bool) → ActsLeft made t (Ok worked.Gone) 2 false woke mid to
-        → ActsLeft (Handling found moved made (record { found = None; left = None })) t (Ok worked.Gone) 1 false woke from to
+        → ActsLeft (Handling found played moved made (record { found = None; played = None; settled = None; left = None })) t (Ok worked.Gone) 1 false woke from to
     left true acts = (mid, (out, is), acts)
     left false acts = (mid, (out, is), acts)
 
   -- another connection was in the place, and was put back
   pub other_found : {back : S} {other : Berth C T} → other.pair.generation ≢ t.generation → made act.TakeOut t.slot from mid → found (Some other) mid
       → made act.PutIn t.slot mid back → moved other back → TurnRest made t (Ok worked.Gone) false 1 2 a c back to
-      → Found (Handling found moved made) plays t (Ok worked.Gone) a c from to
+      → Found (Handling found played moved made) plays t (Ok worked.Gone) a c from to
   other_found {back} {other} differs out is put put_back rest = (
-    record { found = Some other; left = Some other },
+    record { found = Some other; played = None; settled = None; left = Some other },
     record { noted = rest.noted; woke = rest.woke; held = tt; done = rest.done; acts = left rest.woke rest.acts },
     (differs, refl),
   ) where
     left : (woke : Bool) → ActsLeft made t (Ok worked.Gone) 2 false woke back to
-        → ActsLeft (Handling found moved made (record { found = Some other; left = Some other })) t (Ok worked.Gone) 1 true woke from to
+        → ActsLeft (Handling found played moved made (record { found = Some other; played = None; settled = None; left = Some other })) t (Ok worked.Gone) 1 true woke from to
     left true acts = (mid, (out, is), (back, (put, put_back), acts))
     left false acts = (mid, (out, is), (back, (put, put_back), acts))
 
@@ -242,7 +283,7 @@ module _ {S C T : Type 0} (made : Handled C T → Made S) (plays : Playing C T) 
       done = record { seat = adds; tickets = same.tickets; slots = same.slots; took = same.took };
       outside = λ past. absurd (omega arith);
     },
-    λ lt. (record { found = None; left = None }, tt, (to, first (record { found = None; left = None }), refl)),
+    λ lt. (record { found = None; played = None; settled = None; left = None }, tt, (to, first (record { found = None; played = None; settled = None; left = None }), refl)),
     λ past. absurd (omega arith),
   )
 
@@ -251,7 +292,8 @@ module _ {C T : Type 0} {P Q : Playing C T} (more : (notes : ℕ) (a b : Berth C
   handles_more : (notes : ℕ) (t : Ticket) (r : Answer) (h : Handled C T) → Handles P notes t r h → Handles Q notes t r h
   handles_more notes t (Ok worked.Busy) h handles = tt
   handles_more notes t (Ok worked.Gone) h handles = handles
-  handles_more notes t _ h (old, new, found, left, same, played, is) = (old, new, found, left, same, more notes old new played, is)
+  handles_more notes t _ h (old, now, new, found, had, left, same, played, pair, is) =
+      (old, now, new, found, had, left, same, more notes old now played, pair, is)
 
   pub turn_more : {S : Type 0} (made : Handled C T → Made S) {words : ℕ} {t : Ticket} {r : Answer} {a b : Own} {from to : S}
       → TurnInOrder made P words t r a b from to → TurnInOrder made Q words t r a b from to
@@ -261,8 +303,7 @@ module _ {C T : Type 0} {P Q : Playing C T} (more : (notes : ℕ) (a b : Berth C
 pub plays_at : {C T : Type 0} (client : Serves C) (target : Serves T) {tells : ℕ → Type 0} {budget limit : ℕ} (terms : Terms) → tells terms.moment.second
     → terms.budget ≡ budget → terms.moment.limit ≡ limit → (notes : ℕ) (a b : Berth C T) → PlaysBy client target terms notes a b
     → PlaysAt client target tells budget limit notes a b
-plays_at client target terms told calls same notes a b (second, played, is, pair, plays) =
-    (second, played, rw is told, pair, rw (← calls, ← same) plays)
+plays_at client target terms told calls same notes a b (second, is, plays) = (second, rw is told, rw (← calls, ← same) plays)
 
 -- a post by the slot's holder does not answer Wake
 pub posted_quiet : (slot : ℕ) (r : Posted) {a b : SeatState} → (r ≡ posted.Wake) ⊎ (r ≡ posted.Quiet) → Holds a slot → PostChange slot a r b → Adds slot (Post false ∷ []) a b
@@ -277,7 +318,7 @@ worn_is spent s is = grind (arith, eqb-true, eqb-false)
 -- the post was refused if the seat was worn, and the slot was released
 pub due_again : {S : Type 0} {made : Made S} {t : Ticket} {a b c : Own} {from mid to : S} (r : Posted) → (r ≡ posted.Worn ↔ IsWorn a.seat)
     → PostChange t.slot a.seat r b.seat → Holds a.seat t.slot → Still a b → made act.Post t.slot from mid → LeftSlot made t b c mid to
-    → TurnRest made t (answer_by a.seat worked.Again) false 2 4 a c from to
+    → TurnRest made t (answer_by a.seat worked.Again) false 2 5 a c from to
 due_again {a = a} posted.Worn spent change holds same first left =
     let done = done_after [] (rw change.0 (adds_none _ _)) refl same left.done in
     rw (worn_is true a.seat (λ is. spent.0 refl, λ is. refl)) (record {

@@ -6,7 +6,7 @@ use Rattle.relay_core.specs.{Pairs.{PairState, noted}, Replies.AnswerValue, decl
 use Rattle.engine.specs.Turns.{IsTurn, outcome_of}
 use Rattle.turns.specs.declared.{terms.Terms.Terms, worker.Worked.Worked}
 use Rattle.relay_log.specs.declared.faults.ServerFault.{ServerFault, TheVariants.Worn}
-use Rattle.dispatch.specs.{declared.{places.Berth.Berth, shared.Own.Own}, Acts.{Act, Made, TakeOut, PutIn, Close, AreMade, busy_turn, gone_turn, quiet_turn, again_turn, ended_turn, leaving}, Hands.HasRoom, Limits.heavy_marks, Posts.HoldsOnly, Outgoing.{Inserted, KeepsTicket, KeepsSlot, PutAll, TookNothing, tickets_out, slots_out, without_first}}
+use Rattle.dispatch.specs.{declared.{places.Berth.Berth, shared.Own.Own}, Acts.{Act, Made, TakeOut, Play, Settle, PutIn, Close, AreMade, busy_turn, gone_turn, quiet_turn, again_turn, ended_turn, leaving}, Hands.HasRoom, Limits.heavy_marks, Posts.HoldsOnly, Outgoing.{Inserted, KeepsTicket, KeepsSlot, PutAll, TookNothing, tickets_out, slots_out, without_first}}
 use Rattle.token.specs.Names.{last_generation}
 use Rattle.engine.specs.declared.outcome.Turn.TheVariants as turn
 use Rattle.turns.specs.declared.worker.Worked.TheVariants as worked
@@ -40,7 +40,7 @@ program (Ok worked.Again) found noted woke = Held found ∷ Take noted ∷ Post 
 program (Ok worked.Ended) found noted woke = Held found ∷ Take noted ∷ Retire ∷ []
 program (Err fault) found noted woke = Held found ∷ Take noted ∷ Release woke ∷ []
 
--- The acts of a turn but its calls, in order, by its answer and the ticket's generation. `other`: another connection
+-- The acts of a turn, in order, by its answer and the ticket's generation. `other`: another connection
 -- was in the place. `woke`: the release answered Wake
 abbrev pub acts_of : Result Worked ServerFault → ℕ → Bool → Bool → List Act
 acts_of (Ok worked.Busy) generation other woke = busy_turn
@@ -50,7 +50,7 @@ acts_of (Ok worked.Again) generation other woke = again_turn true
 acts_of (Ok worked.Ended) generation other woke = ended_turn (nat_lt generation last_generation)
 acts_of (Err fault) generation other woke = again_turn woke
 
--- the acts of a turn but its first n were made
+-- the acts of a turn after its first n were made
 abbrev pub ActsLeft : {S : Type 0} → Made S → Ticket → Result Worked ServerFault → ℕ → Bool → Bool → S → S → Type 0
 ActsLeft made ticket result n other woke from to = AreMade made ticket.slot (drop n (acts_of result ticket.generation other woke)) from to
 
@@ -106,8 +106,7 @@ pub record LeftSlot {S : Type 0} (made : Made S) (ticket : Ticket) (old new : Ow
   pub done : TurnDone ticket (Release woke ∷ []) (Ok worked.Quiet) old new
   pub acts : AreMade made ticket.slot (leaving woke) from to
 
--- the exchanges of a turn with a ticket of this slot. If the claim words lack the slot, there are none, and the answer
--- is Gone
+-- the exchanges of a turn with a ticket of this slot: if the claim words lack the slot, none, and the answer is Gone
 pub record IsTurnOf (words slot : ℕ) (result : Result Worked ServerFault) (exchanges : List Exchange) : Type 0 where
   pub found : ℕ
   pub noted : ℕ
@@ -130,30 +129,30 @@ noted_by notes pair = if nat_lt 0 notes then noted pair else pair
 abbrev pub Serves : Type 0 → Type 1
 Serves S = ℕ → S → S → Side → PairState → List AnswerValue → Type 0
 
--- a connection had one turn on its two wires, as its terms allow, after this many notes were taken
-abbrev pub Plays : {C T : Type 0} → Serves C → Serves T → Terms → ℕ → Berth C T → Berth C T → Type 0
-Plays client target terms notes old new =
-    IsTurn terms.budget terms.moment.second terms.moment.limit (noted_by notes old.pair) new.pair
-    (client terms.moment.second old.client new.client) (target terms.moment.second old.target new.target)
+-- a connection had one turn on its two wires, after this many notes were taken: with at most so many calls, at this second, and
+-- with this idle limit
+abbrev pub Plays : {C T : Type 0} → Serves C → Serves T → ℕ → ℕ → ℕ → ℕ → Berth C T → Berth C T → Type 0
+Plays client target budget second limit notes old new = IsTurn budget second limit (noted_by notes old.pair) new.pair
+    (client second old.client new.client) (target second old.target new.target)
 
--- how a connection is played after this many notes were taken: what it was, and what it is
+-- how a connection is played after this many notes were taken: what it was, and what it was after its calls
 abbrev pub Playing : Type 0 → Type 0 → Type 1
 Playing C T = ℕ → Berth C T → Berth C T → Type 0
 
--- as its terms allow, at a second that the clock may show, with so many calls at most and this idle limit. What holds bytes
--- back may have sent them after it
+-- How a connection is played: at a second that the clock may show, with no more calls than the budget, and with this idle limit
 abbrev pub PlaysAt : {C T : Type 0} → Serves C → Serves T → (ℕ → Type 0) → ℕ → ℕ → Playing C T
-PlaysAt client target tells budget limit notes old new =
-    (second : ℕ) × (played : Berth _ _) × tells second × (new.pair ≡ played.pair)
-    × Plays client target (record { budget = budget; moment = record { second = second; limit = limit } }) notes old played
+PlaysAt client target tells budget limit notes old new = (second : ℕ) × tells second × Plays client target budget second limit notes old new
 
--- by these terms
+-- how a connection is played by these terms
 abbrev pub PlaysBy : {C T : Type 0} → Serves C → Serves T → Terms → Playing C T
 PlaysBy client target terms = PlaysAt client target (λ second. second ≡ terms.moment.second) terms.budget terms.moment.limit
 
--- What a turn did with its slot's connection: which it found in the place, and which it put in or closed
+-- A turn's connection: which it found in the place, what that was before and after its calls, and before and after its sockets
+-- sent what they held back, and which was put in or closed
 pub record Handled (C T : Type 0) : Type 0 where
   pub found : Option (Berth C T)
+  pub played : Option (Berth C T × Berth C T)
+  pub settled : Option (Berth C T × Berth C T)
   pub left : Option (Berth C T)
 
 -- what is known of a turn's acts, of which the one that puts a connection in or closes it does so with this one
@@ -162,10 +161,19 @@ Leaving moved made left PutIn slot from to = made PutIn slot from to × IfSome l
 Leaving moved made left Close slot from to = made Close slot from to × IfSome left (λ berth. moved berth to)
 Leaving moved made left act slot from to = made act slot from to
 
--- of these the one that looks into the place finds what it found
-abbrev pub Handling : {S C T : Type 0} → (Option (Berth C T) → S → Type 0) → (Berth C T → S → Type 0) → Made S → Handled C T → Made S
-Handling found moved made h TakeOut slot from to = made TakeOut slot from to × found h.found to
-Handling found moved made h act slot from to = Leaving moved made h.left act slot from to
+-- What is known of a turn's acts: the one that looks into the place finds the connection that was found, those that work with
+-- its sockets do so as was said, and the one that puts a connection in or closes it does so with the one that was left
+abbrev pub Handling : {S C T : Type 0} → (Option (Berth C T) → S → Type 0) → (Berth C T → Berth C T → S → Type 0)
+    → (Berth C T → S → Type 0) → Made S → Handled C T → Made S
+Handling found played moved made h TakeOut slot from to = made TakeOut slot from to × found h.found to
+Handling found played moved made h Play slot from to = made Play slot from to × IfSome h.played (λ both. played both.0 both.1 to)
+Handling found played moved made h Settle slot from to = made Settle slot from to × IfSome h.settled (λ both. played both.0 both.1 to)
+Handling found played moved made h act slot from to = Leaving moved made h.left act slot from to
+
+-- what it is in the end, by what it was after its calls: the same, but that after Quiet its sockets sent what they held back
+abbrev pub StaysAs : {C T : Type 0} → Result Worked ServerFault → Handled C T → Berth C T → Berth C T → Type 0
+StaysAs (Ok worked.Quiet) h played new = (h.settled ≡ Some (played, new)) × (new.pair ≡ played.pair)
+StaysAs result h played new = new ≡ played
 
 -- what is left of a connection after a turn with this answer
 abbrev pub IsLeft : Result Worked ServerFault → PairState → Type 0
@@ -174,16 +182,16 @@ IsLeft (Ok worked.Quiet) pair = outcome_of pair ≡ turn.Quiet
 IsLeft result pair = outcome_of pair ≡ turn.Again
 
 -- A turn that is Gone found no connection of the ticket's generation, and put back what it found. One that got its slot and is
--- not Gone found the ticket's own, played it after it took these notes, and put it back or closed it; one that is refused, since
+-- not Gone found the ticket's own, played it after it took these notes, and put it back or closed it. One that is refused, since
 -- its seat is worn, put it back, as one that answers Again. A busy turn does not look
 abbrev pub Handles : {C T : Type 0} → Playing C T → ℕ → Ticket → Result Worked ServerFault → Handled C T → Type 0
 Handles plays notes ticket (Ok worked.Busy) h = Unit {0}
 Handles plays notes ticket (Ok worked.Gone) h = IfSome h.found (λ berth. berth.pair.generation ≢ ticket.generation) × (h.left ≡ h.found)
-Handles plays notes ticket result h = (old : Berth _ _) × (new : Berth _ _) × (h.found ≡ Some old) × (h.left ≡ Some new)
-    × (old.pair.generation ≡ ticket.generation) × plays notes old new × IsLeft result new.pair
+Handles plays notes ticket result h = (old : Berth _ _) × (played : Berth _ _) × (new : Berth _ _) × (h.found ≡ Some old)
+    × (h.played ≡ Some (record old { pair = noted_by notes old.pair }, played)) × (h.left ≡ Some new)
+    × (old.pair.generation ≡ ticket.generation) × plays notes old played × StaysAs result h played new × IsLeft result new.pair
 
--- `TurnMade`, with the acts of the turn but its calls, in order, and with what it did with the connection. If the claim
--- words lack the slot, no act is made
+-- `TurnMade`, with the turn's acts, in order, and what it did with the connection. If the claim words lack the slot, none is made
 abbrev pub TurnInOrder : {S C T : Type 0} → (Handled C T → Made S) → Playing C T → ℕ → Ticket
     → Result Worked ServerFault → Own → Own → S → S → Type 0
 TurnInOrder made plays words ticket result old new from to =
@@ -201,7 +209,8 @@ pub record HandPut (old new : Own) : Type 0 where
   pub all_tickets : PutAll new.ready new.hand.tickets
   pub all_slots : PutAll new.free new.hand.slots
 
--- a worker's turn: what is in hand is put before anything else
+-- A worker's turn. What was in hand was put before anything else. Then the turn made its exchanges and its acts in order, by
+-- its answer, and played the connection that it found
 pub record WorkerTurn {S C T : Type 0} (made : Handled C T → Made S) (plays : Playing C T) (words : ℕ) (ticket : Ticket)
     (result : Result Worked ServerFault) (old new : Own) (from to : S) : Type 0 where
   pub begun : Own

@@ -113,7 +113,7 @@ pub fn own_turn<F: Front, A: Moves<F>, G: Gate, C: Clock, R: Wait + Log>(
     requires rest { AtRest shared.now.claims own.old }
     ensures rest { AtRest shared.now.claims own.new }
     ensures none { result ≡ Ok None ↔ NoOwnTurn own.old }
-    ensures turn { OwnTurn (Handling A.found A.moved A.made)
+    ensures turn { OwnTurn (Handling A.found A.played A.moved A.made)
         (PlaysAt (IsServed F.Client.told F.Client.does) (IsServed F.Target.told F.Target.does)
         (C.tells timing.now.clock.now) (min shared.now.budget own_budget) timing.now.limit)
         shared.now.claims.words result own.old own.new acts.old acts.new }

@@ -7,7 +7,7 @@ ghost use Rattle.dispatch.specs.Acts as act;
 
 use crate::terms::Terms;
 use dispatch::{Berth, Front, Moves, Own, Settle, Shared, ended_by, moved_by};
-use engine::{Turn, turn_with};
+use engine::Turn;
 use ready::Ticket;
 use relay_core::{MAX_READ, Pair};
 use std::marker::Model;
@@ -114,29 +114,33 @@ impl<F: Front> Visit<F> {
     }
 
     /// Raises the connection's flags if notes waited, and makes its calls on its two wires.
-    pub(crate) fn play(&mut self, notes: u64, terms: Terms, buffer: &mut [u8; MAX_READ]) -> Turn
+    pub(crate) fn play<A: Moves<F>>(
+        &mut self,
+        acts: &mut A,
+        notes: u64,
+        terms: Terms,
+        buffer: &mut [u8; MAX_READ],
+    ) -> Turn
         requires least { 1 ≤ terms.budget }
         requires most { terms.budget ≤ 1024 }
         ensures ticket { self.new.ticket ≡ self.old.ticket }
         ensures outcome { result ≡ outcome_of self.new.berth.value.pair }
-        ensures run { Plays (IsServed F.Client.told F.Client.does) (IsServed F.Target.told F.Target.does) terms notes
-            self.old.berth.value self.new.berth.value }
+        ensures made { A.made act.Play self.old.ticket.slot acts.old acts.new }
+        ensures played { A.played (record self.old.berth.value { pair = noted_by notes self.old.berth.value.pair })
+            self.new.berth.value acts.new }
+        ensures run { Plays (IsServed F.Client.told F.Client.does) (IsServed F.Target.told F.Target.does) terms.budget
+            terms.moment.second terms.moment.limit notes self.old.berth.value self.new.berth.value }
     {
+        let slot = self.ticket.slot;
         let berth = &mut *self.berth;
         tell_notes(&mut berth.pair, notes);
-        turn_with(
-            &mut berth.pair,
-            &mut berth.client,
-            &mut berth.target,
-            terms.budget,
-            terms.moment,
-            buffer,
-        )
+        acts.play(slot, berth, terms.budget, terms.moment, buffer)
     }
 
     /// Has both sockets send at once what they held back.
     pub(crate) fn settle<A: Moves<F>>(&mut self, acts: &mut A)
         ensures made { A.made act.Settle self.old.ticket.slot acts.old acts.new }
+        ensures played { A.played self.old.berth.value self.new.berth.value acts.new }
         ensures ticket { self.new.ticket ≡ self.old.ticket }
         ensures pair { self.new.berth.value.pair ≡ self.old.berth.value.pair }
         ensures client { F.Client.settled self.new.berth.value.client }

@@ -4,7 +4,7 @@ ghost use Rattle.claims.specs.Seats.{Adds};
 ghost use Rattle.engine.specs.Turns.{outcome_of, IsServed};
 ghost use Rattle.dispatch.specs.{declared.places.Berth.Berth, Hands.HasRoom, Outgoing.KeepsSlot, Posts.{AtRest, HoldsOnly, IsWorn, OnlyWorn}};
 ghost use Rattle.token.specs.Names.{last_generation};
-ghost use Rattle.turns.specs.Turns.{answer_by, answer_of, if_posted, AtWork, Handled, Handles, Handling, IsLeft, Leaving, PlaysAt, PlaysBy, TurnRest, TurnInOrder, LeftSlot, WorkerTurn, Plays};
+ghost use Rattle.turns.specs.Turns.{answer_by, answer_of, if_posted, AtWork, Handled, Handles, Handling, IsLeft, Leaving, PlaysAt, PlaysBy, TurnRest, noted_by, TurnInOrder, LeftSlot, WorkerTurn, Plays};
 ghost use Rattle.claims.specs.declared.view.Exchange.TheVariants as exchange;
 ghost use Rattle.dispatch.specs.Acts as act;
 
@@ -28,7 +28,7 @@ pub enum Worked {
     Busy,
     /// The ticket's connection was not in the slot, or there is no such slot.
     Gone,
-    /// The connection is done or has failed. Its sockets are closed, and its slot is free.
+    /// The connection is done or has failed. Its sockets are closed, and its slot is free, unless its generation is the last.
     Ended,
     /// The budget is spent, and the connection is due again.
     Again,
@@ -39,10 +39,11 @@ pub enum Worked {
 /// Runs one turn of the connection that a ticket names.
 ///
 /// What is in hand is put first, until a queue refuses an item. Then the slot is claimed, the connection is taken out
-/// of its place, its flags are raised if notes wait, and it is run on its two wires, between the gate's two calls. A
-/// connection that is done or failed is logged and closed, its slot is given back unless its generation is the last
-/// one, and the poller is woken. Any other connection is put back before the slot is released. If the release finds
-/// notes, a ticket is put for them. What a queue refuses stays in hand.
+/// of its place, its notes are taken, which raise its flags, and it makes its calls on its two wires, `budget` at most,
+/// between the gate's two calls. A connection that is done or failed is logged and closed, its slot is given back unless
+/// its generation is the last one, and the poller is woken. Any other connection is put back, settled first if it has no
+/// call to make; with its budget spent a note is posted; and the slot is released. If the release finds notes, a ticket is
+/// put for them. What a queue refuses stays in hand.
 ///
 /// A connection fails if it is left without a call and, by the turn's second, has moved nothing for the idle limit.
 ///
@@ -60,7 +61,7 @@ pub fn worker_turn<F: Front, A: Moves<F>, G: Gate, C: Clock, R: Wait + Log>(
     requires rest { AtRest shared.now.claims own.old }
     requires room { HasRoom own.old.hand }
     ensures rest { AtRest shared.now.claims own.new }
-    ensures made { WorkerTurn (Handling A.found A.moved A.made)
+    ensures made { WorkerTurn (Handling A.found A.played A.moved A.made)
         (PlaysAt (IsServed F.Client.told F.Client.does) (IsServed F.Target.told F.Target.does)
         (C.tells timing.now.clock.now) shared.now.budget timing.now.limit)
         shared.now.claims.words ticket result own.old own.new acts.old acts.new }
@@ -97,7 +98,7 @@ pub(crate) fn turn_of<F: Front, A: Moves<F>, G: Gate, R: Wait + Log>(
     requires room { HasRoom own.old.hand }
     requires budget { (1 ≤ terms.budget) × (terms.budget ≤ 1024) }
     ensures rest { AtRest shared.now.claims own.new }
-    ensures made { TurnInOrder (Handling A.found A.moved A.made) (PlaysBy (IsServed F.Client.told F.Client.does) (IsServed F.Target.told F.Target.does) terms)
+    ensures made { TurnInOrder (Handling A.found A.played A.moved A.made) (PlaysBy (IsServed F.Client.told F.Client.does) (IsServed F.Target.told F.Target.does) terms)
         shared.now.claims.words ticket (answer_of result) own.old own.new acts.old acts.new }
     ensures worn { IfNone result (IsWorn own.new.seat) }
 {
@@ -128,7 +129,7 @@ fn claim<F: Front, A: Moves<F>, G: Gate, R: Wait + Log>(
     requires rest { AtRest shared.now.claims own.old }
     requires room { HasRoom own.old.hand }
     requires budget { (1 ≤ terms.budget) × (terms.budget ≤ 1024) }
-    ensures made { TurnInOrder (Handling A.found A.moved A.made) (PlaysBy (IsServed F.Client.told F.Client.does) (IsServed F.Target.told F.Target.does) terms)
+    ensures made { TurnInOrder (Handling A.found A.played A.moved A.made) (PlaysBy (IsServed F.Client.told F.Client.does) (IsServed F.Target.told F.Target.does) terms)
         shared.now.claims.words ticket (answer_by own.old.seat result) own.old own.new acts.old acts.new }
 {
     if ticket.slot >= shared.claims.slots() {
@@ -152,7 +153,7 @@ fn claimed<F: Front, A: Moves<F>, G: Gate, R: Wait + Log>(
     requires work { AtWork shared.now.claims ticket.slot own.old }
     requires budget { (1 ≤ terms.budget) × (terms.budget ≤ 1024) }
     ensures done { (h : Handled F.Client F.Target)
-        × (rest : TurnRest (Handling A.found A.moved A.made h) ticket (answer_by own.old.seat result) (is_some h.found) 1 1
+        × (rest : TurnRest (Handling A.found A.played A.moved A.made h) ticket (answer_by own.old.seat result) (is_some h.found) 1 1
         own.old own.new acts.old acts.new)
         × Handles (PlaysBy (IsServed F.Client.told F.Client.does) (IsServed F.Target.told F.Target.does) terms)
         rest.noted ticket (answer_by own.old.seat result) h }
@@ -203,12 +204,11 @@ fn run<F: Front, A: Moves<F>, G: Gate, R: Wait + Log>(
     requires work { AtWork shared.now.claims visit.ticket.slot own.old }
     requires own { visit.berth.value.pair.generation ≡ visit.ticket.generation }
     requires budget { (1 ≤ terms.budget) × (terms.budget ≤ 1024) }
-    ensures own { result ≡ Worked.Gone → ⊥ }
-    ensures done { (left : Berth F.Client F.Target) × IsLeft (Ok result) left.pair
-        × (rest : TurnRest (Leaving A.moved A.made (Some left)) visit.ticket (answer_by own.old.seat result) false 1 2
+    ensures done { (h : Handled F.Client F.Target) × (h.found ≡ Some visit.berth.value)
+        × (rest : TurnRest (Handling A.found A.played A.moved A.made h) visit.ticket (answer_by own.old.seat result) (is_some h.found) 1 2
         own.old own.new acts.old acts.new)
-        × PlaysBy (IsServed F.Client.told F.Client.does) (IsServed F.Target.told F.Target.does) terms rest.noted
-        visit.berth.value left }
+        × Handles (PlaysBy (IsServed F.Client.told F.Client.does) (IsServed F.Target.told F.Target.does) terms)
+        rest.noted visit.ticket (answer_by own.old.seat result) h }
 {
     match play(
         acts,
@@ -237,7 +237,7 @@ fn run<F: Front, A: Moves<F>, G: Gate, R: Wait + Log>(
 
 /// Takes the notes of a held slot, and plays its connection between the gate's two calls. It is passed neither an
 /// allocator nor anything that may wait, so it allocates nothing and waits for no lock.
-fn play<F: Front, A: Acts, G: Gate>(
+fn play<F: Front, A: Moves<F>, G: Gate>(
     acts: &mut A,
     shared: &Shared<F, A>,
     seat: &mut ClaimSeat,
@@ -253,15 +253,18 @@ fn play<F: Front, A: Acts, G: Gate>(
     ensures holder { HoldsOnly visit.old.ticket.slot seat.new }
     ensures ticket { visit.new.ticket ≡ visit.old.ticket }
     ensures outcome { result ≡ outcome_of visit.new.berth.value.pair }
-    ensures made { A.made act.TakeNotes visit.old.ticket.slot acts.old acts.new }
-    ensures played { (notes : ℕ) × Adds visit.old.ticket.slot (exchange.Take notes ∷ []) seat.old seat.new
-        × Plays (IsServed F.Client.told F.Client.does) (IsServed F.Target.told F.Target.does) terms notes
-        visit.old.berth.value visit.new.berth.value }
+    ensures played { (notes : ℕ) × (taken : A) × A.made act.TakeNotes visit.old.ticket.slot acts.old taken
+        × A.made act.Play visit.old.ticket.slot taken acts.new
+        × A.played (record visit.old.berth.value { pair = noted_by notes visit.old.berth.value.pair })
+        visit.new.berth.value acts.new
+        × Adds visit.old.ticket.slot (exchange.Take notes ∷ []) seat.old seat.new
+        × Plays (IsServed F.Client.told F.Client.does) (IsServed F.Target.told F.Target.does) terms.budget
+        terms.moment.second terms.moment.limit notes visit.old.berth.value visit.new.berth.value }
 {
     let slot = visit.ticket.slot;
     let notes = acts.take(&shared.claims, seat, slot);
     gate.before_turn(slot);
-    let outcome = visit.play(notes, terms, buffer);
+    let outcome = visit.play(acts, notes, terms, buffer);
     gate.after_turn(slot);
     outcome
 }
@@ -276,7 +279,7 @@ fn again<F: Front, A: Moves<F>, R: Wait>(
 )
     requires work { AtWork shared.now.claims visit.ticket.slot own.old }
     requires due { outcome_of visit.berth.value.pair ≡ Turn.Again }
-    ensures done { TurnRest (Leaving A.moved A.made (Some visit.berth.value)) visit.ticket (answer_by own.old.seat Worked.Again) false 2 3
+    ensures done { TurnRest (Leaving A.moved A.made (Some visit.berth.value)) visit.ticket (answer_by own.old.seat Worked.Again) false 2 4
         own.old own.new acts.old acts.new }
 {
     let ticket = visit.ticket;
@@ -296,7 +299,7 @@ fn stay_due<F: Front, A: Acts, R: Wait>(
 )
     requires work { AtWork shared.now.claims ticket.slot own.old }
     requires back { back ≡ ticket.slot }
-    ensures done { TurnRest A.made ticket (answer_by own.old.seat Worked.Again) false 2 4 own.old own.new acts.old acts.new }
+    ensures done { TurnRest A.made ticket (answer_by own.old.seat Worked.Again) false 2 5 own.old own.new acts.old acts.new }
 {
     let _ = acts.post(&shared.claims, &mut own.seat, ticket.slot);
     leave(rt, acts, shared, own, ticket, back);
@@ -312,9 +315,10 @@ fn rest<F: Front, A: Moves<F>, R: Wait>(
 )
     requires work { AtWork shared.now.claims visit.ticket.slot own.old }
     requires quiet { outcome_of visit.berth.value.pair ≡ Turn.Quiet }
-    ensures done { (left : Berth F.Client F.Target) × (left.pair ≡ visit.berth.value.pair)
-        × TurnRest (Leaving A.moved A.made (Some left)) visit.ticket (Ok Worked.Quiet) false 2 3
-        own.old own.new acts.old acts.new }
+    ensures done { (left : Berth F.Client F.Target) × (settled : A) × A.made act.Settle visit.ticket.slot acts.old settled
+        × A.played visit.berth.value left settled × (left.pair ≡ visit.berth.value.pair)
+        × TurnRest (Leaving A.moved A.made (Some left)) visit.ticket (Ok Worked.Quiet) false 2 5
+        own.old own.new settled acts.new }
 {
     visit.settle(acts);
     leave_settled(rt, acts, shared, own, visit);
@@ -330,7 +334,7 @@ fn leave_settled<F: Front, A: Moves<F>, R: Wait>(
     requires work { AtWork shared.now.claims visit.ticket.slot own.old }
     requires client { F.Client.settled visit.berth.value.client }
     requires target { F.Target.settled visit.berth.value.target }
-    ensures done { TurnRest (Leaving A.moved A.made (Some visit.berth.value)) visit.ticket (Ok Worked.Quiet) false 2 4
+    ensures done { TurnRest (Leaving A.moved A.made (Some visit.berth.value)) visit.ticket (Ok Worked.Quiet) false 2 5
         own.old own.new acts.old acts.new }
 {
     let ticket = visit.ticket;
@@ -367,7 +371,7 @@ fn end<F: Front, A: Moves<F>, R: Wait + Log>(
 )
     requires work { AtWork shared.now.claims visit.ticket.slot own.old }
     requires over { (outcome_of visit.berth.value.pair ≡ Turn.Done) ⊎ (outcome_of visit.berth.value.pair ≡ Turn.Failed) }
-    ensures done { TurnRest (Leaving A.moved A.made (Some visit.berth.value)) visit.ticket (Ok Worked.Ended) false 2 3
+    ensures done { TurnRest (Leaving A.moved A.made (Some visit.berth.value)) visit.ticket (Ok Worked.Ended) false 2 4
         own.old own.new acts.old acts.new }
 {
     let ticket = visit.ticket;

@@ -44,7 +44,7 @@ returns-in-Some-turn_of g c =
         oldest = first;
         turn = turn_more (plays_at (IsServed g.F.Client.Wire.told g.F.Client.Wire.does) (IsServed g.F.Target.Wire.told g.F.Target.Wire.does) c.own-terms.result
             (rw c.own-terms.ensures c.moment.ensures.told) (rw c.own-terms.ensures) (rw c.own-terms.ensures c.moment.ensures.limit))
-            (Handling g.A.Moves.found g.A.Moves.moved g.A.Acts.made) (rw c.take_ticket.ensures.left at c.in-Some-turn_of.ensures.made);
+            (Handling g.A.Moves.found g.A.Moves.played g.A.Moves.moved g.A.Acts.made) (rw c.take_ticket.ensures.left at c.in-Some-turn_of.ensures.made);
       };
       marks = rw first c.follow_up.ensures.marks;
       worn = tt;
@@ -62,7 +62,7 @@ returns-in-None g c =
         oldest = first;
         turn = turn_more (plays_at (IsServed g.F.Client.Wire.told g.F.Client.Wire.does) (IsServed g.F.Target.Wire.told g.F.Target.Wire.does) c.own-terms.result
             (rw c.own-terms.ensures c.moment.ensures.told) (rw c.own-terms.ensures) (rw c.own-terms.ensures c.moment.ensures.limit))
-            (Handling g.A.Moves.found g.A.Moves.moved g.A.Acts.made) (rw c.take_ticket.ensures.left at c.in-None.ensures.made);
+            (Handling g.A.Moves.found g.A.Moves.played g.A.Moves.moved g.A.Acts.made) (rw c.take_ticket.ensures.left at c.in-None.ensures.made);
       };
       marks = rw first;
       worn = (refl, c.in-None.ensures.worn);

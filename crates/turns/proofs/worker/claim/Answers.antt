@@ -31,7 +31,7 @@ claimed-requires-clause-work g c =
 
 pub returns-in-Busy : goal.returns-in-Busy
 returns-in-Busy g c = record {
-  made = busy_made (Handling g.A.Moves.found g.A.Moves.moved g.A.Acts.made)
+  made = busy_made (Handling g.A.Moves.found g.A.Moves.played g.A.Moves.moved g.A.Acts.made)
       (PlaysBy (IsServed g.F.Client.Wire.told g.F.Client.Wire.does) (IsServed g.F.Target.Wire.told g.F.Target.Wire.does) c.args.terms)
       (omega arith) (λ h. c.in-Busy.ensures.made) c.in-Busy.ensures.change (still refl refl refl);
 }
@@ -40,7 +40,7 @@ pub returns-in-Held : goal.returns-in-Held
 returns-in-Held g c =
     let claimed = c.in-Held.ensures.change.1 in
     record {
-      made = claimed_then (Handling g.A.Moves.found g.A.Moves.moved g.A.Acts.made)
+      made = claimed_then (Handling g.A.Moves.found g.A.Moves.played g.A.Moves.moved g.A.Acts.made)
           (PlaysBy (IsServed g.F.Client.Wire.told g.F.Client.Wire.does) (IsServed g.F.Target.Wire.told g.F.Target.Wire.does) c.args.terms)
           (omega arith) (λ h. c.in-Held.ensures.made) claimed (still refl refl refl) (rw (answer_after _ claimed refl c.claimed.result) at c.claimed.ensures.done);
     }

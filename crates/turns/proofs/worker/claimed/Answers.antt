@@ -1,4 +1,4 @@
-use Rattle.std.proofs.Common.{ap, sym, ◌∙◌}
+use Rattle.std.proofs.Common.{ap, ◌∙◌}
 use Rattle.relay_core.specs.Pairs.{PairState}
 use Rattle.engine.specs.Turns.{IsServed}
 use Rattle.turns.{specs.Turns.PlaysBy, proofs.Turns.{none_found, other_found, own_found}}
@@ -7,12 +7,10 @@ use Rattle.turns.proofs.worker.claimed.Goals as goal
 pub returns-in-Ok : goal.returns-in-Ok
 returns-in-Ok g c =
     let ran = rw c.in-Ok.ensures.out at c.run.ensures.done in
-    let own = ap (λ (p : PairState). p.generation) (sym c.pair.ensures) ∙ sym c.generation.ensures ∙ c.if-generation-ticket.true in
     record {
-      done = own_found g.A.Moves.found g.A.Moves.moved g.A.Acts.made
+      done = own_found g.A.Moves.found g.A.Moves.played g.A.Moves.moved g.A.Acts.made
           (PlaysBy (IsServed g.F.Client.Wire.told g.F.Client.Wire.does) (IsServed g.F.Target.Wire.told g.F.Target.Wire.does) c.args.terms)
-          c.run.result _ c.in-Ok.visit.berth.value ran.0 c.run.ensures.own own ran.1
-          c.in-Ok.ensures.made c.in-Ok.ensures.found ran.2 ran.3;
+          ran.0 ran.1 c.in-Ok.ensures.made c.in-Ok.ensures.found ran.2 ran.3;
     }
 
 pub returns-in-Ok-2 : goal.returns-in-Ok-2
@@ -20,7 +18,7 @@ returns-in-Ok-2 g c =
     let back = rw c.in-Ok.ensures.out at c.put_in-back.ensures.made in
     let read = c.generation.ensures ∙ ap (λ (p : PairState). p.generation) c.pair.ensures in
     record {
-      done = other_found g.A.Moves.found g.A.Moves.moved g.A.Acts.made
+      done = other_found g.A.Moves.found g.A.Moves.played g.A.Moves.moved g.A.Acts.made
           (PlaysBy (IsServed g.F.Client.Wire.told g.F.Client.Wire.does) (IsServed g.F.Target.Wire.told g.F.Target.Wire.does) c.args.terms)
           (λ same. c.if-generation-ticket.false (read ∙ same)) c.in-Ok.ensures.made c.in-Ok.ensures.found
           back c.put_in-back.ensures.moved c.give_up.ensures.done;
@@ -28,7 +26,7 @@ returns-in-Ok-2 g c =
 
 pub returns-in-Err : goal.returns-in-Err
 returns-in-Err g c = record {
-  done = none_found g.A.Moves.found g.A.Moves.moved g.A.Acts.made
+  done = none_found g.A.Moves.found g.A.Moves.played g.A.Moves.moved g.A.Acts.made
       (PlaysBy (IsServed g.F.Client.Wire.told g.F.Client.Wire.does) (IsServed g.F.Target.Wire.told g.F.Target.Wire.does) c.args.terms)
       c.in-Err.ensures.made c.in-Err.ensures.empty.1 c.give_up-in-Err.ensures.done;
 }

@@ -6,4 +6,6 @@ pub returns-clause-holder : goal.returns-clause-holder
 returns-clause-holder g c = holds_still _ _ _ _ c.take-notes.ensures.change c.requires.holder refl
 
 pub returns-clause-played : goal.returns-clause-played
-returns-clause-played g c = (c.take-notes.result, c.take-notes.ensures.change, c.play-outcome.ensures.run)
+returns-clause-played g c =
+    let played = c.play-outcome.ensures in
+    (c.take-notes.result, _, c.take-notes.ensures.made, played.made, played.played, c.take-notes.ensures.change, played.run)

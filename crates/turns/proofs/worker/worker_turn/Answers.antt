@@ -11,7 +11,7 @@ returns-in-Some-clause-made g c =
       begun = _;
       put = hand_put c.args.own.now c.put_tickets.new.hand put.tickets put.slots put.took put.all gave.slots gave.tickets gave.took gave.all;
       turn = turn_more (plays_at (IsServed g.F.Client.Wire.told g.F.Client.Wire.does) (IsServed g.F.Target.Wire.told g.F.Target.Wire.does) _ c.moment.ensures.told refl c.moment.ensures.limit)
-          (Handling g.A.Moves.found g.A.Moves.moved g.A.Acts.made) c.in-Some.ensures.made;
+          (Handling g.A.Moves.found g.A.Moves.played g.A.Moves.moved g.A.Acts.made) c.in-Some.ensures.made;
     }
 
 pub returns-in-None-clause-made : goal.returns-in-None-clause-made
@@ -22,7 +22,7 @@ returns-in-None-clause-made g c =
       begun = _;
       put = hand_put c.args.own.now c.put_tickets.new.hand put.tickets put.slots put.took put.all gave.slots gave.tickets gave.took gave.all;
       turn = turn_more (plays_at (IsServed g.F.Client.Wire.told g.F.Client.Wire.does) (IsServed g.F.Target.Wire.told g.F.Target.Wire.does) _ c.moment.ensures.told refl c.moment.ensures.limit)
-          (Handling g.A.Moves.found g.A.Moves.moved g.A.Acts.made) c.in-None.ensures.made;
+          (Handling g.A.Moves.found g.A.Moves.played g.A.Moves.moved g.A.Acts.made) c.in-None.ensures.made;
     }
 
 pub wake_if_ended-requires : goal.wake_if_ended-requires
