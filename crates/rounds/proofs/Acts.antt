@@ -2,7 +2,7 @@
 use Rattle.std.{proofs.{Common.{add-one, ◌≡◌, ℕ, zero, suc, ◌+◌, ◌≤◌, Bool, true, false, cond, List, [], ◌∷◌, ◌++◌, length, length-append, refl, sym, ◌∙◌, arith, inl, inr, append_assoc, ◌≢◌, ◌⊎◌, ◌↔◌, IsTrue, slice_index, replicate, slice_set, ◌==◌, ◌||◌, if◌then◌else◌, Option, Some, None, nat_lt, Contains, Result, Ok, Err, IfOk, MatchResult}, lemmas.{Bool.{eq-eqb, ne_eqb, Decides.nat_tests}, List.{append-nil, map-append, length-map, length-replicate, get_or-replicate, get_or_past, get_or-set_other, Elements.{All-append}, Sums.sum_by-append}}}, specs.{List.{All, cons_option}, Result.result_unwrap_or}}
 use Rattle.claims.{specs.{declared.view.Account.Account, Views.{after_all, minted_by}, Seats.{SeatState, trace_at, account_at, HoldsNothing, Adds}}, proofs.Seats.after_both}
 use Rattle.ready.specs.declared.ticket.Ticket.{Ticket}
-use Rattle.rounds.specs.{Acts.{SeatAct, exchanges_at, made_by, due_of, ActsMade, IsPost, ArePosts, opening, IsTry, held_of, AreTries, at_slot, reported, all_reported, ArePosted, is_due, last_in, opened_in, opened_below, all_opened, sweep_of}, Pollers.{IsOwnTable, PollerState, AreGenerations}, Openings.AreIn}
+use Rattle.rounds.specs.{Acts.{SeatAct, exchanges_at, made_by, due_of, ActsMade, IsPost, ArePosts, opening, InOrder, IsTry, not_free_of, AreTries, at_slot, reported, all_reported, ArePosted, is_due, last_in, opened_in, opened_below, all_opened, sweep_of}, Pollers.{IsOwnTable, PollerState, AreGenerations}, Openings.AreIn}
 use Rattle.relay_core.specs.Idle.{is_past}
 use Rattle.relay_log.specs.declared.faults.ServerFault.{ServerFault}
 use Rattle.dispatch.specs.{Hands.HandState, declared.split.Part.Part, Splits.IsIn, Posts.{IsWorn, OnlyWorn}}
@@ -91,15 +91,15 @@ posts_still {s = s} {t = t} one still = record { left = one.left; each = one.eac
 posts_le : {xs : List Ticket} {acts : List SeatAct} {s : SeatState} → ArePosts xs acts s → length (due_of acts) ≤ length xs
 posts_le {acts = acts} posts = rw (← posts.in_order, length-append, length-map) (omega (arith, due_le acts))
 
-held-append : (xs ys : List SeatAct) → held_of (xs ++ ys) ≡ held_of xs ++ held_of ys
-held-append [] ys = refl
-held-append (x ∷ xs) ys = rw (held-append xs ys, append_assoc)
+not_free-append : (xs ys : List SeatAct) → not_free_of (xs ++ ys) ≡ not_free_of xs ++ not_free_of ys
+not_free-append [] ys = refl
+not_free-append (x ∷ xs) ys = rw (not_free-append xs ys, append_assoc)
 
 pub tries_both : {xs ys : List Ticket} {h k : List ℕ} {us bs : List SeatAct} → AreTries xs h us → AreTries ys k bs → AreTries (xs ++ ys) (h ++ k) (us ++ bs)
 tries_both {us = us} {bs = bs} one two = record {
   each = All-append IsTry us bs one.each two.each;
   made = rw (due-append us bs, one.made, two.made);
-  found = rw (held-append us bs, one.found, two.found);
+  found = rw (not_free-append us bs, one.found, two.found);
 }
 
 pub tries_none : AreTries [] [] []
@@ -123,6 +123,11 @@ pub own_set : (part : Part) (table : List ℕ) (slot generation : ℕ) → IsOwn
 own_set part table slot generation own here other out = get_or-set_other table slot other generation 0 (λ same. out (rw same here)) ∙ own other out
 
 -- The reports of a batch, and the posts of a sweep, one after the other
+
+-- steps, and then others
+pub in_order : {X S : Type 0} (step : X → S → S → Type 0) (xs ys : List X) (a b c : S) → InOrder step xs a b → InOrder step ys b c → InOrder step (xs ++ ys) a c
+in_order step [] ys a b c same more = rw same at more
+in_order step (x ∷ xs) ys a b c (between, first, rest) more = (between, first, in_order step xs ys between b c rest more)
 
 -- nothing was posted
 pub posted_none : (s : SeatState) (h : HandState) → ArePosted [] s s h h

@@ -1,12 +1,12 @@
 -- Connections that are opened one after the other, why one is closed unopened, and a round of its parts.
-use Rattle.std.proofs.{Common.{◌≡◌, ◌⊎◌, ℕ, ◌+◌, ◌<◌, ◌≤◌, List, [], ◌∷◌, ◌++◌, length, drop, slice_get, slice_set, min, cond, Bool, true, refl, sym, ◌∙◌, arith, inl, inr, append_assoc, length-append, Option, Some, None, ◌==◌, Result, Ok, Err, IfErr, IsErrAnd, slice_index, ap, ◌↔◌, IsTrue, IsNone, false, Contains}, lemmas.{Bool.{cases_lt, false≢true}, List.{append-nil, length-set, get_or-set_other, get_or_past, Sums.sum_by-append}, Grind.get_or-set_at, Option.{none-some, same_Some}}}
+use Rattle.std.proofs.{Common.{◌≡◌, ◌≢◌, ◌⊎◌, ℕ, ◌+◌, ◌<◌, ◌≤◌, List, [], ◌∷◌, ◌++◌, length, drop, slice_get, slice_set, min, cond, Bool, true, refl, sym, ◌∙◌, arith, inl, inr, append_assoc, length-append, Option, Some, None, ◌==◌, Result, Ok, Err, IfErr, IsErrAnd, slice_index, ap, ◌↔◌, IsTrue, IsNone, false, Contains}, lemmas.{Bool.{cases_lt, false≢true}, List.{append-nil, length-set, get_or-set_other, get_or_past, Sums.sum_by-append}, Grind.get_or-set_at, Option.{none-some, same_Some}}}
 use Rattle.std.specs.Option.{ok_or}
-use Rattle.claims.{specs.{declared.answers.Posted.Posted, Calls.PostChange, Seats.{SeatState, TableId, Adds, account_at}, declared.view.{Account.Account, Exchange.Exchange}, Views.after_all}, proofs.Seats.{account_after, adds_both}}
-use Rattle.dispatch.{specs.{Posts.{HoldsOnly, IsWorn}, declared.{shared.Own.Own, front.{Unaccepted.{Unaccepted, TheVariants.{Blocked, Starved}}, Unopened.Unopened, Route.Route, Waiting.{Waiting, TheVariants.{No, Brief, Long}}}}, Hands.{HandState, ticket_room}, Acts.{Act, AreMade, Register, Adopt}, Told.{cause_of, Seen, Waited}}, proofs.Holding.{holds_still, released_all, woke_behind_post, worn_still}}
+use Rattle.claims.{specs.{declared.answers.Posted.Posted, Calls.PostChange, Seats.{SeatState, TableId, Adds, account_at}, declared.view.{Account.Account, Exchange.{Exchange, TheVariants.{NotFree as WasNotFree}}}, Views.after_all}, proofs.Seats.{account_after, adds_both}}
+use Rattle.dispatch.{specs.{Posts.{HoldsOnly, IsWorn}, declared.{shared.Own.Own, front.{Unaccepted.{Unaccepted, TheVariants.{Blocked, Starved}}, Unopened.Unopened, Route.Route, Waiting.{Waiting, TheVariants.{No, Brief, Long}}}}, Hands.{HandState, ticket_room}, Acts.{Act, AreMade, Made, Register, Adopt}, Told.{cause_of, Seen, Waited}}, proofs.Holding.{holds_still, released_all, woke_behind_post, worn_still}}
 use Rattle.ready.specs.declared.ticket.Ticket.{Ticket}
 use Rattle.token.specs.Names.{last_generation}
-use Rattle.rounds.{specs.{Acts.{SeatAct, opening, ActsMade, AreTries, all_reported, ArePosted, Delivered, swept_after, sweep_of}, Openings.{times, slots_in, AreIn, AreOpened, OnlyTook, Between, LetGo, Started, Connected, AcceptDone, OneAccepted, IsOpened, IsLost, IsSpent, AreLost, IsNext, SameQueues, Fate, next_in, Opened, NotFree, DropsFor, Placed, lacks, lead_of}, Pollers.{PollerState, Counted, counted_up, HasOpenedAll}, Rounds.{AcceptEnded, FlagIsDown, HasLeft, IsOver, RoundDone, RoundKeeps, ListenerKept, ListensNoMore, ListensToOpen, Looked, OnlyAnswered, OnlyListens, RoundRefused, MayNotWait, MayWait, MayWaitBriefly, WaitedAsMay}}, proofs.Acts.{at_slot-append, acts_none, acts_one, acts_both, none_at, try_opened, tries_none, tries_both, posted_none, posts_still, no_sweep}}
-use Rattle.relay_log.specs.declared.{cause.Cause.{Cause}, faults.ServerFault.{ServerFault, TheVariants.Worn}}
+use Rattle.rounds.{specs.{Acts.{SeatAct, opening, ActsMade, AreTries, PostsMade, all_reported, ArePosted, Delivered, swept_after, sweep_of}, Openings.{times, slots_in, AreIn, AreOpened, OnlyTook, Between, LetGo, Started, Connected, AcceptDone, OneAccepted, OnlyAccepted, IsOpened, IsLost, IsSpent, AreLost, IsNext, SameQueues, Fate, next_in, Opened, NotFree, DropsFor, Placed, ActsOf, DropsMade, TriedOnce, TriesMade, TryMade, lacks, lead_of}, Pollers.{PollerState, Counted, counted_up, HasOpenedAll}, declared.opening.Opening.Opening, Rounds.{AcceptEnded, FlagIsDown, HasLeft, IsOver, RoundInOrder, RoundKeeps, ListenerKept, ListensNoMore, ListensToOpen, Looked, OnlyAnswered, OnlyListens, RoundRefused, MayNotWait, MayWait, MayWaitBriefly, WaitedAsMay}}, proofs.Acts.{at_slot-append, acts_none, acts_one, acts_both, in_order, none_at, try_opened, tries_none, tries_both, posted_none, posts_still, no_sweep}}
+use Rattle.relay_log.specs.declared.{cause.Cause.{Cause}, faults.ServerFault.{ServerFault, TheVariants.{Poll, Worn}}}
 use Rattle.claims.specs.declared.view.Exchange.TheVariants as exchange
 use Rattle.claims.specs.declared.answers.Posted.TheVariants as posted
 use Rattle.relay_log.specs.declared.cause.Cause.TheVariants as cause
@@ -58,20 +58,52 @@ module _ (p q : PollerState) (ts : List Ticket) (part : q.part ≡ p.part) (open
   spent_still slot (inr (inr (inl wide))) = inr (inr (inl wide))
   spent_still slot (inr (inr (inr last))) = inr (inr (inr (omega (arith, (opened_rises ts p.table q.table opened slot).1))))
 
-  lost_still : (held lost : List ℕ) → AreLost p held lost → AreLost q held lost
-  lost_still held [] none = none
-  lost_still held (slot ∷ lost) (inl spent) = inl (spent_still slot spent.0, lost_still held lost spent.1)
-  lost_still held (slot ∷ lost) (inr found) = inr (found.0, found.1, lost_still found.0 lost found.2)
+  lost_still : (not_free lost : List ℕ) → AreLost p not_free lost → AreLost q not_free lost
+  lost_still not_free [] none = none
+  lost_still not_free (slot ∷ lost) (inl spent) = inl (spent_still slot spent.0, lost_still not_free lost spent.1)
+  lost_still not_free (slot ∷ lost) (inr found) = inr (found.0, found.1, lost_still found.0 lost found.2)
 
 lost_both : (p : PollerState) (h k ls ms : List ℕ) → AreLost p h ls → AreLost p k ms → AreLost p (h ++ k) (ls ++ ms)
 lost_both p h k [] ms none two = rw none two
 lost_both p h k (slot ∷ ls) ms (inl spent) two = inl (spent.0, lost_both p h k ls ms spent.1 two)
 lost_both p h k (slot ∷ ls) ms (inr found) two = inr (found.0 ++ k, rw found.1, lost_both p found.0 k ls ms found.2 two)
 
-module _ {p q r : PollerState} {a b c : Own} where
+-- The acts of tries
+
+module _ {S : Type 0} (made : Made S) (opens : Ticket → S → S → Type 0) where
+  -- openings that were dropped, and then others
+  drops_both : {a b c : S} → DropsMade made a b → DropsMade made b c → DropsMade made a c
+  drops_both {a} {b} {c} one two = record { slots = one.slots ++ two.slots; acts = in_order (made Register) one.slots two.slots a b c one.acts two.acts }
+
+  dropped_then : (xs : List SeatAct) {a b c : S} → DropsMade made a b → TriesMade made opens b c xs → TriesMade made opens a c xs
+  dropped_then [] {a} drops tries = record { last = a; acts = refl; drops = drops_both drops (rw tries.acts at tries.drops) }
+  dropped_then (x ∷ xs) drops tries =
+      let (between, first, rest) = tries.acts in
+      record {
+        last = tries.last;
+        acts = (between, record { begun = first.begun; drops = drops_both drops first.drops; acts = first.acts }, rest);
+        drops = tries.drops;
+      }
+
+  tries_then : (xs ys : List SeatAct) {a b c : S} → TriesMade made opens a b xs → TriesMade made opens b c ys → TriesMade made opens a c (xs ++ ys)
+  tries_then xs ys {a} one two =
+      let rest = dropped_then ys one.drops two in
+      record { last = rest.last; acts = in_order (TryMade made opens) xs ys a one.last rest.last one.acts rest.acts; drops = rest.drops }
+
+  pub no_tries : {s : S} → TriesMade made opens s s []
+  no_tries {s} = record { last = s; acts = refl; drops = record { slots = []; acts = refl } }
+
+  -- an opening was dropped
+  pub dropped_once : {a b : S} {name slot : ℕ} → name ≡ slot → (b ≡ a) ⊎ made Register name a b → TriesMade made opens a b []
+  dropped_once {a} same (inl is) = record { last = a; acts = refl; drops = record { slots = []; acts = is } }
+  dropped_once {a} {b} {slot = slot} same (inr act) = record { last = a; acts = refl; drops = record { slots = slot ∷ []; acts = (b, rw (← same) act, refl) } }
+
+module _ {S : Type 0} {made : Made S} {opens : Ticket → S → S → Type 0} {s t u : S} {p q r : PollerState} {a b c : Own} where
   -- connections, and then others
-  connected_both : {xs ys : List Ticket} {ls ms h k : List ℕ} → Connected xs ls h p q a b → Connected ys ms k q r b c → Connected (xs ++ ys) (ls ++ ms) (h ++ k) p r a c
+  connected_both : {xs ys : List Ticket} {ls ms h k : List ℕ} → Connected (TriesMade made opens s t) xs ls h p q a b
+      → Connected (TriesMade made opens t u) ys ms k q r b c → Connected (TriesMade made opens s u) (xs ++ ys) (ls ++ ms) (h ++ k) p r a c
   connected_both {xs} {ys} {ls} {ms} {h} {k} one two = record {
+    acts = tries_then made opens one.tries two.tries one.acts two.acts;
     why = lost_both r h k ls ms (lost_still q r ys two.part two.table h ls one.why) two.why;
     tries = one.tries ++ two.tries;
     are = tries_both one.are two.are;
@@ -87,11 +119,12 @@ module _ {p q r : PollerState} {a b c : Own} where
     gave = two.gave ∙ one.gave;
   }
 
-  pub accept_both : AcceptDone p q a b → AcceptDone q r b c → AcceptDone p r a c
+  pub accept_both : AcceptDone (TriesMade made opens s t) p q a b → AcceptDone (TriesMade made opens t u) q r b c
+      → AcceptDone (TriesMade made opens s u) p r a c
   accept_both one two = record {
     opened = one.opened ++ two.opened;
     lost = one.lost ++ two.lost;
-    held = one.held ++ two.held;
+    not_free = one.not_free ++ two.not_free;
     connected = connected_both one.connected two.connected;
     slots = λ slot. (
         omega (arith, one.slots slot, two.slots slot, at_slot-append slot one.opened two.opened, times-append slot one.lost two.lost));
@@ -105,15 +138,16 @@ pub still : (p : PollerState) → SamePoller p p
 still p = assumption
 
 -- slots were taken, and nothing was opened
-pub accept_took : {p q : PollerState} {a b : Own} → SamePoller p q → OnlyTook a b → AcceptDone p q a b
-accept_took {p} {q} {a} {b} same took = record {
+pub accept_took : {acted : List SeatAct → Type 0} {p q : PollerState} {a b : Own} → acted [] → SamePoller p q → OnlyTook a b → AcceptDone acted p q a b
+accept_took {a = a} none same took = record {
   opened = [];
   lost = [];
-  held = [];
+  not_free = [];
   connected = record {
     why = refl;
     tries = [];
     are = tries_none;
+    acts = none;
     made = rw took.seat (acts_none a.seat);
     table = same.table;
     counted = counted_same same.opened;
@@ -128,17 +162,27 @@ accept_took {p} {q} {a} {b} same took = record {
   slots = took.slots;
 }
 
+-- accepting leaves what connections are opened with, and the second
+pub opens_same : (p q : PollerState) → OnlyAccepted p q → (q.opening ≡ p.opening) × (q.second ≡ p.second)
+opens_same p q is = (ap (λ (s : PollerState). s.opening) is, ap (λ (s : PollerState). s.second) is)
+
+-- what connections are opened with is the same
+pub accept_with : {S : Type 0} {made : Made S} (opens : Opening → ℕ → Ticket → S → S → Type 0) {s t : S} {u v : Opening} {m n : ℕ} {p q : PollerState} {a b : Own}
+    → (v ≡ u) × (n ≡ m) → AcceptDone (TriesMade made (opens v n) s t) p q a b → AcceptDone (TriesMade made (opens u m) s t) p q a b
+accept_with opens same done = rw (← same.0, ← same.1) done
+
 -- nothing happened
 pub took_none : (a : Own) → OnlyTook a a
 took_none a = search arith
 
 -- nothing was opened, and nothing was taken
-pub accept_none : {p q : PollerState} {a : Own} → SamePoller p q → AcceptDone p q a a
-accept_none {p} {q} {a} same = accept_took same (took_none a)
+pub accept_none : {acted : List SeatAct → Type 0} {p q : PollerState} {a : Own} → acted [] → SamePoller p q → AcceptDone acted p q a a
+accept_none {a = a} none same = accept_took none same (took_none a)
 
 -- a slot was taken for the next try
-pub accept_and_took : {p q : PollerState} {a b c : Own} → AcceptDone p q a b → OnlyTook b c → AcceptDone p q a c
-accept_and_took {p} {q} done took = accept_both done (accept_took (still q) took)
+pub accept_and_took : {S : Type 0} {made : Made S} {opens : Ticket → S → S → Type 0} {s t : S} {p q : PollerState} {a b c : Own}
+    → AcceptDone (TriesMade made opens s t) p q a b → OnlyTook b c → AcceptDone (TriesMade made opens s t) p q a c
+accept_and_took {made = made} {opens = opens} {q = q} done took = accept_both done (accept_took (no_tries made opens) (still q) took)
 
 -- where there are some, there is a first one
 pub some_first : (xs : List ℕ) → 1 ≤ length xs → slice_get xs 0 ≡ None → ⊥
@@ -151,14 +195,16 @@ slot_left : (s slot : ℕ) (a b : Own) (hand : HandState) → hand ≡ record a.
 slot_left s slot a b hand taken is free slots = rw (free, slots, taken) (omega (arith, times_first s a.hand.slots slot is))
 
 -- one slot is no longer used
-pub lost_one : {p q : PollerState} {a b : Own} {slot : ℕ} (held : List ℕ) (tries : List SeatAct) → q ≡ record p { lost = counted_up p.lost 1 } → AreLost p held (slot ∷ [])
-    → AreTries [] held tries → ActsMade tries a.seat b.seat → b.hand.tickets ≡ a.hand.tickets → b.ready ≡ a.ready → b.free ≡ a.free
-    → Connected [] (slot ∷ []) held p q a b
-lost_one {p} {a = a} held tries lost why are made tickets ready free = rw lost (record {
+pub lost_one : {acted : List SeatAct → Type 0} {p q : PollerState} {a b : Own} {slot : ℕ} (not_free : List ℕ) (tries : List SeatAct) → acted tries
+    → q ≡ record p { lost = counted_up p.lost 1 } → AreLost p not_free (slot ∷ [])
+    → AreTries [] not_free tries → ActsMade tries a.seat b.seat → b.hand.tickets ≡ a.hand.tickets → b.ready ≡ a.ready → b.free ≡ a.free
+    → Connected acted [] (slot ∷ []) not_free p q a b
+lost_one {p = p} {a = a} not_free tries acts lost why are made tickets ready free = rw lost (record {
   why = why;
   tries = tries;
   are = are;
   made = made;
+  acts = acts;
   table = refl;
   counted = counted_same refl;
   unused = counted_one _ p.lost _ refl;
@@ -173,8 +219,10 @@ lost_one {p} {a = a} held tries lost why are made tickets ready free = rw lost (
 -- what became of a slot that was taken in hand
 module _ {p q : PollerState} {a : Own} {hand : HandState} (taken : hand ≡ record a.hand { slots = drop 1 a.hand.slots }) where
   -- that it was taken changes nothing that a connection says
-  from_hand : {ts : List Ticket} {ls h : List ℕ} {b : Own} → Connected ts ls h p q (record a { hand = hand }) b → Connected ts ls h p q a b
-  from_hand one = record {
+  from_hand : {one_acts acted : List SeatAct → Type 0} {ts : List Ticket} {ls h : List ℕ} {b : Own} → ((tries : List SeatAct) → one_acts tries → acted tries)
+      → Connected one_acts ts ls h p q (record a { hand = hand }) b → Connected acted ts ls h p q a b
+  from_hand joined one = record {
+    acts = joined one.tries one.acts;
     why = one.why;
     tries = one.tries;
     are = one.are;
@@ -191,20 +239,20 @@ module _ {p q : PollerState} {a : Own} {hand : HandState} (taken : hand ≡ reco
   }
 
   -- no connection can be opened in it any more
-  pub opened_never : {slot : ℕ} → slice_get a.hand.slots 0 ≡ Some slot → IsSpent p slot → q ≡ record p { lost = counted_up p.lost 1 }
-      → AcceptDone p q a (record a { hand = hand })
-  opened_never {slot} is spent lost = record {
+  pub opened_never : {acted : List SeatAct → Type 0} {slot : ℕ} → acted [] → slice_get a.hand.slots 0 ≡ Some slot → IsSpent p slot
+      → q ≡ record p { lost = counted_up p.lost 1 } → AcceptDone acted p q a (record a { hand = hand })
+  opened_never {slot = slot} none is spent lost = record {
     opened = [];
     lost = slot ∷ [];
-    held = [];
-    connected = lost_one [] [] lost (inl (spent, refl)) tries_none (acts_none a.seat) (rw taken) refl refl;
+    not_free = [];
+    connected = lost_one [] [] none lost (inl (spent, refl)) tries_none (acts_none a.seat) (rw taken) refl refl;
     slots = λ s. omega (arith, slot_left s slot a (record a { hand = hand }) hand taken is refl refl);
   }
 
   -- its opening failed, and it is in hand again
-  pub opened_not : {slot : ℕ} {kept : HandState} → slice_get a.hand.slots 0 ≡ Some slot → kept ≡ record hand { slots = hand.slots ++ slot ∷ [] } → SamePoller p q
-      → AcceptDone p q a (record a { hand = kept })
-  opened_not {slot} {kept} is again still = accept_took still (record {
+  pub opened_not : {acted : List SeatAct → Type 0} {slot : ℕ} {kept : HandState} → acted [] → slice_get a.hand.slots 0 ≡ Some slot
+      → kept ≡ record hand { slots = hand.slots ++ slot ∷ [] } → SamePoller p q → AcceptDone acted p q a (record a { hand = kept })
+  opened_not {slot = slot} none is again still = accept_took none still (record {
     seat = refl;
     ready = refl;
     tickets = rw (again, taken);
@@ -215,33 +263,47 @@ module _ {p q : PollerState} {a : Own} {hand : HandState} (taken : hand ≡ reco
   })
 
   -- a connection was placed in it, or it is no longer used
-  pub opened_there : {b : Own} {t : Ticket} → slice_get a.hand.slots 0 ≡ Some t.slot
-      → Connected (t ∷ []) [] [] p q (record a { hand = hand }) b ⊎ Connected [] (t.slot ∷ []) (t.slot ∷ []) p q (record a { hand = hand }) b
-      → b.free ≡ a.free → b.hand.slots ≡ hand.slots → AcceptDone p q a b
-  opened_there {b} {t} is (inl one) free slots = record {
+  pub opened_there : {one_acts acted : List SeatAct → Type 0} {b : Own} {t : Ticket} → ((tries : List SeatAct) → one_acts tries → acted tries) → slice_get a.hand.slots 0 ≡ Some t.slot
+      → Connected one_acts (t ∷ []) [] [] p q (record a { hand = hand }) b ⊎ Connected one_acts [] (t.slot ∷ []) (t.slot ∷ []) p q (record a { hand = hand }) b
+      → b.free ≡ a.free → b.hand.slots ≡ hand.slots → AcceptDone acted p q a b
+  opened_there {b = b} {t = t} joined is (inl one) free slots = record {
     opened = t ∷ [];
     lost = [];
-    held = [];
-    connected = from_hand one;
+    not_free = [];
+    connected = from_hand joined one;
     slots = λ s. omega (arith, slot_left s t.slot a b hand taken is free slots);
   }
-  opened_there {b} {t} is (inr none) free slots = record {
+  opened_there {b = b} {t = t} joined is (inr none) free slots = record {
     opened = [];
     lost = t.slot ∷ [];
-    held = t.slot ∷ [];
-    connected = from_hand none;
+    not_free = t.slot ∷ [];
+    connected = from_hand joined none;
     slots = λ s. omega (arith, slot_left s t.slot a b hand taken is free slots);
   }
 
-  pub placed_there : {s : PollerState} {told : Ticket → Type 0} {made : List Act → Type 0} {b : Own} {t : Ticket} → slice_get a.hand.slots 0 ≡ Some t.slot → s ≡ p
-      → Placed told made t s q (record a { hand = hand }) b → IsWorn a.seat ⊎ OneAccepted p q a b
-  placed_there {s} {b = b} {t = t} is same placed = by placed.done where
+  pub placed_there : {s : PollerState} {told : Ticket → Type 0} {made : List Act → Type 0} {one_acts acted : List SeatAct → Type 0} {b : Own} {t : Ticket}
+      → ((tries : List SeatAct) → one_acts tries → acted tries) → slice_get a.hand.slots 0 ≡ Some t.slot → s ≡ p
+      → Placed told made one_acts t s q (record a { hand = hand }) b → IsWorn a.seat ⊎ OneAccepted acted p q a b
+  placed_there {s = s} {one_acts = one_acts} {acted = acted} {b = b} {t = t} joined is same placed = by placed.done where
     there : Type 0
-    there = Connected (t ∷ []) [] [] s q (record a { hand = hand }) b ⊎ Connected [] (t.slot ∷ []) (t.slot ∷ []) s q (record a { hand = hand }) b
+    there = Connected one_acts (t ∷ []) [] [] s q (record a { hand = hand }) b ⊎ Connected one_acts [] (t.slot ∷ []) (t.slot ∷ []) s q (record a { hand = hand }) b
 
-    by : IsWorn a.seat ⊎ (there × (ticket_room hand ≤ ticket_room b.hand + 1)) → IsWorn a.seat ⊎ OneAccepted p q a b
+    by : IsWorn a.seat ⊎ (there × (ticket_room hand ≤ ticket_room b.hand + 1)) → IsWorn a.seat ⊎ OneAccepted acted p q a b
     by (inl worn) = inl worn
-    by (inr once) = inr (record { done = opened_there is (rw same at once.0) placed.free placed.slots; room = rw taken at once.1 })
+    by (inr once) = inr (record { done = opened_there joined is (rw same at once.0) placed.free placed.slots; room = rw taken at once.1 })
+
+-- the acts of the one try for a connection, with those before its slot was adopted
+pub tried_once : {S : Type 0} (made : Made S) {opens placed : Ticket → S → S → Type 0} {finds : ℕ → S → S → Type 0} (t : Ticket) (a b c : S)
+    → (placed t b c → opens t a c) → (finds t.slot b c → AreMade made t.slot (Register ∷ Adopt ∷ []) a c)
+    → (tries : List SeatAct) → TriedOnce placed finds t b c tries → TriesMade made opens a c tries
+tried_once {S} made {opens} {placed} {finds} t a b c opened found tries tried = rw tried.once (record {
+  last = c;
+  acts = (c, record { begun = a; drops = record { slots = []; acts = refl }; acts = by tried.exchanges tried.acts }, refl);
+  drops = record { slots = []; acts = refl };
+}) where
+  by : (es : List Exchange) → ActsOf placed finds t es b c → ActsOf opens (λ slot. AreMade made slot (Register ∷ Adopt ∷ [])) t es a c
+  by (WasNotFree ∷ rest) acts = found acts
+  by _ acts = opened acts
 
 -- sockets that were not registered, or are closed again
 pub registered_once : {S : Type 0} (made : Act → ℕ → S → S → Type 0) (from to : S) {name slot : ℕ} → name ≡ slot → (to ≡ from) ⊎ made Register name from to
@@ -261,9 +323,10 @@ unless never (inl a) = absurd (never a)
 unless never (inr b) = b
 
 pub answered : (free : Option (Unit {0})) (old new : PollerState) (had has : Own) (answer : Result (Unit {0}) ServerFault) → IsNone free ↔ IsWorn has.seat → answer ≡ ok_or free Worn
-    → ((answer ≡ Err Worn) ↔ IsWorn has.seat) × IfErr answer (λ fault. RoundRefused fault old new had has)
-answered None old new had has answer is same = let worn = is.0 refl in rw same ((λ refused. worn, λ refused. refl), inr (refl, worn))
-answered (Some x) old new had has answer is same = rw same ((λ refused. absurd (cc refused), λ worn. absurd (false≢true (sym (is.1 worn)))), tt)
+    → ((answer ≡ Err Worn) ↔ IsWorn has.seat) × (answer ≢ Err Poll) × IfErr answer (λ fault. RoundRefused fault old new had has)
+answered None old new had has answer is same = let worn = is.0 refl in rw same ((λ refused. worn, λ refused. refl), λ failed. cc failed, inr (refl, worn))
+answered (Some x) old new had has answer is same =
+    rw same ((λ refused. absurd (cc refused), λ worn. absurd (false≢true (sym (is.1 worn)))), λ failed. cc failed, tt)
 
 -- a worn seat is the same still: after a first part, after slots were taken, and after a second part
 pub worn_on : {a b c d : SeatState} → (IsWorn a → b ≡ a) → c ≡ b → (IsWorn c → d ≡ c) → IsWorn a → d ≡ a
@@ -280,8 +343,9 @@ fate_by : {slot : ℕ} {p q : PollerState} {told opened : Type 0} {dropped : Cau
 fate_by opens joined (inl done) = Opened done.0 (opens done.1)
 fate_by opens joined (inr lost) = NotFree lost.0 lost.1 (joined (Adopt ∷ []) lost.2)
 
-pub placed_fate : {slot : ℕ} {p s q : PollerState} {told : Ticket → Type 0} {opened : Type 0} {dropped : Cause → Type 0} {after made : List Act → Type 0} {a b : Own} {t : Ticket} → s ≡ p
-    → t ≡ next_in p slot → (told (next_in p slot) → opened) → ((acts : List Act) → after acts → made (Register ∷ acts)) → Placed told after t s q a b
+pub placed_fate : {slot : ℕ} {p s q : PollerState} {told : Ticket → Type 0} {opened : Type 0} {dropped : Cause → Type 0} {after made : List Act → Type 0}
+    {acted : List SeatAct → Type 0} {a b : Own} {t : Ticket} → s ≡ p
+    → t ≡ next_in p slot → (told (next_in p slot) → opened) → ((acts : List Act) → after acts → made (Register ∷ acts)) → Placed told after acted t s q a b
     → Fate slot opened dropped made p q a.seat b.seat
 placed_fate same next opens joined placed = fate_by opens joined (rw (same, next) at placed.counted)
 
@@ -318,18 +382,20 @@ started_by t noted posted.Quiet a first second b only took change left =
     })
 
 -- a connection was opened in its slot, unless the seat is worn
-pub opened_once : {t : Ticket} {p q : PollerState} {a b : Own} {middle : SeatState} {found : ℕ} {X : Type 0} → IsWorn middle ⊎ Started t (record a { seat = middle }) b
+pub opened_once : {acted : List SeatAct → Type 0} {t : Ticket} {p q : PollerState} {a b : Own} {middle : SeatState} {found : ℕ} {X : Type 0}
+    → ((noted : ℕ) → acted (record { ticket = t; exchanges = opening found noted } ∷ [])) → IsWorn middle ⊎ Started t (record a { seat = middle }) b
     → IsNext p t → Adds t.slot (exchange.Adopted found ∷ []) a.seat middle → SameQueues (record a { seat = middle }) b
     → q ≡ record p { table = slice_set p.table t.slot t.generation; opened = counted_up p.opened 1; episodes = q.episodes }
-    → IsWorn a.seat ⊎ ((Connected (t ∷ []) [] [] p q a b ⊎ X) × (ticket_room a.hand ≤ ticket_room b.hand + 1))
-opened_once (inl worn) next adopted queues is = inl (worn_before _ _ _ _ adopted refl worn)
-opened_once {t} {p} {a = a} {found = found} (inr started) next adopted queues is =
+    → IsWorn a.seat ⊎ ((Connected acted (t ∷ []) [] [] p q a b ⊎ X) × (ticket_room a.hand ≤ ticket_room b.hand + 1))
+opened_once acts (inl worn) next adopted queues is = inl (worn_before _ _ _ _ adopted refl worn)
+opened_once {t = t} {p = p} {a = a} {found = found} acts (inr started) next adopted queues is =
     let try : SeatAct = record { ticket = t; exchanges = opening found started.noted } in
     inr (
       inl (rw is (record {
         why = refl;
         tries = try ∷ [];
         are = try_opened t found started.noted;
+        acts = acts started.noted;
         made = acts_one try _ _ (adds_both _ _ _ _ _ _ adopted started.seat);
         table = (next.generation, refl);
         counted = counted_one _ p.opened _ refl;
@@ -371,42 +437,53 @@ module _ (may_refuse : Unopened → Type 0) (may_tell : Route → Type 0) (proxy
 
 -- A round: the reports were delivered, a sweep was made or none, and connections were opened
 
-pub round_of : (c : Own) {p q r v t : PollerState} {a b d e : Own} → (IsWorn c.seat → e.seat ≡ c.seat) → (IsWorn d.seat → e.seat ≡ d.seat) → Looked p q → OnlyTook a b
+pub round_of : {S : Type 0} {made : Made S} {opens : Ticket → S → S → Type 0} (from delivered_at timed_at : S) {to : S} (c : Own) {p q r v t : PollerState} {a b d e : Own}
+    → PostsMade made (all_reported q.table q.batch) from delivered_at → PostsMade made (sweep_of r v) delivered_at timed_at
+    → (IsWorn c.seat → e.seat ≡ c.seat) → (IsWorn d.seat → e.seat ≡ d.seat) → Looked p q → OnlyTook a b
     → Delivered q.table q.batch b.seat c.seat b.hand c.hand → c.ready ≡ b.ready → c.free ≡ b.free → AreIn q.part (all_reported q.table q.batch) → r ≡ record q { accepting = r.accepting }
     → ArePosted (sweep_of r v) c.seat d.seat c.hand d.hand → d.ready ≡ c.ready → d.free ≡ c.free → AreIn r.part (sweep_of r v) → v ≡ record r { second = v.second; swept = v.swept }
-    → AcceptDone v t d e → t.swept ≡ v.swept → RoundDone p t a e
-round_of c {e = e} still_all still_then looked took delivered ready free own flag posted ready_then free_then own_then sweep accepted swept =
+    → AcceptDone (TriesMade made opens timed_at to) v t d e → t.swept ≡ v.swept → RoundInOrder made opens p t a e from to
+round_of from delivered_at timed_at c {e = e} reports sweeps still_all still_then looked took delivered ready free own flag posted ready_then free_then own_then sweep accepted swept =
     let done = accepted.connected in
     record {
-      reports = delivered.posts;
-      sweep = posted.posts;
-      tries = done.tries;
-      opened = accepted.opened;
-      lost = accepted.lost;
-      held = accepted.held;
-      why = done.why;
-      reported = rw (done.batch, sweep, flag) (rw looked at (posts_still {t = e.seat} delivered.are (λ worn. rw (still_all worn) worn)));
-      swept = rw swept (rw (flag, looked) at (posts_still {t = e.seat} posted.are (λ worn. rw (still_then worn) worn)));
-      tried = done.are;
-      made = rw (← took.seat) (acts_both _ _ _ _ _ delivered.made (acts_both _ _ _ _ _ posted.made done.made));
-      part = rw (done.part, sweep, flag, looked);
-      own_reports = rw (done.batch, sweep, flag) (rw looked at own);
-      own_sweep = rw swept (rw (flag, looked) at own_then);
-      own_openings = rw (sweep, flag, looked) at done.own;
-      tickets = rw (done.ready, ready_then, ready, done.tickets, posted.hand, delivered.hand, took.ready, took.tickets) (simp append_assoc);
-      table = rw (sweep, flag, looked) at done.table;
-      counted = rw (sweep, flag, looked) at done.counted;
-      unused = rw (sweep, flag, looked) at done.unused;
-      gave = rw (done.gave, free_then, free) took.gave;
-      slots = λ slot. (let counted = rw (free_then, free, posted.hand, delivered.hand) at (accepted.slots slot) in omega (arith, took.slots slot));
+      delivered = delivered_at;
+      timed = timed_at;
+      reports = rw (done.batch, sweep, flag) (rw looked at reports);
+      sweep = rw swept (rw (flag, looked) at sweeps);
+      tries = done.acts;
+      round = record {
+        reports = delivered.posts;
+        sweep = posted.posts;
+        tries = done.tries;
+        opened = accepted.opened;
+        lost = accepted.lost;
+        not_free = accepted.not_free;
+        why = done.why;
+        reported = rw (done.batch, sweep, flag) (rw looked at (posts_still {t = e.seat} delivered.are (λ worn. rw (still_all worn) worn)));
+        swept = rw swept (rw (flag, looked) at (posts_still {t = e.seat} posted.are (λ worn. rw (still_then worn) worn)));
+        tried = done.are;
+        made = rw (← took.seat) (acts_both _ _ _ _ _ delivered.made (acts_both _ _ _ _ _ posted.made done.made));
+        part = rw (done.part, sweep, flag, looked);
+        own_reports = rw (done.batch, sweep, flag) (rw looked at own);
+        own_sweep = rw swept (rw (flag, looked) at own_then);
+        own_openings = rw (sweep, flag, looked) at done.own;
+        tickets = rw (done.ready, ready_then, ready, done.tickets, posted.hand, delivered.hand, took.ready, took.tickets) (simp append_assoc);
+        table = rw (sweep, flag, looked) at done.table;
+        counted = rw (sweep, flag, looked) at done.counted;
+        unused = rw (sweep, flag, looked) at done.unused;
+        gave = rw (done.gave, free_then, free) took.gave;
+        slots = λ slot. (let counted = rw (free_then, free, posted.hand, delivered.hand) at (accepted.slots slot) in omega (arith, took.slots slot));
+      };
     }
 
 -- nothing was reported, nothing was posted for time, and nothing was accepted
-pub round_ended : {p q : PollerState} {a b : Own} → Looked p q → q.batch ≡ [] → OnlyTook a b → RoundDone p q a b
-round_ended {p} {q} {a} {b} looked none took =
+pub round_ended : {S : Type 0} {made : Made S} {opens : Ticket → S → S → Type 0} {s : S} {p q : PollerState} {a b : Own} → Looked p q → q.batch ≡ [] → OnlyTook a b
+    → RoundInOrder made opens p q a b s s
+round_ended {made = made} {opens = opens} {s = s} {q = q} {b = b} looked none took =
     let unswept : sweep_of q q ≡ [] = no_sweep q q.swept refl in
-    round_of b {v = q} (λ worn. refl) (λ worn. refl) looked took (rw none (posted_none b.seat b.hand)) refl refl (λ slot out. rw none) refl
-    (rw unswept (posted_none b.seat b.hand)) refl refl (λ slot out. rw unswept) refl (accept_none (still q)) refl
+    let nothing : s ≡ s = refl in
+    round_of s s s b {v = q} (rw none nothing) (rw unswept nothing) (λ worn. refl) (λ worn. refl) looked took (rw none (posted_none b.seat b.hand)) refl refl (λ slot out. rw none) refl
+    (rw unswept (posted_none b.seat b.hand)) refl refl (λ slot out. rw unswept) refl (accept_none (no_tries made opens) (still q)) refl
 
 -- what answers made of the poller, one after the other
 pub answered_both : {gave : Unaccepted → Type 0} {p q r : PollerState} → OnlyAnswered gave p q → OnlyAnswered gave q r → OnlyAnswered gave p r

@@ -1,10 +1,10 @@
--- What a thread's seat did, act by act, and what a round posts. Part of the promises.
+-- What a thread's seat did, act by act, and what a round posts, also by its acts. Part of the promises.
 use Rattle.std.specs.{Prelude.{◌≡◌, ◌⊎◌, ℕ, zero, suc, ◌==◌, nat_lt, Bool, true, false, if◌then◌else◌, List, [], ◌∷◌, ◌++◌, length, map, Option, Some, None, slice_index}, List.{All, filter_map, count_by}}
 use Rattle.claims.specs.{declared.view.Exchange.{Exchange, TheVariants.{Post, Take, Release, Adopted, NotFree}}, Views.minted_by, Seats.{SeatState, trace_at}}
 use Rattle.ready.specs.declared.ticket.Ticket.{Ticket}
 use Rattle.token.specs.{declared.name.Name.{Name, TheVariants.{End}}, Numbers.name_of}
 use Rattle.relay_core.specs.Idle.{is_past}
-use Rattle.dispatch.specs.{Hands.HandState, Posts.IsWorn}
+use Rattle.dispatch.specs.{Acts.{Made, Post as PostAct}, Hands.HandState, Posts.IsWorn}
 use Rattle.rounds.specs.Pollers.{PollerState}
 
 -- exchanges of a seat at the slot of a ticket
@@ -56,20 +56,20 @@ abbrev pub IsTry : SeatAct → Type 0
 IsTry act = ((found : ℕ) × (noted : ℕ) × (act.exchanges ≡ opening found noted)) ⊎ (act.exchanges ≡ NotFree ∷ [])
 
 -- the slot, if these exchanges found that it is not free
-abbrev pub found_held : List Exchange → ℕ → List ℕ
-found_held (NotFree ∷ rest) slot = slot ∷ []
-found_held exchanges slot = []
+abbrev pub found_not_free : List Exchange → ℕ → List ℕ
+found_not_free (NotFree ∷ rest) slot = slot ∷ []
+found_not_free exchanges slot = []
 
 -- the slots that acts found not to be free, in order
-abbrev pub held_of : List SeatAct → List ℕ
-held_of [] = []
-held_of (act ∷ acts) = found_held act.exchanges act.ticket.slot ++ held_of acts
+abbrev pub not_free_of : List SeatAct → List ℕ
+not_free_of [] = []
+not_free_of (act ∷ acts) = found_not_free act.exchanges act.ticket.slot ++ not_free_of acts
 
 -- by these acts these connections were opened, and these slots were found not to be free
-pub record AreTries (opened : List Ticket) (held : List ℕ) (tries : List SeatAct) : Type 0 where
+pub record AreTries (opened : List Ticket) (not_free : List ℕ) (tries : List SeatAct) : Type 0 where
   pub each : All IsTry tries
   pub made : due_of tries ≡ opened
-  pub found : held_of tries ≡ held
+  pub found : not_free_of tries ≡ not_free
 
 -- The connection whose end a name names, if the slot's generation in the table is the name's. A slot that the table
 -- lacks reads as generation 0, which no end has
@@ -97,6 +97,15 @@ pub record ArePosted (tickets : List Ticket) (old new : SeatState) (had has : Ha
   pub are : ArePosts tickets posts new
   pub made : ActsMade posts old new
   pub hand : has ≡ record had { tickets = had.tickets ++ due_of posts }
+
+-- these steps were made, one after the other, and no others
+abbrev pub InOrder : {S X : Type 0} → (X → S → S → Type 0) → List X → S → S → Type 0
+InOrder step [] from to = to ≡ from
+InOrder {S} step (x ∷ xs) from to = (between : S) × step x from between × InOrder step xs between to
+
+-- these acts were made: for each of these connections, in order, a post at its slot
+abbrev pub PostsMade : {S : Type 0} → Made S → List Ticket → S → S → Type 0
+PostsMade made tickets from to = InOrder (λ (t : Ticket). made PostAct t.slot) tickets from to
 
 -- a note was posted for each report of a connection
 abbrev pub Delivered : List ℕ → List ℕ → SeatState → SeatState → HandState → HandState → Type 0

@@ -1,10 +1,10 @@
 -- What accepting and opening connections does to what the poller's thread owns. Part of the promises.
 use Rattle.std.specs.{Prelude.{◌≡◌, ◌⊎◌, ℕ, ◌+◌, ◌<◌, ◌≤◌, ◌==◌, Bool, true, false, List, [], ◌∷◌, ◌++◌, length, drop, map, Option, Some, None, Result, Ok, Err, replicate, slice_index, slice_set}, List.count_by, declared.net.socket_addr.SocketAddrV4.SocketAddrV4, Net.{Addr.ipv4_octets, Socket.{v4_ip, v4_port}}}
-use Rattle.claims.specs.{Seats.{SeatState, TableId, Adds, HoldsNothing, account_at}, Views.minted_by}
+use Rattle.claims.specs.{declared.view.Exchange.Exchange, Seats.{SeatState, TableId, Adds, HoldsNothing, account_at}, Views.minted_by}
 use Rattle.ready.specs.declared.ticket.Ticket.{Ticket}
 use Rattle.dispatch.specs.{declared.{shared.Own.Own, places.Berth.Berth, front.{Unopened.Unopened, Route.Route}, split.Part.Part}, Splits.IsIn, Hands.ticket_room, Posts.IsWorn, Told.Seen}
 use Rattle.token.specs.Names.{last_generation}
-use Rattle.rounds.specs.{Pollers.{PollerState, Counted, counted_up}, Acts.{SeatAct, made_by, opening, ActsMade, AreTries, at_slot}, Episodes.{dropped_for, no_episodes, opened_after}, declared.opening.Opening.Opening}
+use Rattle.rounds.specs.{Pollers.{PollerState, Counted, counted_up}, Acts.{SeatAct, made_by, opening, ActsMade, AreTries, InOrder, at_slot}, Episodes.{dropped_for, no_episodes, opened_after}, declared.opening.Opening.Opening}
 use Rattle.log.specs.declared.level.Level.{Level}
 use Rattle.statistics.specs.declared.event.Event.{Event}
 use Rattle.relay_log.specs.{Messages.open_message, declared.cause.Cause.Cause}
@@ -96,22 +96,25 @@ pub record Started (ticket : Ticket) (old new : Own) : Type 0 where
 abbrev pub IsSpent : PollerState → ℕ → Type 0
 IsSpent p slot = (IsIn p.part slot → ⊥) ⊎ ((length p.table ≤ slot) ⊎ ((32768 ≤ slot) ⊎ (last_generation ≤ slice_index p.table slot)))
 
--- Why each of these slots is no longer used, in order: it is spent, or it is the next one in `held`, the slots that
--- were found not to be free. All of `held` are among these
+-- Why each of these slots is no longer used, in order: it is spent, or it is the next one in `found`, the slots that
+-- were found not to be free. All of `found` are among these
 abbrev pub AreLost : PollerState → List ℕ → List ℕ → Type 0
-AreLost p held [] = held ≡ []
-AreLost p held (slot ∷ lost) = (IsSpent p slot × AreLost p held lost) ⊎ ((rest : List ℕ) × (held ≡ slot ∷ rest) × AreLost p rest lost)
+AreLost p found [] = found ≡ []
+AreLost p found (slot ∷ lost) = (IsSpent p slot × AreLost p found lost) ⊎ ((rest : List ℕ) × (found ≡ slot ∷ rest) × AreLost p rest lost)
 
 -- The `opened` connections were opened in the poller's own slots, each with its slot's next generation, one note and
--- one ticket, which is in hand after the others. The `lost` slots are no longer used. The seat did nothing else
-pub record Connected (opened : List Ticket) (lost held : List ℕ) (old new : PollerState) (had has : Own) : Type 0 where
+-- one ticket, which is in hand after the others. The `lost` slots are no longer used. The seat did nothing else. `acted`
+-- is what is known of the acts of tries
+pub record Connected (acted : List SeatAct → Type 0) (opened : List Ticket) (lost not_free : List ℕ) (old new : PollerState)
+    (had has : Own) : Type 0 where
   pub table : AreOpened old.table opened new.table
   pub counted : Counted old.opened (length opened) new.opened
   pub unused : Counted old.lost (length lost) new.lost
-  pub why : AreLost new held lost
+  pub why : AreLost new not_free lost
   pub tries : List SeatAct
-  pub are : AreTries opened held tries
+  pub are : AreTries opened not_free tries
   pub made : ActsMade tries had.seat has.seat
+  pub acts : acted tries
   pub batch : new.batch ≡ old.batch
   pub part : new.part ≡ old.part
   pub own : AreIn old.part opened
@@ -162,10 +165,11 @@ LeadGiven may_tell proxy lead = (route : Route) × may_tell route × (lead_of pr
 
 -- A connection as it is opened: it has made no call yet, its rings have the poller's size, its lead is one that may be
 -- given, and it counts from the round's second
-pub record IsFresh {C T : Type 0} (may_tell : Route → Type 0) (p : PollerState) (ticket : Ticket) (berth : Berth C T) : Type 0 where
-  pub pair : berth.pair ≡ fresh ticket.slot ticket.generation p.opening.ring p.second berth.pair.up.lead
-  pub lead : LeadGiven may_tell p.opening.proxy (Some berth.pair.up.lead)
-  pub second : berth.second ≡ p.second
+pub record IsFresh {C T : Type 0} (may_tell : Route → Type 0) (opening : Opening) (second : ℕ) (ticket : Ticket)
+    (berth : Berth C T) : Type 0 where
+  pub pair : berth.pair ≡ fresh ticket.slot ticket.generation opening.ring second berth.pair.up.lead
+  pub lead : LeadGiven may_tell opening.proxy (Some berth.pair.up.lead)
+  pub since : berth.second ≡ second
 
 -- what is known of acts, of which PutIn put this connection into its place
 abbrev pub Putting : {S C T : Type 0} → (Berth C T → S → Type 0) → act.Made S → Berth C T → act.Made S
@@ -173,9 +177,36 @@ Putting moved made berth act.PutIn slot from to = made act.PutIn slot from to ×
 Putting moved made berth act slot from to = made act slot from to
 
 -- the acts of an opening, which put a fresh connection into its place
-abbrev pub OpensFresh : {S C T : Type 0} → (Berth C T → S → Type 0) → act.Made S → (Route → Type 0) → PollerState → Ticket → S → S → Type 0
-OpensFresh moved made may_tell p ticket from to =
-    (berth : Berth _ _) × IsFresh may_tell p ticket berth × act.AreMade (Putting moved made berth) ticket.slot act.open_slot from to
+abbrev pub OpensFresh : {S C T : Type 0} → (Berth C T → S → Type 0) → act.Made S → (Route → Type 0) → Opening → ℕ → Ticket → S → S → Type 0
+OpensFresh moved made may_tell opening second ticket from to = (berth : Berth _ _) × IsFresh may_tell opening second ticket berth
+    × act.AreMade (Putting moved made berth) ticket.slot act.open_slot from to
+
+-- they were made for some client
+abbrev pub Opens : {C S T : Type 0} → (Berth C T → S → Type 0) → act.Made S → (C → Route → Type 0) → Opening → ℕ → Ticket → S → S → Type 0
+Opens {C} moved made may_tell opening second ticket from to =
+    (client : C) × OpensFresh moved made (may_tell client) opening second ticket from to
+
+-- the acts of a try with these exchanges: it opened its connection, or found its slot not to be free
+abbrev pub ActsOf : {S : Type 0} → (Ticket → S → S → Type 0) → (ℕ → S → S → Type 0) → Ticket → List Exchange → S → S → Type 0
+ActsOf opens finds ticket (exchange.NotFree ∷ rest) from to = finds ticket.slot from to
+ActsOf opens finds ticket exchanges from to = opens ticket from to
+
+-- openings that were dropped: of some of them the sockets had been registered
+pub record DropsMade {S : Type 0} (made : act.Made S) (from to : S) : Type 0 where
+  pub slots : List ℕ
+  pub acts : InOrder (made act.Register) slots from to
+
+-- such openings, and then a try
+pub record TryMade {S : Type 0} (made : act.Made S) (opens : Ticket → S → S → Type 0) (try : SeatAct) (from to : S) : Type 0 where
+  pub begun : S
+  pub drops : DropsMade made from begun
+  pub acts : ActsOf opens (λ slot. act.AreMade made slot (act.Register ∷ act.Adopt ∷ [])) try.ticket try.exchanges begun to
+
+-- the acts of these tries, in order, and no others but those of openings that were dropped
+pub record TriesMade {S : Type 0} (made : act.Made S) (opens : Ticket → S → S → Type 0) (from to : S) (tries : List SeatAct) : Type 0 where
+  pub last : S
+  pub acts : InOrder (TryMade made opens) tries from last
+  pub drops : DropsMade made last to
 
 -- Why an accepted connection is closed unopened: the front refused to open it; or the front opened it, but an address
 -- for the line is missing, or memory ran out
@@ -220,12 +251,19 @@ pub record IsNext (p : PollerState) (t : Ticket) : Type 0 where
   pub generation : t.generation ≡ slice_index p.table t.slot + 1
   pub most : t.generation ≤ last_generation
 
+-- one try was made for this connection, by these acts
+pub record TriedOnce {S : Type 0} (opens : Ticket → S → S → Type 0) (finds : ℕ → S → S → Type 0) (t : Ticket) (from to : S)
+    (tries : List SeatAct) : Type 0 where
+  pub exchanges : List Exchange
+  pub once : tries ≡ record { ticket = t; exchanges = exchanges } ∷ []
+  pub acts : ActsOf opens finds t exchanges from to
+
 -- placing a connection: it was opened in its slot, or the slot was found not free and is no longer used. A seat that is
 -- worn posts no note for it
-pub record Placed (placed : Ticket → Type 0) (made : List act.Act → Type 0) (t : Ticket)
+pub record Placed (placed : Ticket → Type 0) (made : List act.Act → Type 0) (acted : List SeatAct → Type 0) (t : Ticket)
     (old new : PollerState) (had has : Own) : Type 0 where
   pub done : IsWorn had.seat ⊎ (
-      (Connected (t ∷ []) [] [] old new had has ⊎ Connected [] (t.slot ∷ []) (t.slot ∷ []) old new had has)
+      (Connected acted (t ∷ []) [] [] old new had has ⊎ Connected acted [] (t.slot ∷ []) (t.slot ∷ []) old new had has)
       × (ticket_room had.hand ≤ ticket_room has.hand + 1))
   pub counted : (IsOpened old new × placed t)
       ⊎ (IsLost old new × Adds t.slot (exchange.NotFree ∷ []) had.seat has.seat × made (act.Adopt ∷ []))
@@ -233,16 +271,16 @@ pub record Placed (placed : Ticket → Type 0) (made : List act.Act → Type 0) 
   pub slots : has.hand.slots ≡ had.hand.slots
 
 -- what accepting did: each slot that was taken was opened, or is in hand, or is no longer used
-pub record AcceptDone (old new : PollerState) (had has : Own) : Type 0 where
+pub record AcceptDone (acted : List SeatAct → Type 0) (old new : PollerState) (had has : Own) : Type 0 where
   pub opened : List Ticket
   pub lost : List ℕ
-  pub held : List ℕ
-  pub connected : Connected opened lost held old new had has
+  pub not_free : List ℕ
+  pub connected : Connected acted opened lost not_free old new had has
   pub slots : SlotsCounted had has opened lost
 
 -- one try of accept(2), which leaves at most one ticket more in hand
-pub record OneAccepted (old new : PollerState) (had has : Own) : Type 0 where
-  pub done : AcceptDone old new had has
+pub record OneAccepted (acted : List SeatAct → Type 0) (old new : PollerState) (had has : Own) : Type 0 where
+  pub done : AcceptDone acted old new had has
   pub room : ticket_room had.hand ≤ ticket_room has.hand + 1
 
 -- accepting changes at most this of what the poller keeps
@@ -260,8 +298,7 @@ OnlyAccepted old new = new ≡ record old {
 
 -- opening a connection, or failing to, changes at most this
 abbrev pub OnlyOpened : PollerState → PollerState → Type 0
-OnlyOpened old new =
-    new ≡ record old { table = new.table; opened = new.opened; lost = new.lost; episodes = new.episodes }
+OnlyOpened old new = new ≡ record old { table = new.table; opened = new.opened; lost = new.lost; episodes = new.episodes }
 
 pub record SameQueues (old new : Own) : Type 0 where
   pub ready : new.ready ≡ old.ready

@@ -4,6 +4,7 @@ use Rattle.rounds.specs.declared.{episodes.Episodes.Episodes, opening.Opening.Op
 use Rattle.dispatch.specs.{declared.split.Part.Part, Splits.IsIn, Told.Seen}
 use Rattle.token.specs.Names.{last_generation}
 
+-- what a poller keeps between its rounds
 pub record PollerState : Type 0 where
   -- what the front shows
   pub seen : Seen

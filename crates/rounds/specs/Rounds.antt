@@ -2,8 +2,8 @@
 -- what its thread owns. Part of the promises.
 use Rattle.std.specs.Prelude.{◌≡◌, ◌≢◌, ◌⊎◌, ◌↔◌, ℕ, ◌+◌, ◌<◌, ◌≤◌, true, false, List, [], ◌++◌, length, Contains, Result, Err}
 use Rattle.ready.specs.{declared.ticket.Ticket.Ticket, Steps.HeldOnce}
-use Rattle.dispatch.specs.{declared.{front.{Unaccepted.Unaccepted, Waiting.Waiting}, shared.Own.Own}, Hands.{HasRoom, ticket_room}, Outgoing.tickets_out, Posts.{IsWorn, OnlyWorn}}
-use Rattle.rounds.specs.{Acts.{SeatAct, due_of, ActsMade, ArePosts, AreTries, all_reported, ArePosted, is_due, sweep_of, swept_after}, Openings.{AreIn, AreLost, AreOpened, OnlyTook, SlotsCounted}, Pollers.{PollerState, HasOpenedAll, Counted, spare_room}, Episodes.AreLogged}
+use Rattle.dispatch.specs.{declared.{front.{Unaccepted.Unaccepted, Waiting.Waiting}, shared.Own.Own}, Acts.Made, Hands.{HasRoom, ticket_room}, Outgoing.tickets_out, Posts.{IsWorn, OnlyWorn}}
+use Rattle.rounds.specs.{Acts.{SeatAct, due_of, ActsMade, ArePosts, AreTries, PostsMade, all_reported, ArePosted, is_due, sweep_of, swept_after}, Openings.{AreIn, AreLost, AreOpened, OnlyTook, SlotsCounted, TriesMade}, Pollers.{PollerState, HasOpenedAll, Counted, spare_room}, Episodes.AreLogged}
 use Rattle.relay_log.specs.declared.faults.ServerFault.{ServerFault}
 use Rattle.dispatch.specs.declared.front.Unaccepted.TheVariants as unaccepted
 use Rattle.dispatch.specs.declared.front.Waiting.TheVariants as waiting
@@ -20,12 +20,12 @@ pub record RoundDone (old new : PollerState) (had has : Own) : Type 0 where
   pub tries : List SeatAct
   pub opened : List Ticket
   pub lost : List ℕ
-  pub held : List ℕ
+  pub not_free : List ℕ
   pub reported : ArePosts (all_reported old.table new.batch) reports has.seat
   pub swept : ArePosts (sweep_of old new) sweep has.seat
-  pub tried : AreTries opened held tries
+  pub tried : AreTries opened not_free tries
   pub made : ActsMade (reports ++ (sweep ++ tries)) had.seat has.seat
-  pub why : AreLost new held lost
+  pub why : AreLost new not_free lost
   pub part : new.part ≡ old.part
   pub own_reports : AreIn old.part (all_reported old.table new.batch)
   pub own_sweep : AreIn old.part (sweep_of old new)
@@ -36,6 +36,17 @@ pub record RoundDone (old new : PollerState) (had has : Own) : Type 0 where
   pub unused : Counted old.lost (length lost) new.lost
   pub gave : has.free.history.put ≡ had.free.history.put
   pub slots : SlotsCounted had has opened lost
+
+-- A round with its acts, in order, and no others: for each report of a connection a post at its slot, also by a worn seat;
+-- then such a post for each connection of the sweep; and then the acts of its tries
+pub record RoundInOrder {S : Type 0} (made : Made S) (opens : Ticket → S → S → Type 0) (old new : PollerState) (had has : Own)
+    (from to : S) : Type 0 where
+  pub round : RoundDone old new had has
+  pub delivered : S
+  pub timed : S
+  pub reports : PostsMade made (all_reported old.table new.batch) from delivered
+  pub sweep : PostsMade made (sweep_of old new) delivered timed
+  pub tries : TriesMade made opens timed to round.tries
 
 -- no free slot is in hand, and at one moment there was none in the queue
 pub record NoSlot (own : Own) : Type 0 where

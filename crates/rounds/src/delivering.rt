@@ -2,10 +2,10 @@
 ghost use Rattle.std.specs.{Prelude.{◌≡◌, ◌-◌, ◌<◌, ◌≤◌, ◌↔◌, [], length, IsTrue, IfOk, IfSome, MatchResult, Contains}, List.cons_option};
 ghost use Rattle.claims.specs.Seats.{HoldsNothing};
 ghost use Rattle.dispatch.specs.{Hands.ticket_room, Posts.{IsWorn, OnlyWorn}};
-ghost use Rattle.rounds.specs.Acts.{connection, reported, ArePosted, Delivered};
+ghost use Rattle.rounds.specs.Acts.{all_reported, connection, reported, ArePosted, Delivered, PostsMade};
 
 use claims::{ClaimSeat, Claims, Posted};
-use dispatch::{Hand, LISTENER};
+use dispatch::{Acts, Hand, LISTENER};
 use ready::Ticket;
 use relay_log::ServerFault;
 use token::{Name, Token, unpack};
@@ -35,8 +35,30 @@ pub fn deliver(
     ensures worn { MatchResult result (λ _. IsWorn seat.new → ⊥) (λ fault. OnlyWorn fault seat.new) }
     ensures idle { HoldsNothing seat.new }
 {
+    deliver_by(&mut (), claims, seat, table, batch, hand)
+}
+
+/// [`deliver`] by any acts: a post for each note, also of a worn seat.
+pub(crate) fn deliver_by<A: Acts>(
+    acts: &mut A,
+    claims: &Claims,
+    seat: &mut ClaimSeat,
+    table: &[u64],
+    batch: &[u64],
+    hand: &mut Hand,
+) -> Result<bool, ServerFault>
+    requires same { seat.old.table ≡ claims.now }
+    requires idle { HoldsNothing seat.old }
+    requires sized { length table.now ≡ claims.now.words }
+    requires room { length batch.now ≤ ticket_room hand.old }
+    ensures made { PostsMade A.made (all_reported table.now batch.now) acts.old acts.new }
+    ensures delivered { Delivered table.now batch.now seat.old seat.new hand.old hand.new }
+    ensures listener { IfOk result (λ reported. IsTrue reported ↔ Contains batch.now 0) }
+    ensures worn { MatchResult result (λ _. IsWorn seat.new → ⊥) (λ fault. OnlyWorn fault seat.new) }
+    ensures idle { HoldsNothing seat.new }
+{
     for number in batch {
-        post_note(claims, seat, connection(table, *number), hand);
+        post_note(acts, claims, seat, connection(table, *number), hand);
     }
     if seat.is_worn() {
         return Err(ServerFault::Worn);
@@ -44,10 +66,11 @@ pub fn deliver(
     Ok(batch.contains(&LISTENER))
 }
 
-/// Posts a note at the ticket's slot, and adds the ticket to the hand if the post answers Wake. None does nothing, nor
-/// does a worn seat.
+/// Posts a note at the ticket's slot, and adds the ticket to the hand if the post answers Wake. None does nothing, and
+/// the post of a worn seat changes nothing.
 #[tactic(auto, using(crate::proofs::Acts::posted_none, crate::proofs::Acts::posted_not, crate::proofs::Acts::posted_quiet, crate::proofs::Acts::posted_woke))]
-pub(crate) fn post_note(
+pub(crate) fn post_note<A: Acts>(
+    acts: &mut A,
     claims: &Claims,
     seat: &mut ClaimSeat,
     ticket: Option<Ticket>,
@@ -57,16 +80,14 @@ pub(crate) fn post_note(
     requires idle { HoldsNothing seat.old }
     requires inside { IfSome ticket (λ ticket. ticket.slot < claims.now.words) }
     requires room { length hand.old.tickets < hand.old.capacity }
+    ensures made { PostsMade A.made (cons_option ticket []) acts.old acts.new }
     ensures posted { ArePosted (cons_option ticket []) seat.old seat.new hand.old hand.new }
     ensures still { IsWorn seat.old → (seat.new ≡ seat.old) × (hand.new ≡ hand.old) }
 {
     let Some(ticket) = ticket else {
         return;
     };
-    if seat.is_worn() {
-        return;
-    }
-    match claims.post(seat, ticket.slot) {
+    match acts.post(claims, seat, ticket.slot) {
         Posted::Wake => hand.keep_ticket(ticket),
         Posted::Quiet | Posted::Worn => {}
     }

@@ -2,7 +2,7 @@
 ghost use Rattle.std.specs.{Prelude.{◌≡◌, ◌+◌, ◌<◌, ◌≤◌, [], ◌∷◌, ◌++◌, drop, length, Err, Some, None, ◌⊎◌, IfOk, IfErr, OnOk, OnErr, OnSome, IfSome, IsNone, slice_get, slice_index}, Net.{Addr.ipv4_octets, Socket.{v4_ip, v4_port}}};
 ghost use Rattle.claims.specs.Seats.{HoldsNothing, OnlyAt};
 ghost use Rattle.relay_core.specs.{Pairs.fresh, Proxy.proxy_line};
-ghost use Rattle.rounds.specs.{Openings.{lacks, lead_of, next_in, Between, DropCounted, DropLogged, DropsFor, Fate, IsFresh, IsNext, LeadGiven, LetGo, OneAccepted, OnlyOpened, OpeningLogged, OpensFresh, Placed, Putting, Registered, SameQueues, Started}, Pollers.AreGenerations};
+ghost use Rattle.rounds.specs.{Openings.{lacks, lead_of, next_in, Between, DropCounted, DropLogged, DropsFor, Fate, IsFresh, IsNext, LeadGiven, LetGo, OneAccepted, OnlyOpened, OpeningLogged, Opens, OpensFresh, Placed, Putting, Registered, SameQueues, Started, TriedOnce, TriesMade}, Pollers.AreGenerations};
 ghost use Rattle.dispatch.specs.{Acts.{AreMade, placing}, Posts.{HoldsOnly, IsWorn}, Hands.ticket_room};
 ghost use Rattle.token.specs.Names.{last_generation};
 ghost use Rattle.dispatch.specs.Acts as act;
@@ -65,10 +65,12 @@ pub fn open<F: Front + Counting, A: Moves<F>, R: Wait + Logs>(
     ensures between { Between shared.now.claims own.new poller.new }
     ensures counted { IfSome (slice_get own.old.hand.slots 0) (λ slot. Fate slot
         (OpeningLogged (R.logged rt.now) F.counted (next_in poller.old slot)
-        × OpensFresh A.moved A.made (F.may_tell client) poller.old (next_in poller.old slot) acts.old acts.new)
+        × OpensFresh A.moved A.made (F.may_tell client) poller.old.opening poller.old.second (next_in poller.old slot) acts.old acts.new)
         (DropCounted F.counted F.lacked slot) (λ made. AreMade A.made slot made acts.old acts.new)
         poller.old poller.new own.old.seat own.new.seat) }
-    ensures done { IsWorn own.old.seat ⊎ OneAccepted poller.old poller.new own.old own.new }
+    ensures done { IsWorn own.old.seat
+        ⊎ OneAccepted (TriesMade A.made (Opens A.moved A.made F.may_tell poller.old.opening poller.old.second) acts.old acts.new)
+        poller.old poller.new own.old own.new }
     ensures ready { own.new.ready ≡ own.old.ready }
     ensures poller { OnlyOpened poller.old poller.new }
 {
@@ -117,7 +119,7 @@ fn prepare<F: Front, A: Moves<F>, N: Log>(
 ) -> Result<Box<Berth<F::Client, F::Target>>, Dropped>
     requires { length hand.old.slots < hand.old.capacity }
     ensures acts { Registered A.made names.client.slot result acts.old acts.new }
-    ensures fresh { IfOk result (λ berth. IsFresh (F.may_tell client) poller.old
+    ensures fresh { IfOk result (λ berth. IsFresh (F.may_tell client) poller.old.opening poller.old.second
         (record { slot = names.client.slot; generation = names.client.generation }) berth.value) }
     ensures prepared { OnOk result (hand.new ≡ hand.old) }
     ensures cause { IfErr result (λ dropped. DropsFor (F.may_refuse client) (F.may_tell client) poller.old.opening.proxy dropped) }
@@ -171,7 +173,7 @@ fn connect<F: Front, A: Moves<F>, N: Log>(
     names: Names,
 ) -> Result<Box<Berth<F::Client, F::Target>>, Cause>
     ensures acts { Registered A.made names.client.slot result acts.old acts.new }
-    ensures fresh { IfOk result (λ berth. IsFresh (F.may_tell client) poller.old
+    ensures fresh { IfOk result (λ berth. IsFresh (F.may_tell client) poller.old.opening poller.old.second
         (record { slot = names.client.slot; generation = names.client.generation }) berth.value) }
     ensures cause { IfErr result (λ cause. DropsFor (F.may_refuse client) (F.may_tell client) poller.old.opening.proxy cause) }
     ensures same { poller.new ≡ poller.old }
@@ -328,7 +330,9 @@ fn place<F: Front + Counting, A: Moves<F>, R: Wait + Logs>(
     ensures between { Between shared.now.claims own.new poller.new }
     ensures placed { Placed (λ t. OpeningLogged (R.logged rt.now) F.counted t
         × AreMade (Putting A.moved A.made berth.value) ticket.slot placing acts.old acts.new)
-        (λ made. AreMade A.made ticket.slot made acts.old acts.new) ticket poller.old poller.new own.old own.new }
+        (λ made. AreMade A.made ticket.slot made acts.old acts.new)
+        (TriedOnce (λ t. AreMade (Putting A.moved A.made berth.value) t.slot placing)
+        (λ slot. AreMade A.made slot (act.Adopt ∷ [])) ticket acts.old acts.new) ticket poller.old poller.new own.old own.new }
     ensures poller { OnlyOpened poller.old poller.new }
     ensures ready { own.new.ready ≡ own.old.ready }
 {

@@ -1,18 +1,18 @@
 //! A round of the poller.
 ghost use Rattle.std.specs.{Prelude.{◌≡◌, ◌⊎◌, ◌+◌, ◌-◌, ◌<◌, ◌≤◌, ◌↔◌, [], length, Err, IsNone, IsOk, IfErr, IsTrue, MatchResult, Contains, true, false}, IoError.error_kind, declared.io.ErrorKind.TheVariants.Interrupted};
 ghost use Rattle.ready.specs.Steps.{HeldOnce};
-ghost use Rattle.rounds.specs.{Acts.{Delivered, all_reported}, Episodes.{episodes_after, flag_after, starved_after}, Openings.{AreIn, Between, OnlyTook, AcceptDone, OneAccepted, OnlyAccepted}, Pollers.{HasOpenedAll, max_accepts, spare_room}, Rounds.{AcceptEnded, EndedEarly, HasLeft, IsFull, IsOver, ListensNoMore, ListensToOpen, Looked, LooksForAll, MayAccept, MayNotWait, MayWait, MayWaitBriefly, NoSlot, NoneToAccept, NotBegun, OnlyAnswered, OnlyListens, RoundDone, RoundEnded, RoundKeeps, RoundRefused, TookAll, WaitedAsMay, WaitsAsMay}};
+ghost use Rattle.rounds.specs.{Acts.{Delivered, PostsMade, all_reported}, Episodes.{episodes_after, flag_after, starved_after}, Openings.{AreIn, Between, OnlyTook, AcceptDone, OneAccepted, OnlyAccepted, Opens, TriesMade}, Pollers.{HasOpenedAll, max_accepts, spare_room}, Rounds.{AcceptEnded, EndedEarly, HasLeft, IsFull, IsOver, ListensNoMore, ListensToOpen, Looked, LooksForAll, MayAccept, MayNotWait, MayWait, MayWaitBriefly, NoSlot, NoneToAccept, NotBegun, OnlyAnswered, OnlyListens, RoundEnded, RoundInOrder, RoundKeeps, RoundRefused, TookAll, WaitedAsMay, WaitsAsMay}};
 ghost use Rattle.dispatch.specs.{Hands.ticket_room, Posts.IsWorn, Told.{unaccepted_of, Waited}};
 
-use crate::delivering::deliver;
+use crate::delivering::deliver_by;
 use crate::limits::SPARE_ROOM;
 use crate::opening::open;
 use crate::poller::Poller;
 use crate::sweeping::{is_due, keep_time};
 use claims::{ClaimSeat, Claims};
 use dispatch::{
-    Clock, Front, Hand, LISTENER, MAX_ACCEPTS, MAX_BATCH, Own, Shared, Timing, Unaccepted, Waiting,
-    unaccepted_of,
+    Acts, Clock, Front, Hand, LISTENER, MAX_ACCEPTS, MAX_BATCH, Moves, Own, Shared, Timing,
+    Unaccepted, Waiting, unaccepted_of,
 };
 use log::{Log, error};
 use relay_log::{ServerFault, log_all_taken};
@@ -41,11 +41,12 @@ use std::sync::Wait;
 ///
 /// Refusals: `Poll` if the wait for reports failed; the round then at most took free slots in hand and stopped
 /// listening. `Worn` exactly if the seat has posted 2^56 times at the end of any other round that began: a worn seat
-/// posts no more, and opens nothing. Even so it holds no slot.
-pub fn poller_round<F: Front, C: Clock, R: Wait + Log>(
+/// posts no more, and opens nothing. Even so it holds no slot. The acts are made by `acts`; the server's is `()`.
+pub fn poller_round<F: Front, A: Moves<F>, C: Clock, R: Wait + Log>(
     rt: &R,
     alloc: Global,
-    shared: &Shared<F>,
+    acts: &mut A,
+    shared: &Shared<F, A>,
     own: &mut Own,
     poller: &mut Poller<F>,
     timing: &Timing<'_, C>,
@@ -54,7 +55,9 @@ pub fn poller_round<F: Front, C: Clock, R: Wait + Log>(
     ensures between { Between shared.now.claims own.new poller.new }
     ensures early { EndedEarly shared.now.claims.words own.old → IsOk result × NotBegun poller.old poller.new own.old own.new }
     ensures waits { EndedEarly shared.now.claims.words own.old ⊎ WaitedAsMay timing.now.limit poller.old poller.new own.old }
-    ensures round { RoundDone poller.old poller.new own.old own.new }
+    ensures made { RoundInOrder A.made (Opens A.moved A.made F.may_tell poller.new.opening poller.new.second)
+        poller.old poller.new own.old own.new acts.old acts.new }
+    ensures none { EndedEarly shared.now.claims.words own.old ⊎ (result ≡ Err ServerFault.Poll) → acts.new ≡ acts.old }
     ensures ended { EndedEarly shared.now.claims.words own.old ⊎ ((result ≡ Err ServerFault.Poll)
         ⊎ RoundEnded result (C.tells timing.now.clock.now) F.gave_none timing.now.limit poller.old poller.new own.new) }
     ensures keeps { RoundKeeps timing.now.limit poller.old poller.new own.old own.new }
@@ -66,9 +69,9 @@ pub fn poller_round<F: Front, C: Clock, R: Wait + Log>(
     if !look(rt, own, poller, timing.limit) {
         return Err(ServerFault::Poll);
     }
-    deliver_batch(shared, own, poller);
-    keep_time(shared, own, poller, timing);
-    accept(rt, alloc, shared, own, poller);
+    deliver_batch(acts, shared, own, poller);
+    keep_time(acts, shared, own, poller, timing);
+    accept(rt, alloc, acts, shared, own, poller);
     poller.log_counted(rt);
     take_back(rt, own, poller);
     unworn(&own.seat).ok_or(ServerFault::Worn)
@@ -175,11 +178,17 @@ fn polled<R: Log>(rt: &R, answer: io::Result<()>) -> bool
 }
 
 /// Delivers the reports of the batch. No note goes to another poller's slot: the table has no connection there.
-fn deliver_batch<F: Front>(shared: &Shared<F>, own: &mut Own, poller: &mut Poller<F>)
+fn deliver_batch<F: Front, A: Acts>(
+    acts: &mut A,
+    shared: &Shared<F, A>,
+    own: &mut Own,
+    poller: &mut Poller<F>,
+)
     requires between { Between shared.now.claims own.old poller.old }
     requires room { length poller.old.batch ≤ ticket_room own.old.hand }
     ensures between { Between shared.now.claims own.new poller.new }
     ensures poller { poller.new ≡ record poller.old { accepting = poller.new.accepting } }
+    ensures made { PostsMade A.made (all_reported poller.old.table poller.old.batch) acts.old acts.new }
     ensures delivered { Delivered poller.old.table poller.old.batch own.old.seat own.new.seat own.old.hand own.new.hand }
     ensures flag { IsWorn own.new.seat
         ⊎ (IsTrue poller.new.accepting ↔ (IsTrue poller.old.accepting ⊎ Contains poller.old.batch 0)) }
@@ -187,7 +196,8 @@ fn deliver_batch<F: Front>(shared: &Shared<F>, own: &mut Own, poller: &mut Polle
     ensures ready { own.new.ready ≡ own.old.ready }
     ensures free { own.new.free ≡ own.old.free }
 {
-    let listener = deliver(
+    let listener = deliver_by(
+        acts,
         &shared.claims,
         &mut own.seat,
         poller.table(),
@@ -199,9 +209,9 @@ fn deliver_batch<F: Front>(shared: &Shared<F>, own: &mut Own, poller: &mut Polle
 
 /// If a client waits for a slot, the poller is full from now on, until accept(2) answers that nobody waits. If all
 /// pollers are full now, that is logged.
-fn log_if_full<F: Front, R: Wait + Log>(
+fn log_if_full<F: Front, A, R: Wait + Log>(
     rt: &R,
-    shared: &Shared<F>,
+    shared: &Shared<F, A>,
     own: &mut Own,
     poller: &mut Poller<F>,
 )
@@ -236,17 +246,19 @@ fn is_full<F: Front, R: Wait>(rt: &R, own: &mut Own, poller: &Poller<F>) -> bool
 
 /// Accepts and opens connections while a client may be waiting and a slot is free. First it looks whether the poller is
 /// full.
-fn accept<F: Front, R: Wait + Log>(
+fn accept<F: Front, A: Moves<F>, R: Wait + Log>(
     rt: &R,
     alloc: Global,
-    shared: &Shared<F>,
+    acts: &mut A,
+    shared: &Shared<F, A>,
     own: &mut Own,
     poller: &mut Poller<F>,
 )
     requires between { Between shared.now.claims own.old poller.old }
     requires room { max_accepts ≤ ticket_room own.old.hand }
     ensures between { Between shared.now.claims own.new poller.new }
-    ensures done { AcceptDone poller.old poller.new own.old own.new }
+    ensures done { AcceptDone (TriesMade A.made (Opens A.moved A.made F.may_tell poller.old.opening poller.old.second) acts.old acts.new)
+        poller.old poller.new own.old own.new }
     ensures ended { AcceptEnded poller.new own.new }
     ensures answered { OnlyAnswered F.gave_none poller.old poller.new }
     ensures still { IsWorn own.old.seat → own.new.seat ≡ own.old.seat }
@@ -259,7 +271,7 @@ fn accept<F: Front, R: Wait + Log>(
         if !may_accept(rt, own, poller) {
             return;
         }
-        if !accept_next(rt, alloc, shared, own, poller) {
+        if !accept_next(rt, alloc, acts, shared, own, poller) {
             return;
         }
     }
@@ -277,10 +289,11 @@ fn may_accept<F: Front, R: Wait>(rt: &R, own: &mut Own, poller: &Poller<F>) -> b
 
 /// Accepts and opens one connection, unless the client is better left to another poller, or the seat is worn. Returns
 /// whether another try is worth making: not then, nor if accept(2) was starved.
-fn accept_next<F: Front, R: Wait + Log>(
+fn accept_next<F: Front, A: Moves<F>, R: Wait + Log>(
     rt: &R,
     alloc: Global,
-    shared: &Shared<F>,
+    acts: &mut A,
+    shared: &Shared<F, A>,
     own: &mut Own,
     poller: &mut Poller<F>,
 ) -> bool
@@ -288,7 +301,8 @@ fn accept_next<F: Front, R: Wait + Log>(
     requires room { 1 ≤ ticket_room own.old.hand }
     requires may { MayAccept poller.old own.old }
     ensures between { Between shared.now.claims own.new poller.new }
-    ensures done { OneAccepted poller.old poller.new own.old own.new }
+    ensures done { OneAccepted (TriesMade A.made (Opens A.moved A.made F.may_tell poller.old.opening poller.old.second) acts.old acts.new)
+        poller.old poller.new own.old own.new }
     ensures still { IsWorn own.old.seat → own.new.seat ≡ own.old.seat }
     ensures ready { own.new.ready ≡ own.old.ready }
     ensures tries { result ≡ true → poller.new.tries ≡ poller.old.tries - 1 }
@@ -304,7 +318,7 @@ fn accept_next<F: Front, R: Wait + Log>(
     }
     match poller.accept() {
         Ok((client, uncounted)) => {
-            open(rt, alloc, &mut (), shared, own, poller, client, uncounted);
+            open(rt, alloc, acts, shared, own, poller, client, uncounted);
             true
         }
         Err(error) => not_accepted(rt, shared, poller, &error) != Unaccepted::Starved,
@@ -340,9 +354,9 @@ fn take_one<R: Wait>(rt: &R, own: &mut Own) -> bool
 }
 
 /// Returns what an error of accept(2) means, and keeps it. That accept(2) is starved is logged once between openings.
-fn not_accepted<F: Front, R: Log>(
+fn not_accepted<F: Front, A, R: Log>(
     rt: &R,
-    shared: &Shared<F>,
+    shared: &Shared<F, A>,
     poller: &mut Poller<F>,
     error: &io::Error,
 ) -> Unaccepted
@@ -375,7 +389,7 @@ fn not_accepted<F: Front, R: Log>(
     class
 }
 
-fn end_full<F: Front>(shared: &Shared<F>, poller: &mut Poller<F>)
+fn end_full<F: Front, A>(shared: &Shared<F, A>, poller: &mut Poller<F>)
     ensures { poller.new ≡ record poller.old { episodes = record poller.old.episodes { full = false } } }
 {
     if poller.episodes.full {

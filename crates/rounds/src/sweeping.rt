@@ -1,20 +1,21 @@
 //! A round's sweep, and its second.
 ghost use Rattle.std.specs.{Prelude.{◌≡◌, ◌<◌, ◌≤◌, [], if◌then◌else◌, length, IfSome}, List.cons_option};
 ghost use Rattle.claims.specs.Seats.{HoldsNothing};
-ghost use Rattle.rounds.specs.{Acts.{ArePosted, all_opened, is_due, opened_in, sweep_of}, Openings.{AreIn, Between, SameQueues}, Rounds.SweepMade};
+ghost use Rattle.rounds.specs.{Acts.{ArePosted, PostsMade, all_opened, is_due, opened_in, sweep_of}, Openings.{AreIn, Between, SameQueues}, Rounds.SweepMade};
 ghost use Rattle.dispatch.specs.{Hands.ticket_room, Posts.IsWorn};
 
 use crate::delivering::post_note;
 use crate::poller::Poller;
 use claims::{ClaimSeat, Claims};
-use dispatch::{Clock, Front, Hand, Own, Shared, Timing};
+use dispatch::{Acts, Clock, Front, Hand, Own, Shared, Timing};
 use ready::Ticket;
 
 /// Makes a sweep if one is due, and reads the second of the round. A sweep goes by the second of the last round, and
 /// its own round has asked for reports since then: so whatever came while the relay was stopped (SIGSTOP, a paused
 /// machine) is a note before a sweep says that the limit has passed.
-pub(crate) fn keep_time<F: Front, C: Clock>(
-    shared: &Shared<F>,
+pub(crate) fn keep_time<F: Front, A: Acts, C: Clock>(
+    acts: &mut A,
+    shared: &Shared<F, A>,
     own: &mut Own,
     poller: &mut Poller<F>,
     timing: &Timing<'_, C>,
@@ -23,6 +24,7 @@ pub(crate) fn keep_time<F: Front, C: Clock>(
     requires room { length poller.old.table ≤ ticket_room own.old.hand }
     ensures between { Between shared.now.claims own.new poller.new }
     ensures poller { poller.new ≡ record poller.old { second = poller.new.second; swept = poller.new.swept } }
+    ensures made { PostsMade A.made (sweep_of poller.old poller.new) acts.old acts.new }
     ensures told { C.tells timing.now.clock.now poller.new.second }
     ensures swept { SweepMade timing.now.limit poller.old poller.new own.old own.new }
     ensures still { IsWorn own.old.seat → own.new.seat ≡ own.old.seat }
@@ -31,6 +33,7 @@ pub(crate) fn keep_time<F: Front, C: Clock>(
 {
     let due = is_due(poller, timing.limit);
     sweep(
+        acts,
         &shared.claims,
         &mut own.seat,
         poller.table(),
@@ -49,11 +52,19 @@ pub(crate) fn is_due<F: Front>(poller: &Poller<F>, limit: u64) -> bool
 }
 
 /// Posts a note at each slot in which a connection was opened, in rising order, if a sweep is due.
-fn sweep(claims: &Claims, seat: &mut ClaimSeat, table: &[u64], due: bool, hand: &mut Hand)
+fn sweep<A: Acts>(
+    acts: &mut A,
+    claims: &Claims,
+    seat: &mut ClaimSeat,
+    table: &[u64],
+    due: bool,
+    hand: &mut Hand,
+)
     requires same { seat.old.table ≡ claims.now }
     requires idle { HoldsNothing seat.old }
     requires sized { length table.now ≡ claims.now.words }
     requires room { length table.now ≤ ticket_room hand.old }
+    ensures made { PostsMade A.made (if due then all_opened table.now else []) acts.old acts.new }
     ensures posted { ArePosted (if due then all_opened table.now else []) seat.old seat.new hand.old hand.new }
     ensures still { IsWorn seat.old → seat.new ≡ seat.old }
     ensures idle { HoldsNothing seat.new }
@@ -62,7 +73,7 @@ fn sweep(claims: &Claims, seat: &mut ClaimSeat, table: &[u64], due: bool, hand: 
         return;
     }
     for slot in 0..table.len() {
-        post_note(claims, seat, last_in(table, slot), hand);
+        post_note(acts, claims, seat, last_in(table, slot), hand);
     }
 }
 

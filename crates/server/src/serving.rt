@@ -67,9 +67,9 @@ pub fn serve<
 
 /// Serves as [`serve`] does. If there are files, what each thread does is recorded into them until the server ends, each
 /// of at most `most` bytes; the last line then says that all is recorded. A thread of its own writes them, and the
-/// call returns once all is written. If records come faster than that thread writes, or a file cannot be written, the
-/// recording ends, a warning is logged, and the server serves on. The recording may also refuse to begin, with
-/// `NoMemory` or `Threads`.
+/// call returns once all is written. If records come faster than that thread writes, a warning is logged, and the
+/// recording ends, or goes on in the next file if `most` is below 2^64 - 1. If a file cannot be written, it ends. The
+/// server serves on. The recording may also refuse to begin, with `NoMemory` or `Threads`.
 pub fn serve_recorded<
     G: Gate + Sync,
     C: Clock + Sync,
@@ -88,7 +88,7 @@ pub fn serve_recorded<
         return serve(rt, alloc, settings, bound, lent);
     };
     let split = split_of(settings);
-    let queue = match RecordQueue::new(rt, alloc, split) {
+    let queue = match RecordQueue::new(rt, alloc, split, most < u64::MAX) {
         Ok(queue) => queue,
         Err(AllocError) => return Outcome::refused(ServerFault::NoMemory),
     };
@@ -219,7 +219,7 @@ where
     requires slots { split.slots ≡ settings.now.slots }
     requires fronts { length fronts.items ≡ parts_of split.slots split.size }
 {
-    let recorder = Recorder::new(QueueSink { rt, queue });
+    let recorder = Recorder::new(QueueSink::new(rt, queue));
     let fronts = match record_all(alloc, fronts, &recorder) {
         Ok(fronts) => fronts,
         Err(AllocError) => return Outcome::refused(ServerFault::NoMemory),

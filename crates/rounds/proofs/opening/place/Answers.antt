@@ -1,7 +1,7 @@
 use Rattle.std.proofs.{Common.{◌∙◌, ◌∷◌, [], ap, arith, inl, inr, refl}, lemmas.List.length-set}
 use Rattle.claims.{specs.declared.view.Account.Account, proofs.Seats.{account_after, holds_nothing_again}}
-use Rattle.dispatch.proofs.Holding.{holds_from}
-use Rattle.rounds.{specs.Acts.SeatAct, proofs.{Acts.{acts_one, try_held}, Rounds.{lost_one, opened_once}}}
+use Rattle.dispatch.{specs.Acts.{AreMade, Adopt, placing}, proofs.Holding.{holds_from}}
+use Rattle.rounds.{specs.{Acts.{SeatAct, opening}, Openings.Putting}, proofs.{Acts.{acts_one, try_held}, Rounds.{lost_one, opened_once}}}
 use Rattle.claims.specs.declared.view.Exchange.TheVariants as exchange
 use Rattle.rounds.proofs.opening.place.Goals as goal
 
@@ -10,6 +10,8 @@ returns-in-Adopted g c =
     let change = c.in-Adopted.ensures.change in
     let counted = c.count_opened.ensures.poller in
     let told = c.end_episodes.ensures in
+    let acts : AreMade (Putting g.A.Moves.moved g.A.Acts.made c.args.berth.value) c.args.ticket.slot placing c.args.acts.now c.start.new.acts =
+    (c.adopt.new.self, c.adopt.ensures.made, (c.count_opened.new.acts, c.count_opened.ensures.made, c.start.ensures.made)) in
     record {
       between = record {
         same = c.start.ensures.only.table ∙ change.1.only.table ∙ c.requires.between.same;
@@ -17,13 +19,11 @@ returns-in-Adopted g c =
         sized = rw (told, counted, length-set) c.requires.between.sized;
       };
       placed = record {
-        done = opened_once c.start.ensures.started c.requires.next change.1 c.start.ensures.queues (rw (told, counted));
+        done = opened_once (λ noted. record { exchanges = opening change.0 noted; once = refl; acts = acts })
+            c.start.ensures.started c.requires.next change.1 c.start.ensures.queues (rw (told, counted));
         counted = inl (
           rw (told, counted) (refl, refl, refl),
-          (
-            (c.log_open.ensures, c.count_opened.ensures.counted),
-            (c.adopt.new.self, c.adopt.ensures.made, (c.count_opened.new.acts, c.count_opened.ensures.made, c.start.ensures.made)),
-          ),
+          ((c.log_open.ensures, c.count_opened.ensures.counted), acts),
         );
         free = c.start.ensures.queues.free;
         slots = c.start.ensures.slots;
@@ -36,6 +36,7 @@ pub returns-in-NotFree : goal.returns-in-NotFree
 returns-in-NotFree g c =
     let change = c.in-NotFree.ensures.change in
     let try : SeatAct = record { ticket = c.args.ticket; exchanges = exchange.NotFree ∷ [] } in
+    let found : AreMade g.A.Acts.made c.args.ticket.slot (Adopt ∷ []) c.args.acts.now c.adopt.new.self = (c.adopt.new.self, c.adopt.ensures.made, refl) in
     record {
       between = record {
         same = change.only.table ∙ c.requires.between.same;
@@ -44,8 +45,12 @@ returns-in-NotFree g c =
         sized = rw c.count_lost.ensures c.requires.between.sized;
       };
       placed = record {
-        done = inr (inr (lost_one (c.args.ticket.slot ∷ []) (try ∷ []) c.count_lost.ensures (inr ([], refl, refl)) (try_held c.args.ticket) (acts_one try _ _ change) refl refl refl), omega arith);
-        counted = inr (rw c.count_lost.ensures (refl, refl, refl), change, (c.adopt.new.self, c.adopt.ensures.made, refl));
+        done = inr (
+          inr (lost_one (c.args.ticket.slot ∷ []) (try ∷ [])
+              (record { exchanges = exchange.NotFree ∷ []; once = refl; acts = found }) c.count_lost.ensures (inr ([], refl, refl)) (try_held c.args.ticket) (acts_one try _ _ change) refl refl refl),
+          omega arith,
+        );
+        counted = inr (rw c.count_lost.ensures (refl, refl, refl), change, found);
         free = refl;
         slots = refl;
       };

@@ -2,8 +2,8 @@ use Rattle.std.proofs.Common.{◌∙◌, refl}
 use Rattle.rounds.proofs.Acts.{flag_by, own_reports}
 use Rattle.rounds.proofs.round.deliver_batch.Goals as goal
 
-pub deliver-listener-requires : goal.deliver-listener-requires
-deliver-listener-requires g c = record {
+pub deliver_by-listener-requires : goal.deliver_by-listener-requires
+deliver_by-listener-requires g c = record {
   same = c.requires.between.same;
   idle = c.requires.between.idle;
   sized = rw c.table.ensures.table c.requires.between.sized;
@@ -12,7 +12,7 @@ deliver-listener-requires g c = record {
 
 pub returns : goal.returns
 returns g c =
-    let told = c.deliver-listener.ensures in
+    let told = c.deliver_by-listener.ensures in
     let raised = c.raise_accept_flag.ensures in
     record {
       between = record {
@@ -21,8 +21,9 @@ returns g c =
         sized = rw raised c.requires.between.sized;
       };
       poller = rw raised;
+      made = rw (c.table.ensures.table, c.batch.ensures.batch) at told.made;
       delivered = rw (c.table.ensures.table, c.batch.ensures.batch) at told.delivered;
-      flag = rw (raised, c.unwrap_or.ensures) (flag_by _ _ _ c.deliver-listener.new.seat (rw c.batch.ensures.batch at told.listener) told.worn);
+      flag = rw (raised, c.unwrap_or.ensures) (flag_by _ _ _ c.deliver_by-listener.new.seat (rw c.batch.ensures.batch at told.listener) told.worn);
       own = own_reports _ _ c.args.poller.now.batch (rw c.table.ensures.table at c.table.ensures.own);
       ready = refl;
       free = refl;

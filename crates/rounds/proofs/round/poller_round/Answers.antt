@@ -1,6 +1,6 @@
-use Rattle.std.proofs.Common.{refl, inl, inr, arith}
-use Rattle.rounds.proofs.{Rounds.{accept_both, accept_took, between_still, between_took, room_same, still, took_none, worn_on, answered, Lasting, begun_not_early, ended_still, flag_ended, keeps, listens_still, looked_lasts, over_before, round_ended, round_of}, Acts.{few_tickets, capacity_kept, reported_le, few_sweep}}
-use Rattle.rounds.specs.Rounds.{Looked}
+use Rattle.std.proofs.Common.{◌≡◌, ◌∙◌, refl, sym, inl, inr, arith}
+use Rattle.rounds.proofs.{Rounds.{accept_both, accept_took, accept_with, no_tries, between_still, between_took, room_same, still, took_none, worn_on, answered, Lasting, begun_not_early, ended_still, flag_ended, keeps, listens_still, looked_lasts, opens_same, unless, over_before, round_ended, round_of}, Acts.{few_tickets, capacity_kept, reported_le, few_sweep}}
+use Rattle.rounds.specs.{Openings.Opens, Rounds.Looked}
 use Rattle.rounds.proofs.round.poller_round.Goals as goal
 
 pub returns-then-not-begin : goal.returns-then-not-begin
@@ -11,9 +11,10 @@ returns-then-not-begin g c =
       between = between_still c.requires.between refl (rw begun);
       early = λ _. (refl, record { own = refl; poller = begun });
       waits = inl early;
-      round = round_ended (rw begun) (rw begun) (took_none c.args.own.now);
+      made = round_ended (rw begun) (rw begun) (took_none c.args.own.now);
       ended = inl early;
       keeps = rw begun (record { opening = refl; most = refl; heavy = refl; swept = inl refl; longest = refl; listens = inl refl; over = λ over. inl over; took = refl });
+      none = λ _. refl;
       refused = tt;
     }
 
@@ -26,7 +27,8 @@ returns-then-not-look g c =
       between = between_took {p = c.args.poller.now} c.requires.between looked.took (rw (looked.poller, c.begin.ensures.poller));
       early = begun_not_early _ _ (c.begin.ensures.room c.if-not-begin.false);
       waits = inr same.waits;
-      round = round_ended (rw (looked.poller, c.begin.ensures.poller)) failed.1 looked.took;
+      made = round_ended (rw (looked.poller, c.begin.ensures.poller)) failed.1 looked.took;
+      none = λ _. refl;
       ended = inr (inl refl);
       keeps = keeps same (inl (rw (looked.poller, c.begin.ensures.poller))) (rw looked.took.ready);
       refused = inl (
@@ -83,6 +85,9 @@ returns g c =
     rw (told, accepted.poller, timed.poller, delivered.poller) (looked_lasts _ _ c.args.poller.now c.begin.ensures.poller looked.poller looked.listens looked.longest looked.waits) in
     let end = back.poller in
     let swept = rw (delivered.poller, looked.poller, c.begin.ensures.poller) at c.keep_time.ensures.swept.swept in
+    let opens_end : (c.accept.new.poller.opening ≡ c.take_back.new.poller.opening) × (c.accept.new.poller.second ≡ c.take_back.new.poller.second) = rw (end, told) (refl, refl) in
+    let opens = opens_same c.keep_time.new.poller c.accept.new.poller accepted.poller in
+    let tried = accept_with (Opens g.A.Moves.moved g.A.Acts.made g.F.Front.may_tell) (sym opens.0 ∙ opens_end.0, sym opens.1 ∙ opens_end.1) accepted.done in
     let still_then = worn_on accepted.still back.took.seat (λ worn. refl) in
     let still_all = worn_on timed.still refl still_then in
     let answer = answered c.unworn.result c.args.poller.now c.take_back.new.poller c.args.own.now c.take_back.new.own c.ok_or.result c.unworn.ensures c.ok_or.ensures.value in
@@ -90,10 +95,10 @@ returns g c =
       between = between_took accepted.between back.took (rw (end, told));
       early = begun_not_early _ _ (c.begin.ensures.room c.if-not-begin.false);
       waits = inr (rw end same.waits);
-      round = round_of c.deliver_batch.new.own still_all still_then begun looked.took
+      made = round_of _ c.deliver_batch.new.acts c.keep_time.new.acts c.deliver_batch.new.own (delivered.made) (timed.made) still_all still_then begun looked.took
           c.deliver_batch.ensures.delivered delivered.ready delivered.free delivered.own delivered.poller
           c.keep_time.ensures.swept.posted timed.queues.ready timed.queues.free timed.own timed.poller
-          (accept_both c.accept.ensures.done (accept_took (rw (end, told) (still c.accept.new.poller)) back.took)) (rw (end, told, accepted.poller));
+          (accept_both tried (accept_took (no_tries _ _) (rw (end, told) (still c.accept.new.poller)) back.took)) (rw (end, told, accepted.poller));
       ended = inr (inr (record {
         answer = answer.0;
         read = rw (end, told, accepted.poller, timed.poller, delivered.poller) looked.batch;
@@ -118,7 +123,8 @@ returns g c =
         over = λ over. over_before same.over (back.over over);
         took = rw (back.took.ready, accepted.ready, timed.queues.ready, delivered.ready, looked.took.ready);
       };
-      refused = answer.1;
+      none = λ why. absurd (answer.1 (unless (begun_not_early _ _ (c.begin.ensures.room c.if-not-begin.false)) why));
+      refused = answer.2;
     }
 
 pub deliver_batch-requires : goal.deliver_batch-requires

@@ -13,6 +13,7 @@ sweep-requires g c = record {
 pub returns : goal.returns
 returns g c =
     let second = c.set_second.ensures in
+    let swept = swept_by c.args.timing.now.limit c.args.poller.now c.set_second.new.self _ c.is_due-due.ensures second in
     record {
       between = record {
         same = c.sweep.ensures.posted.made.table ∙ c.requires.between.same;
@@ -20,10 +21,11 @@ returns g c =
         sized = rw second c.requires.between.sized;
       };
       poller = rw second;
+      made = rw swept (rw c.table.ensures.table at c.sweep.ensures.made);
       told = rw second c.moment.ensures.told;
       still = c.sweep.ensures.still;
       swept = record {
-        posted = rw (swept_by c.args.timing.now.limit c.args.poller.now c.set_second.new.self _ c.is_due-due.ensures second) (rw c.table.ensures.table at c.sweep.ensures.posted);
+        posted = rw swept (rw c.table.ensures.table at c.sweep.ensures.posted);
         swept = rw (second, c.is_due-due.ensures);
       };
       own = own_sweep c.args.poller.now.part c.args.poller.now c.set_second.new.self (below_own _ _ (length c.args.poller.now.table) (rw c.table.ensures.table at c.table.ensures.own));
