@@ -1,12 +1,12 @@
 -- What the calls of a thread's loop do with the tickets that it is obliged to put.
-use Rattle.std.{proofs.{Common.{◌≡◌, ◌≢◌, ℕ, zero, suc, ◌+◌, ◌-◌, ◌<◌, ◌≤◌, Bool, true, false, cond, List, [], ◌∷◌, ◌++◌, drop, length, length-append, length-set, sym, ◌∙◌, refl, ap, arith, inl, inr, append_assoc}, lemmas.{List.{get_or-set_same, map-append, append-nil, set-set, Concat.flat_map-append, Elements.{All-append, All-head, All-map, All-tail, All-weaker}, Sums.{sum_by-append, sum_by-set}}, Result.IfErr-weaker, Option.{none-some, same_Some, get_or_from_slice_get, slice_get-get_or, slice_get_read, slice_get_within}, Bool.{ltb-true, ltb-false, cases_lt}}, Math.Seq.map-set_same}, specs.{List.{All, slice_set}, Prelude.{◌==◌, ◌&&◌, Option, Some, None, Result, Ok, Err, OnOk, slice_get, map, nat_lt, if◌then◌else◌, OnSome, IfErr, ◌⊎◌}}}
+use Rattle.std.{proofs.{Common.{◌≡◌, ◌≢◌, ℕ, zero, suc, ◌+◌, ◌-◌, ◌<◌, ◌≤◌, Bool, true, false, cond, List, [], ◌∷◌, ◌++◌, drop, length, length-append, length-set, sym, ◌∙◌, refl, ap, arith, inl, inr, append_assoc}, lemmas.{List.{get_or-set_same, map-append, append-nil, set-set, Concat.flat_map-append, Elements.{All-append, All-head, All-map, All-tail, All-weaker}, Sums.{sum_by-append, sum_by-set}}, Result.IfErr-weaker, Option.{none-some, same_Some, get_or_from_slice_get, slice_get-get_or, slice_get_read, slice_get_within}, Bool.{ltb-true, ltb-false, cases_lt}}, Math.Seq.map-set_same}, specs.{List.{All, slice_set}, Prelude.{◌==◌, ◌&&◌, Option, Some, None, Result, Ok, Err, IsOk, OnOk, slice_get, map, nat_lt, if◌then◌else◌, OnSome, IfErr, ◌⊎◌}}}
 use Rattle.claims.specs.{declared.view.Exchange.Exchange, Views.minted_by, Seats.SeatState}
 use Rattle.ready.specs.{declared.ticket.Ticket.Ticket, Steps.EndState}
-use Rattle.relay_log.specs.declared.faults.ServerFault.{ServerFault, TheVariants.Worn}
-use Rattle.dispatch.{proofs.Outgoing.took_both, specs.{declared.shared.Own.Own, Acts.Made, Hands.HandState, Outgoing.{Inserted, outgoing, tickets_out, slots_out, without_first}, Heavy.looked_at, Limits.own_turns, Posts.OnlyWorn}}
+use Rattle.relay_log.specs.declared.faults.ServerFault.{ServerFault, TheVariants.{Poll, Worn}}
+use Rattle.dispatch.{proofs.Outgoing.took_both, specs.{declared.{front.Unaccepted.Unaccepted, shared.Own.Own}, Acts.Made, Hands.HandState, Outgoing.{Inserted, outgoing, tickets_out, slots_out, without_first}, Heavy.looked_at, Limits.own_turns, Posts.OnlyWorn}}
 use Rattle.turns.specs.{declared.worker.Worked.Worked, Shares.{AreShared, OneShared, TicketsShared}, Turns.{TicketsKept, SlotsKept, TurnMade, WorkerTurn, OldestRan, OwnTurn, Handled, Playing, program}}
-use Rattle.threads.{proofs.Divided.End, specs.{declared.ending.{Ended.Ended, Why.{Why, TheVariants.{FaultFound, Met}}}, Loops.{faults_by, times_of, freed, Run, tickets_of, act_of, acts_of, due_from, fault_in, faults_of, IsRun, TurnsMade, takes_of, times_by, times_given, SlotsGiven, Changes, OthersKept, OneRan, tickets_in, Took, WorkerMayEnd, WorkerEnded, WorkerRan, OwnTurnsRan, SharedAndRan, TurnsCut, WornEnd, NoTicketTaken, Asked, RoundMade, RoundCut, TurnsAfter, StepCut, StepsMade, IsPollerAct, PollerRan, opened_by, openings_of}}}
-use Rattle.rounds.{specs.{Pollers.PollerState, Rounds.{RoundDone, RoundRefused, ListenerKept}, Acts.{SeatAct, made_by, due_of, IsPost, IsTry}, Openings.{slots_in, times}}, proofs.Acts.{all_none, all_one, acts_none, acts_one, acts_both, at_slot-append, due-append}}
+use Rattle.threads.{proofs.Divided.End, specs.{declared.ending.{Ended.Ended, Why.{Why, TheVariants.{FaultFound, Met}}}, Loops.{faults_by, times_of, freed, Run, tickets_of, act_of, acts_of, due_from, fault_in, faults_of, IsRun, TurnsMade, takes_of, times_by, times_given, SlotsGiven, Changes, OthersKept, OneRan, tickets_in, Took, WorkerMayEnd, WorkerEnded, WorkerRan, OwnTurnsRan, SharedAndRan, TurnsCut, WornEnd, NoTicketTaken, Asked, Ends, EndsWell, RoundMade, RoundOver, RoundCut, TurnsAfter, StepCut, StepsMade, IsPollerAct, PollerRan, opened_by, openings_of}}}
+use Rattle.rounds.{specs.{Pollers.PollerState, Rounds.{EndedEarly, NotBegun, RoundDone, RoundEnded, RoundRefused, ListenerKept}, Acts.{SeatAct, made_by, due_of, IsPost, IsTry}, Openings.{slots_in, times}}, proofs.Acts.{all_none, all_one, acts_none, acts_one, acts_both, at_slot-append, due-append}}
 use Rattle.turns.specs.declared.worker.Worked.TheVariants as worked
 
 -- how often a ticket, or a slot, stands in lists one after the other
@@ -496,15 +496,15 @@ pub step_or_cut : {said : Bool → Type 0} {p q : PollerState} {a b c : Own} (r 
 step_or_cut r (Ok done) round turns cut = step_ran round turns
 step_or_cut r (Err ended) round turns cut = ran_both (round_ran round.round round.took) (turns_ran cut.made)
 
-pub cut_ran : {said : Bool → Type 0} {why : Why} {p q : PollerState} {a b : Own} → StepCut said why p q a b → PollerRan a b
+pub cut_ran : {said : Bool → Type 0} {ends : Ends} {why : Why} {p q : PollerState} {a b : Own} → StepCut said ends why p q a b → PollerRan a b
 cut_ran (inl same) = rw same.own ran_none
 cut_ran (inr (inl (inl failed))) = round_ran failed.made.round failed.made.took
 cut_ran (inr (inl (inr worn))) = round_ran worn.made.round worn.made.took
-cut_ran (inr (inr step)) = ran_both (round_ran step.round.round step.round.took) (turns_ran step.turns.made)
+cut_ran (inr (inr step)) = ran_both (round_ran step.round.made.round step.round.made.took) (turns_ran step.turns.made)
 
-pub steps_ran : (said : Bool → Type 0) (steps : ℕ) (p q : PollerState) (a b : Own) → StepsMade said steps p q a b → PollerRan a b
-steps_ran said zero p q a b same = rw same.1 ran_none
-steps_ran said (suc steps) p q a b (r, c, before, last) = ran_both (steps_ran said steps p r a c before) (step_ran last.round last.turns)
+pub steps_ran : (said : Bool → Type 0) (ends : Ends) (steps : ℕ) (p q : PollerState) (a b : Own) → StepsMade said ends steps p q a b → PollerRan a b
+steps_ran said ends zero p q a b same = rw same.1 ran_none
+steps_ran said ends (suc steps) p q a b (r, c, before, last) = ran_both (steps_ran said ends steps p r a c before) (step_ran last.round.made last.turns)
 
 -- the last round, by the fault that it answered
 pub round_cut : {said : Bool → Type 0} {why : Why} {answer : Result (Unit {0}) ServerFault} {p begun q : PollerState} {a b : Own}
@@ -523,3 +523,14 @@ round_cut {said} {why} {answer} {p} {begun} {q} {a} {b} (fault, is, was) refused
       reason = (rw worn.0 at was, worn.1);
       made = record { begun = begun; asked = asked; round = done; most = most; listens = listens; took = took };
     })
+
+-- a round that was not refused
+pub round_over : {said : Bool → Type 0} {words : ℕ} (tells : ℕ → Type 0) (gave_none : Unaccepted → Type 0) (limit : ℕ) {answer : Result (Unit {0}) ServerFault}
+    {p q : PollerState} {a b : Own} → (done : Unit {0}) → answer ≡ Ok done → (made : RoundMade said p q a b) → words ≡ length q.table
+    → (EndedEarly words a → IsOk answer × NotBegun made.begun q a b)
+    → EndedEarly words a ⊎ ((answer ≡ Err Poll) ⊎ RoundEnded answer tells gave_none limit made.begun q b) → RoundOver said (EndsWell tells gave_none limit) p q a b
+round_over {said} {words} tells gave_none limit {answer} {p} {q} {a} {b} done is made same early how = by (rw is at how) where
+  by : EndedEarly words a ⊎ ((Ok done ≡ Err Poll) ⊎ RoundEnded (Ok done) tells gave_none limit made.begun q b) → RoundOver said (EndsWell tells gave_none limit) p q a b
+  by (inl few) = record { made = made; ended = inl (rw (← same) few, (early few).1) }
+  by (inr (inl failed)) = absurd (cc failed)
+  by (inr (inr ended)) = record { made = made; ended = inr (Ok done, refl, ended) }

@@ -1,13 +1,13 @@
 -- Why a thread's loop ends, which fault a server ends by, and what a loop does with tickets and with free slots. Part
 -- of the promises.
-use Rattle.std.specs.{Prelude.{◌≡◌, ◌≢◌, ◌⊎◌, ℕ, zero, suc, ◌+◌, ◌-◌, ◌<◌, ◌≤◌, ◌==◌, ◌&&◌, Bool, true, false, nat_lt, if◌then◌else◌, Option, Some, None, option_to_list, List, [], ◌∷◌, ◌++◌, length, map, Result, Ok, Err, slice_get, slice_set, IfSome}, List.{count_by, flat_map, sum_by, All}}
+use Rattle.std.specs.{Prelude.{◌≡◌, ◌≢◌, ◌⊎◌, ℕ, zero, suc, ◌+◌, ◌-◌, ◌<◌, ◌≤◌, ◌==◌, ◌&&◌, Bool, true, false, nat_lt, if◌then◌else◌, Option, Some, None, option_to_list, List, [], ◌∷◌, ◌++◌, length, map, Result, Ok, Err, IsOk, slice_get, slice_set, IfSome, IsSome, option_map}, List.{count_by, flat_map, sum_by, All}}
 use Rattle.token.specs.Names.{last_generation}
 use Rattle.claims.specs.{declared.view.Exchange.{Exchange, TheVariants.Adopted}, Seats.SeatState}
 use Rattle.ready.specs.{declared.ticket.Ticket.Ticket, Steps.{EndState, HeldOnce, TookOne}}
 use Rattle.relay_log.specs.declared.faults.ServerFault.{ServerFault, TheVariants.{Poll, Worn}}
-use Rattle.dispatch.specs.{declared.{shared.Own.Own, split.Split.Split}, Limits.own_turns, Outgoing.{TookNothing, tickets_out, slots_out}, Splits.{IsIn, part_of, parts_of}, Posts.{IsWorn, OnlyWorn}}
+use Rattle.dispatch.specs.{declared.{front.Unaccepted.Unaccepted, shared.Own.Own, split.Split.Split}, Limits.own_turns, Outgoing.{TookNothing, tickets_out, slots_out}, Splits.{IsIn, part_of, parts_of}, Posts.{IsWorn, OnlyWorn}}
 use Rattle.turns.specs.{declared.worker.Worked.Worked, Shares.TicketsShared, Turns.{IsTurnOf, NoOwnTurn}}
-use Rattle.rounds.specs.{Acts.{SeatAct, ActsMade, IsPost, IsTry, at_slot, due_of}, Pollers.{PollerState, HasOpenedAll}, Openings.{slots_in, times}, Rounds.{EndedEarly, ListenerKept, ListensToOpen, RoundDone}}
+use Rattle.rounds.specs.{Acts.{SeatAct, ActsMade, IsPost, IsTry, at_slot, due_of}, Pollers.{PollerState, HasOpenedAll}, Openings.{slots_in, times}, Rounds.{EndedEarly, NotBegun as NoRound, ListenerKept, RoundDone, RoundEnded}}
 use Rattle.threads.specs.declared.ending.Why.{Why, TheVariants.{FaultFound, PollerOver, QueueClosed, Met}}
 use Rattle.turns.specs.declared.worker.Worked.TheVariants as worked
 
@@ -35,6 +35,12 @@ pub record Announced : Type 0 where
 
 abbrev pub announced : ℕ → ℕ × ServerFault → Announced
 announced mark first = record { mark = mark; first = first }
+
+-- a thread with this number that ended so told it: a fault that it met is recorded, and the mark set; the queue of tickets
+-- is closed if the thread ends all others
+abbrev pub IsTold : {C : Type 0} → ℕ → ℕ → Why → Option Announced → Option C → Type 0
+IsTold mark number why recorded closed = (recorded ≡ option_map (λ fault. announced mark (number, fault)) (fault_by why))
+    × (EndsAll why → IsSome closed)
 
 -- of two faults, each with its thread's number, the lower number's; of one thread's faults the first
 abbrev pub lowest : Option (ℕ × ServerFault) → ℕ × ServerFault → ℕ × ServerFault
@@ -209,6 +215,15 @@ pub record Asked (said : Bool → Type 0) (old new : PollerState) : Type 0 where
   pub stopped : found ≡ true → ((new ≡ old) × HasOpenedAll old) ⊎ (new ≡ record old { most = 0 })
   pub goes_on : found ≡ false → new ≡ old
 
+-- what is known of the end of a round: of the poller before and after it, and of what its thread owns then
+abbrev pub Ends : Type 1
+Ends = PollerState → PollerState → Own → Type 0
+
+-- as `RoundEnded` says it of a round that was not refused
+abbrev pub EndsWell : (ℕ → Type 0) → (Unaccepted → Type 0) → ℕ → Ends
+EndsWell tells gave_none limit p q own =
+    (answer : Result (Unit {0}) ServerFault) × IsOk answer × RoundEnded answer tells gave_none limit p q own
+
 -- A poller's thread made a round, after a look at the flag that stops openings
 pub record RoundMade (said : Bool → Type 0) (p q : PollerState) (a b : Own) : Type 0 where
   pub begun : PollerState
@@ -218,19 +233,22 @@ pub record RoundMade (said : Bool → Type 0) (p q : PollerState) (a b : Own) : 
   pub listens : ListenerKept begun q
   pub took : NoTicketTaken a b
 
--- A round, and what came after it. If the poller has opened all that it may, its front does not listen after the round,
--- unless the round ended early
-pub record RoundAnd (said : Bool → Type 0) (After : PollerState → PollerState → Own → Own → Type 0) (p q : PollerState)
-    (a b : Own) : Type 0 where
+-- a round that was not refused: `ends` is what is known of its end, unless the hand had no room, and nothing was done
+pub record RoundOver (said : Bool → Type 0) (ends : Ends) (p q : PollerState) (a b : Own) : Type 0 where
+  pub made : RoundMade said p q a b
+  pub ended : (EndedEarly (length q.table) a × NoRound made.begun q a b) ⊎ ends made.begun q b
+
+-- such a round, and what came after it
+pub record RoundAnd (said : Bool → Type 0) (ends : Ends) (After : PollerState → PollerState → Own → Own → Type 0)
+    (p q : PollerState) (a b : Own) : Type 0 where
   pub polled : PollerState
   pub between : Own
-  pub round : RoundMade said p polled a between
-  pub closed : EndedEarly (length polled.table) between ⊎ ListensToOpen polled
+  pub round : RoundOver said ends p polled a between
   pub turns : After polled q between b
 
 -- a step of a poller's thread: a round, and the turns after it
-abbrev pub StepMade : (Bool → Type 0) → PollerState → PollerState → Own → Own → Type 0
-StepMade said p q a b = RoundAnd said TurnsAfter p q a b
+abbrev pub StepMade : (Bool → Type 0) → Ends → PollerState → PollerState → Own → Own → Type 0
+StepMade said ends p q a b = RoundAnd said ends TurnsAfter p q a b
 
 -- the last step was not begun
 pub record NotBegun (why : Why) (p q : PollerState) (a b : Own) : Type 0 where
@@ -254,22 +272,23 @@ abbrev pub RoundCut : (Bool → Type 0) → Why → PollerState → PollerState 
 RoundCut said why p q a b = PollFailed said why p q a b ⊎ RoundWorn said why p q a b
 
 -- the last step of a poller's thread, by why it ended
-abbrev pub StepCut : (Bool → Type 0) → Why → PollerState → PollerState → Own → Own → Type 0
-StepCut said why p q a b = NotBegun why p q a b ⊎ (RoundCut said why p q a b ⊎ RoundAnd said (TurnsCut why) p q a b)
+abbrev pub StepCut : (Bool → Type 0) → Ends → Why → PollerState → PollerState → Own → Own → Type 0
+StepCut said ends why p q a b = NotBegun why p q a b ⊎ (RoundCut said why p q a b ⊎ RoundAnd said ends (TurnsCut why) p q a b)
 
 -- this many steps, one after the other
-abbrev pub StepsMade : (Bool → Type 0) → ℕ → PollerState → PollerState → Own → Own → Type 0
-StepsMade said zero p q a b = (q ≡ p) × (b ≡ a)
-StepsMade said (suc steps) p q a b = (r : PollerState) × (c : Own) × StepsMade said steps p r a c × StepMade said r q c b
+abbrev pub StepsMade : (Bool → Type 0) → Ends → ℕ → PollerState → PollerState → Own → Own → Type 0
+StepsMade said ends zero p q a b = (q ≡ p) × (b ≡ a)
+StepsMade said ends (suc steps) p q a b = (r : PollerState) × (c : Own) × StepsMade said ends steps p r a c × StepMade said ends r q c b
 
 -- any number of steps, and then the last one
-abbrev pub LoopMade : (Bool → Type 0) → Why → PollerState → PollerState → Own → Own → Type 0
-LoopMade said why p q a b = (steps : ℕ) × (r : PollerState) × (c : Own) × StepsMade said steps p r a c × StepCut said why r q c b
+abbrev pub LoopMade : (Bool → Type 0) → Ends → Why → PollerState → PollerState → Own → Own → Type 0
+LoopMade said ends why p q a b =
+    (steps : ℕ) × (r : PollerState) × (c : Own) × StepsMade said ends steps p r a c × StepCut said ends why r q c b
 
 -- all of a thread's steps, from the second that its clock showed as it began: its sweeps are counted from then
-abbrev pub RunMade : (Bool → Type 0) → (ℕ → Type 0) → PollerState → Own → Own → Type 0
-RunMade said tells p a b = (why : Why) × (second : ℕ) × (q : PollerState) × tells second
-    × LoopMade said why (record p { swept = second }) q a b
+abbrev pub RunMade : (Bool → Type 0) → Ends → (ℕ → Type 0) → Why → PollerState → Own → Own → Type 0
+RunMade said ends tells why p a b = (second : ℕ) × (q : PollerState) × tells second
+    × LoopMade said ends why (record p { swept = second }) q a b
 
 -- a note was posted, or a connection opened, or a turn made
 abbrev pub IsPollerAct : ℕ → SeatAct → Type 0

@@ -1,11 +1,11 @@
 //! What every thread of a server is handed, and how a fault of one ends the others.
-ghost use Rattle.std.specs.Prelude.{◌≡◌, Bool, option_map};
-ghost use Rattle.threads.specs.Loops.{AllWoken, EndsAll, announced, fault_by};
+ghost use Rattle.std.specs.Prelude.{◌≡◌, Bool};
+ghost use Rattle.threads.specs.Loops.{AllWoken, EndsAll, IsTold};
 
 use crate::ending::{Ended, Ending};
 use crate::faults::Recorded;
 use dispatch::{Front, Shared, Split, Timing};
-use ready::ReadyQueue;
+use ready::{Closed, ReadyQueue};
 use std::alloc::Global;
 use std::sync::Wait;
 use std::sync::atomic::AtomicBool;
@@ -40,6 +40,14 @@ pub struct Context<'a, G, C, R, S = AtomicBool> {
     pub split: Split,
 }
 
+/// What a thread told as it ended: the fault that it met is recorded, and if it met or found one, the queue of tickets is
+/// closed. Only [`Context::end`] makes this value.
+#[derive(Drop)]
+pub struct Told<'a> {
+    recorded: Option<Recorded<'a>>,
+    closed: Option<Closed>,
+}
+
 impl<G, C, R: Wait, S> Context<'_, G, C, R, S> {
     /// The loop of the thread with this number has ended. A fault that it met is recorded. A fault that it met or found
     /// ends all other threads: those that sleep are woken.
@@ -49,18 +57,18 @@ impl<G, C, R: Wait, S> Context<'_, G, C, R, S> {
         number: usize,
         ready: &mut ReadyQueue,
         ended: Ended,
-    ) -> Option<Recorded<'_>>
+    ) -> Told<'_>
         ensures ready { ready.new ≡ ready.old }
-        ensures recorded { result ≡ option_map (λ fault. announced self.now.ending.now (number, fault)) (fault_by ended.why) }
+        ensures told { IsTold self.now.ending.now number ended.why result.recorded result.closed }
         ensures woken { EndsAll ended.why → AllWoken (F.woke shared.now.waker) self.now.split }
     {
         let ends_all = ended.ends_all();
         let recorded = self.ending.end(self.rt, number, ended);
+        let closed = if ends_all { Some(ready.close()) } else { None };
         if ends_all {
-            ready.close();
             self.wake_pollers(shared);
         }
-        recorded
+        Told { recorded, closed }
     }
 
     pub(crate) fn wake_pollers<F: Front>(&self, shared: &Shared<F>)
@@ -71,8 +79,8 @@ impl<G, C, R: Wait, S> Context<'_, G, C, R, S> {
         }
     }
 
-    /// A poller has ended. After the last one the queue of tickets is closed, which ends the workers.
-    pub fn leave(&self, ready: &mut ReadyQueue)
+    /// A poller has ended, and told of it. After the last one the queue of tickets is closed, which ends the workers.
+    pub fn leave(&self, ready: &mut ReadyQueue, _told: &Told<'_>)
         ensures { ready.new ≡ ready.old }
     {
         if self.ending.leave() {

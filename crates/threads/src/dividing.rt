@@ -20,6 +20,7 @@ const WORKER_HAND: usize = 2;
 /// The threads of a server that have not begun.
 #[derive(Drop)]
 pub struct ServerThreads<F: Front> {
+    /// The first is the last one here.
     pub pollers: Vec<PollerThread<F>>,
     pub workers: Vec<Worker<F>>,
 }

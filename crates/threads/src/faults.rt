@@ -18,10 +18,10 @@ pub(crate) struct Kept {
     fault: ServerFault,
 }
 
-/// A fault is recorded, and a mark is set, as the token shows. Only [`Kept::announce`] makes this value, and it cannot be
-/// dropped.
+/// A fault is recorded, and a mark is set, as the token shows. Only [`Kept::announce`] makes this value.
 ///
 /// In a clause it is the number of the thread that met the fault, the fault, and which mark is set.
+#[derive(Drop)]
 pub struct Recorded<'a> {
     number: usize,
     fault: ServerFault,
@@ -109,16 +109,5 @@ impl Outcome {
             Some(fault) => Err(fault),
             None => Ok(()),
         }
-    }
-}
-
-impl Recorded<'_> {
-    /// Called when the thread that met the fault has ended, or was not started.
-    pub fn spend(self) {
-        let Recorded {
-            number: _,
-            fault: _,
-            marked: _,
-        } = self;
     }
 }

@@ -7,16 +7,20 @@
 //! # Inside
 //!
 //! A worker takes no free slot out of any queue, and loses none (`SlotsGiven`). Its turn puts a slot only into the
-//! queue of the slot's poller (`Worker::turn`: `gives`), and leaves none in hand (`given`). It sleeps for a ticket only
-//! if it has no ticket in hand, unless the queue was full (`take`: `put`). Why a loop ended is a value that cannot be
-//! dropped (`Ended`); only `ending.rt` makes it or takes it apart. `Context::end` takes it: a fault is recorded under
-//! its thread's number, and the mark is set at which all threads look, as a token of that mark shows (`recorded`). The
-//! lowest number's is kept (`Lowest::keep`). A thread that met a fault or found one wakes every poller (`woken`). The
-//! kept fault says how a server ended, once all its threads have (`Served`). Each round, turn and taking of a
-//! ticket requires a look of its own that found no fault (`NoFault`); a worker's turn requires a look after the taking
-//! (`Cleared`). A poller counts its sweeps from a second that the clock gave (`begin`: `begun`). If it finds that no
-//! more connections may be opened, it wakes every poller (`stop_if_asked`: `woken`). Each thread's array is its own by
-//! its type (a `Box`).
+//! queue of the slot's poller (`Worker::turn`: `gives`), and leaves none in hand (`given`). It sleeps for a ticket
+//! only if it has no ticket in hand, unless the queue was full (`take`: `put`).
+//!
+//! Why a loop ended is a value that cannot be dropped (`Ended`); only `ending.rt` makes it or takes it apart.
+//! `Context::end` takes it: a fault is recorded under its thread's number, and the mark is set at which all threads
+//! look, as a token of that mark shows; a thread that met a fault or found one closes the queue of tickets (`told`),
+//! and wakes every poller (`woken`). What it told (`Told`) is what `run` returns; a poller that leaves has told
+//! before (`leave`). The lowest number's fault is kept (`Lowest::keep`), and says how a server ended, once all its
+//! threads have (`Served`). Each thread owns its part by value (`start_all`).
+//!
+//! Each round, turn and taking of a ticket requires a look of its own that found no fault (`NoFault`); a worker's
+//! turn requires a look after the taking (`Cleared`). A poller counts its sweeps from a second that the clock gave
+//! (`begin`: `begun`). If it finds that no more connections may be opened, it wakes every poller (`stop_if_asked`:
+//! `woken`). Each thread's array is its own by its type (a `Box`).
 #![tactic(auto)]
 
 mod context;
@@ -27,7 +31,7 @@ mod polling;
 mod running;
 mod working;
 
-pub use context::{Context, StopFlag};
+pub use context::{Context, StopFlag, Told};
 pub use dividing::{Rest, ServerThreads, divide};
 pub use ending::{Ended, Ending, Why};
 pub use faults::{Outcome, Recorded};

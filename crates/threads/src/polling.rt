@@ -1,12 +1,12 @@
 //! The steps of a poller's thread.
 ghost use Rattle.std.specs.{Prelude.{◌≡◌, ◌⊎◌, ℕ, [], ◌∷◌, length, slice_get, Ok, Some, None, OnOk, OnSome, IfErr, IfOk, IfSome}, Arc.arc_value};
 ghost use Rattle.claims.specs.Seats.{HoldsNothing};
-ghost use Rattle.rounds.specs.{Episodes.no_drops, Pollers.HasOpenedAll, Rounds.{EndedEarly, ListensToOpen}};
+ghost use Rattle.rounds.specs.{Episodes.no_drops, Pollers.HasOpenedAll};
 ghost use Rattle.turns.specs.Turns.{NoOwnTurn};
 ghost use Rattle.relay_log.specs.declared.faults.ServerFault.TheVariants.{Worn};
-ghost use Rattle.threads.specs.{declared.ending.Why.Why, Loops.{AllWoken, Asked, LoopMade, OwnTurnsRan, PollerRan, RoundCut, RoundMade, RunMade, StepCut, StepMade, TurnsAfter, TurnsCut, WornEnd}};
+ghost use Rattle.threads.specs.{declared.ending.Why.Why, Loops.{AllWoken, Asked, EndsWell, IsTold, LoopMade, OwnTurnsRan, PollerRan, RoundCut, RoundOver, RunMade, StepCut, StepMade, TurnsAfter, TurnsCut, WornEnd}};
 
-use crate::context::{Context, StopFlag};
+use crate::context::{Context, StopFlag, Told};
 use crate::ending::{Ended, NoFault, end_if_over};
 use dispatch::{Clock, Front, Gate, MAX_OWN_TURNS, Own, Shared};
 use log::Log;
@@ -29,17 +29,20 @@ pub struct PollerThread<F: Front> {
 
 impl<F: Front + Drop> PollerThread<F> {
     /// Makes its steps until one ends the thread.
-    pub fn run<G: Gate, C: Clock, R: Wait + Log, S: StopFlag>(
+    pub fn run<'c, G: Gate, C: Clock, R: Wait + Log, S: StopFlag>(
         &mut self,
-        context: &Context<'_, G, C, R, S>,
-    )
-        ensures made { RunMade (S.said context.now.is_stopped.now) (C.tells context.now.timing.clock.now) self.old.poller
-            self.old.own self.new.own }
+        context: &'c Context<'_, G, C, R, S>,
+    ) -> Told<'c>
+        ensures made { (why : Why) × RunMade (S.said context.now.is_stopped.now)
+            (EndsWell (C.tells context.now.timing.clock.now) F.gave_none context.now.timing.limit)
+            (C.tells context.now.timing.clock.now) why self.old.poller self.old.own self.new.own
+            × IsTold context.now.ending.now self.old.number why result.recorded result.closed }
         ensures ran { PollerRan self.old.own self.new.own }
     {
+        let number = self.number;
         self.begin(context);
         let ended = self.run_rounds(context);
-        self.finish(context, ended);
+        self.finish(context, number, ended)
     }
 
     /// The poller's sweeps are counted from the clock's second on.
@@ -55,19 +58,20 @@ impl<F: Front + Drop> PollerThread<F> {
     }
 
     /// The thread has ended, as [`Context::end`] and [`Context::leave`] say. Drops that are still counted are logged.
-    pub fn finish<G: Gate, C: Clock, R: Wait + Log, S: StopFlag>(
+    pub fn finish<'c, G: Gate, C: Clock, R: Wait + Log, S: StopFlag>(
         &mut self,
-        context: &Context<'_, G, C, R, S>,
+        context: &'c Context<'_, G, C, R, S>,
+        number: usize,
         ended: Ended,
-    )
+    ) -> Told<'c>
         ensures own { self.new.own ≡ self.old.own }
+        ensures told { IsTold context.now.ending.now number ended.why result.recorded result.closed }
         ensures logged { self.new.poller.episodes.drops ≡ no_drops }
     {
         self.poller.end_episodes(context.rt);
-        if let Some(recorded) = context.end(&self.shared, self.number, &mut self.own.ready, ended) {
-            recorded.spend();
-        }
-        context.leave(&mut self.own.ready);
+        let told = context.end(&self.shared, number, &mut self.own.ready, ended);
+        context.leave(&mut self.own.ready, &told);
+        told
     }
 
     /// Makes steps until the poller is over, or a fault is recorded or met.
@@ -75,7 +79,9 @@ impl<F: Front + Drop> PollerThread<F> {
         &mut self,
         context: &Context<'_, G, C, R, S>,
     ) -> Ended
-        ensures made { LoopMade (S.said context.now.is_stopped.now) result.why self.old.poller self.new.poller self.old.own self.new.own }
+        ensures made { LoopMade (S.said context.now.is_stopped.now)
+            (EndsWell (C.tells context.now.timing.clock.now) F.gave_none context.now.timing.limit)
+            result.why self.old.poller self.new.poller self.old.own self.new.own }
         ensures ran { PollerRan self.old.own self.new.own }
     {
         for _round in context.rt.forever() {
@@ -93,10 +99,12 @@ impl<F: Front + Drop> PollerThread<F> {
         &mut self,
         context: &Context<'_, G, C, R, S>,
     ) -> Result<(), Ended>
-        ensures made { OnOk result (StepMade (S.said context.now.is_stopped.now) self.old.poller self.new.poller
-            self.old.own self.new.own) }
-        ensures cut { IfErr result (λ ended. StepCut (S.said context.now.is_stopped.now) ended.why self.old.poller self.new.poller
-            self.old.own self.new.own) }
+        ensures made { OnOk result (StepMade (S.said context.now.is_stopped.now)
+            (EndsWell (C.tells context.now.timing.clock.now) F.gave_none context.now.timing.limit)
+            self.old.poller self.new.poller self.old.own self.new.own) }
+        ensures cut { IfErr result (λ ended. StepCut (S.said context.now.is_stopped.now)
+            (EndsWell (C.tells context.now.timing.clock.now) F.gave_none context.now.timing.limit)
+            ended.why self.old.poller self.new.poller self.old.own self.new.own) }
         ensures ran { PollerRan self.old.own self.new.own }
     {
         let seen = match context.ending.look() {
@@ -133,9 +141,9 @@ impl<F: Front + Drop> PollerThread<F> {
         context: &Context<'_, G, C, R, S>,
         _seen: NoFault,
     ) -> Result<(), Ended>
-        ensures made { OnOk result (RoundMade (S.said context.now.is_stopped.now) self.old.poller self.new.poller
-            self.old.own self.new.own) }
-        ensures closed { OnOk result (EndedEarly (length self.new.poller.table) self.new.own ⊎ ListensToOpen self.new.poller) }
+        ensures made { OnOk result (RoundOver (S.said context.now.is_stopped.now)
+            (EndsWell (C.tells context.now.timing.clock.now) F.gave_none context.now.timing.limit)
+            self.old.poller self.new.poller self.old.own self.new.own) }
         ensures cut { IfErr result (λ ended. RoundCut (S.said context.now.is_stopped.now) ended.why self.old.poller self.new.poller
             self.old.own self.new.own) }
     {
@@ -143,6 +151,7 @@ impl<F: Front + Drop> PollerThread<F> {
         let polled = poller_round(
             context.rt,
             context.alloc,
+            &mut (),
             &self.shared,
             &mut self.own,
             &mut self.poller,

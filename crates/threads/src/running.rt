@@ -7,6 +7,8 @@ use crate::context::Context;
 use crate::dividing::{Rest, ServerThreads, divide};
 use crate::ending::Ending;
 use crate::faults::{Outcome, Recorded};
+use crate::polling::PollerThread;
+use crate::working::Worker;
 use dispatch::{Clock, Front, Gate, Parts, ServerFault, Shared, Split, Timing};
 use log::Log;
 use os::set_thread_name;
@@ -15,8 +17,8 @@ use relay_log::log_few_threads;
 use rounds::Poller;
 use std::alloc::Global;
 use std::sync::atomic::AtomicBool;
-use std::sync::{Arc, Mutex, Wait};
-use std::thread::{self, Threads};
+use std::sync::{Arc, Wait};
+use std::thread::{self, Scope, Threads};
 
 /// A server before its threads run: what they share, what they are made from, and the pollers.
 #[derive(Drop)]
@@ -37,8 +39,8 @@ pub struct Server<F: Front> {
 /// have ended. Once `is_stopped` is set, the server opens no more connections, and ends once all are closed.
 ///
 /// Refuses with `NoMemory`, before any thread has started, if there is none for what the threads own; else with the
-/// fault that a thread met, or `Threads` if one could not be started. Of several faults it is the first poller's or
-/// `Threads`, the earlier of the two; or else that of the lowest thread: pollers come before workers.
+/// fault that a thread met, or `Threads` if one could not be started. Of several faults it is `Threads`, or else that of
+/// the lowest thread: pollers come before workers.
 pub fn run_threads<F, G: Gate + Sync, C: Clock + Sync, R: Wait + Threads + Log + Sync>(
     rt: &R,
     alloc: Global,
@@ -53,27 +55,23 @@ where
     F::Target: Send,
     F::Waker: Send + Sync,
 {
-    let pollers = server.pollers.len();
-    let (split, workers) = (server.split, server.workers);
+    let (split, count) = (server.split, server.pollers.len());
     let threads = match threads_of(alloc, server) {
-        Ok(threads) => Mutex::new(threads),
+        Ok(threads) => threads,
         Err(fault) => return Outcome::refused(fault),
     };
-    let ending = Ending::new(pollers);
-    let startup = Startup {
-        context: Context {
-            rt,
-            alloc,
-            gate,
-            timing,
-            ending: &ending,
-            is_stopped,
-            split,
-        },
-        threads,
+    let ending = Ending::new(count);
+    let context = Context {
+        rt,
+        alloc,
+        gate,
+        timing,
+        ending: &ending,
+        is_stopped,
+        split,
     };
-    let served = run_all(&startup, workers);
-    drop(startup);
+    let served = run_all(&context, threads);
+    drop(context);
     ending.outcome(served)
 }
 
@@ -97,11 +95,11 @@ fn threads_of<F: Front + Drop>(
 #[derive(Drop)]
 pub(crate) struct Served(());
 
-/// Starts the threads of the workers and of all pollers but one, runs that poller in the calling thread, and returns
+/// Starts the threads of the workers and of all pollers but the first, runs that one in the calling thread, and returns
 /// when all have ended.
 fn run_all<F, G: Gate + Sync, C: Clock + Sync, R: Wait + Threads + Log + Sync>(
-    startup: &Startup<F, G, C, R>,
-    workers: usize,
+    context: &Context<'_, G, C, R>,
+    threads: ServerThreads<F>,
 ) -> Served
 where
     F: Front + Drop + Send,
@@ -109,68 +107,74 @@ where
     F::Target: Send,
     F::Waker: Send + Sync,
 {
-    let pollers = startup.context.split.pollers();
-    let started = workers.saturating_add(pollers.saturating_sub(1));
-    thread::scope(thread::scope_env(), startup.context.rt, move |scope| {
-        for number in 0..started {
-            let is_worker = number < workers;
-            if scope.spawn(move || startup.run(is_worker)).is_err() {
-                not_started(&startup.context, number, started).spend();
-                break;
-            }
+    let ServerThreads {
+        mut pollers,
+        workers,
+    } = threads;
+    let first = pollers.pop();
+    thread::scope(thread::scope_env(), context.rt, move |scope| {
+        start_all(scope, context, pollers, workers);
+        if !context.ending.is_recorded() {
+            context.gate.all_started();
         }
-        startup.announce();
-        startup.poll()
+        if let Some(mut poller) = first {
+            poller.run(context);
+        }
     });
     Served(())
 }
 
-/// What each thread is handed, and the threads that have not begun.
-#[derive(Drop)]
-struct Startup<'a, F: Front, G, C, R> {
-    context: Context<'a, G, C, R>,
-    threads: Mutex<ServerThreads<F>>,
+/// Starts the threads of these workers and pollers, until one cannot be started. Each is given what it owns by value.
+fn start_all<'s, E, F, G: Gate + Sync, C: Clock + Sync, R: Wait + Threads + Log + Sync>(
+    scope: &'s Scope<'s, E>,
+    context: &'s Context<'_, G, C, R>,
+    pollers: Vec<PollerThread<F>>,
+    workers: Vec<Worker<F>>,
+)
+where
+    F: Front + Drop + Send + 's,
+    F::Client: Send,
+    F::Target: Send,
+    F::Waker: Send + Sync,
+{
+    let wanted = pollers.len().saturating_add(workers.len());
+    let mut started = 0usize;
+    for worker in workers {
+        if scope.spawn(move || run_worker(context, worker)).is_err() {
+            not_started(context, started, wanted);
+            return;
+        }
+        started = started.saturating_add(1);
+    }
+    for poller in pollers {
+        if scope.spawn(move || run_poller(context, poller)).is_err() {
+            not_started(context, started, wanted);
+            return;
+        }
+        started = started.saturating_add(1);
+    }
 }
 
-impl<F: Front + Drop, G: Gate, C: Clock, R: Wait + Log> Startup<'_, F, G, C, R> {
-    fn announce(&self) {
-        if !self.context.ending.is_recorded() {
-            self.context.gate.all_started();
-        }
-    }
+/// Runs a poller, in a thread that tools such as top(1) show by that name.
+fn run_poller<F: Front + Drop, G: Gate, C: Clock, R: Wait + Log>(
+    context: &Context<'_, G, C, R>,
+    mut poller: PollerThread<F>,
+) {
+    set_thread_name(b"poller");
+    poller.run(context);
+}
 
-    /// Runs a worker or a poller, in a thread that tools such as top(1) show by that name.
-    fn run(&self, is_worker: bool) {
-        if is_worker {
-            set_thread_name(b"worker");
-            self.work();
-        } else {
-            set_thread_name(b"poller");
-            self.poll();
-        }
-    }
-
-    /// Runs the next poller that has not begun.
-    fn poll(&self) {
-        let next = self.threads.lock(self.context.rt).pollers.pop();
-        if let Some(mut poller) = next {
-            poller.run(&self.context);
-            drop(poller);
-        }
-    }
-
-    /// Runs the next worker that has not begun.
-    fn work(&self) {
-        let next = self.threads.lock(self.context.rt).workers.pop();
-        if let Some(mut worker) = next {
-            worker.run(&self.context);
-            drop(worker);
-        }
-    }
+/// Runs a worker, in a thread that tools show by that name.
+fn run_worker<F: Front + Drop, G: Gate, C: Clock, R: Wait + Log>(
+    context: &Context<'_, G, C, R>,
+    mut worker: Worker<F>,
+) {
+    set_thread_name(b"worker");
+    worker.run(context);
 }
 
 /// A thread could not be started, after so many of those that are wanted beside the first. Number 0 makes this fault
-/// count before those of all threads but the first poller's.
+/// count before those of all threads.
 fn not_started<'a, G, C, R: Wait + Log>(
     context: &Context<'a, G, C, R>,
     started: usize,

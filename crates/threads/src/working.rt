@@ -3,9 +3,9 @@ ghost use Rattle.std.specs.{Prelude.{◌≡◌, ◌<◌, [], ◌∷◌, Ok, Err,
 ghost use Rattle.claims.specs.Seats.{HoldsNothing};
 ghost use Rattle.dispatch.specs.{Hands.HasRoom, Outgoing.{outgoing, PutAll}};
 ghost use Rattle.relay_log.specs.declared.faults.ServerFault.TheVariants.{Worn};
-ghost use Rattle.threads.specs.{declared.ending.Why.Why, Loops.{Changes, GivesToOwner, OneRan, WorkerEnded, WorkerRan, WornEnd}};
+ghost use Rattle.threads.specs.{declared.ending.Why.Why, Loops.{Changes, GivesToOwner, IsTold, OneRan, WorkerEnded, WorkerRan, WornEnd}};
 
-use crate::context::Context;
+use crate::context::{Context, Told};
 use crate::ending::{Cleared, Ended, take};
 use dispatch::{Clock, Front, Gate, Hand, Own, Shared, give_slots, put_tickets};
 use log::Log;
@@ -30,25 +30,30 @@ pub struct Worker<F: Front> {
 
 impl<F: Front + Drop> Worker<F> {
     /// Makes its steps until one ends the thread.
-    pub fn run<G: Gate, C: Clock, R: Wait + Log, S>(&mut self, context: &Context<'_, G, C, R, S>)
-        ensures ran { (why : Why) × WorkerEnded why self.old.own self.new.own self.old.others.items self.new.others.items }
+    pub fn run<'c, G: Gate, C: Clock, R: Wait + Log, S>(
+        &mut self,
+        context: &'c Context<'_, G, C, R, S>,
+    ) -> Told<'c>
+        ensures ran { (why : Why) × WorkerEnded why self.old.own self.new.own self.old.others.items self.new.others.items
+            × IsTold context.now.ending.now self.old.number why result.recorded result.closed }
     {
+        let number = self.number;
         let ended = self.run_turns(context);
-        self.finish(context, ended);
+        self.finish(context, number, ended)
     }
 
     /// The thread has ended, as [`Context::end`] says.
-    pub fn finish<G: Gate, C: Clock, R: Wait + Log, S>(
+    pub fn finish<'c, G: Gate, C: Clock, R: Wait + Log, S>(
         &mut self,
-        context: &Context<'_, G, C, R, S>,
+        context: &'c Context<'_, G, C, R, S>,
+        number: usize,
         ended: Ended,
-    )
+    ) -> Told<'c>
         ensures own { self.new.own ≡ self.old.own }
+        ensures told { IsTold context.now.ending.now number ended.why result.recorded result.closed }
         ensures others { self.new.others.items ≡ self.old.others.items }
     {
-        if let Some(recorded) = context.end(&self.shared, self.number, &mut self.own.ready, ended) {
-            recorded.spend();
-        }
+        context.end(&self.shared, number, &mut self.own.ready, ended)
     }
 
     /// Makes steps until the queue of tickets is closed and empty, or a fault is recorded or met.
