@@ -11,6 +11,9 @@ import time
 
 from loopback import WAIT, Relay, echo, in_thread, read_all, replay, send_and_shut, target, until
 from shared import LONGEST, ask_once, asked, at_once, by_time, having, left_out, line_of, reset, told
+from tracing import halted
+
+FULL = "[WARN  relayd] record: records came faster than they were written, so "
 
 
 # refuses forward_overlooks_record: `forward` takes the option for a recording, and records nothing
@@ -93,7 +96,6 @@ def keeps_9999_recordings():
 
 # refuses parts_grow_by_a_half: a part gets more bytes than it may have
 # refuses part_begins_in_a_line: a part begins in the middle of a line
-# refuses from_is_one_too_small: a part says that the greatest count before it is one less, and from_is_one_too_large: one more
 # refuses old_part_stays: the part before the last is not replaced
 def keeps_the_end_of_what_it_did_in_two_parts():
     with tempfile.TemporaryDirectory() as folder:
@@ -128,9 +130,45 @@ def keeps_the_end_of_what_it_did_in_two_parts():
             assert ends and all(line in logged or path == old and line.startswith("live ") for line in ends)
             known.add(len(ends))
         assert max(known) == len(replay(both, "--ends").splitlines()) - 1
-        both.write_text(parts[0] * 2)
-        done = subprocess.run([Relay.program, "replay", both], stderr=subprocess.PIPE, text=True)
-        assert done.returncode == 1 and ": this part does not follow the one before it\n" in done.stderr
+
+
+# refuses gap_ends_the_recording: a recording of a bounded size ends where records are lost
+# refuses gap_is_not_written: where records are lost, no `full` is written
+def goes_on_behind_a_gap():
+    with tempfile.TemporaryDirectory() as folder:
+        path = pathlib.Path(folder, "relay.record")
+        relay = Relay(target(echo), options=("--record", path, "--record-size", "100000000"), log="warn", slots=8, stop_after=14)
+        early = [relay.connect() for _ in range(4)]
+        assert all(map(asked, early))
+        with halted(*relay.named("record")) as found:
+            if not found:
+                return left_out("ptrace")
+            is_over = threading.Event()
+
+            def ask(client):
+                while not is_over.is_set():
+                    assert asked(client)
+
+            asking = [in_thread(ask, client) for client in early]
+            assert relay.process.stderr.readline() == f"{FULL}some are lost, and another part begins\n"
+            is_over.set()
+            assert not any(each.result(LONGEST) for each in asking)
+            # It is opened in the gap.
+            early.append(relay.connect())
+            assert asked(early[-1])
+        assert until(lambda: asked(early[0]) and os.path.exists(f"{path}.old"))
+        for _ in range(9):
+            ask_once(relay)
+        for client in early:
+            client.close()
+        assert relay.ended() == [] and len(os.listdir(folder)) == 2
+        texts = [pathlib.Path(f"{path}{end}").read_text() for end in (".old", "")]
+        last, first = texts[0].splitlines()[-1].split(), texts[1].partition("\n")[0]
+        assert last[2] == "full" and first.endswith(f" from={last[1]}") and texts[1].endswith(" end\n")
+        assert replay(f"{path}.old").startswith("4 connections, ")
+        told = replay(path)
+        assert told.startswith("9 connections, ") and f"\nbegins after count {last[1]}: " in told and ", of 5 connections, " in told
+        assert len(replay(path, "--ends").splitlines()) == 10
 
 
 # refuses lost_file_ends_the_relay: a relay that can begin no part ends
@@ -186,8 +224,7 @@ def stops_recording_when_nobody_reads_it():
         reader = os.open(path, os.O_RDONLY | os.O_NONBLOCK)
         relay = Relay(target(echo), options=("--record", path), log="warn", stop_after=8)
         asking = [in_thread(ask) for _ in range(8)]
-        full = "record: records came faster than they were written, so the recording ends here"
-        assert relay.process.stderr.readline() == f"[WARN  relayd] {full}\n"
+        assert relay.process.stderr.readline() == f"{FULL}the recording ends here\n"
         os.set_blocking(reader, True)
         with open(reader) as file:
             text = file.read()

@@ -1,4 +1,5 @@
 -- The crate's lemmas.
 mod Accounts
+mod Beginnings
 mod Moments
 mod Sequences

@@ -102,6 +102,7 @@ pub record IsHalf (side : Side) (acts : List Act) (h : Half) : Type 0 where
   pub ended : h.ended ≡ list_any (ends_at side) acts
   pub shut : h.shut ≡ list_any (shuts_at side) acts
 
+-- this is the account of these acts
 pub record IsAccount (acts : List Act) (a : Account) : Type 0 where
   pub client : IsHalf Client acts a.client
   pub target : IsHalf Target acts a.target

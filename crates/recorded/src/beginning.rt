@@ -1,4 +1,7 @@
 //! What is left out of a file that is not the first part of its recording.
+ghost use Rattle.std.specs.Prelude.{◌≡◌, ◌<◌, ◌∷◌, [], List, IfOk, if◌then◌else◌, length, slice_set, true};
+ghost use Rattle.records.specs.declared.act.Record.{Record};
+ghost use Rattle.recorded.specs.Beginnings.{Knows, IsInside, flag_at, follows, is_wait, stays};
 
 use crate::reading::Sizes;
 use records::{Act, Opening, Polling, Record};
@@ -25,7 +28,10 @@ pub(crate) struct Beginning {
 
 impl Beginning {
     /// The file begins behind this count, and nothing of it was read.
-    pub(crate) fn new(alloc: Global, sizes: Sizes, from: u64) -> Result<Beginning, AllocError> {
+    pub(crate) fn new(alloc: Global, sizes: Sizes, from: u64) -> Result<Beginning, AllocError>
+        ensures new { IfOk result (λ b. Knows [] b × (b.from ≡ from)) }
+        ensures sized { IfOk result (λ b. (length b.waited.items ≡ sizes.header.pollers) × (length b.opened.items ≡ sizes.header.slots)) }
+    {
         Ok(Beginning {
             from,
             waited: vec![in alloc; false; sizes.header.pollers]?,
@@ -34,49 +40,69 @@ impl Beginning {
     }
 
     /// Whether the next record of the file stays.
-    pub(crate) fn keeps(&mut self, record: &Record) -> bool {
-        if record.before <= self.from {
-            return false;
+    pub(crate) fn keeps(&mut self, record: &Record) -> bool
+        ensures stays { (kept : List Record) → Knows kept self.old → IsInside self.old record.now.act
+            → (result ≡ stays self.old.from kept record.now) × Knows (if result then record.now ∷ kept else kept) self.new }
+        ensures from { self.new.from ≡ self.old.from }
+        ensures sized { (length self.new.waited.items ≡ length self.old.waited.items) × (length self.new.opened.items ≡ length self.old.opened.items) }
+    {
+        let stays = self.from < record.before && self.follows(&record.act);
+        if stays {
+            self.note(&record.act);
         }
-        match record.act {
-            Act::Poller(poller, did) => self.keeps_of_poller(poller, did),
-            Act::Begin(slot) | Act::End(slot) => is_set(self.opened.as_slice(), slot),
-            Act::Wire(token, _) => is_set(self.opened.as_slice(), token.slot()),
+        stays
+    }
+
+    fn follows(&self, act: &Act) -> bool
+        ensures { result ≡ follows (flag_at self.now.waited.items) (flag_at self.now.opened.items) act.now }
+    {
+        match *act {
+            Act::Poller(poller, did) => is_wait(did) || flag_at(self.waited.as_slice(), poller),
+            Act::Begin(slot) | Act::End(slot) => flag_at(self.opened.as_slice(), slot),
+            Act::Wire(token, _) => flag_at(self.opened.as_slice(), token.slot()),
             Act::Second(_) | Act::Ended | Act::Full => true,
         }
     }
 
-    fn keeps_of_poller(&mut self, poller: usize, did: Polling) -> bool {
-        if is_wait(did) {
-            set(&mut self.waited, poller);
+    /// An act stays.
+    fn note(&mut self, act: &Act)
+        ensures from { self.new.from ≡ self.old.from }
+        ensures sized { (length self.new.waited.items ≡ length self.old.waited.items) × (length self.new.opened.items ≡ length self.old.opened.items) }
+        ensures known { (kept : List Record) → (r : Record) → r.act ≡ act.now → Knows kept self.old → IsInside self.old act.now
+            → Knows (r ∷ kept) self.new }
+    {
+        match *act {
+            Act::Poller(poller, did) if is_wait(did) => set(self.waited.as_mut_slice(), poller),
+            Act::Poller(_, Polling::Open(slot, _, _)) => set(self.opened.as_mut_slice(), slot),
+            _ => {}
         }
-        let stays = is_set(self.waited.as_slice(), poller);
-        if let Polling::Open(slot, _, _) = &did {
-            if stays {
-                set(&mut self.opened, *slot);
-            }
-        }
-        stays
     }
 }
 
-fn is_wait(did: Polling) -> bool {
+fn is_wait(did: Polling) -> bool
+    ensures { result ≡ is_wait did }
+{
     matches!(
         did,
         Polling::Gave(_) | Polling::Interrupted | Polling::Failed
     )
 }
 
-fn is_set(flags: &[bool], at: usize) -> bool {
+fn flag_at(flags: &[bool], at: usize) -> bool
+    ensures { result ≡ flag_at flags.now at }
+{
     match flags.get(at) {
         Some(flag) => *flag,
         None => false,
     }
 }
 
-fn set(flags: &mut Vec<bool>, at: usize) {
-    if let Some(flag) = flags.get_mut(at) {
-        *flag = true;
+fn set(flags: &mut [bool], at: usize)
+    ensures set { at < length flags.old → flags.new ≡ slice_set flags.old at true }
+    ensures sized { length flags.new ≡ length flags.old }
+{
+    if at < flags.len() {
+        flags[at] = true;
     }
 }
 

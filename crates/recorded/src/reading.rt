@@ -266,7 +266,9 @@ fn sizes_of(line: &[u8]) -> Result<Sizes, Wrong<'_>> {
 
 fn record_of<'a>(sizes: &Sizes, is_over: bool, line: &'a [u8]) -> Result<Record, Wrong<'a>> {
     if is_over {
-        return Err(wanted("nothing comes after the record end or full"));
+        return Err(wanted(
+            "nothing comes after the record end or full: what does is replayed by itself",
+        ));
     }
     let record = match read_line(line) {
         Ok(record) => record,

@@ -1,8 +1,8 @@
 -- One line more, and one file more.
-use Rattle.std.{proofs.{lemmas.Fmt.contents_after_writes, Common.{◌≡◌, ◌≤◌, ℕ, ◌+◌, List, [], ◌∷◌, ◌++◌, Option, Some, None, length, refl, ap, sym, ◌∙◌, rules}, lemmas.List.length-append}, specs.{Fmt.WritesInCalls, Prelude.max}}
+use Rattle.std.{proofs.{lemmas.Fmt.contents_after_writes, Common.{◌≡◌, ◌≤◌, ℕ, ◌+◌, Bool, false, List, [], ◌∷◌, ◌++◌, Option, Some, None, length, refl, ap, sym, ◌∙◌, rules}, lemmas.List.length-append}, specs.{Fmt.WritesInCalls, Prelude.max}}
 use Rattle.arrayvec.specs.declared.array_string.ArrayString.{ArrayString}
 use Rattle.records.specs.{Parts.{Adds, Are, Begins}, declared.{act.Record.Record, header.Header.Header}}
-use Rattle.recording.specs.Lines.{Holds, greatest_of, header_line, joined, line_of, part_text, texts_of}
+use Rattle.recording.specs.Lines.{Holds, greatest_of, header_line, is_full, joined, line_of, part_text, texts_of}
 
 unknown : (new : Option (List (List ℕ))) (texts : List (List ℕ)) → new ≡ None → Are new texts
 unknown (Some ys) texts is = absurd (cc)
@@ -25,10 +25,10 @@ pub written_text : (n : ℕ) (s t : ArrayString n) (bs : List ℕ) → s.bytes �
 written_text n s t bs empty writes =
     contents_after_writes _ (λ (s : ArrayString n). s.bytes) (λ w bs v is. is) s bs t writes ∙ ap (λ xs. xs ++ bs) empty
 
-pub holds_first : (header header' : Header) (most : ℕ) (bytes : List ℕ) (old new : Option (List (List ℕ))) (size greatest : ℕ)
+pub holds_first : (header header' : Header) (most : ℕ) (bytes : List ℕ) (old new : Option (List (List ℕ))) (size greatest : ℕ) (over : Bool)
     → Are old ([] ∷ []) → Adds bytes old new → bytes ≡ header_line header → size ≡ length bytes → size ≤ most
-    → header' ≡ header → greatest ≡ 0 → Holds header' most [] new size greatest
-holds_first header header' most bytes old new size greatest empty added is sized fits same none =
+    → header' ≡ header → greatest ≡ 0 → over ≡ false → Holds header' most [] new size greatest over
+holds_first header header' most bytes old new size greatest over empty added is sized fits same none goes =
     let sum : length (header_line header) ≡ size = ap length (sym is) ∙ sym sized in
     rw same (record {
       last = [];
@@ -38,14 +38,17 @@ holds_first header header' most bytes old new size greatest empty added is sized
       fit = (rw sum fits, search rules);
       long = sum;
       highest = sym none;
+      lost = search rules;
+      end = sym goes;
     })
 
 pub holds_line : (header header' : Header) (most most' : ℕ) (r : Record) (records : List Record) (bytes : List ℕ)
-    (old new : Option (List (List ℕ))) (size more greatest greatest' most_of_all : ℕ)
-    → Holds header most records old size greatest → Adds bytes old new → bytes ≡ line_of r → more ≡ size + length bytes → more ≤ most
-    → header' ≡ header → most' ≡ most → greatest' ≡ greatest → most_of_all ≡ max greatest' r.after
-    → Holds header' most' (r ∷ records) new more most_of_all
-holds_line header header' most most' r records bytes old new size more greatest greatest' most_of_all h added is sized fits same same' great great' =
+    (old new : Option (List (List ℕ))) (size more greatest greatest' most_of_all : ℕ) (over over' : Bool)
+    → Holds header most records old size greatest over → Adds bytes old new → bytes ≡ line_of r
+    → more ≡ size + length bytes → more ≤ most → header' ≡ header → most' ≡ most → greatest' ≡ greatest
+    → most_of_all ≡ max greatest' r.after → over ≡ false → over' ≡ is_full r.act
+    → Holds header' most' (r ∷ records) new more most_of_all over'
+holds_line header header' most most' r records bytes old new size more greatest greatest' most_of_all over over' h added is sized fits same same' great great' goes end =
     let text : List ℕ = part_text header h.before h.last in
     let sum : length (text ++ line_of r) ≡ more =
     length-append text (line_of r) ∙ ap (λ n. n + length (line_of r)) h.long ∙ ap (λ xs. size + length xs) (sym is) ∙ sym sized in
@@ -57,14 +60,16 @@ holds_line header header' most most' r records bytes old new size more greatest 
       fit = (rw sum fits, h.fit.1);
       long = sum;
       highest = ap (λ n. max n r.after) (h.highest ∙ sym great) ∙ sym great';
+      lost = ((h.end ∙ goes, h.lost.0), h.lost.1);
+      end = sym end;
     }))
 
 pub holds_file : (header header' : Header) (most most' : ℕ) (records : List Record) (bytes : List ℕ)
-    (old begun new : Option (List (List ℕ))) (size more greatest greatest' : ℕ)
-    → Holds header most records old size greatest → Begins old begun → Adds bytes begun new
+    (old begun new : Option (List (List ℕ))) (size more greatest greatest' : ℕ) (over over' : Bool)
+    → Holds header most records old size greatest over → Begins old begun → Adds bytes begun new
     → bytes ≡ header_line (record header { from = Some greatest }) → more ≡ length bytes → more ≤ most
-    → header' ≡ header → most' ≡ most → greatest' ≡ greatest → Holds header' most' records new more greatest'
-holds_file header header' most most' records bytes old begun new size more greatest greatest' h begins added is sized fits same same' great =
+    → header' ≡ header → most' ≡ most → greatest' ≡ greatest → over' ≡ false → Holds header' most' records new more greatest' over'
+holds_file header header' most most' records bytes old begun new size more greatest greatest' over over' h begins added is sized fits same same' great goes =
     let line : ℕ → List ℕ = λ n. header_line (record header { from = Some n }) in
     let first : bytes ≡ line (greatest_of (h.last ++ joined h.before)) = is ∙ ap line (sym (ap greatest_of h.all ∙ h.highest)) in
     let texts : List (List ℕ) = texts_of header (h.last ∷ h.before) in
@@ -77,4 +82,6 @@ holds_file header header' most most' records bytes old begun new size more great
       fit = (rw sum fits, h.fit);
       long = sum;
       highest = h.highest ∙ sym great;
+      lost = (search rules, h.lost);
+      end = sym goes;
     }))

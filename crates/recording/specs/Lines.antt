@@ -1,6 +1,6 @@
 -- Which line of a recording is in which of its files. In each list the last one comes first. Part of the promises.
-use Rattle.std.specs.Prelude.{◌≡◌, ◌≤◌, ℕ, List, [], ◌∷◌, ◌++◌, length, max, codes, Option, Some}
-use Rattle.records.specs.{Parts.Are, Texts.{header_text, record_text}, declared.{act.Record.Record, header.Header.Header}}
+use Rattle.std.specs.Prelude.{◌≡◌, ◌≤◌, ℕ, Bool, true, false, List, [], ◌∷◌, ◌++◌, length, max, codes, Option, Some}
+use Rattle.records.specs.{Parts.Are, Texts.{header_text, record_text}, declared.{act.{Record.Record, Act.{Act, TheVariants.Full}}, header.Header.Header}}
 
 abbrev pub header_line : Header → List ℕ
 header_line header = header_text header ++ codes "\n"
@@ -35,9 +35,29 @@ abbrev pub Fit : ℕ → List (List ℕ) → Type 0
 Fit most [] = Unit {0}
 Fit most (text ∷ texts) = (length text ≤ most) × Fit most texts
 
+abbrev pub is_full : Act → Bool
+is_full Full = true
+is_full act = false
+
+-- whether the last of these records says that others were lost
+abbrev pub is_over : List Record → Bool
+is_over [] = false
+is_over (r ∷ records) = is_full r.act
+
+-- nothing of a file stands behind such a record
+abbrev pub EndsThere : List Record → Type 0
+EndsThere [] = Unit {0}
+EndsThere (r ∷ part) = (is_over part ≡ false) × EndsThere part
+
+abbrev pub EachEndsThere : List (List Record) → Type 0
+EachEndsThere [] = Unit {0}
+EachEndsThere (part ∷ before) = EndsThere part × EachEndsThere before
+
 -- The files with these texts, if they are known, hold the lines of these records and no others, each once and in order. Each
--- begins with its first line, and has at most `most` bytes; the last one has `size`, and no record a greater count
-pub record Holds (header : Header) (most : ℕ) (records : List Record) (texts : Option (List (List ℕ))) (size greatest : ℕ) : Type 0 where
+-- begins with its first line, has at most `most` bytes, and ends where records were lost. The last one has `size`, and no
+-- record a greater count; `over`: it ends there
+pub record Holds (header : Header) (most : ℕ) (records : List Record) (texts : Option (List (List ℕ)))
+    (size greatest : ℕ) (over : Bool) : Type 0 where
   pub last : List Record
   pub before : List (List Record)
   pub all : last ++ joined before ≡ records
@@ -45,3 +65,5 @@ pub record Holds (header : Header) (most : ℕ) (records : List Record) (texts :
   pub fit : Fit most (texts_of header (last ∷ before))
   pub long : length (part_text header before last) ≡ size
   pub highest : greatest_of records ≡ greatest
+  pub lost : EachEndsThere (last ∷ before)
+  pub end : is_over last ≡ over

@@ -78,8 +78,8 @@ abbrev pub drops : Act → Bool
 drops (Wire name made.Drop) = true
 drops act = false
 
--- a step on a thread's handle `S` of the recording. Began: the count before an act, None if nothing is recorded any
--- more. Timed: the microseconds since the recording began. Ended: the count after the act. AtOnce: both counts, taken in one
+-- a step on a thread's handle `S` of the recording. Began: the count before an act, None if nothing is recorded
+-- now. Timed: the microseconds since the recording began. Ended: the count after the act. AtOnce: both counts, taken in one
 -- step. Put: a record was put. Another: a new handle. `did` is what a step makes of `S`
 pub data Step : Type 0 where
   Began : Option ℕ → Step
@@ -100,7 +100,7 @@ abbrev pub Ends : {S : Type 0} → (Step → S → S → Type 0) → Option ℕ 
 Ends did None acts old new = new ≡ old
 Ends did (Some before) acts old new = (after : ℕ) × (ended : _) × did (Ended after) old ended × Puts did before after acts ended new
 
--- a count was taken, and then these acts were put, if anything is recorded still
+-- a count was taken, and then these acts were put, if anything is recorded now
 abbrev pub Records : {S : Type 0} → (Step → S → S → Type 0) → List Act → S → S → Type 0
 Records did acts old new = (before : Option ℕ) × (begun : _) × did (Began before) old begun × Ends did before acts begun new
 

@@ -7,8 +7,8 @@
 //! number is recorded.
 //!
 //! A thread that records waits for nobody, and takes no memory: it puts its record into a bounded queue
-//! ([`RecordQueue`]), and wakes a writer that sleeps ([`write_records`]). If a queue is full, the recording ends: its
-//! last line says so, a warning is logged, and the relay serves on.
+//! ([`RecordQueue`]), and wakes a writer that sleeps ([`write_records`]). If a queue is full, the recording ends, or in
+//! parts this part: its last line says so, a warning is logged, and the relay serves on.
 //!
 //! # Inside
 //!

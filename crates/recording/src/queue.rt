@@ -10,7 +10,8 @@ use log_queue::{Drained, ParkedQueue};
 use records::{Act, Record};
 use std::alloc::{AllocError, Global};
 use std::sync::Wait;
-use std::sync::atomic::{AtomicBool, AtomicU64, Ordering};
+use std::sync::atomic::AtomicU64;
+use std::sync::atomic::Ordering::SeqCst;
 use std::time::{Clock, Duration, Instant};
 
 /// How many queues there are. Each poller uses one, with its slots, so that threads seldom meet at one.
@@ -37,13 +38,21 @@ pub struct RecordQueue {
     began: Option<Instant>,
     /// Each act changes it, so it shares no cache line with what each act only looks at.
     count: CachePadded<AtomicU64>,
-    /// A record found no room, or could not be written: nothing is recorded any more.
-    is_over: AtomicBool,
+    /// How often a record found no room, or could not be written, plus how often the writer had recording go on. Odd: no act
+    /// that begins now is recorded.
+    breaks: AtomicU64,
+    in_parts: bool,
 }
 
 impl RecordQueue {
-    /// Empty queues for a relay whose pollers have these slots. No later call takes memory.
-    pub fn new(rt: &impl Clock, alloc: Global, split: Split) -> Result<RecordQueue, AllocError>
+    /// Empty queues for a relay whose pollers have these slots. `in_parts`: once records were lost, recording goes on in
+    /// another part. No later call takes memory.
+    pub fn new(
+        rt: &impl Clock,
+        alloc: Global,
+        split: Split,
+        in_parts: bool,
+    ) -> Result<RecordQueue, AllocError>
         ensures room { IfOk result (λ made. made.waiting ≡ replicate 4 131072) }
     {
         Ok(RecordQueue {
@@ -56,13 +65,14 @@ impl RecordQueue {
             split,
             began: Instant::now(rt).ok(),
             count: CachePadded::new(AtomicU64::new(0)),
-            is_over: AtomicBool::new(false),
+            breaks: AtomicU64::new(0),
+            in_parts,
         })
     }
 
     /// Takes this many values of the count, and returns the first. None comes twice before the count has gone round.
     pub(crate) fn next(&self, count: u64) -> u64 {
-        self.count.fetch_add(count, Ordering::SeqCst)
+        self.count.fetch_add(count, SeqCst)
     }
 
     /// The microseconds since the recording began: 0 if the clock cannot be read.
@@ -77,20 +87,55 @@ impl RecordQueue {
     }
 
     pub(crate) fn is_over(&self) -> bool {
-        self.is_over.load(Ordering::SeqCst)
+        self.breaks.load(SeqCst) % 2 == 1
     }
 
-    /// Ends the recording early. Returns true if no other thread had.
+    /// Ends the recording early. Returns false if a thread that records had.
     pub(crate) fn stop(&self) -> bool {
-        let is_first = !self.is_over.swap(true, Ordering::SeqCst);
+        let is_first = self.breaks.fetch_or(1, SeqCst) % 2 == 0;
         self.waiting.close();
-        is_first
+        is_first || self.in_parts
     }
 
-    /// Puts a record after the others. Returns whether there was room.
-    pub(crate) fn put(&self, rt: &impl Wait, record: Record) -> bool {
+    /// Puts a record after the others. Returns whether it waits there, and whether it is the first for which there was no
+    /// room: from then on nothing is recorded, in parts until the writer has written what waits.
+    fn put(&self, rt: &impl Wait, record: &Record) -> (bool, bool) {
+        let breaks = self.breaks.load(SeqCst);
+        if self.put_one(rt, record) {
+            return (true, false);
+        }
+        if breaks % 2 == 1 {
+            return (false, false);
+        }
+        // If another record found no room meanwhile, recording goes on behind this one's counts, or not at all.
+        if self
+            .breaks
+            .compare_exchange(breaks, breaks | 1, SeqCst, SeqCst)
+            .is_err()
+        {
+            return (false, false);
+        }
+        if self.in_parts {
+            // Behind a record the writer looks at `breaks`. If there is no room still, records wait, and it will look.
+            return (self.put_one(rt, record), true);
+        }
+        self.waiting.close();
+        (false, true)
+    }
+
+    fn put_one(&self, rt: &impl Wait, record: &Record) -> bool {
         let at = self.poller_of(&record.act) % QUEUES;
-        self.waiting.put(rt, at, record)
+        self.waiting.put(rt, at, *record).is_some()
+    }
+
+    /// In parts, once records were lost: has recording go on, and returns the record behind which the next part begins.
+    /// `breaks` changes first: so what was lost, or is not recorded, had begun before the counts of this record.
+    pub(crate) fn go_on(&self) -> Option<Record> {
+        if !self.in_parts || !self.is_over() {
+            return None;
+        }
+        self.breaks.fetch_add(1, SeqCst);
+        Some(self.record_of(Act::Full))
     }
 
     /// The poller that did the act, or has its slot. 0 if there is neither.
@@ -108,21 +153,51 @@ impl RecordQueue {
         self.waiting.close();
     }
 
-    /// The act of the last record. `_drained`: the queues were closed and then found empty.
-    pub(crate) fn last(&self, _drained: Drained) -> Act {
+    /// The last record. `_drained`: the queues were closed and then found empty.
+    pub(crate) fn last(&self, _drained: Drained) -> Record {
         if self.is_over() {
-            Act::Full
+            self.record_of(Act::Full)
         } else {
-            Act::Ended
+            self.record_of(Act::Ended)
         }
+    }
+
+    /// A record with the next two counts.
+    fn record_of(&self, act: Act) -> Record {
+        let (before, after) = (self.next(1), self.next(1));
+        Record { before, after, act }
     }
 }
 
 /// A thread's handle on the queues. `rt` is for them and for the log.
 #[derive(Drop)]
 pub struct QueueSink<'r, R> {
-    pub rt: &'r R,
-    pub queue: &'r RecordQueue,
+    rt: &'r R,
+    queue: &'r RecordQueue,
+    // The count after the last record that was lost here.
+    lost: Option<u64>,
+}
+
+impl<'r, R> QueueSink<'r, R> {
+    /// A handle for one thread.
+    pub fn new(rt: &'r R, queue: &'r RecordQueue) -> QueueSink<'r, R> {
+        QueueSink {
+            rt,
+            queue,
+            lost: None,
+        }
+    }
+}
+
+impl<R: Log> QueueSink<'_, R> {
+    fn warn(&self) {
+        let what = if self.queue.in_parts {
+            "some are lost, and another part begins"
+        } else {
+            "the recording ends here"
+        };
+        warn!(self.rt; target: "relayd", "record: records came faster than they were written, so {what}");
+    }
 }
 
 impl<R: Wait + Log + Clock> Sink for QueueSink<'_, R> {
@@ -149,15 +224,20 @@ impl<R: Wait + Log + Clock> Sink for QueueSink<'_, R> {
     }
 
     fn put(&mut self, item: Record) {
-        if !self.queue.put(self.rt, item) && self.queue.stop() {
-            warn!(self.rt; target: "relayd", "record: records came faster than they were written, so the recording ends here");
+        // With a wait that is lost go its time and its reports, which have its counts: none is without its wait.
+        if self.lost == Some(item.after) {
+            return;
+        }
+        let (waits, is_first) = self.queue.put(self.rt, &item);
+        if !waits {
+            self.lost = Some(item.after);
+        }
+        if is_first {
+            self.warn();
         }
     }
 
     fn another(&self) -> Self {
-        QueueSink {
-            rt: self.rt,
-            queue: self.queue,
-        }
+        QueueSink::new(self.rt, self.queue)
     }
 }

@@ -15,7 +15,7 @@ pub trait Sink: Drop {
     // What a step may do: the step with its answer, and the sink before and after.
     ghost did: { Step → Self → Self → Type 0 };
 
-    /// Takes the count before an act. None: nothing is recorded any more.
+    /// Takes the count before an act. None: it is not recorded.
     fn begin(&mut self) -> Option<u64>
         ensures { did (Began result) self.old self.new };
 
@@ -27,11 +27,12 @@ pub trait Sink: Drop {
     fn end(&mut self) -> u64
         ensures { did (Ended result) self.old self.new };
 
-    /// Takes the counts before and after an act in one step. None: nothing is recorded any more.
+    /// Takes the counts before and after an act in one step. None: it is not recorded.
     fn at_once(&mut self) -> Option<(u64, u64)>
         ensures { did (AtOnce result) self.old self.new };
 
-    /// Puts a record after the others. If there is no room for it, the recording ends, which is logged once.
+    /// Puts a record after the others. If there is no room for it, the recording, or this part of it, ends. That is
+    /// logged once.
     fn put(&mut self, item: Record)
         ensures { did (Put item) self.old self.new };
 

@@ -5,13 +5,14 @@ use crate::lines::Lines;
 use crate::queue::{MAX_RUN, QUEUES, RecordQueue, soon};
 use log::{Log, warn};
 use log_queue::Drain;
-use records::{Header, Parts, Record};
+use records::{Header, Parts};
 use std::io;
 use std::sync::Wait;
 
 /// Writes the header, then the records, each queue's in order, until the queues are closed and empty, and then the
-/// last record: into files of at most `most` bytes ([`Lines`]). It flushes before it rests, and takes no memory. If a
-/// file cannot be written, the recording ends: that is logged, and what was written stays.
+/// last record: into files of at most `most` bytes ([`Lines`]). If records were lost, and the recording goes on in another
+/// part, it first writes all that waits, and then that some are lost. It flushes before it rests, and takes no memory.
+/// If a file cannot be written, the recording ends: that is logged, and what was written stays.
 pub fn write_records<R: Wait + Log, P: Parts>(
     rt: &R,
     queue: &RecordQueue,
@@ -48,9 +49,17 @@ impl<R: Wait, P: Parts> Writer<'_, R, P> {
     fn write(&mut self) -> io::Result<()> {
         let (rt, queue) = (self.rt, self.queue);
         let drained = queue.waiting.drain(rt, self, soon())?;
-        let (before, after, act) = (queue.next(1), queue.next(1), queue.last(drained));
-        self.lines.put(&Record { before, after, act })?;
+        self.lines.put(&queue.last(drained))?;
         self.lines.flush()
+    }
+}
+
+impl<R: Wait, P: Parts> Writer<'_, R, P> {
+    fn go_on(&mut self) -> io::Result<()> {
+        match self.queue.go_on() {
+            Some(full) => self.lines.put(&full),
+            None => Ok(()),
+        }
     }
 }
 
@@ -60,11 +69,16 @@ impl<R: Wait, P: Parts> Drain for Writer<'_, R, P> {
     fn drain(&mut self) -> io::Result<bool> {
         let mut found = false;
         for _look in self.rt.forever() {
+            let was_over = self.queue.is_over();
             let mut some = false;
             for at in 0..QUEUES {
                 some = write_run(self.rt, self.queue, at, &mut self.lines)? || some;
             }
             if !some {
+                // What was put before the gap is written: nothing waited after it had begun.
+                if was_over {
+                    self.go_on()?;
+                }
                 break;
             }
             found = true;

@@ -4,5 +4,6 @@ use Rattle.recording.proofs.lines.Lines.put.Goals as goal
 
 pub returns-clause-held : goal.returns-clause-held
 returns-clause-held g c =
-    λ records held. holds_line _ _ _ _ c.args.record.now records c.as_bytes.result.now _ _ _ _ _ c.add.new.self.greatest _ (c.in_ok-make_room.ensures.held records held)
+    λ records held. holds_line _ _ _ _ c.args.record.now records c.as_bytes.result.now _ _ _ _ _ c.add.new.self.greatest _ _ _ (c.in_ok-make_room.ensures.held records held)
     c.in_ok-add.ensures.added (search rules) (search rules) (search rules) (search rules) (search rules) (search rules) (search rules)
+    (search rules) (search rules)
