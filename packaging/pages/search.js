@@ -1,4 +1,5 @@
-// A box that lists the names with what was typed in it. `names.js` has the names, each with its link and what it is.
+// A box that lists the names with what was typed in it. `names.js` has the names, each with its link and what it is. And what
+// is folded is unfolded where a link leads to it.
 const box = document.createElement("span");
 box.id = "search";
 box.innerHTML = '<input type="search" placeholder="Search a name" aria-label="Search a name"><ul></ul>';
@@ -16,3 +17,10 @@ input.addEventListener("input", () => {
   }));
 });
 input.addEventListener("keydown", event => event.key === "Enter" && list.querySelector("a")?.click());
+const unfold = () => {
+  const to = document.getElementById(decodeURIComponent(location.hash.slice(1)));
+  for (let it = to; it; it = it.parentElement) if (it.tagName === "DETAILS") it.open = true;
+  (to?.closest("details") ?? to)?.scrollIntoView();
+};
+addEventListener("hashchange", unfold);
+unfold();
