@@ -219,6 +219,7 @@ def writes_each_log_line_within_5_ms():
     assert sorted(times)[3] < 0.02, times
 
 
+# refuses left_out_is_told_last: how many lines were left out is told behind the lines that wait
 def serves_on_when_nobody_reads_its_log():
     reader, writer = os.pipe()
     relay = Relay(target(echo), errors=writer)
@@ -235,6 +236,8 @@ def serves_on_when_nobody_reads_its_log():
         in_thread(lambda: (time.sleep(2), relay.process.terminate()))
         lines = log.read().splitlines()[1:]
     numbers = [re.fullmatch(r"\[WARN  relayd\] log: (\d+) lines left out", line) for line in lines]
+    # A pipe has some 2,000 lines, and the queue 4,096.
+    assert any(numbers[:4_000])
     numbers = [int(number[1]) for number in numbers if number]
     messages = [line for line in lines if line.startswith(("[INFO  relayd] open s=", "[INFO  relayd] done s="))]
     assert numbers and len(messages) + sum(numbers) == 40_000 and len(messages) + len(numbers) == len(lines)

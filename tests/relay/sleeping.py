@@ -74,10 +74,13 @@ class Pair:
         self.sleeper.halt()
 
 
-@contextlib.contextmanager
-def pair(relay, putter, sleeper):
+def tries(relay, putter, sleeper, many=TRIES):
+    """The pair of these threads for each try, with its number."""
     with halted(putter, sleeper) as found:
-        yield Pair(relay, *found) if found else left_out("ptrace")
+        both = Pair(relay, *found) if found else left_out("ptrace")
+        for both.number in range(many if both else 0):
+            yield both
+            both.halt()
 
 
 def gives(reader):
@@ -108,15 +111,11 @@ def woken_of(threads):
         thread.go(SYSCALL)
         assert thread.stops(SOON) is not None
         thread.go(SYSCALL)
-    for _ in range(1000):
-        for thread in threads:
-            if thread.stops(0) is not None:
-                return thread
-        time.sleep(0.001)
-    raise AssertionError("nobody wakes")
+    assert until(lambda: any(thread.stops(0) is not None for thread in threads)), "nobody wakes"
+    return next(thread for thread in threads if not thread.runs)
 
 
-def put_twice(both, number, first, second, readers):
+def put_twice(both, first, second, readers):
     """The worker sleeps, and gets the last of what these clients send; and then of what the others send, while it wakes or falls
     asleep. Each byte arrives."""
     poller, worker = both.putter, both.sleeper
@@ -124,9 +123,9 @@ def put_twice(both, number, first, second, readers):
     send(first)
     poller.run_to(EPOLL_WAIT, lambda answer: answer == len(first))
     poller.go()
-    both.number = number // 2
+    both.number, wakes = divmod(both.number, 2)
     # Once it has been woken, or once it has run its ticket.
-    if number % 2:
+    if wakes:
         worker.run_to(FUTEX, lambda answer: answer > RESTARTS)
         both.step(worker, "wakes", RECVFROM)
     else:
@@ -137,17 +136,15 @@ def put_twice(both, number, first, second, readers):
     send(second)
     poller.run_to(EPOLL_WAIT, lambda answer: answer == len(second))
     both.go_on("puts", RECVFROM)
-    assert all([gives(reader) for reader in readers]), (number, both.places)
-    both.halt()
+    assert all([gives(reader) for reader in readers]), (both.number, wakes, both.places)
 
 
 def a_worker_beside_a_poller():
     # Of 17 clients whose bytes the poller finds at once the worker has the last, if it sleeps.
     relay = Relay(target(echo), recorded=False, slots=64, workers=1, log="off")
     clients = served(relay, 34)
-    with pair(relay, relay.process.pid, *relay.named("worker")) as both:
-        for number in range(TRIES if both else 0):
-            put_twice(both, number, clients[:17], clients[17:], clients)
+    for both in tries(relay, relay.process.pid, *relay.named("worker")):
+        put_twice(both, clients[:17], clients[17:], clients)
 
 
 def much_moved(both):
@@ -166,65 +163,59 @@ def much_moved(both):
 # refuses worker_sleeps_without_its_second_look: a worker announces that it sleeps, and sleeps without another look
 def a_worker_beside_a_poller_that_puts_in_any_case():
     relay = Relay(recorded=False, slots=64, workers=1, log="off")
-    with pair(relay, relay.process.pid, *relay.named("worker")) as both:
-        for number in range(TRIES if both else 0):
-            if number % 6 == 0:
-                clients, ends = zip(much_moved(both), much_moved(both))
-            put_twice(both, number, clients[:1], clients[1:], ends)
+    for both in tries(relay, relay.process.pid, *relay.named("worker")):
+        if both.number % 6 == 0:
+            clients, ends = zip(much_moved(both), much_moved(both))
+        put_twice(both, clients[:1], clients[1:], ends)
 
 
 def a_worker_beside_another():
     relay = Relay(recorded=False, slots=64, workers=2, log="off")
-    with pair(relay, *relay.named("worker", 2)) as both:
-        for number in range(LAST**2 if both else 0):
-            if number % 5 == 0:
-                clients, ends = zip(much_moved(both), much_moved(both))
-            both.number, workers = number, [both.putter, both.sleeper]
-            backs = dict(zip(workers, divmod(number, LAST)))
-            both.sleep(*workers)
-            send(clients)
-            for worker in workers:
-                worker.run_to(SENDTO, lambda answer: answer > 0)
-            for worker in workers:
-                both.step(worker, "falls asleep", back=backs[worker])
-            asleep = [worker for worker in workers if not backs[worker]]
-            both.sleep(*asleep)
-            assert all([gives(end) for end in ends])
-            # Each of the two pollers puts once more, and who sleeps wakes.
-            send(clients)
-            time.sleep(0.005)
-            for worker in asleep:
-                worker.run_to(FUTEX, lambda answer: answer > RESTARTS)
-                both.step(worker, "wakes", RECVFROM)
-            both.go()
-            assert all([gives(end) for end in ends]), (number, both.places)
-            both.halt()
+    for both in tries(relay, *relay.named("worker", 2), LAST**2):
+        if both.number % 5 == 0:
+            clients, ends = zip(much_moved(both), much_moved(both))
+        workers = [both.putter, both.sleeper]
+        backs = dict(zip(workers, divmod(both.number, LAST)))
+        both.sleep(*workers)
+        send(clients)
+        for worker in workers:
+            worker.run_to(SENDTO, lambda answer: answer > 0)
+        for worker in workers:
+            both.step(worker, "falls asleep", back=backs[worker])
+        asleep = [worker for worker in workers if not backs[worker]]
+        both.sleep(*asleep)
+        assert all([gives(end) for end in ends])
+        # Each of the two pollers puts once more, and who sleeps wakes.
+        send(clients)
+        time.sleep(0.005)
+        for worker in asleep:
+            worker.run_to(FUTEX, lambda answer: answer > RESTARTS)
+            both.step(worker, "wakes", RECVFROM)
+        both.go()
+        assert all([gives(end) for end in ends]), (both.number, both.places)
 
 
 # refuses writer_sleeps_without_its_last_look: the writer of the log announces that it sleeps behind its last look
 def the_writer_of_the_log_beside_a_poller():
     relay, lines = Relay(target(echo), recorded=False, workers=1), b""
     clients = served(relay, 1)
-    with pair(relay, relay.process.pid, *relay.named("log")) as both:
-        for number in range(TRIES if both else 0):
-            poller, writer = both.putter, both.sleeper
-            both.sleep(poller, writer)
-            clients.append(relay.connect())
-            poller.go()
-            # After a line it rests for 5 ms, and looks again before it sleeps.
-            writer.run_to(FUTEX, lambda answer: answer == -errno.ETIMEDOUT)
-            both.number = number
-            both.step(writer, "falls asleep")
-            poller.halt()
-            both.sleep(poller)
-            clients.append(relay.connect())
-            poller.run_to(ACCEPT4, lambda answer: answer > 0)
-            both.go_on("logs")
-            while lines.count(b" open ") < len(clients):
-                more = gives(relay.process.stderr)
-                assert more, (number, both.places)
-                lines += more
-            both.halt()
+    for both in tries(relay, relay.process.pid, *relay.named("log")):
+        poller, writer = both.putter, both.sleeper
+        both.sleep(poller, writer)
+        clients.append(relay.connect())
+        poller.go()
+        # After a line it rests for 5 ms, and looks again before it sleeps.
+        writer.run_to(FUTEX, lambda answer: answer == -errno.ETIMEDOUT)
+        both.step(writer, "falls asleep")
+        poller.halt()
+        both.sleep(poller)
+        clients.append(relay.connect())
+        poller.run_to(ACCEPT4, lambda answer: answer > 0)
+        both.go_on("logs")
+        while lines.count(b" open ") < len(clients):
+            more = gives(relay.process.stderr)
+            assert more, (both.number, both.places)
+            lines += more
 
 
 # refuses waker_before_the_slot: a worker wakes the slot's poller, and gives the slot after that
