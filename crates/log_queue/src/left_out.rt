@@ -33,6 +33,13 @@ impl Count for AtomicU64 {
     }
 }
 
+/// How many lines were left out since the last call.
+pub(crate) fn taken<C: Count>(count: &C) -> u64
+    ensures { C.did (Taken result) count.now }
+{
+    count.take()
+}
+
 /// A line that was left out is put by being counted.
 #[derive(Drop)]
 pub(crate) struct Counted<'a, C>(pub(crate) &'a C);

@@ -1,7 +1,7 @@
 //! The queue of the log's lines.
 ghost use Rattle.std.specs.Prelude.{◌≡◌, [], ◌∷◌, IfOk};
 
-use crate::left_out::Count;
+use crate::left_out::taken;
 use crate::limits::MAX_LINES;
 use crate::line::{LogLine, Unwritten};
 use crate::parked::ParkedQueue;
@@ -59,7 +59,7 @@ impl LogQueue {
 
     /// How many lines were left out since the last call.
     pub(crate) fn take_left_out(&self) -> u64 {
-        self.left_out.take()
+        taken(&self.left_out)
     }
 
     /// Lets the writer end once every line is written, and wakes it. What is put later may not be written.
