@@ -189,21 +189,26 @@ class Relay:
     def tasks(self):
         return os.listdir(f"/proc/{self.process.pid}/task")
 
-    def name_of(self, task):
-        return pathlib.Path(f"/proc/{self.process.pid}/task/{task}/comm").read_text().strip()
+    def names(self):
+        """The name of each of its threads (proc(5)), but of those that end meanwhile."""
+        names = {}
+        for task in self.tasks():
+            with contextlib.suppress(FileNotFoundError, ProcessLookupError):
+                names[int(task)] = pathlib.Path(f"/proc/{self.process.pid}/task/{task}/comm").read_text().strip()
+        return names
 
     def named(self, name, many=1):
-        """The threads of this name, once there are so many (proc(5))."""
+        """The threads of this name, once there are so many."""
 
         def found():
-            return sorted(int(task) for task in self.tasks() if self.name_of(task) == name)
+            return sorted(task for task, other in self.names().items() if other == name)
 
         assert until(lambda: len(found()) == many), f"not {many} threads are named {name}"
         return found()
 
     def names_of_threads(self):
         """The names of its threads but the first, in alphabetical order."""
-        return sorted(self.name_of(task) for task in self.tasks() if task != str(self.process.pid))
+        return sorted(name for task, name in self.names().items() if task != self.process.pid)
 
     def status(self, name, task=None):
         """The number of this name in the status of one of its threads, or the first (proc(5))."""
