@@ -1,4 +1,5 @@
 use crate::front::{Front, Opened, Settle, Unopened};
+use crate::lent::Gate;
 use crate::places::{Berth, Occupied, Places};
 use crate::shared::Shared;
 use claims::{Adopted, ClaimSeat, Claimed, Claims, Posted, Released};
@@ -118,7 +119,6 @@ pub trait Acts {
 pub trait Moves<F: Front>: Acts {
     ghost use Rattle.std.specs.Prelude.{◌≡◌, ◌<◌, ◌≤◌, ℕ, Option, Some, None, IfSome, IsNone, IfOk, IfErr, OnOk, OnErr};
     ghost use Rattle.claims.specs.Seats.{Holds};
-    ghost use Rattle.engine.specs.Turns.{outcome_of, IsServed, IsTurn};
     ghost use Rattle.statistics.specs.declared.event.Event.{Event};
     ghost use Rattle.dispatch.specs.declared.places.Berth.{Berth};
     ghost use Rattle.dispatch.specs.Acts as act;
@@ -178,24 +178,6 @@ pub trait Moves<F: Front>: Acts {
         ensures made { Self.made act.PutIn slot self.old self.new }
         ensures moved { moved berth.value self.new };
 
-    /// [`turn_with`] of a slot's connection, on its two wires.
-    fn play(
-        &mut self,
-        slot: usize,
-        berth: &mut Berth<F::Client, F::Target>,
-        budget: usize,
-        moment: Moment,
-        buffer: &mut [u8; MAX_READ],
-    ) -> Turn
-        requires least { 1 ≤ budget }
-        requires most { budget ≤ 1024 }
-        ensures made { Self.made act.Play slot self.old self.new }
-        ensures played { played berth.old berth.new self.new }
-        ensures outcome { result ≡ outcome_of berth.new.pair }
-        ensures run { IsTurn budget moment.second moment.limit berth.old.pair berth.new.pair
-            (IsServed F.Client.told F.Client.does moment.second berth.old.client berth.new.client)
-            (IsServed F.Target.told F.Target.does moment.second berth.old.target berth.new.target) };
-
     /// [`Settle::settle`] of both sockets of a slot's connection.
     fn settle(&mut self, slot: usize, berth: &mut Berth<F::Client, F::Target>)
         ensures made { Self.made act.Settle slot self.old self.new }
@@ -212,6 +194,37 @@ pub trait Moves<F: Front>: Acts {
     /// [`Shared::count`].
     fn count(&self, shared: &Shared<F, Self>, slot: usize, event: Event)
         ensures { counted slot event self.now };
+}
+
+/// The act of a turn that its gate hears of. Code over any acts does not know that `G` is a [`Gate`], so it tells the gate
+/// nothing but by this act.
+pub trait Gated<F: Front, G>: Moves<F> {
+    ghost use Rattle.std.specs.Prelude.{◌≡◌, ◌≤◌, ℕ};
+    ghost use Rattle.engine.specs.Turns.{outcome_of, IsServed, IsTurn};
+    ghost use Rattle.dispatch.specs.Acts as act;
+
+    // The gate heard that a turn at a slot began, and that it ended.
+    ghost heard: { G → ℕ → Type 0 };
+
+    /// [`Gate::before_turn`], then [`turn_with`] of a slot's connection, on its two wires, and then [`Gate::after_turn`].
+    fn play(
+        &mut self,
+        gate: &G,
+        slot: usize,
+        berth: &mut Berth<F::Client, F::Target>,
+        budget: usize,
+        moment: Moment,
+        buffer: &mut [u8; MAX_READ],
+    ) -> Turn
+        requires least { 1 ≤ budget }
+        requires most { budget ≤ 1024 }
+        ensures made { Self.made act.Play slot self.old self.new }
+        ensures heard { heard gate.now slot }
+        ensures played { Self.played berth.old berth.new self.new }
+        ensures outcome { result ≡ outcome_of berth.new.pair }
+        ensures run { IsTurn budget moment.second moment.limit berth.old.pair berth.new.pair
+            (IsServed F.Client.told F.Client.does moment.second berth.old.client berth.new.client)
+            (IsServed F.Target.told F.Target.does moment.second berth.old.target berth.new.target) };
 }
 
 impl Acts for () {
@@ -316,25 +329,6 @@ impl<F: Front> Moves<F> for () {
         places.put_in(rt, seat, slot, berth)
     }
 
-    #[inline(always)]
-    fn play(
-        &mut self,
-        _slot: usize,
-        berth: &mut Berth<F::Client, F::Target>,
-        budget: usize,
-        moment: Moment,
-        buffer: &mut [u8; MAX_READ],
-    ) -> Turn {
-        turn_with(
-            &mut berth.pair,
-            &mut berth.client,
-            &mut berth.target,
-            budget,
-            moment,
-            buffer,
-        )
-    }
-
     fn settle(&mut self, _slot: usize, berth: &mut Berth<F::Client, F::Target>) {
         berth.client.settle();
         berth.target.settle();
@@ -348,5 +342,34 @@ impl<F: Front> Moves<F> for () {
 
     fn count(&self, shared: &Shared<F>, slot: usize, event: Event) {
         shared.count(slot, event);
+    }
+}
+
+impl<F: Front, G: Gate> Gated<F, G> for () {
+    ghost use Rattle.std.specs.Prelude.{ℕ};
+
+    ghost heard = { λ gate slot. G.began gate slot × G.ended gate slot };
+
+    #[inline(always)]
+    fn play(
+        &mut self,
+        gate: &G,
+        slot: usize,
+        berth: &mut Berth<F::Client, F::Target>,
+        budget: usize,
+        moment: Moment,
+        buffer: &mut [u8; MAX_READ],
+    ) -> Turn {
+        gate.before_turn(slot);
+        let turn = turn_with(
+            &mut berth.pair,
+            &mut berth.client,
+            &mut berth.target,
+            budget,
+            moment,
+            buffer,
+        );
+        gate.after_turn(slot);
+        turn
     }
 }

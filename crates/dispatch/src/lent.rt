@@ -39,12 +39,23 @@ impl<'a, C: Clock> Timing<'a, C> {
 
 /// Called once all threads have been started, and around each turn: for what is printed, recorded or checked then.
 pub trait Gate {
+    ghost use Rattle.std.specs.Prelude.{ℕ};
+
+    // It was told that a turn at a slot is about to begin. The defaults promise nothing: over any gate, a proof has such a
+    // fact only from a call that was made.
+    ghost began: { Self → ℕ → Type 0 } = { λ _ _. Unit {0} };
+
+    // It was told that a turn at a slot has ended.
+    ghost ended: { Self → ℕ → Type 0 } = { λ _ _. Unit {0} };
+
     /// All threads have been started. The thread that serves calls this before it polls.
     fn all_started(&self) {}
 
     /// A turn at this slot is about to begin.
-    fn before_turn(&self, slot: usize);
+    fn before_turn(&self, slot: usize)
+        ensures { began self.now slot };
 
     /// A turn at this slot has ended.
-    fn after_turn(&self, slot: usize);
+    fn after_turn(&self, slot: usize)
+        ensures { ended self.now slot };
 }

@@ -11,7 +11,8 @@
 //!   thread leaves to the workers.
 //! - [`Acts`] and [`Moves`] are the acts of a thread at a slot. The clauses of a turn and of an opening name the acts
 //!   that they make, in order. Only [`Moves`] reaches the [`Places`], where connections ([`Berth`]) wait between turns.
-//! - [`Gate`] is called around each turn, and [`Clock`] shows the second, for the idle limit ([`Timing`]).
+//! - [`Gate`] is called around each turn's calls, by the act [`Gated::play`] alone. [`Clock`] shows the second, for the
+//!   idle limit ([`Timing`]).
 //!
 //! # Inside
 //!
@@ -32,7 +33,7 @@ mod places;
 mod shared;
 mod split;
 
-pub use acts::{Acts, Moves};
+pub use acts::{Acts, Gated, Moves};
 pub use front::{Front, Opened, Route, Settle, Unaccepted, Unopened, Waiting, unaccepted_of};
 pub use hand::{Hand, give_slots, put_tickets};
 pub use heavy::HeavyMarks;

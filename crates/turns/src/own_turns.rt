@@ -8,7 +8,7 @@ ghost use Rattle.turns.specs.{Shares.{IsLight, Stays, TicketsShared}, Turns.{mar
 use crate::giving::put_ticket;
 use crate::terms::Terms;
 use crate::worker::{Worked, turn_of};
-use dispatch::{Clock, FIRST_LIGHT, Front, Gate, Hand, HeavyMarks, Moves, Own, Shared, Timing};
+use dispatch::{Clock, FIRST_LIGHT, Front, Gated, Hand, HeavyMarks, Own, Shared, Timing};
 use log::Log;
 use ready::{AllBusy, ReadyQueue, Ticket};
 use relay_log::ServerFault;
@@ -100,7 +100,7 @@ fn keep(hand: &mut Hand, ticket: Ticket, _kept: usize, _shares_light: bool, _sta
 /// If a connection ends, nobody has to be woken: the next round looks for a free slot before it waits, if a client may
 /// be waiting. If `is_closing`, the poller may open no more connections: then that round does not wait, so that the
 /// poller's end is found at once.
-pub fn own_turn<F: Front, A: Moves<F>, G: Gate, C: Clock, R: Wait + Log>(
+pub fn own_turn<F: Front, A: Gated<F, G>, G, C: Clock, R: Wait + Log>(
     rt: &R,
     acts: &mut A,
     shared: &Shared<F, A>,

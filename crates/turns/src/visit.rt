@@ -6,7 +6,7 @@ ghost use Rattle.turns.specs.Turns.{noted_by, Plays};
 ghost use Rattle.dispatch.specs.Acts as act;
 
 use crate::terms::Terms;
-use dispatch::{Berth, Front, Moves, Own, Settle, Shared, ended_by, moved_by};
+use dispatch::{Berth, Front, Gated, Moves, Own, Settle, Shared, ended_by, moved_by};
 use engine::Turn;
 use ready::Ticket;
 use relay_core::{MAX_READ, Pair};
@@ -114,9 +114,10 @@ impl<F: Front> Visit<F> {
     }
 
     /// Raises the connection's flags if notes waited, and makes its calls on its two wires.
-    pub(crate) fn play<A: Moves<F>>(
+    pub(crate) fn play<A: Gated<F, G>, G>(
         &mut self,
         acts: &mut A,
+        gate: &G,
         notes: u64,
         terms: Terms,
         buffer: &mut [u8; MAX_READ],
@@ -134,7 +135,7 @@ impl<F: Front> Visit<F> {
         let slot = self.ticket.slot;
         let berth = &mut *self.berth;
         tell_notes(&mut berth.pair, notes);
-        acts.play(slot, berth, terms.budget, terms.moment, buffer)
+        acts.play(gate, slot, berth, terms.budget, terms.moment, buffer)
     }
 
     /// Has both sockets send at once what they held back.

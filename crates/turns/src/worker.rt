@@ -13,7 +13,7 @@ use crate::gone::log_gone;
 use crate::terms::Terms;
 use crate::visit::{Back, Visit, put_in, take_out};
 use claims::{ClaimSeat, Claimed, Released};
-use dispatch::{Acts, Clock, Front, Gate, Moves, Own, Shared, Timing, give_slots, put_tickets};
+use dispatch::{Acts, Clock, Front, Gated, Moves, Own, Shared, Timing, give_slots, put_tickets};
 use engine::Turn;
 use log::Log;
 use ready::Ticket;
@@ -49,7 +49,7 @@ pub enum Worked {
 ///
 /// The only refusal is `Worn`, in place of `Again`: the seat had posted 2^56 times before, so no note was posted. The
 /// slot is released then, too. The acts, but those that put what is in hand, are made by `acts`; the server's is `()`.
-pub fn worker_turn<F: Front, A: Moves<F>, G: Gate, C: Clock, R: Wait + Log>(
+pub fn worker_turn<F: Front, A: Gated<F, G>, G, C: Clock, R: Wait + Log>(
     rt: &R,
     acts: &mut A,
     shared: &Shared<F, A>,
@@ -85,7 +85,7 @@ pub fn worker_turn<F: Front, A: Moves<F>, G: Gate, C: Clock, R: Wait + Log>(
 
 /// A turn alone: nothing in hand is put before it, and nobody is woken after it. None: the seat had posted 2^56 times
 /// before, so its post was refused.
-pub(crate) fn turn_of<F: Front, A: Moves<F>, G: Gate, R: Wait + Log>(
+pub(crate) fn turn_of<F: Front, A: Gated<F, G>, G, R: Wait + Log>(
     rt: &R,
     acts: &mut A,
     shared: &Shared<F, A>,
@@ -117,7 +117,7 @@ fn if_posted(worked: Worked, worn: bool) -> Option<Worked>
 }
 
 /// Claims the slot, and goes on if it is there and held by nobody.
-fn claim<F: Front, A: Moves<F>, G: Gate, R: Wait + Log>(
+fn claim<F: Front, A: Gated<F, G>, G, R: Wait + Log>(
     rt: &R,
     acts: &mut A,
     shared: &Shared<F, A>,
@@ -141,7 +141,7 @@ fn claim<F: Front, A: Moves<F>, G: Gate, R: Wait + Log>(
     }
 }
 
-fn claimed<F: Front, A: Moves<F>, G: Gate, R: Wait + Log>(
+fn claimed<F: Front, A: Gated<F, G>, G, R: Wait + Log>(
     rt: &R,
     acts: &mut A,
     shared: &Shared<F, A>,
@@ -192,7 +192,7 @@ fn give_up<F: Front, A: Acts, R: Wait>(
 }
 
 /// Runs the ticket's own connection, and then ends it or puts it back.
-fn run<F: Front, A: Moves<F>, G: Gate, R: Wait + Log>(
+fn run<F: Front, A: Gated<F, G>, G, R: Wait + Log>(
     rt: &R,
     acts: &mut A,
     shared: &Shared<F, A>,
@@ -237,7 +237,7 @@ fn run<F: Front, A: Moves<F>, G: Gate, R: Wait + Log>(
 
 /// Takes the notes of a held slot, and plays its connection between the gate's two calls. It is passed neither an
 /// allocator nor anything that may wait, so it allocates nothing and waits for no lock.
-fn play<F: Front, A: Moves<F>, G: Gate>(
+fn play<F: Front, A: Gated<F, G>, G>(
     acts: &mut A,
     shared: &Shared<F, A>,
     seat: &mut ClaimSeat,
@@ -261,12 +261,8 @@ fn play<F: Front, A: Moves<F>, G: Gate>(
         × Plays (IsServed F.Client.told F.Client.does) (IsServed F.Target.told F.Target.does) terms.budget
         terms.moment.second terms.moment.limit notes visit.old.berth.value visit.new.berth.value }
 {
-    let slot = visit.ticket.slot;
-    let notes = acts.take(&shared.claims, seat, slot);
-    gate.before_turn(slot);
-    let outcome = visit.play(acts, notes, terms, buffer);
-    gate.after_turn(slot);
-    outcome
+    let notes = acts.take(&shared.claims, seat, visit.ticket.slot);
+    visit.play(acts, gate, notes, terms, buffer)
 }
 
 /// Puts back a connection that has spent its budget, and keeps it due.

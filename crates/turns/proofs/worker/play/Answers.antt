@@ -7,5 +7,5 @@ returns-clause-holder g c = holds_still _ _ _ _ c.take-notes.ensures.change c.re
 
 pub returns-clause-played : goal.returns-clause-played
 returns-clause-played g c =
-    let played = c.play-outcome.ensures in
+    let played = c.play.ensures in
     (c.take-notes.result, _, c.take-notes.ensures.made, played.made, played.played, c.take-notes.ensures.change, played.run)
