@@ -121,7 +121,12 @@ pub trait Moves<F: Front>: Acts {
     ghost use Rattle.claims.specs.Seats.{Holds};
     ghost use Rattle.statistics.specs.declared.event.Event.{Event};
     ghost use Rattle.dispatch.specs.declared.places.Berth.{Berth};
+    ghost use Rattle.ready.specs.declared.ticket.Ticket.{Ticket};
+    ghost use Rattle.token.specs.declared.side.Side.TheVariants as side;
     ghost use Rattle.dispatch.specs.Acts as act;
+
+    // The last act registered the sockets of this connection, each under the name of its end.
+    ghost named: { Ticket → Self → Type 0 };
 
     // The last act took this connection out of its place, or found none there.
     ghost found: { Option (Berth F.Client F.Target) → Self → Type 0 };
@@ -144,7 +149,10 @@ pub trait Moves<F: Front>: Acts {
         client_token: Token,
         target_token: Token,
     ) -> Result<Opened<F::Target>, Unopened>
+        requires client { client_token.side ≡ side.Client }
+        requires target { target_token ≡ record client_token { side = side.Target } }
         ensures made { OnOk result (Self.made act.Register client_token.slot self.old self.new) }
+        ensures named { OnOk result (named (record { slot = client_token.slot; generation = client_token.generation }) self.new) }
         ensures none { OnErr result (self.new ≡ self.old) }
         ensures told { IfOk result (λ opened. F.may_tell client.old opened.route) }
         ensures refused { IfErr result (λ why. F.may_refuse client.old why) }
@@ -284,6 +292,8 @@ impl Acts for () {
 impl<F: Front> Moves<F> for () {
     ghost use Rattle.std.specs.Prelude.{◌<◌};
     ghost use Rattle.claims.specs.Seats.{Holds};
+
+    ghost named = { λ _ _. Unit {0} };
 
     ghost moved = { λ _ _. Unit {0} };
 

@@ -109,7 +109,10 @@ pub try_opened : (t : Ticket) (found noted : ℕ) → AreTries (t ∷ []) [] (re
 try_opened t found noted = record { each = all_one IsTry _ (inl (found, noted, refl)); made = refl; found = refl }
 
 pub try_held : (t : Ticket) → AreTries [] (t.slot ∷ []) (record { ticket = t; exchanges = exchange.NotFree ∷ [] } ∷ [])
-try_held t = record { each = all_one IsTry _ (inr refl); made = refl; found = refl }
+try_held t = record { each = all_one IsTry _ (inr (inl refl)); made = refl; found = refl }
+
+pub try_dropped : (t : Ticket) → AreTries [] [] (record { ticket = t; exchanges = [] } ∷ [])
+try_dropped t = record { each = all_one IsTry _ (inr (inr refl)); made = refl; found = refl }
 
 -- A poller's table has connections in its own slots alone
 

@@ -1,11 +1,11 @@
 -- Connections that are opened one after the other, why one is closed unopened, and a round of its parts.
 use Rattle.std.proofs.{Common.{◌≡◌, ◌≢◌, ◌⊎◌, ℕ, ◌+◌, ◌<◌, ◌≤◌, List, [], ◌∷◌, ◌++◌, length, drop, slice_get, slice_set, min, cond, Bool, true, refl, sym, ◌∙◌, arith, inl, inr, append_assoc, length-append, Option, Some, None, ◌==◌, Result, Ok, Err, IfErr, IsErrAnd, slice_index, ap, ◌↔◌, IsTrue, IsNone, false, Contains}, lemmas.{Bool.{cases_lt, false≢true}, List.{append-nil, length-set, get_or-set_other, get_or_past, Sums.sum_by-append}, Grind.get_or-set_at, Option.{none-some, same_Some}}}
 use Rattle.std.specs.Option.{ok_or}
-use Rattle.claims.{specs.{declared.answers.Posted.Posted, Calls.PostChange, Seats.{SeatState, TableId, Adds, account_at}, declared.view.{Account.Account, Exchange.{Exchange, TheVariants.{NotFree as WasNotFree}}}, Views.after_all}, proofs.Seats.{account_after, adds_both}}
-use Rattle.dispatch.{specs.{Posts.{HoldsOnly, IsWorn}, declared.{shared.Own.Own, front.{Unaccepted.{Unaccepted, TheVariants.{Blocked, Starved}}, Unopened.Unopened, Route.Route, Waiting.{Waiting, TheVariants.{No, Brief, Long}}}}, Hands.{HandState, ticket_room}, Acts.{Act, AreMade, Made, Register, Adopt}, Told.{cause_of, Seen, Waited}}, proofs.Holding.{holds_still, released_all, woke_behind_post, worn_still}}
+use Rattle.claims.{specs.{declared.answers.Posted.Posted, Calls.PostChange, Seats.{SeatState, TableId, Adds, account_at}, declared.view.{Account.Account, Exchange.{Exchange, TheVariants.{NotFree as WasNotFree}}}, Views.after_all}, proofs.Seats.{account_after, adds_both, adds_none}}
+use Rattle.dispatch.{specs.{Posts.{HoldsOnly, IsWorn}, declared.{shared.Own.Own, front.{Unaccepted.{Unaccepted, TheVariants.{Blocked, Starved}}, Unopened.Unopened, Route.Route, Waiting.{Waiting, TheVariants.{No, Brief, Long}}}}, Hands.{HandState, ticket_room}, Acts.{Act, AreMade, Made, Register, Adopt}, Told.{cause_of, Seen, Waited}, Splits.IsIn}, proofs.Holding.{holds_still, released_all, woke_behind_post, worn_still}}
 use Rattle.ready.specs.declared.ticket.Ticket.{Ticket}
 use Rattle.token.specs.Names.{last_generation}
-use Rattle.rounds.{specs.{Acts.{SeatAct, opening, ActsMade, AreTries, PostsMade, all_reported, ArePosted, Delivered, swept_after, sweep_of}, Openings.{times, slots_in, AreIn, AreOpened, OnlyTook, Between, LetGo, Started, Connected, AcceptDone, OneAccepted, OnlyAccepted, IsOpened, IsLost, IsSpent, AreLost, IsNext, SameQueues, Fate, next_in, Opened, NotFree, DropsFor, Placed, ActsOf, DropsMade, TriedOnce, TriesMade, TryMade, lacks, lead_of}, Pollers.{PollerState, Counted, counted_up, HasOpenedAll}, declared.opening.Opening.Opening, Rounds.{AcceptEnded, FlagIsDown, HasLeft, IsOver, RoundInOrder, RoundKeeps, ListenerKept, ListensNoMore, ListensToOpen, Looked, OnlyAnswered, OnlyListens, RoundRefused, MayNotWait, MayWait, MayWaitBriefly, WaitedAsMay}}, proofs.Acts.{at_slot-append, acts_none, acts_one, acts_both, in_order, none_at, try_opened, tries_none, tries_both, posted_none, posts_still, no_sweep}}
+use Rattle.rounds.{specs.{Acts.{SeatAct, opening, ActsMade, AreTries, InOrder, PostsMade, all_reported, ArePosted, Delivered, swept_after, sweep_of}, Openings.{times, slots_in, AreIn, AreOpened, OnlyTook, Between, LetGo, Started, Connected, AcceptDone, OneAccepted, OnlyAccepted, IsOpened, IsLost, IsSpent, AreLost, IsNext, SameQueues, Fate, next_in, Opened, NotFree, DropsFor, Placed, ActsOf, DropMade, TriedOnce, TriesMade, TriesNext, TryMade, lacks, lead_of}, Pollers.{PollerState, Counted, counted_up, HasOpenedAll}, declared.opening.Opening.Opening, Rounds.{AcceptEnded, FlagIsDown, HasLeft, IsOver, RoundInOrder, RoundKeeps, ListenerKept, ListensNoMore, ListensToOpen, Looked, OnlyAnswered, OnlyListens, RoundRefused, MayNotWait, MayWait, MayWaitBriefly, WaitedAsMay}}, proofs.Acts.{at_slot-append, acts_none, acts_one, acts_both, in_order, none_at, try_dropped, try_opened, tries_none, tries_both, posted_none, posts_still, no_sweep}}
 use Rattle.relay_log.specs.declared.{cause.Cause.{Cause}, faults.ServerFault.{ServerFault, TheVariants.{Poll, Worn}}}
 use Rattle.claims.specs.declared.view.Exchange.TheVariants as exchange
 use Rattle.claims.specs.declared.answers.Posted.TheVariants as posted
@@ -68,42 +68,13 @@ lost_both p h k [] ms none two = rw none two
 lost_both p h k (slot ∷ ls) ms (inl spent) two = inl (spent.0, lost_both p h k ls ms spent.1 two)
 lost_both p h k (slot ∷ ls) ms (inr found) two = inr (found.0 ++ k, rw found.1, lost_both p found.0 k ls ms found.2 two)
 
--- The acts of tries
-
-module _ {S : Type 0} (made : Made S) (opens : Ticket → S → S → Type 0) where
-  -- openings that were dropped, and then others
-  drops_both : {a b c : S} → DropsMade made a b → DropsMade made b c → DropsMade made a c
-  drops_both {a} {b} {c} one two = record { slots = one.slots ++ two.slots; acts = in_order (made Register) one.slots two.slots a b c one.acts two.acts }
-
-  dropped_then : (xs : List SeatAct) {a b c : S} → DropsMade made a b → TriesMade made opens b c xs → TriesMade made opens a c xs
-  dropped_then [] {a} drops tries = record { last = a; acts = refl; drops = drops_both drops (rw tries.acts at tries.drops) }
-  dropped_then (x ∷ xs) drops tries =
-      let (between, first, rest) = tries.acts in
-      record {
-        last = tries.last;
-        acts = (between, record { begun = first.begun; drops = drops_both drops first.drops; acts = first.acts }, rest);
-        drops = tries.drops;
-      }
-
-  tries_then : (xs ys : List SeatAct) {a b c : S} → TriesMade made opens a b xs → TriesMade made opens b c ys → TriesMade made opens a c (xs ++ ys)
-  tries_then xs ys {a} one two =
-      let rest = dropped_then ys one.drops two in
-      record { last = rest.last; acts = in_order (TryMade made opens) xs ys a one.last rest.last one.acts rest.acts; drops = rest.drops }
-
-  pub no_tries : {s : S} → TriesMade made opens s s []
-  no_tries {s} = record { last = s; acts = refl; drops = record { slots = []; acts = refl } }
-
-  -- an opening was dropped
-  pub dropped_once : {a b : S} {name slot : ℕ} → name ≡ slot → (b ≡ a) ⊎ made Register name a b → TriesMade made opens a b []
-  dropped_once {a} same (inl is) = record { last = a; acts = refl; drops = record { slots = []; acts = is } }
-  dropped_once {a} {b} {slot = slot} same (inr act) = record { last = a; acts = refl; drops = record { slots = slot ∷ []; acts = (b, rw (← same) act, refl) } }
-
-module _ {S : Type 0} {made : Made S} {opens : Ticket → S → S → Type 0} {s t u : S} {p q r : PollerState} {a b c : Own} where
+module _ {S : Type 0} {made : Ticket → Made S} {opens : Ticket → S → S → Type 0} {s t u : S} {p q r : PollerState} {a b c : Own} where
   -- connections, and then others
   connected_both : {xs ys : List Ticket} {ls ms h k : List ℕ} → Connected (TriesMade made opens s t) xs ls h p q a b
       → Connected (TriesMade made opens t u) ys ms k q r b c → Connected (TriesMade made opens s u) (xs ++ ys) (ls ++ ms) (h ++ k) p r a c
   connected_both {xs} {ys} {ls} {ms} {h} {k} one two = record {
-    acts = tries_then made opens one.tries two.tries one.acts two.acts;
+    acts = record { acts = in_order (TryMade made opens) one.tries two.tries s t u one.acts.acts two.acts.acts };
+    next = in_order (TriesNext p.part) one.tries two.tries p.table q.table r.table one.next (rw one.part at two.next);
     why = lost_both r h k ls ms (lost_still q r ys two.part two.table h ls one.why) two.why;
     tries = one.tries ++ two.tries;
     are = tries_both one.are two.are;
@@ -130,6 +101,14 @@ module _ {S : Type 0} {made : Made S} {opens : Ticket → S → S → Type 0} {s
         omega (arith, one.slots slot, two.slots slot, at_slot-append slot one.opened two.opened, times-append slot one.lost two.lost));
   }
 
+-- no try was made
+pub no_tries : {S : Type 0} {made : Ticket → Made S} {opens : Ticket → S → S → Type 0} {s : S} → TriesMade made opens s s []
+no_tries = record { acts = refl }
+
+-- a try that was dropped
+abbrev pub dropped_try : Ticket → SeatAct
+dropped_try t = record { ticket = t; exchanges = [] }
+
 -- what connections say of a poller is as it was, as after a change that opens nothing
 abbrev pub SamePoller : PollerState → PollerState → Type 0
 SamePoller p q = record { table : q.table ≡ p.table; opened : q.opened ≡ p.opened; lost : q.lost ≡ p.lost; batch : q.batch ≡ p.batch; part : q.part ≡ p.part }
@@ -150,6 +129,7 @@ accept_took {a = a} none same took = record {
     acts = none;
     made = rw took.seat (acts_none a.seat);
     table = same.table;
+    next = same.table;
     counted = counted_same same.opened;
     unused = counted_same same.lost;
     batch = same.batch;
@@ -167,7 +147,7 @@ pub opens_same : (p q : PollerState) → OnlyAccepted p q → (q.opening ≡ p.o
 opens_same p q is = (ap (λ (s : PollerState). s.opening) is, ap (λ (s : PollerState). s.second) is)
 
 -- what connections are opened with is the same
-pub accept_with : {S : Type 0} {made : Made S} (opens : Opening → ℕ → Ticket → S → S → Type 0) {s t : S} {u v : Opening} {m n : ℕ} {p q : PollerState} {a b : Own}
+pub accept_with : {S : Type 0} {made : Ticket → Made S} (opens : Opening → ℕ → Ticket → S → S → Type 0) {s t : S} {u v : Opening} {m n : ℕ} {p q : PollerState} {a b : Own}
     → (v ≡ u) × (n ≡ m) → AcceptDone (TriesMade made (opens v n) s t) p q a b → AcceptDone (TriesMade made (opens u m) s t) p q a b
 accept_with opens same done = rw (← same.0, ← same.1) done
 
@@ -180,9 +160,9 @@ pub accept_none : {acted : List SeatAct → Type 0} {p q : PollerState} {a : Own
 accept_none {a = a} none same = accept_took none same (took_none a)
 
 -- a slot was taken for the next try
-pub accept_and_took : {S : Type 0} {made : Made S} {opens : Ticket → S → S → Type 0} {s t : S} {p q : PollerState} {a b c : Own}
+pub accept_and_took : {S : Type 0} {made : Ticket → Made S} {opens : Ticket → S → S → Type 0} {s t : S} {p q : PollerState} {a b c : Own}
     → AcceptDone (TriesMade made opens s t) p q a b → OnlyTook b c → AcceptDone (TriesMade made opens s t) p q a c
-accept_and_took {made = made} {opens = opens} {q = q} done took = accept_both done (accept_took (no_tries made opens) (still q) took)
+accept_and_took {q = q} done took = accept_both done (accept_took no_tries (still q) took)
 
 -- where there are some, there is a first one
 pub some_first : (xs : List ℕ) → 1 ≤ length xs → slice_get xs 0 ≡ None → ⊥
@@ -196,10 +176,11 @@ slot_left s slot a b hand taken is free slots = rw (free, slots, taken) (omega (
 
 -- one slot is no longer used
 pub lost_one : {acted : List SeatAct → Type 0} {p q : PollerState} {a b : Own} {slot : ℕ} (not_free : List ℕ) (tries : List SeatAct) → acted tries
-    → q ≡ record p { lost = counted_up p.lost 1 } → AreLost p not_free (slot ∷ [])
+    → q ≡ record p { lost = counted_up p.lost 1 } → AreLost p not_free (slot ∷ []) → InOrder (TriesNext p.part) tries p.table p.table
     → AreTries [] not_free tries → ActsMade tries a.seat b.seat → b.hand.tickets ≡ a.hand.tickets → b.ready ≡ a.ready → b.free ≡ a.free
     → Connected acted [] (slot ∷ []) not_free p q a b
-lost_one {p = p} {a = a} not_free tries acts lost why are made tickets ready free = rw lost (record {
+lost_one {p = p} {a = a} not_free tries acts lost why next are made tickets ready free = rw lost (record {
+  next = next;
   why = why;
   tries = tries;
   are = are;
@@ -227,6 +208,7 @@ module _ {p q : PollerState} {a : Own} {hand : HandState} (taken : hand ≡ reco
     tries = one.tries;
     are = one.are;
     made = one.made;
+    next = one.next;
     table = one.table;
     counted = one.counted;
     unused = one.unused;
@@ -245,22 +227,38 @@ module _ {p q : PollerState} {a : Own} {hand : HandState} (taken : hand ≡ reco
     opened = [];
     lost = slot ∷ [];
     not_free = [];
-    connected = lost_one [] [] none lost (inl (spent, refl)) tries_none (acts_none a.seat) (rw taken) refl refl;
+    connected = lost_one [] [] none lost (inl (spent, refl)) refl tries_none (acts_none a.seat) (rw taken) refl refl;
     slots = λ s. omega (arith, slot_left s slot a (record a { hand = hand }) hand taken is refl refl);
   }
 
   -- its opening failed, and it is in hand again
-  pub opened_not : {acted : List SeatAct → Type 0} {slot : ℕ} {kept : HandState} → acted [] → slice_get a.hand.slots 0 ≡ Some slot
-      → kept ≡ record hand { slots = hand.slots ++ slot ∷ [] } → SamePoller p q → AcceptDone acted p q a (record a { hand = kept })
-  opened_not {slot = slot} none is again still = accept_took none still (record {
-    seat = refl;
-    ready = refl;
-    tickets = rw (again, taken);
-    capacity = rw (again, taken);
-    gave = refl;
+  pub opened_not : {acted : List SeatAct → Type 0} {t : Ticket} {kept : HandState} → acted (dropped_try t ∷ []) → slice_get a.hand.slots 0 ≡ Some t.slot
+      → kept ≡ record hand { slots = hand.slots ++ t.slot ∷ [] } → SamePoller p q → IsIn p.part t.slot → t.generation ≡ slice_index p.table t.slot + 1
+      → AcceptDone acted p q a (record a { hand = kept })
+  opened_not {t = t} acts is again same own next = record {
+    opened = [];
+    lost = [];
+    not_free = [];
+    connected = record {
+      why = refl;
+      tries = dropped_try t ∷ [];
+      are = try_dropped t;
+      acts = acts;
+      next = (p.table, record { own = own; next = next; entered = refl }, same.table);
+      made = acts_one (dropped_try t) a.seat a.seat (adds_none t.slot a.seat);
+      table = same.table;
+      counted = counted_same same.opened;
+      unused = counted_same same.lost;
+      batch = same.batch;
+      part = same.part;
+      own = λ slot out. refl;
+      tickets = rw (again, taken) (sym (append-nil a.hand.tickets));
+      ready = refl;
+      gave = refl;
+    };
     slots = λ s. rw (again, taken)
-        (omega (arith, times_first s a.hand.slots slot is, times-append s (drop 1 a.hand.slots) (slot ∷ [])));
-  })
+        (omega (arith, times_first s a.hand.slots t.slot is, times-append s (drop 1 a.hand.slots) (t.slot ∷ [])));
+  }
 
   -- a connection was placed in it, or it is no longer used
   pub opened_there : {one_acts acted : List SeatAct → Type 0} {b : Own} {t : Ticket} → ((tries : List SeatAct) → one_acts tries → acted tries) → slice_get a.hand.slots 0 ≡ Some t.slot
@@ -293,23 +291,15 @@ module _ {p q : PollerState} {a : Own} {hand : HandState} (taken : hand ≡ reco
     by (inr once) = inr (record { done = opened_there joined is (rw same at once.0) placed.free placed.slots; room = rw taken at once.1 })
 
 -- the acts of the one try for a connection, with those before its slot was adopted
-pub tried_once : {S : Type 0} (made : Made S) {opens placed : Ticket → S → S → Type 0} {finds : ℕ → S → S → Type 0} (t : Ticket) (a b c : S)
-    → (placed t b c → opens t a c) → (finds t.slot b c → AreMade made t.slot (Register ∷ Adopt ∷ []) a c)
+pub tried_once : {S : Type 0} (made : Ticket → Made S) {opens placed finds : Ticket → S → S → Type 0} (t : Ticket) (a b c : S)
+    → (placed t b c → opens t a c) → (finds t b c → AreMade (made t) t.slot (Register ∷ Adopt ∷ []) a c)
     → (tries : List SeatAct) → TriedOnce placed finds t b c tries → TriesMade made opens a c tries
-tried_once {S} made {opens} {placed} {finds} t a b c opened found tries tried = rw tried.once (record {
-  last = c;
-  acts = (c, record { begun = a; drops = record { slots = []; acts = refl }; acts = by tried.exchanges tried.acts }, refl);
-  drops = record { slots = []; acts = refl };
-}) where
-  by : (es : List Exchange) → ActsOf placed finds t es b c → ActsOf opens (λ slot. AreMade made slot (Register ∷ Adopt ∷ [])) t es a c
+tried_once {S} made {opens} {placed} {finds} t a b c opened found tries tried = rw tried.once (record { acts = (c, record { acts = by tried.exchanges tried.acts }, refl) }) where
+  by : (es : List Exchange) → ActsOf placed finds (λ t from to. ⊥) t es b c
+      → ActsOf opens (λ t. AreMade (made t) t.slot (Register ∷ Adopt ∷ [])) (DropMade made) t es a c
+  by [] none = absurd none
   by (WasNotFree ∷ rest) acts = found acts
   by _ acts = opened acts
-
--- sockets that were not registered, or are closed again
-pub registered_once : {S : Type 0} (made : Act → ℕ → S → S → Type 0) (from to : S) {name slot : ℕ} → name ≡ slot → (to ≡ from) ⊎ made Register name from to
-    → AreMade made slot [] from to ⊎ AreMade made slot (Register ∷ []) from to
-registered_once made from to same (inl is) = inl is
-registered_once made from to same (inr act) = inr (to, rw (← same) act, refl)
 
 pub room_same : {a b : Own} → OnlyTook a b → ticket_room b.hand ≡ ticket_room a.hand
 room_same took = rw (took.capacity, took.tickets)
@@ -337,15 +327,15 @@ pub ended_by : (p : PollerState) (own : Own) → (p.starved ≡ true) ⊎ (HasLe
 ended_by p own why = grind arith
 
 -- what became of an accepted connection that was placed, with the acts that were made from there on
-fate_by : {slot : ℕ} {p q : PollerState} {told opened : Type 0} {dropped : Cause → Type 0} {after made : List Act → Type 0} {a b : SeatState} → (told → opened)
-    → ((acts : List Act) → after acts → made (Register ∷ acts))
-    → (IsOpened p q × told) ⊎ (IsLost p q × Adds slot (exchange.NotFree ∷ []) a b × after (Adopt ∷ [])) → Fate slot opened dropped made p q a b
+fate_by : {slot : ℕ} {p q : PollerState} {told opened : Type 0} {dropped : Cause → Type 0} {found : Type 0} {made : List Act → Type 0} {a b : SeatState} → (told → opened)
+    → (found → made (Register ∷ Adopt ∷ []))
+    → (IsOpened p q × told) ⊎ (IsLost p q × Adds slot (exchange.NotFree ∷ []) a b × found) → Fate slot opened dropped made p q a b
 fate_by opens joined (inl done) = Opened done.0 (opens done.1)
-fate_by opens joined (inr lost) = NotFree lost.0 lost.1 (joined (Adopt ∷ []) lost.2)
+fate_by opens joined (inr lost) = NotFree lost.0 lost.1 (joined lost.2)
 
 pub placed_fate : {slot : ℕ} {p s q : PollerState} {told : Ticket → Type 0} {opened : Type 0} {dropped : Cause → Type 0} {after made : List Act → Type 0}
     {acted : List SeatAct → Type 0} {a b : Own} {t : Ticket} → s ≡ p
-    → t ≡ next_in p slot → (told (next_in p slot) → opened) → ((acts : List Act) → after acts → made (Register ∷ acts)) → Placed told after acted t s q a b
+    → t ≡ next_in p slot → (told (next_in p slot) → opened) → (after (Adopt ∷ []) → made (Register ∷ Adopt ∷ [])) → Placed told after acted t s q a b
     → Fate slot opened dropped made p q a.seat b.seat
 placed_fate same next opens joined placed = fate_by opens joined (rw (same, next) at placed.counted)
 
@@ -397,6 +387,7 @@ opened_once {t = t} {p = p} {a = a} {found = found} acts (inr started) next adop
         are = try_opened t found started.noted;
         acts = acts started.noted;
         made = acts_one try _ _ (adds_both _ _ _ _ _ _ adopted started.seat);
+        next = (_, record { own = next.own; next = next.generation; entered = (next.generation, refl) }, refl);
         table = (next.generation, refl);
         counted = counted_one _ p.opened _ refl;
         unused = counted_same refl;
@@ -437,12 +428,12 @@ module _ (may_refuse : Unopened → Type 0) (may_tell : Route → Type 0) (proxy
 
 -- A round: the reports were delivered, a sweep was made or none, and connections were opened
 
-pub round_of : {S : Type 0} {made : Made S} {opens : Ticket → S → S → Type 0} (from delivered_at timed_at : S) {to : S} (c : Own) {p q r v t : PollerState} {a b d e : Own}
+pub round_of : {S : Type 0} {made : Made S} {names : Ticket → Made S} {opens : Ticket → S → S → Type 0} (from delivered_at timed_at : S) {to : S} (c : Own) {p q r v t : PollerState} {a b d e : Own}
     → PostsMade made (all_reported q.table q.batch) from delivered_at → PostsMade made (sweep_of r v) delivered_at timed_at
     → (IsWorn c.seat → e.seat ≡ c.seat) → (IsWorn d.seat → e.seat ≡ d.seat) → Looked p q → OnlyTook a b
     → Delivered q.table q.batch b.seat c.seat b.hand c.hand → c.ready ≡ b.ready → c.free ≡ b.free → AreIn q.part (all_reported q.table q.batch) → r ≡ record q { accepting = r.accepting }
     → ArePosted (sweep_of r v) c.seat d.seat c.hand d.hand → d.ready ≡ c.ready → d.free ≡ c.free → AreIn r.part (sweep_of r v) → v ≡ record r { second = v.second; swept = v.swept }
-    → AcceptDone (TriesMade made opens timed_at to) v t d e → t.swept ≡ v.swept → RoundInOrder made opens p t a e from to
+    → AcceptDone (TriesMade names opens timed_at to) v t d e → t.swept ≡ v.swept → RoundInOrder made names opens p t a e from to
 round_of from delivered_at timed_at c {e = e} reports sweeps still_all still_then looked took delivered ready free own flag posted ready_then free_then own_then sweep accepted swept =
     let done = accepted.connected in
     record {
@@ -468,6 +459,7 @@ round_of from delivered_at timed_at c {e = e} reports sweeps still_all still_the
         own_sweep = rw swept (rw (flag, looked) at own_then);
         own_openings = rw (sweep, flag, looked) at done.own;
         tickets = rw (done.ready, ready_then, ready, done.tickets, posted.hand, delivered.hand, took.ready, took.tickets) (simp append_assoc);
+        next = rw (sweep, flag, looked) at done.next;
         table = rw (sweep, flag, looked) at done.table;
         counted = rw (sweep, flag, looked) at done.counted;
         unused = rw (sweep, flag, looked) at done.unused;
@@ -477,13 +469,13 @@ round_of from delivered_at timed_at c {e = e} reports sweeps still_all still_the
     }
 
 -- nothing was reported, nothing was posted for time, and nothing was accepted
-pub round_ended : {S : Type 0} {made : Made S} {opens : Ticket → S → S → Type 0} {s : S} {p q : PollerState} {a b : Own} → Looked p q → q.batch ≡ [] → OnlyTook a b
-    → RoundInOrder made opens p q a b s s
-round_ended {made = made} {opens = opens} {s = s} {q = q} {b = b} looked none took =
+pub round_ended : {S : Type 0} {made : Made S} {names : Ticket → Made S} {opens : Ticket → S → S → Type 0} {s : S} {p q : PollerState} {a b : Own} → Looked p q → q.batch ≡ [] → OnlyTook a b
+    → RoundInOrder made names opens p q a b s s
+round_ended {s = s} {q = q} {b = b} looked none took =
     let unswept : sweep_of q q ≡ [] = no_sweep q q.swept refl in
     let nothing : s ≡ s = refl in
     round_of s s s b {v = q} (rw none nothing) (rw unswept nothing) (λ worn. refl) (λ worn. refl) looked took (rw none (posted_none b.seat b.hand)) refl refl (λ slot out. rw none) refl
-    (rw unswept (posted_none b.seat b.hand)) refl refl (λ slot out. rw unswept) refl (accept_none (no_tries made opens) (still q)) refl
+    (rw unswept (posted_none b.seat b.hand)) refl refl (λ slot out. rw unswept) refl (accept_none no_tries (still q)) refl
 
 -- what answers made of the poller, one after the other
 pub answered_both : {gave : Unaccepted → Type 0} {p q r : PollerState} → OnlyAnswered gave p q → OnlyAnswered gave q r → OnlyAnswered gave p r

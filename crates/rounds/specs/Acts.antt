@@ -51,9 +51,10 @@ pub record ArePosts (tickets : List Ticket) (posts : List SeatAct) (seat : SeatS
 abbrev pub opening : ℕ → ℕ → List Exchange
 opening found noted = Adopted found ∷ Take noted ∷ Post false ∷ Release true ∷ []
 
--- a connection was opened, or its slot was found not to be free
+-- a connection was opened, or its slot was found not to be free, or it was dropped, without an exchange
 abbrev pub IsTry : SeatAct → Type 0
-IsTry act = ((found : ℕ) × (noted : ℕ) × (act.exchanges ≡ opening found noted)) ⊎ (act.exchanges ≡ NotFree ∷ [])
+IsTry act = ((found : ℕ) × (noted : ℕ) × (act.exchanges ≡ opening found noted))
+    ⊎ ((act.exchanges ≡ NotFree ∷ []) ⊎ (act.exchanges ≡ []))
 
 -- the slot, if these exchanges found that it is not free
 abbrev pub found_not_free : List Exchange → ℕ → List ℕ

@@ -3,8 +3,8 @@ use Rattle.std.specs.{Prelude.{◌≡◌, ◌⊎◌, ℕ, ◌+◌, ◌<◌, ◌�
 use Rattle.claims.specs.{declared.view.Exchange.Exchange, Seats.{SeatState, TableId, Adds, HoldsNothing, account_at}, Views.minted_by}
 use Rattle.ready.specs.declared.ticket.Ticket.{Ticket}
 use Rattle.dispatch.specs.{declared.{shared.Own.Own, places.Berth.Berth, front.{Unopened.Unopened, Route.Route}, split.Part.Part}, Splits.IsIn, Hands.ticket_room, Posts.IsWorn, Told.Seen}
-use Rattle.token.specs.Names.{last_generation}
-use Rattle.rounds.specs.{Pollers.{PollerState, Counted, counted_up}, Acts.{SeatAct, made_by, opening, ActsMade, AreTries, InOrder, at_slot}, Episodes.{dropped_for, no_episodes, opened_after}, declared.opening.Opening.Opening}
+use Rattle.token.specs.Names.{EndName, last_generation}
+use Rattle.rounds.specs.{Pollers.{PollerState, Counted, counted_up}, Acts.{SeatAct, due_of, made_by, opening, ActsMade, AreTries, InOrder, at_slot}, Episodes.{dropped_for, no_episodes, opened_after}, declared.opening.Opening.Opening}
 use Rattle.log.specs.declared.level.Level.{Level}
 use Rattle.statistics.specs.declared.event.Event.{Event}
 use Rattle.relay_log.specs.{Messages.open_message, declared.cause.Cause.Cause}
@@ -102,6 +102,12 @@ abbrev pub AreLost : PollerState → List ℕ → List ℕ → Type 0
 AreLost p found [] = found ≡ []
 AreLost p found (slot ∷ lost) = (IsSpent p slot × AreLost p found lost) ⊎ ((rest : List ℕ) × (found ≡ slot ∷ rest) × AreLost p rest lost)
 
+-- A try is made for the next connection of one of a poller's slots, by its table. If it opens it, the table has it from then on
+pub record TriesNext (part : Part) (try : SeatAct) (old new : List ℕ) : Type 0 where
+  pub own : IsIn part try.ticket.slot
+  pub next : try.ticket.generation ≡ slice_index old try.ticket.slot + 1
+  pub entered : AreOpened old (due_of (try ∷ [])) new
+
 -- The `opened` connections were opened in the poller's own slots, each with its slot's next generation, one note and
 -- one ticket, which is in hand after the others. The `lost` slots are no longer used. The seat did nothing else. `acted`
 -- is what is known of the acts of tries
@@ -115,6 +121,7 @@ pub record Connected (acted : List SeatAct → Type 0) (opened : List Ticket) (l
   pub are : AreTries opened not_free tries
   pub made : ActsMade tries had.seat has.seat
   pub acts : acted tries
+  pub next : InOrder (TriesNext old.part) tries old.table new.table
   pub batch : new.batch ≡ old.batch
   pub part : new.part ≡ old.part
   pub own : AreIn old.part opened
@@ -176,37 +183,51 @@ abbrev pub Putting : {S C T : Type 0} → (Berth C T → S → Type 0) → act.M
 Putting moved made berth act.PutIn slot from to = made act.PutIn slot from to × moved berth to
 Putting moved made berth act slot from to = made act slot from to
 
+-- the connection of an end
+abbrev pub of_end : EndName → Ticket
+of_end end = record { slot = end.slot; generation = end.generation }
+
+-- what is known of a connection's acts, of which Register registered its sockets under the names of its ends
+abbrev pub Naming : {S : Type 0} → (Ticket → S → Type 0) → act.Made S → Ticket → act.Made S
+Naming named made ticket act.Register slot from to = made act.Register slot from to × named ticket to
+Naming named made ticket act slot from to = made act slot from to
+
 -- the acts of an opening, which put a fresh connection into its place
-abbrev pub OpensFresh : {S C T : Type 0} → (Berth C T → S → Type 0) → act.Made S → (Route → Type 0) → Opening → ℕ → Ticket → S → S → Type 0
+abbrev pub OpensFresh : {S C T : Type 0} → (Berth C T → S → Type 0) → (Ticket → act.Made S) → (Route → Type 0) → Opening → ℕ → Ticket
+    → S → S → Type 0
 OpensFresh moved made may_tell opening second ticket from to = (berth : Berth _ _) × IsFresh may_tell opening second ticket berth
-    × act.AreMade (Putting moved made berth) ticket.slot act.open_slot from to
+    × act.AreMade (Putting moved (made ticket) berth) ticket.slot act.open_slot from to
 
 -- they were made for some client
-abbrev pub Opens : {C S T : Type 0} → (Berth C T → S → Type 0) → act.Made S → (C → Route → Type 0) → Opening → ℕ → Ticket → S → S → Type 0
+abbrev pub Opens : {C S T : Type 0} → (Berth C T → S → Type 0) → (Ticket → act.Made S) → (C → Route → Type 0) → Opening → ℕ → Ticket
+    → S → S → Type 0
 Opens {C} moved made may_tell opening second ticket from to =
     (client : C) × OpensFresh moved made (may_tell client) opening second ticket from to
 
--- the acts of a try with these exchanges: it opened its connection, or found its slot not to be free
-abbrev pub ActsOf : {S : Type 0} → (Ticket → S → S → Type 0) → (ℕ → S → S → Type 0) → Ticket → List Exchange → S → S → Type 0
-ActsOf opens finds ticket (exchange.NotFree ∷ rest) from to = finds ticket.slot from to
-ActsOf opens finds ticket exchanges from to = opens ticket from to
+-- the acts of a try with these exchanges: it opened its connection, or found its slot not to be free, or dropped it
+abbrev pub ActsOf : {S : Type 0} → (opens finds drops : Ticket → S → S → Type 0) → Ticket → List Exchange → S → S → Type 0
+ActsOf opens finds drops ticket [] from to = drops ticket from to
+ActsOf opens finds drops ticket (exchange.NotFree ∷ rest) from to = finds ticket from to
+ActsOf opens finds drops ticket exchanges from to = opens ticket from to
 
--- openings that were dropped: of some of them the sockets had been registered
-pub record DropsMade {S : Type 0} (made : act.Made S) (from to : S) : Type 0 where
-  pub slots : List ℕ
-  pub acts : InOrder (made act.Register) slots from to
+-- of a connection that is dropped no act was made, or its sockets were registered, which are closed
+abbrev pub DropMade : {S : Type 0} → (Ticket → act.Made S) → Ticket → S → S → Type 0
+DropMade made ticket from to = (to ≡ from) ⊎ act.AreMade (made ticket) ticket.slot (act.Register ∷ []) from to
 
--- such openings, and then a try
-pub record TryMade {S : Type 0} (made : act.Made S) (opens : Ticket → S → S → Type 0) (try : SeatAct) (from to : S) : Type 0 where
-  pub begun : S
-  pub drops : DropsMade made from begun
-  pub acts : ActsOf opens (λ slot. act.AreMade made slot (act.Register ∷ act.Adopt ∷ [])) try.ticket try.exchanges begun to
+-- before a connection is placed, its sockets are registered
+abbrev pub Registered : {S T E : Type 0} → (Ticket → act.Made S) → Ticket → Result T E → S → S → Type 0
+Registered made ticket (Ok opened) from to = made ticket act.Register ticket.slot from to
+Registered made ticket (Err cause) from to = DropMade made ticket from to
 
--- the acts of these tries, in order, and no others but those of openings that were dropped
-pub record TriesMade {S : Type 0} (made : act.Made S) (opens : Ticket → S → S → Type 0) (from to : S) (tries : List SeatAct) : Type 0 where
-  pub last : S
-  pub acts : InOrder (TryMade made opens) tries from last
-  pub drops : DropsMade made last to
+-- the acts of a try, and no others
+pub record TryMade {S : Type 0} (made : Ticket → act.Made S) (opens : Ticket → S → S → Type 0) (try : SeatAct) (from to : S) : Type 0 where
+  pub acts : ActsOf opens (λ t. act.AreMade (made t) t.slot (act.Register ∷ act.Adopt ∷ [])) (DropMade made)
+      try.ticket try.exchanges from to
+
+-- the acts of these tries, in order, and no others
+pub record TriesMade {S : Type 0} (made : Ticket → act.Made S) (opens : Ticket → S → S → Type 0) (from to : S)
+    (tries : List SeatAct) : Type 0 where
+  pub acts : InOrder (TryMade made opens) tries from to
 
 -- Why an accepted connection is closed unopened: the front refused to open it; or the front opened it, but an address
 -- for the line is missing, or memory ran out
@@ -215,11 +236,6 @@ DropsFor may_refuse may_tell proxy cause.Memory = (lead : List ℕ) × LeadGiven
 DropsFor may_refuse may_tell proxy cause.Connect = may_refuse unopened.Connect
 DropsFor may_refuse may_tell proxy cause.Register = may_refuse unopened.Register
 DropsFor may_refuse may_tell proxy cause.Address = LeadGiven may_tell proxy None
-
--- before a connection is placed, its sockets are registered; if none is placed, they may have been, and are closed
-abbrev pub Registered : {S T E : Type 0} → act.Made S → ℕ → Result T E → S → S → Type 0
-Registered made slot (Ok opened) from to = made act.Register slot from to
-Registered made slot (Err cause) from to = (to ≡ from) ⊎ made act.Register slot from to
 
 -- What became of an accepted connection for this slot, what is logged and counted of it, and which acts were made: it
 -- was opened; it was dropped, for this cause; the slot can have no connection; or one exchange found the slot not free
@@ -252,11 +268,11 @@ pub record IsNext (p : PollerState) (t : Ticket) : Type 0 where
   pub most : t.generation ≤ last_generation
 
 -- one try was made for this connection, by these acts
-pub record TriedOnce {S : Type 0} (opens : Ticket → S → S → Type 0) (finds : ℕ → S → S → Type 0) (t : Ticket) (from to : S)
+pub record TriedOnce {S : Type 0} (opens finds : Ticket → S → S → Type 0) (t : Ticket) (from to : S)
     (tries : List SeatAct) : Type 0 where
   pub exchanges : List Exchange
   pub once : tries ≡ record { ticket = t; exchanges = exchanges } ∷ []
-  pub acts : ActsOf opens finds t exchanges from to
+  pub acts : ActsOf opens finds (λ t from to. ⊥) t exchanges from to
 
 -- placing a connection: it was opened in its slot, or the slot was found not free and is no longer used. A seat that is
 -- worn posts no note for it

@@ -3,7 +3,7 @@
 use Rattle.std.specs.Prelude.{◌≡◌, ◌≢◌, ◌⊎◌, ◌↔◌, ℕ, ◌+◌, ◌<◌, ◌≤◌, true, false, List, [], ◌++◌, length, Contains, Result, Err}
 use Rattle.ready.specs.{declared.ticket.Ticket.Ticket, Steps.HeldOnce}
 use Rattle.dispatch.specs.{declared.{front.{Unaccepted.Unaccepted, Waiting.Waiting}, shared.Own.Own}, Acts.Made, Hands.{HasRoom, ticket_room}, Outgoing.tickets_out, Posts.{IsWorn, OnlyWorn}}
-use Rattle.rounds.specs.{Acts.{SeatAct, due_of, ActsMade, ArePosts, AreTries, PostsMade, all_reported, ArePosted, is_due, sweep_of, swept_after}, Openings.{AreIn, AreLost, AreOpened, OnlyTook, SlotsCounted, TriesMade}, Pollers.{PollerState, HasOpenedAll, Counted, spare_room}, Episodes.AreLogged}
+use Rattle.rounds.specs.{Acts.{SeatAct, due_of, ActsMade, ArePosts, AreTries, InOrder, PostsMade, all_reported, ArePosted, is_due, sweep_of, swept_after}, Openings.{AreIn, AreLost, AreOpened, OnlyTook, SlotsCounted, TriesMade, TriesNext}, Pollers.{PollerState, HasOpenedAll, Counted, spare_room}, Episodes.AreLogged}
 use Rattle.relay_log.specs.declared.faults.ServerFault.{ServerFault}
 use Rattle.dispatch.specs.declared.front.Unaccepted.TheVariants as unaccepted
 use Rattle.dispatch.specs.declared.front.Waiting.TheVariants as waiting
@@ -13,7 +13,8 @@ use Rattle.relay_log.specs.declared.faults.ServerFault.TheVariants as server_fau
 -- a sweep, if one was made, and then connections were opened. Of the posts the last ones are missing only if the seat is
 -- worn. These acts, in this order, are all that the seat did, and all are at the poller's own slots. The tickets from
 -- before the round, of the reports, of the sweep and of the openings are put or in hand, in this order. Each slot that
--- was taken was opened, or is in hand, or is no longer used
+-- was taken was opened, or is in hand, or is no longer used. Each try, also one that was dropped, was made for the next
+-- connection of one of the poller's own slots
 pub record RoundDone (old new : PollerState) (had has : Own) : Type 0 where
   pub reports : List SeatAct
   pub sweep : List SeatAct
@@ -25,6 +26,7 @@ pub record RoundDone (old new : PollerState) (had has : Own) : Type 0 where
   pub swept : ArePosts (sweep_of old new) sweep has.seat
   pub tried : AreTries opened not_free tries
   pub made : ActsMade (reports ++ (sweep ++ tries)) had.seat has.seat
+  pub next : InOrder (TriesNext old.part) tries old.table new.table
   pub why : AreLost new not_free lost
   pub part : new.part ≡ old.part
   pub own_reports : AreIn old.part (all_reported old.table new.batch)
@@ -38,15 +40,16 @@ pub record RoundDone (old new : PollerState) (had has : Own) : Type 0 where
   pub slots : SlotsCounted had has opened lost
 
 -- A round with its acts, in order, and no others: for each report of a connection a post at its slot, also by a worn seat;
--- then such a post for each connection of the sweep; and then the acts of its tries
-pub record RoundInOrder {S : Type 0} (made : Made S) (opens : Ticket → S → S → Type 0) (old new : PollerState) (had has : Own)
-    (from to : S) : Type 0 where
+-- then such a post for each connection of the sweep; and then the acts of its tries. `names` is what is known of a connection's
+-- acts
+pub record RoundInOrder {S : Type 0} (made : Made S) (names : Ticket → Made S) (opens : Ticket → S → S → Type 0)
+    (old new : PollerState) (had has : Own) (from to : S) : Type 0 where
   pub round : RoundDone old new had has
   pub delivered : S
   pub timed : S
   pub reports : PostsMade made (all_reported old.table new.batch) from delivered
   pub sweep : PostsMade made (sweep_of old new) delivered timed
-  pub tries : TriesMade made opens timed to round.tries
+  pub tries : TriesMade names opens timed to round.tries
 
 -- no free slot is in hand, and at one moment there was none in the queue
 pub record NoSlot (own : Own) : Type 0 where

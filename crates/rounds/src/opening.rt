@@ -2,10 +2,11 @@
 ghost use Rattle.std.specs.{Prelude.{◌≡◌, ◌+◌, ◌<◌, ◌≤◌, [], ◌∷◌, ◌++◌, drop, length, Err, Some, None, ◌⊎◌, IfOk, IfErr, OnOk, OnErr, OnSome, IfSome, IsNone, slice_get, slice_index}, Net.{Addr.ipv4_octets, Socket.{v4_ip, v4_port}}};
 ghost use Rattle.claims.specs.Seats.{HoldsNothing, OnlyAt};
 ghost use Rattle.relay_core.specs.{Pairs.fresh, Proxy.proxy_line};
-ghost use Rattle.rounds.specs.{Openings.{lacks, lead_of, next_in, Between, DropCounted, DropLogged, DropsFor, Fate, IsFresh, IsNext, LeadGiven, LetGo, OneAccepted, OnlyOpened, OpeningLogged, Opens, OpensFresh, Placed, Putting, Registered, SameQueues, Started, TriedOnce, TriesMade}, Pollers.AreGenerations};
+ghost use Rattle.rounds.specs.{Openings.{lacks, lead_of, next_in, Between, DropCounted, DropLogged, DropsFor, Fate, IsFresh, IsNext, LeadGiven, LetGo, Naming, OneAccepted, OnlyOpened, OpeningLogged, Opens, OpensFresh, Placed, Putting, Registered, SameQueues, Started, TriedOnce, TriesMade, of_end}, Pollers.AreGenerations};
 ghost use Rattle.dispatch.specs.{Acts.{AreMade, placing}, Posts.{HoldsOnly, IsWorn}, Hands.ticket_room};
 ghost use Rattle.token.specs.Names.{last_generation};
 ghost use Rattle.dispatch.specs.Acts as act;
+ghost use Rattle.token.specs.declared.side.Side.TheVariants as side;
 
 use crate::dropping::Dropped;
 use crate::poller::{Poller, Uncounted};
@@ -35,6 +36,8 @@ pub struct Opening {
 struct Names {
     client: Token,
     target: Token,
+    ghost first: { client.side ≡ side.Client },
+    ghost other: { target ≡ record client { side = side.Target } },
 }
 
 /// Opens an accepted connection in the oldest free slot in hand. The connection gets the slot's next generation, one
@@ -65,11 +68,14 @@ pub fn open<F: Front + Counting, A: Moves<F>, R: Wait + Logs>(
     ensures between { Between shared.now.claims own.new poller.new }
     ensures counted { IfSome (slice_get own.old.hand.slots 0) (λ slot. Fate slot
         (OpeningLogged (R.logged rt.now) F.counted (next_in poller.old slot)
-        × OpensFresh A.moved A.made (F.may_tell client) poller.old.opening poller.old.second (next_in poller.old slot) acts.old acts.new)
-        (DropCounted F.counted F.lacked slot) (λ made. AreMade A.made slot made acts.old acts.new)
+        × OpensFresh A.moved (Naming A.named A.made) (F.may_tell client) poller.old.opening poller.old.second
+        (next_in poller.old slot) acts.old acts.new)
+        (DropCounted F.counted F.lacked slot)
+        (λ made. AreMade (Naming A.named A.made (next_in poller.old slot)) slot made acts.old acts.new)
         poller.old poller.new own.old.seat own.new.seat) }
     ensures done { IsWorn own.old.seat
-        ⊎ OneAccepted (TriesMade A.made (Opens A.moved A.made F.may_tell poller.old.opening poller.old.second) acts.old acts.new)
+        ⊎ OneAccepted (TriesMade (Naming A.named A.made)
+        (Opens A.moved (Naming A.named A.made) F.may_tell poller.old.opening poller.old.second) acts.old acts.new)
         poller.old poller.new own.old own.new }
     ensures ready { own.new.ready ≡ own.old.ready }
     ensures poller { OnlyOpened poller.old poller.new }
@@ -118,9 +124,9 @@ fn prepare<F: Front, A: Moves<F>, N: Log>(
     names: Names,
 ) -> Result<Box<Berth<F::Client, F::Target>>, Dropped>
     requires { length hand.old.slots < hand.old.capacity }
-    ensures acts { Registered A.made names.client.slot result acts.old acts.new }
+    ensures acts { Registered (Naming A.named A.made) (of_end names.client) result acts.old acts.new }
     ensures fresh { IfOk result (λ berth. IsFresh (F.may_tell client) poller.old.opening poller.old.second
-        (record { slot = names.client.slot; generation = names.client.generation }) berth.value) }
+        (of_end names.client) berth.value) }
     ensures prepared { OnOk result (hand.new ≡ hand.old) }
     ensures cause { IfErr result (λ dropped. DropsFor (F.may_refuse client) (F.may_tell client) poller.old.opening.proxy dropped) }
     ensures lacked { IfErr result (λ dropped. dropped ≡ Cause.Memory → F.lacked) }
@@ -172,9 +178,9 @@ fn connect<F: Front, A: Moves<F>, N: Log>(
     mut client: F::Client,
     names: Names,
 ) -> Result<Box<Berth<F::Client, F::Target>>, Cause>
-    ensures acts { Registered A.made names.client.slot result acts.old acts.new }
+    ensures acts { Registered (Naming A.named A.made) (of_end names.client) result acts.old acts.new }
     ensures fresh { IfOk result (λ berth. IsFresh (F.may_tell client) poller.old.opening poller.old.second
-        (record { slot = names.client.slot; generation = names.client.generation }) berth.value) }
+        (of_end names.client) berth.value) }
     ensures cause { IfErr result (λ cause. DropsFor (F.may_refuse client) (F.may_tell client) poller.old.opening.proxy cause) }
     ensures same { poller.new ≡ poller.old }
 {
@@ -234,7 +240,7 @@ fn reach<F: Front, A: Moves<F>, N: Log>(
     client: &mut F::Client,
     names: Names,
 ) -> Result<(Pair, F::Target), Cause>
-    ensures acts { Registered A.made names.client.slot result acts.old acts.new }
+    ensures acts { Registered (Naming A.named A.made) (of_end names.client) result acts.old acts.new }
     ensures pair { IfOk result (λ made. made.0 ≡ fresh names.client.slot names.client.generation poller.old.opening.ring
         poller.old.second made.0.up.lead) }
     ensures lead { IfOk result (λ made. LeadGiven (F.may_tell client.old) poller.old.opening.proxy (Some made.0.up.lead)) }
@@ -332,7 +338,7 @@ fn place<F: Front + Counting, A: Moves<F>, R: Wait + Logs>(
         × AreMade (Putting A.moved A.made berth.value) ticket.slot placing acts.old acts.new)
         (λ made. AreMade A.made ticket.slot made acts.old acts.new)
         (TriedOnce (λ t. AreMade (Putting A.moved A.made berth.value) t.slot placing)
-        (λ slot. AreMade A.made slot (act.Adopt ∷ [])) ticket acts.old acts.new) ticket poller.old poller.new own.old own.new }
+        (λ t. AreMade A.made t.slot (act.Adopt ∷ [])) ticket acts.old acts.new) ticket poller.old poller.new own.old own.new }
     ensures poller { OnlyOpened poller.old poller.new }
     ensures ready { own.new.ready ≡ own.old.ready }
 {

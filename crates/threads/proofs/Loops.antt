@@ -391,7 +391,8 @@ posts_open_none posts each = none_opened posts (All-weaker IsPost OpensNone (λ 
 
 try_opens : (act : SeatAct) → IsTry act → opened_in act ≡ made_by (minted_by act.exchanges) act.ticket
 try_opens act (inl (found, noted, is)) = rw is
-try_opens act (inr is) = rw is
+try_opens act (inr (inl is)) = rw is
+try_opens act (inr (inr is)) = rw is
 
 tries_open : (tries : List SeatAct) → All IsTry tries → openings_of tries ≡ due_of tries
 tries_open [] each = refl

@@ -1,5 +1,5 @@
 use Rattle.std.proofs.Common.{rules, ◌≡◌, refl, inl, inr, arith, sym, ◌∙◌}
-use Rattle.rounds.{specs.Openings.{Dropped, Spent, next_in}, proofs.Rounds.{between_still, dropped_once, no_names, no_tries, opened_never, opened_not, placed_fate, placed_there, registered_once, some_first, still, tried_once}}
+use Rattle.rounds.{specs.Openings.{Dropped, Naming, Spent, next_in}, proofs.Rounds.{between_still, no_names, no_tries, opened_never, opened_not, placed_fate, placed_there, some_first, still, tried_once}}
 use Rattle.ready.specs.declared.ticket.Ticket.{Ticket}
 use Rattle.rounds.proofs.opening.open.Goals as goal
 
@@ -8,7 +8,7 @@ returns-in_default g c = absurd (some_first c.args.own.now.hand.slots c.requires
 
 pub returns-then-not-has-clause-done : goal.returns-then-not-has-clause-done
 returns-then-not-has-clause-done g c = inr (record {
-  done = opened_never c.take_slot.ensures.left (no_tries _ _) (sym c.take_slot.ensures.value ∙ c.in-Some.is) (inl (search rules)) c.count_lost-then-not-has.ensures;
+  done = opened_never c.take_slot.ensures.left no_tries (sym c.take_slot.ensures.value ∙ c.in-Some.is) (inl (search rules)) c.count_lost-then-not-has.ensures;
   room = rw c.take_slot.ensures.left (omega arith);
 })
 
@@ -20,7 +20,7 @@ returns-in_default-next_names g c =
     record {
       between = between_still c.requires.between refl (rw lost);
       counted = rw (first, lost) (Spent (refl, refl, refl) (inr spent) refl);
-      done = inr (record { done = opened_never c.take_slot.ensures.left (no_tries _ _) first (inr spent) lost; room = rw c.take_slot.ensures.left (omega arith) });
+      done = inr (record { done = opened_never c.take_slot.ensures.left no_tries first (inr spent) lost; room = rw c.take_slot.ensures.left (omega arith) });
       ready = refl;
       poller = rw lost;
     }
@@ -28,14 +28,16 @@ returns-in_default-next_names g c =
 pub returns-in-Err : goal.returns-in-Err
 returns-in-Err g c =
     let first = sym c.take_slot.ensures.value ∙ c.in-Some.is in
-    let named : c.in-Some-next_names.names.client.slot ≡ c.in-Some.slot = rw c.in-Some-next_names.ensures.client in
+    let acts = rw (c.in-Some-next_names.ensures.client, c.table.ensures.table) at c.in-Err.ensures.acts in
     let logged = c.in-Err.ensures.logged in
     record {
       between = between_still c.requires.between refl (rw logged);
       counted = rw (first, logged) (Dropped c.in-Err.dropped (refl, refl, refl) (c.count_dropped.ensures, c.in-Err.ensures.lacked)
-          (registered_once g.A.Acts.made c.args.acts.now c.prepare.new.acts named c.in-Err.ensures.acts));
+          acts);
       done = inr (record {
-        done = opened_not c.take_slot.ensures.left (dropped_once _ _ named c.in-Err.ensures.acts) first (rw named at c.in-Err.ensures.failed) (rw logged (still c.args.poller.now));
+        done = opened_not c.take_slot.ensures.left (record { acts = (c.prepare.new.acts, record { acts = acts }, refl) }) first
+            (rw c.in-Some-next_names.ensures.client at c.in-Err.ensures.failed)
+            (rw logged (still c.args.poller.now)) (search rules) refl;
         room = rw (c.in-Err.ensures.failed, c.take_slot.ensures.left) (omega arith);
       });
       ready = refl;
@@ -46,8 +48,7 @@ pub returns-in-Ok : goal.returns-in-Ok
 returns-in-Ok g c =
     let first = sym c.take_slot.ensures.value ∙ c.in-Some.is in
     let hand = c.in-Ok.ensures.prepared ∙ c.take_slot.ensures.left in
-    let named : c.in-Some-next_names.names.client.slot ≡ c.in-Some.slot = rw c.in-Some-next_names.ensures.client in
-    let registered = rw named at c.in-Ok.ensures.acts in
+    let registered = rw (c.in-Some-next_names.ensures.client, c.table.ensures.table) at c.in-Ok.ensures.acts in
     let next : ◌≡◌ {A = Ticket} (record { slot = c.in-Some.slot; generation = c.generation-generation.result }) (next_in c.args.poller.now c.in-Some.slot) =
     rw (c.generation-generation.ensures.value, c.in-Some-next_names.ensures.client, c.table.ensures.table) in
     let fresh = rw (c.in-Some-next_names.ensures.client, c.table.ensures.table) at c.in-Ok.ensures.fresh in
@@ -55,10 +56,10 @@ returns-in-Ok g c =
       between = c.place.ensures.between;
       counted = rw first (placed_fate c.in-Ok.ensures.same next
           (λ opened. (opened.0, (c.in-Ok.berth.value, fresh, (c.prepare.new.acts, registered, opened.1))))
-          (λ acts made. (c.prepare.new.acts, registered, made)) c.place.ensures.placed);
-      done = placed_there hand (tried_once g.A.Acts.made _ c.args.acts.now c.prepare.new.acts c.place.new.acts
-          (λ acts. (c.args.client, (c.in-Ok.berth.value, rw next fresh, (c.prepare.new.acts, registered, acts))))
-          (λ acts. (c.prepare.new.acts, registered, acts))) first c.in-Ok.ensures.same c.place.ensures.placed;
+          (λ made. (c.prepare.new.acts, registered, made)) c.place.ensures.placed);
+      done = placed_there hand (tried_once (Naming g.A.Moves.named g.A.Acts.made) _ c.args.acts.now c.prepare.new.acts c.place.new.acts
+          (λ acts. (c.args.client, (c.in-Ok.berth.value, rw next fresh, (c.prepare.new.acts, rw next registered, acts))))
+          (λ acts. (c.prepare.new.acts, rw next registered, acts))) first c.in-Ok.ensures.same c.place.ensures.placed;
       ready = c.place.ensures.ready;
       poller = rw (c.place.ensures.poller, c.in-Ok.ensures.same);
     }

@@ -47,7 +47,9 @@ returns-in-NotFree g c =
       placed = record {
         done = inr (
           inr (lost_one (c.args.ticket.slot ∷ []) (try ∷ [])
-              (record { exchanges = exchange.NotFree ∷ []; once = refl; acts = found }) c.count_lost.ensures (inr ([], refl, refl)) (try_held c.args.ticket) (acts_one try _ _ change) refl refl refl),
+              (record { exchanges = exchange.NotFree ∷ []; once = refl; acts = found }) c.count_lost.ensures (inr ([], refl, refl))
+              (c.args.poller.now.table, record { own = c.requires.next.own; next = c.requires.next.generation; entered = refl }, refl)
+              (try_held c.args.ticket) (acts_one try _ _ change) refl refl refl),
           omega arith,
         );
         counted = inr (rw c.count_lost.ensures (refl, refl, refl), change, found);

@@ -1,6 +1,6 @@
 use Rattle.std.proofs.Common.{◌≡◌, ◌∙◌, refl, sym, inl, inr, arith}
 use Rattle.rounds.proofs.{Rounds.{accept_both, accept_took, accept_with, no_tries, between_still, between_took, room_same, still, took_none, worn_on, answered, Lasting, begun_not_early, ended_still, flag_ended, keeps, listens_still, looked_lasts, opens_same, unless, over_before, round_ended, round_of}, Acts.{few_tickets, capacity_kept, reported_le, few_sweep}}
-use Rattle.rounds.specs.{Openings.Opens, Rounds.Looked}
+use Rattle.rounds.specs.{Openings.{Naming, Opens}, Rounds.Looked}
 use Rattle.rounds.proofs.round.poller_round.Goals as goal
 
 pub returns-then-not-begin : goal.returns-then-not-begin
@@ -87,7 +87,7 @@ returns g c =
     let swept = rw (delivered.poller, looked.poller, c.begin.ensures.poller) at c.keep_time.ensures.swept.swept in
     let opens_end : (c.accept.new.poller.opening ≡ c.take_back.new.poller.opening) × (c.accept.new.poller.second ≡ c.take_back.new.poller.second) = rw (end, told) (refl, refl) in
     let opens = opens_same c.keep_time.new.poller c.accept.new.poller accepted.poller in
-    let tried = accept_with (Opens g.A.Moves.moved g.A.Acts.made g.F.Front.may_tell) (sym opens.0 ∙ opens_end.0, sym opens.1 ∙ opens_end.1) accepted.done in
+    let tried = accept_with (Opens g.A.Moves.moved (Naming g.A.Moves.named g.A.Acts.made) g.F.Front.may_tell) (sym opens.0 ∙ opens_end.0, sym opens.1 ∙ opens_end.1) accepted.done in
     let still_then = worn_on accepted.still back.took.seat (λ worn. refl) in
     let still_all = worn_on timed.still refl still_then in
     let answer = answered c.unworn.result c.args.poller.now c.take_back.new.poller c.args.own.now c.take_back.new.own c.ok_or.result c.unworn.ensures c.ok_or.ensures.value in
@@ -98,7 +98,7 @@ returns g c =
       made = round_of _ c.deliver_batch.new.acts c.keep_time.new.acts c.deliver_batch.new.own (delivered.made) (timed.made) still_all still_then begun looked.took
           c.deliver_batch.ensures.delivered delivered.ready delivered.free delivered.own delivered.poller
           c.keep_time.ensures.swept.posted timed.queues.ready timed.queues.free timed.own timed.poller
-          (accept_both tried (accept_took (no_tries _ _) (rw (end, told) (still c.accept.new.poller)) back.took)) (rw (end, told, accepted.poller));
+          (accept_both tried (accept_took no_tries (rw (end, told) (still c.accept.new.poller)) back.took)) (rw (end, told, accepted.poller));
       ended = inr (inr (record {
         answer = answer.0;
         read = rw (end, told, accepted.poller, timed.poller, delivered.poller) looked.batch;
