@@ -1,0 +1,284 @@
+-- The threads at one slot over wires that rest, and what that is without such wires. Part of the promises. In `System` the
+-- kernel answers each call. Here a wire answers reads by itself once one would block, until a report that names reading was
+-- passed on to it (`Machine.antt` of `readiness`). Without such wires, what comes meanwhile is late.
+use Rattle.std.specs.{Prelude.{◌≡◌, ◌≢◌, ℕ, ◌-◌, ◌==◌, Bool, true, false, not, ◌&&◌, ◌||◌, if◌then◌else◌, List, [], ◌∷◌, ◌++◌, length, map, slice_get, Option, Some, None, option_map, option_and_then, unwrap_or, Vec}, Global.Global, Option.{is_none, is_some}, List.{flat_map, list_all}}
+use Rattle.token.specs.{declared.{side.Side.{Side, TheVariants.{Client, Target}}, name.Name.{Name, TheVariants.{Listener, Waker, End}}}, Names.EndName, Sides.side_number}
+use Rattle.kernel_model.specs.{declared.{reply.Reply.Reply, both.Descriptors.Descriptors}, Outcome.guard, Ends.{EndState, is_readable}, Kernel.{KernelState, Registered, end_at}, Names.has}
+use Rattle.relay_core.specs.{declared.call.Call.{Call as PairCall, TheVariants.{Read, Write, Join, Shut}}, Pairs.PairState, Order.{next_call, offer}, Replies.after}
+use Rattle.readiness.specs.{Machine.{Call, Way, may_call, reads_after}, Delays.{IsOnItsWay, MissesNothing, WillBeTold, is_late}}
+use Rattle.claims.specs.declared.view.Exchange.{Exchange}
+use Rattle.world.specs.{declared.{connection.Connection.Connection, limits.Limits.Limits, event.{Change.{Change, TheVariants.Room}, Reported.Reported}}, Calls.{when, descriptor}}
+use Rattle.interleaving.specs.{Threads.{Act, Call as CallNext, Close, System, Thread, Network, Spurious, Vanish, Poll, Acts, Calls, poller_rests, planned, with_thread}, Likeness.{IsARun, call_of, exchange, exchanges, kind_in}}
+use Rattle.interleaving.specs.Threads as alone
+use Rattle.readiness.specs.Machine as wire
+use Rattle.kernel_model.specs.Kernel as kernel
+use Rattle.kernel_model.specs.declared.reply.Reply.TheVariants as reply
+use Rattle.relay_core.specs.Replies as answer
+use Rattle.world.specs.declared.event.Reported.TheVariants as reported
+
+-- whether a report that names reading was passed on since the wire last looked, and whether it asks its socket for reads
+pub record Wire : Type 0 where
+  pub told : Bool
+  pub reads : Bool
+
+-- a poll in progress: what epoll_wait(2) gave, which of that names reading, and what is not passed on yet
+pub record Polling : Type 0 where
+  pub names : Vec Name Global
+  pub reading : Name → Bool
+  pub left : List Name
+
+-- the threads, over the real kernel; the wires, with the words by which they are told; and the poll that is in progress
+pub record Wired : Type 0 where
+  pub system : System
+  pub wires : Side → Wire
+  pub poll : Option Polling
+
+abbrev pub start : Limits → Wired
+start l = record { system = alone.start l; wires = λ side. record { told = false; reads = true }; poll = None }
+
+-- A step of `System` other than a poll. A poll takes these names out of the kernel's queue, some of which name reading
+-- (`Polled`); passes the first one left on (`Tells`); and at last hands all over (`Handed`). A wire looks at its word. A
+-- wire answers the next call of this thread by itself
+pub data Step : Type 0 where
+  Plain : alone.Step → Step
+  Polled : Vec Name Global → (Name → Bool) → Step
+  Tells : Step
+  Handed : Step
+  Looks : Side → Step
+  Unasked : ℕ → Step
+
+abbrev pub on : {X : Type 0} → Side → X → (Side → X) → Side → X
+on Client x f Client = x
+on Client x f Target = f Target
+on Target x f Client = f Client
+on Target x f Target = x
+
+-- the end on a side of the slot's connection, if there is one
+abbrev pub end_here : System → Side → Option Registered
+end_here st side = option_and_then (λ (ends : Descriptors). end_at st.kernel.ends (descriptor ends side)) st.ends
+
+-- The next call of a thread
+
+pub record Asked : Type 0 where
+  pub thread : Thread
+  pub connection : Connection
+  pub side : Side
+  pub call : Call
+
+abbrev pub asked : Thread → Connection → PairCall → Asked
+asked t c (Read side most) = record { thread = t; connection = c; side = side; call = wire.Read most }
+asked t c (Write side) = record { thread = t; connection = c; side = side; call = wire.Write (offer c.pair side) }
+asked t c (Join side) = record { thread = t; connection = c; side = side; call = wire.Join }
+asked t c (Shut side) = record { thread = t; connection = c; side = side; call = wire.Shut }
+
+abbrev pub asked_by : Thread → List Act → Option Asked
+asked_by t (CallNext ∷ rest) =
+    option_and_then (λ (c : Connection). option_map (λ (call : PairCall). asked t c call) (next_call c.pair)) t.out
+asked_by t todo = None
+
+abbrev pub asks : System → ℕ → Option Asked
+asks st i = option_and_then (λ (t : Thread). asked_by t t.todo) (slice_get st.threads i)
+
+-- Steps
+
+-- the wires after a step that leads to q: one after a call on it, if it may be made; both as a connection opens
+abbrev pub called : (Side → Wire) → Reply → Asked → Option (Side → Wire)
+called wires r a = guard (may_call (wires a.side).reads a.call)
+    (on a.side (record (wires a.side) { reads = reads_after (wires a.side).reads a.call r }) wires)
+
+abbrev pub wires_after : Wired → alone.Step → System → Option (Side → Wire)
+wires_after w (Calls i r) q = option_and_then (called w.wires r) (asks w.system i)
+wires_after w (Poll names) q = None
+wires_after w s q = Some (if is_none w.system.ends && is_some q.ends then λ side. record (w.wires side) { reads = true } else w.wires)
+
+-- while it polls, the poller does nothing else
+abbrev pub plain : Wired → alone.Step → Option Wired
+plain w s = option_and_then (λ (q : System). when (is_none w.poll || poller_rests q)
+    (option_map (λ (wires : Side → Wire). record w { system = q; wires = wires }) (wires_after w s q))) (alone.step w.system s)
+
+-- a report of an end at which there is something to read names reading (epoll_wait(2))
+abbrev pub may_name : System → (Name → Bool) → Name → Bool
+may_name st reading (End n) = not (unwrap_or (option_map (λ (r : Registered). is_readable r.socket) (end_here st n.side)) false) || reading (End n)
+may_name st reading n = true
+
+abbrev pub polled : Wired → Vec Name Global → (Name → Bool) → Option Wired
+polled w names reading = when (is_none w.poll && (poller_rests w.system && (length w.system.batch == 0 && list_all (may_name w.system reading) names.items)))
+    (option_map (λ (k : KernelState). record w { system = record w.system { kernel = k }; poll = Some (record { names = names; reading = reading; left = names.items }) })
+    (kernel.poll w.system.kernel names.items))
+
+-- the word of its side is told, whichever connection has it now
+abbrev pub told : Polling → Name → (Side → Wire) → Side → Wire
+told p (End n) wires = if p.reading (End n) then on n.side (record (wires n.side) { told = true }) wires else wires
+told p n wires = wires
+
+abbrev pub tells : Wired → Polling → List Name → Option Wired
+tells w p [] = None
+tells w p (n ∷ rest) = Some (record w { wires = told p n w.wires; poll = Some (record p { left = rest }) })
+
+abbrev pub handed : Wired → Polling → Option Wired
+handed w p = guard (length p.left == 0) (record w { system = record w.system { batch = p.names.items }; poll = None })
+
+-- what `Calls` with the reply "would block" does to thread and pair
+abbrev pub blocked : System → ℕ → Asked → PairCall → System
+blocked st i a call = with_thread st i (planned st a.thread (a.thread.left - 1) (record a.connection { pair = after st.second a.connection.pair call answer.Blocked }))
+
+abbrev pub unasked : Wired → ℕ → Asked → Option Wired
+unasked w i a = option_and_then (λ (call : PairCall). guard (not (may_call (w.wires a.side).reads a.call) && not (w.wires a.side).told)
+    (record w { system = blocked w.system i a call })) (next_call a.connection.pair)
+
+abbrev pub step : Wired → Step → Option Wired
+step w (Plain s) = plain w s
+step w (Polled names reading) = polled w names reading
+step w Tells = option_and_then (λ (p : Polling). tells w p p.left) w.poll
+step w Handed = option_and_then (λ (p : Polling). handed w p) w.poll
+step w (Looks side) = Some (record w { wires = on side (record { reads = (w.wires side).reads || (w.wires side).told; told = false }) w.wires })
+step w (Unasked i) = option_and_then (λ (a : Asked). unasked w i a) (asks w.system i)
+
+abbrev pub run : Wired → List Step → Option Wired
+run w [] = Some w
+run w (s ∷ steps) = option_and_then (λ (q : Wired). run q steps) (step w s)
+
+-- The same without wires that rest: what is late at each side, and whether the poll in progress was handed over early
+pub record Delay : Type 0 where
+  pub late : Side → List Change
+  pub early : Bool
+
+-- it concerns reading
+abbrev pub is_input : Change → Bool
+is_input Room = false
+is_input change = true
+
+-- and comes while its wire rests
+abbrev pub waits : Wire → Change → Bool
+waits wire change = is_input change && (not wire.reads && not wire.told)
+
+abbrev pub is_close : List Act → Bool
+is_close (Close ∷ rest) = true
+is_close todo = false
+
+abbrev pub closes : System → ℕ → Bool
+closes st i = unwrap_or (option_map (λ (t : Thread). is_close t.todo) (slice_get st.threads i)) false
+
+-- the sides whose late changes come before a step: a wire is told, or is given an error, or both sockets are closed
+abbrev pub sides_told : Polling → List Name → List Side
+sides_told p (End n ∷ rest) = if p.reading (End n) then n.side ∷ [] else []
+sides_told p left = []
+
+abbrev pub catching : Wired → Step → List Side
+catching w (Plain (Calls i (reply.Failed kind))) = unwrap_or (option_map (λ (a : Asked). a.side ∷ []) (asks w.system i)) []
+catching w (Plain (Acts i)) = if closes w.system i then Client ∷ Target ∷ [] else []
+catching w Tells = unwrap_or (option_map (λ (p : Polling). sides_told p p.left) w.poll) []
+catching w s = []
+
+abbrev pub comes : (Side → List Change) → List Side → List alone.Step
+comes late sides = flat_map (λ (side : Side). map (Network side) (late side)) sides
+
+abbrev pub cleared : List Side → (Side → List Change) → Side → List Change
+cleared [] late = late
+cleared (side ∷ sides) late = cleared sides (on side [] late)
+
+-- a poll there, of what may not be queued there
+abbrev pub report_of : Name → alone.Step
+report_of Listener = Spurious reported.Listener
+report_of Waker = Spurious reported.Waker
+report_of (End n) = Spurious (reported.End 0 n.side)
+
+abbrev pub polls : Bool → Option Polling → List alone.Step
+polls false (Some p) = map report_of p.names.items ++ Poll p.names ∷ []
+polls early poll = []
+
+-- What happens there after that. A poll happens as it is handed over, but before the sockets close
+abbrev pub happens : Wired → Delay → Step → List alone.Step
+happens w d (Plain (Network side change)) = if waits (w.wires side) change then [] else Network side change ∷ []
+happens w d (Plain (Vanish who)) = Spurious who ∷ Vanish who ∷ []
+happens w d (Plain (Acts i)) = (if closes w.system i then polls d.early w.poll else []) ++ Acts i ∷ []
+happens w d (Plain s) = s ∷ []
+happens w d Handed = polls d.early w.poll
+happens w d (Unasked i) = Calls i reply.Blocked ∷ []
+happens w d s = []
+
+abbrev pub delay_after : Wired → Delay → Step → Delay
+delay_after w d (Plain (Network side change)) =
+    record d { late = if waits (w.wires side) change then on side (d.late side ++ change ∷ []) d.late else d.late }
+delay_after w d (Plain (Acts i)) = record { late = cleared (catching w (Plain (Acts i))) d.late; early = closes w.system i || d.early }
+delay_after w d (Polled names reading) = record d { early = false }
+delay_after w d s = record d { late = cleared (catching w s) d.late }
+
+abbrev pub none_late : Delay
+none_late = record { late = λ side. []; early = false }
+
+abbrev pub happened : Wired → Delay → List Step → List alone.Step
+happened w d [] = []
+happened w d (s ∷ steps) = comes d.late (catching w s) ++ (happens w d s
+    ++ unwrap_or (option_map (λ (q : Wired). happened q (delay_after w d s) steps) (step w s)) [])
+
+abbrev pub delay : Wired → Delay → List Step → Delay
+delay w d [] = d
+delay w d (s ∷ steps) = unwrap_or (option_map (λ (q : Wired). delay q (delay_after w d s) steps) (step w s)) d
+
+-- The law
+
+-- an end with its wire, as `readiness` has it
+abbrev pub way : Wired → Side → Registered → Way
+way w side r = record {
+  socket = r.socket;
+  queued = has (End r.token) w.system.kernel.queue;
+  taken = unwrap_or (option_map (λ (p : Polling). if has (End r.token) p.left then p.reading (End r.token) ∷ [] else []) w.poll) [];
+  owed = unwrap_or (option_map (λ (p : Polling). has (End r.token) p.names.items && not (has (End r.token) p.left)) w.poll) false;
+  told = (w.wires side).told;
+  reads = (w.wires side).reads;
+}
+
+-- the threads with other sockets, another queue and another batch
+abbrev pub seen_as : System → List (Option Registered) → List Name → List Name → System
+seen_as st ends queue batch = record st { kernel = record st.kernel { ends = ends; queue = queue }; batch = batch }
+
+-- the batch there: a poll in progress may be handed over early
+abbrev pub batch_there : Option Polling → Bool → List Name → List Name
+batch_there (Some p) true batch = p.names.items
+batch_there poll early batch = batch
+
+-- An end, of which this is late, and this queue is there: what is late is told. Nothing is missed. And if its name is queued
+-- there, a report is on its way here
+pub record EndHolds (w : Wired) (side : Side) (late : List Change) (queue : List Name) (r : Registered) : Type 0 where
+  pub coming : late ≢ [] → WillBeTold (way w side r)
+  pub nothing_missed : MissesNothing (way w side r)
+  pub queued : has (End r.token) queue ≡ true → IsOnItsWay (way w side r)
+
+-- steps, calls, changes and exchanges, as `System` has them
+abbrev pub steps_of : Step → List alone.Step
+steps_of (Plain s) = s ∷ []
+steps_of (Unasked i) = Calls i reply.Blocked ∷ []
+steps_of s = []
+
+abbrev pub came_at : Side → alone.Step → List Change
+came_at side (Network other change) = if is_input change && side_number side == side_number other then change ∷ [] else []
+came_at side s = []
+
+abbrev pub exchanges_at : Wired → Step → List Exchange
+exchanges_at w (Plain s) = exchange w.system.word (kind_in w.system s)
+exchanges_at w s = []
+
+abbrev pub words : Wired → List Step → List Exchange
+words w [] = []
+words w (s ∷ steps) = exchanges_at w s ++ unwrap_or (option_map (λ (q : Wired). words q steps) (step w s)) []
+
+-- What happens there (`own`) is a run of `System`, so of the machine, of which the headline holds. It has the same calls with
+-- the same replies, the same exchanges of the slot's word, and the same changes at each end, but that the last may be late. It
+-- leads to the threads as they are, but for queue, batch and sockets. Once what is late has come, the sockets are the same too
+pub record ComeLate (l : Limits) (own : List alone.Step) (steps : List Step) (w : Wired) (d : Delay) : Type 0 where
+  pub seen : System
+  pub leads : alone.run (alone.start l) own ≡ Some seen
+  pub run : IsARun l own seen
+  pub same : seen ≡ seen_as w.system seen.kernel.ends seen.kernel.queue (batch_there w.poll d.early w.system.batch)
+  pub settled : System
+  pub comes : alone.run seen (comes d.late (Client ∷ Target ∷ [])) ≡ Some settled
+  pub sockets : settled.kernel.ends ≡ w.system.kernel.ends
+  pub ends : (side : Side) (r : Registered) → end_here w.system side ≡ Some r → EndHolds w side (d.late side) seen.kernel.queue r
+  pub calls : flat_map call_of own ≡ flat_map call_of (flat_map steps_of steps)
+  pub changes : (side : Side) → flat_map (came_at side) own ++ d.late side ≡ flat_map (came_at side) (flat_map steps_of steps)
+  pub words : exchanges (alone.start l) own ≡ words (start l) steps
+
+abbrev pub WiresComeLate : Type 0
+WiresComeLate = (l : Limits) (steps : List Step) (w : Wired) → l.slots ≡ 1 → run (start l) steps ≡ Some w
+    → ComeLate l (happened (start l) none_late steps) steps w (delay (start l) none_late steps)
