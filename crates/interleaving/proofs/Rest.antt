@@ -91,7 +91,7 @@ start_sound l = record {
 }
 
 module _ (core : CoreLaws) (laws : EveryInterleavingIsARun) (l : Limits) (alone : l.slots ≡ 1) where
-  known_in : (steps : List Step) (st : System) → IsARun l steps st → (i : ℕ) (t : Thread) → slice_get st.threads i ≡ Some t → Known st i t t.todo
+  pub known_in : (steps : List Step) (st : System) → IsARun l steps st → (i : ℕ) (t : Thread) → slice_get st.threads i ≡ Some t → Known st i t t.todo
   known_in steps st r i t there = known st i t r.world r.like (turns_after core l r.made r.world r.allowed) (λ c lies. (r.holds.bytes 0 c lies).open_ends) there
 
   went : (before steps : List Step) (st next : System) → run (start l) before ≡ Some st → Sound l st → run st steps ≡ Some next

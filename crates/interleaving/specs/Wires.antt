@@ -4,7 +4,7 @@
 use Rattle.std.specs.{Prelude.{◌≡◌, ◌≢◌, ℕ, ◌-◌, ◌==◌, Bool, true, false, not, ◌&&◌, ◌||◌, if◌then◌else◌, List, [], ◌∷◌, ◌++◌, length, map, slice_get, Option, Some, None, option_map, option_and_then, unwrap_or, Vec}, Global.Global, Option.{is_none, is_some}, List.{flat_map, list_all}}
 use Rattle.token.specs.{declared.{side.Side.{Side, TheVariants.{Client, Target}}, name.Name.{Name, TheVariants.{Listener, Waker, End}}}, Names.EndName, Sides.side_number}
 use Rattle.kernel_model.specs.{declared.{reply.Reply.Reply, both.Descriptors.Descriptors}, Outcome.guard, Ends.{EndState, is_readable}, Kernel.{KernelState, Registered, end_at}, Names.has}
-use Rattle.relay_core.specs.{declared.call.Call.{Call as PairCall, TheVariants.{Read, Write, Join, Shut}}, Pairs.PairState, Order.{next_call, offer}, Replies.after}
+use Rattle.relay_core.specs.{declared.call.Call.{Call as PairCall, TheVariants.{Read, Write, Join, Shut}}, Pairs.PairState, Calls.side_of, Order.{next_call, offer}, Replies.after}
 use Rattle.readiness.specs.{Machine.{Call, Way, may_call, reads_after}, Delays.{IsOnItsWay, MissesNothing, WillBeTold, is_late}}
 use Rattle.claims.specs.declared.view.Exchange.{Exchange}
 use Rattle.world.specs.{declared.{connection.Connection.Connection, limits.Limits.Limits, event.{Change.{Change, TheVariants.Room}, Reported.Reported}}, Calls.{when, descriptor}}
@@ -62,18 +62,17 @@ end_here st side = option_and_then (λ (ends : Descriptors). end_at st.kernel.en
 pub record Asked : Type 0 where
   pub thread : Thread
   pub connection : Connection
-  pub side : Side
-  pub call : Call
+  pub asks : PairCall
 
-abbrev pub asked : Thread → Connection → PairCall → Asked
-asked t c (Read side most) = record { thread = t; connection = c; side = side; call = wire.Read most }
-asked t c (Write side) = record { thread = t; connection = c; side = side; call = wire.Write (offer c.pair side) }
-asked t c (Join side) = record { thread = t; connection = c; side = side; call = wire.Join }
-asked t c (Shut side) = record { thread = t; connection = c; side = side; call = wire.Shut }
+abbrev pub as_call : PairState → PairCall → Call
+as_call p (Read side most) = wire.Read most
+as_call p (Write side) = wire.Write (offer p side)
+as_call p (Join side) = wire.Join
+as_call p (Shut side) = wire.Shut
 
 abbrev pub asked_by : Thread → List Act → Option Asked
-asked_by t (CallNext ∷ rest) =
-    option_and_then (λ (c : Connection). option_map (λ (call : PairCall). asked t c call) (next_call c.pair)) t.out
+asked_by t (CallNext ∷ rest) = option_and_then (λ (c : Connection).
+    option_map (λ (call : PairCall). record { thread = t; connection = c; asks = call }) (next_call c.pair)) t.out
 asked_by t todo = None
 
 abbrev pub asks : System → ℕ → Option Asked
@@ -81,15 +80,21 @@ asks st i = option_and_then (λ (t : Thread). asked_by t t.todo) (slice_get st.t
 
 -- Steps
 
+-- the wires of a new connection: what was told of an earlier one may still stand
+abbrev pub fresh : (Side → Wire) → Side → Wire
+fresh wires side = record (wires side) { reads = true }
+
 -- the wires after a step that leads to q: one after a call on it, if it may be made; both as a connection opens
 abbrev pub called : (Side → Wire) → Reply → Asked → Option (Side → Wire)
-called wires r a = guard (may_call (wires a.side).reads a.call)
-    (on a.side (record (wires a.side) { reads = reads_after (wires a.side).reads a.call r }) wires)
+called wires r a =
+    let side : Side = side_of a.asks in
+    let call : Call = as_call a.connection.pair a.asks in
+    guard (may_call (wires side).reads call) (on side (record (wires side) { reads = reads_after (wires side).reads call r }) wires)
 
 abbrev pub wires_after : Wired → alone.Step → System → Option (Side → Wire)
 wires_after w (Calls i r) q = option_and_then (called w.wires r) (asks w.system i)
 wires_after w (Poll names) q = None
-wires_after w s q = Some (if is_none w.system.ends && is_some q.ends then λ side. record (w.wires side) { reads = true } else w.wires)
+wires_after w s q = Some (if is_none w.system.ends && is_some q.ends then fresh w.wires else w.wires)
 
 -- while it polls, the poller does nothing else
 abbrev pub plain : Wired → alone.Step → Option Wired
@@ -98,12 +103,17 @@ plain w s = option_and_then (λ (q : System). when (is_none w.poll || poller_res
 
 -- a report of an end at which there is something to read names reading (epoll_wait(2))
 abbrev pub may_name : System → (Name → Bool) → Name → Bool
-may_name st reading (End n) = not (unwrap_or (option_map (λ (r : Registered). is_readable r.socket) (end_here st n.side)) false) || reading (End n)
+may_name st reading (End n) =
+    not (unwrap_or (option_map (λ (r : Registered). is_readable r.socket) (end_here st n.side)) false) || reading (End n)
 may_name st reading n = true
 
 abbrev pub polled : Wired → Vec Name Global → (Name → Bool) → Option Wired
-polled w names reading = when (is_none w.poll && (poller_rests w.system && (length w.system.batch == 0 && list_all (may_name w.system reading) names.items)))
-    (option_map (λ (k : KernelState). record w { system = record w.system { kernel = k }; poll = Some (record { names = names; reading = reading; left = names.items }) })
+polled w names reading =
+    when (is_none w.poll && (poller_rests w.system && (length w.system.batch == 0 && list_all (may_name w.system reading) names.items)))
+    (option_map (λ (k : KernelState). record w {
+      system = record w.system { kernel = k };
+      poll = Some (record { names = names; reading = reading; left = names.items });
+    })
     (kernel.poll w.system.kernel names.items))
 
 -- the word of its side is told, whichever connection has it now
@@ -119,19 +129,23 @@ abbrev pub handed : Wired → Polling → Option Wired
 handed w p = guard (length p.left == 0) (record w { system = record w.system { batch = p.names.items }; poll = None })
 
 -- what `Calls` with the reply "would block" does to thread and pair
-abbrev pub blocked : System → ℕ → Asked → PairCall → System
-blocked st i a call = with_thread st i (planned st a.thread (a.thread.left - 1) (record a.connection { pair = after st.second a.connection.pair call answer.Blocked }))
+abbrev pub blocked : System → ℕ → Asked → System
+blocked st i a = with_thread st i (planned st a.thread (a.thread.left - 1)
+    (record a.connection { pair = after st.second a.connection.pair a.asks answer.Blocked }))
 
+-- only a read is answered so, by a wire that does not read and was not told
 abbrev pub unasked : Wired → ℕ → Asked → Option Wired
-unasked w i a = option_and_then (λ (call : PairCall). guard (not (may_call (w.wires a.side).reads a.call) && not (w.wires a.side).told)
-    (record w { system = blocked w.system i a call })) (next_call a.connection.pair)
+unasked w i a =
+    let it : Wire = w.wires (side_of a.asks) in
+    guard (not (may_call it.reads (as_call a.connection.pair a.asks)) && not it.told) (record w { system = blocked w.system i a })
 
 abbrev pub step : Wired → Step → Option Wired
 step w (Plain s) = plain w s
 step w (Polled names reading) = polled w names reading
 step w Tells = option_and_then (λ (p : Polling). tells w p p.left) w.poll
 step w Handed = option_and_then (λ (p : Polling). handed w p) w.poll
-step w (Looks side) = Some (record w { wires = on side (record { reads = (w.wires side).reads || (w.wires side).told; told = false }) w.wires })
+step w (Looks side) =
+    Some (record w { wires = on side (record { reads = (w.wires side).reads || (w.wires side).told; told = false }) w.wires })
 step w (Unasked i) = option_and_then (λ (a : Asked). unasked w i a) (asks w.system i)
 
 abbrev pub run : Wired → List Step → Option Wired
@@ -165,7 +179,7 @@ sides_told p (End n ∷ rest) = if p.reading (End n) then n.side ∷ [] else []
 sides_told p left = []
 
 abbrev pub catching : Wired → Step → List Side
-catching w (Plain (Calls i (reply.Failed kind))) = unwrap_or (option_map (λ (a : Asked). a.side ∷ []) (asks w.system i)) []
+catching w (Plain (Calls i (reply.Failed kind))) = unwrap_or (option_map (λ (a : Asked). side_of a.asks ∷ []) (asks w.system i)) []
 catching w (Plain (Acts i)) = if closes w.system i then Client ∷ Target ∷ [] else []
 catching w Tells = unwrap_or (option_map (λ (p : Polling). sides_told p p.left) w.poll) []
 catching w s = []
@@ -275,9 +289,6 @@ pub record ComeLate (l : Limits) (own : List alone.Step) (steps : List Step) (w 
   pub comes : alone.run seen (comes d.late (Client ∷ Target ∷ [])) ≡ Some settled
   pub sockets : settled.kernel.ends ≡ w.system.kernel.ends
   pub ends : (side : Side) (r : Registered) → end_here w.system side ≡ Some r → EndHolds w side (d.late side) seen.kernel.queue r
-  pub calls : flat_map call_of own ≡ flat_map call_of (flat_map steps_of steps)
-  pub changes : (side : Side) → flat_map (came_at side) own ++ d.late side ≡ flat_map (came_at side) (flat_map steps_of steps)
-  pub words : exchanges (alone.start l) own ≡ words (start l) steps
 
 abbrev pub WiresComeLate : Type 0
 WiresComeLate = (l : Limits) (steps : List Step) (w : Wired) → l.slots ≡ 1 → run (start l) steps ≡ Some w

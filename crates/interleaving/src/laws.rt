@@ -1,6 +1,6 @@
 //! What holds for every interleaving. The functions do nothing: the contract of each is the law that it is named after.
 ghost use Rattle.world.specs.CoreLaws.{CoreLaws};
-ghost use Rattle.interleaving.specs.{Likeness.{EveryInterleavingIsARun, EveryStepIsFollowed}, Rest.{LeftAloneItEnds, LeftAloneItRests}, Slots.SlotsStandApart, Threads.ProgramsAreThese, Whole.ServersComeToRest};
+ghost use Rattle.interleaving.specs.{Likeness.{EveryInterleavingIsARun, EveryStepIsFollowed}, Rest.{LeftAloneItEnds, LeftAloneItRests}, Slots.SlotsStandApart, Threads.ProgramsAreThese, Whole.ServersComeToRest, Wires.WiresComeLate};
 
 use relay_core::laws;
 
@@ -68,6 +68,18 @@ pub fn servers_come_to_rest()
 {
     every_interleaving_is_a_run();
     left_alone_it_ends();
+}
+
+/// The same over wires that rest. What the threads at a slot do, when each wire answers reads by itself after one that would
+/// block, until a report that names reading is passed on to it, is a run of the threads without such wires, and so of the
+/// machine, in which what comes meanwhile is late. It comes just before the wire is told of it or is given an error, or
+/// before the sockets are closed. Calls and replies and the exchanges of the slot's word are the same, in order. And no wire
+/// misses anything: what is late, or will come, is reported to it.
+pub fn wires_come_late()
+    ensures { WiresComeLate }
+{
+    rests_on_core();
+    every_interleaving_is_a_run();
 }
 
 /// The core's laws for every pair, on which the laws above depend.

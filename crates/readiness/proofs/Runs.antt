@@ -7,7 +7,7 @@ use Rattle.token.specs.declared.{side.Side.Side, kind.Kind.Kind}
 use Rattle.kernel_model.specs.declared.reply.Reply.TheVariants as reply
 
 -- what a test let through
-guarded : {X : Type 0} (b : Bool) (x y : X) → guard b x ≡ Some y → (b ≡ true) × (y ≡ x)
+pub guarded : {X : Type 0} (b : Bool) (x y : X) → guard b x ≡ Some y → (b ≡ true) × (y ≡ x)
 guarded true x y h = (refl, cc)
 guarded false x y h = cc
 
@@ -16,7 +16,7 @@ allowed b x h = rw h refl
 
 -- ---- the socket once these have come
 
-data Settles : EndState → List Change → EndState → Type 0 where
+pub data Settles : EndState → List Change → EndState → Type 0 where
   Settled : {e : EndState} → Settles e [] e
   After : {e f : EndState} {c : Change} {late : List Change} (t : Told EndState Bool) → change_of e c ≡ Some t → Settles t.value late f → Settles e (c ∷ late) f
 
@@ -26,22 +26,22 @@ settle_more c t Settled is = After t is Settled
 settle_more c t (After u first rest) is = After u first (settle_more c t rest is)
 
 -- while nothing is late, the two sockets are one
-same_socket : {e f : EndState} {late : List Change} → Settles e late f → late ≡ [] → e ≡ f
+pub same_socket : {e f : EndState} {late : List Change} → Settles e late f → late ≡ [] → e ≡ f
 same_socket Settled none = refl
 same_socket (After t is rest) none = cc
 
 -- What is late concerns reading: the fields of the other direction are the same before and after, if no error is late
-record IsBeside (f e : EndState) : Type 0 where
-  room : e.room ≡ f.room
-  err : f.err ≡ false → e.err ≡ false
-  write_armed : f.err ≡ false → e.write_armed ≡ f.write_armed
+pub record IsBeside (f e : EndState) : Type 0 where
+  pub room : e.room ≡ f.room
+  pub err : f.err ≡ false → e.err ≡ false
+  pub write_armed : f.err ≡ false → e.write_armed ≡ f.write_armed
 
 beside_one : (c : Change) (e : EndState) (t : Told EndState Bool) → change_of e c ≡ Some t → IsBeside t.value e
 beside_one (Bytes bytes) e t is = rw (guarded _ _ t is).1 (search)
 beside_one Fin e t is = rw (guarded _ _ t is).1 (search)
 beside_one Error e t is = rw (guarded _ _ t is).1 (record { room = refl; err = λ h. cc; write_armed = λ h. cc })
 
-is_beside : {e f : EndState} {late : List Change} → Settles e late f → IsBeside f e
+pub is_beside : {e f : EndState} {late : List Change} → Settles e late f → IsBeside f e
 is_beside Settled = search
 is_beside (After {e = e} {c = c} t is rest) =
     let a = beside_one c e t is in
@@ -107,51 +107,51 @@ caught was (After {c = c} t is rest) =
 -- ---- what every step keeps, of a wire's socket and of the same socket where no wire answers by itself
 
 -- there is nothing to read, and the system reports what comes next
-record Rests (e : EndState) : Type 0 where
-  empty : is_readable e ≡ false
-  armed : e.read_armed ≡ true
+pub record Rests (e : EndState) : Type 0 where
+  pub empty : is_readable e ≡ false
+  pub armed : e.read_armed ≡ true
 
 -- the wire does not read, and there is something to read, whose report will be passed on to it
-record Asleep (w : Way) : Type 0 where
-  reads : w.reads ≡ false
-  told : w.told ≡ false
-  readable : is_readable w.socket ≡ true
-  coming : WillBeTold w
+pub record Asleep (w : Way) : Type 0 where
+  pub reads : w.reads ≡ false
+  pub told : w.told ≡ false
+  pub readable : is_readable w.socket ≡ true
+  pub coming : WillBeTold w
 
 -- nothing is late but while the wire is asleep
-data Waits (w : Way) (late : List Change) : Type 0 where
+pub data Waits (w : Way) (late : List Change) : Type 0 where
   Prompt : late ≡ [] → Waits w late
   Behind : Asleep w → Waits w late
 
-prompt : {w : Way} {late : List Change} → (Asleep w → ⊥) → Waits w late → late ≡ []
+pub prompt : {w : Way} {late : List Change} → (Asleep w → ⊥) → Waits w late → late ≡ []
 prompt awake (Prompt none) = none
 prompt awake (Behind asleep) = absurd (awake asleep)
 
-record Held (w : Way) (late : List Change) (s : Seen) : Type 0 where
-  due : Settles s.socket late w.socket
-  waits : Waits w late
-  rests : w.reads ≡ false → w.told ≡ false → Rests s.socket
-  queued : s.queued ≡ true → IsOnItsWay w
-  owed : w.owed ≡ true → s.queued ≡ true
+pub record Held (w : Way) (late : List Change) (s : Seen) : Type 0 where
+  pub due : Settles s.socket late w.socket
+  pub waits : Waits w late
+  pub rests : w.reads ≡ false → w.told ≡ false → Rests s.socket
+  pub queued : s.queued ≡ true → IsOnItsWay w
+  pub owed : w.owed ≡ true → s.queued ≡ true
 
 -- A step, after which the wire's socket is as in v: what happens where no wire answers by itself may happen there, and
 -- the same is kept
-record Goes (v : Way) (s : Seen) (late later : List Change) (happens : List Event) (made : Step) : Type 0 where
-  next : Seen
-  came : List Change
-  shows : (more : List Event) → shown s (happens ++ more) ≡ (events next more, answer_of made ++ replies_in more, came ++ came_in more)
-  changes : came ++ later ≡ late ++ change_in made
-  kept : Held v later next
+pub record Goes (v : Way) (s : Seen) (late later : List Change) (happens : List Event) (made : Step) : Type 0 where
+  pub next : Seen
+  pub came : List Change
+  pub shows : (more : List Event) → shown s (happens ++ more) ≡ (events next more, answer_of made ++ replies_in more, came ++ came_in more)
+  pub changes : came ++ later ≡ late ++ change_in made
+  pub kept : Held v later next
 
-some_is : {X : Type 0} {x y : X} → Some x ≡ Some y → y ≡ x
+pub some_is : {X : Type 0} {x y : X} → Some x ≡ Some y → y ≡ x
 some_is h = cc
 
 -- the value that became this one
-mapped : {X Y Z : Type 0} (f : X → Y) (o : Option X) (y : Y) → option_map f o ≡ Some y → ((x : X) → o ≡ Some x → y ≡ f x → Z) → Z
+pub mapped : {X Y Z : Type 0} (f : X → Y) (o : Option X) (y : Y) → option_map f o ≡ Some y → ((x : X) → o ≡ Some x → y ≡ f x → Z) → Z
 mapped f None y h next = cc
 mapped f (Some x) y h next = next x refl (some_is h)
 
-both_down : (a b : Bool) → (not a && not b) ≡ true → (a ≡ false) × (b ≡ false)
+pub both_down : (a b : Bool) → (not a && not b) ≡ true → (a ≡ false) × (b ≡ false)
 both_down a b h = (not-true a (first_so (not a) (not b) h), not-true b (second_so (not a) (not b) h))
 
 -- ---- reports on their way
@@ -192,7 +192,7 @@ heard (Bytes bytes) e t h =
 heard Fin e t h = rw (guarded _ _ t h).1 (record { readable = or_right (is_nonempty e.unread) true refl; told = λ armed. armed })
 heard Error e t h = rw (guarded _ _ t h).1 (record { readable = or_right (is_nonempty e.unread) _ (or_right e.fin true refl); told = or_left e.read_armed e.write_armed })
 
-failed_reads : (reads : Bool) (call : Call) (kind : Kind) → reads_after reads call (reply.Failed kind) ≡ true
+pub failed_reads : (reads : Bool) (call : Call) (kind : Kind) → reads_after reads call (reply.Failed kind) ≡ true
 failed_reads reads (Read most) kind = refl
 failed_reads reads _ kind = refl
 
@@ -439,7 +439,7 @@ module _ {w : Way} {late : List Change} {s : Seen} (held : Held w late s) where
   calls Shut reply.Shut may is = tested Shut reply.Shut closed (λ _. true) is (λ t. (inl refl, refl)) (λ _. refl)
   calls call r may is = cc
 
-  goes : (v : Way) (made : Step) → step w made ≡ Some v → Goes v s late (late_after w late made) (meanwhile w late made) made
+  pub goes : (v : Way) (made : Step) → step w made ≡ Some v → Goes v s late (late_after w late made) (meanwhile w late made) made
   goes v (Comes change) h = mapped _ _ v h (λ t is after. rw after (comes change t is (is_late w) refl))
   goes v HasRoom h = mapped _ _ v h (λ t is after. has_room v t is after)
   -- a report without cause
@@ -523,7 +523,7 @@ from_opening side told steps w h = went steps (opening side told) w [] (unseen s
   owed = λ o. cc;
 }) h
 
-will_be_told : {w : Way} {late : List Change} → Waits w late → late ≢ [] → WillBeTold w
+pub will_be_told : {w : Way} {late : List Change} → Waits w late → late ≢ [] → WillBeTold w
 will_be_told (Prompt none) some = absurd (some none)
 will_be_told (Behind asleep) some = asleep.coming
 
@@ -540,7 +540,7 @@ wires_are_delayed side told steps w h =
       caught_up = same_socket r.kept.due;
     }
 
-misses_nothing : {w : Way} {late : List Change} {s : Seen} → Held w late s → Waits w late → MissesNothing w
+pub misses_nothing : {w : Way} {late : List Change} {s : Seen} → Held w late s → Waits w late → MissesNothing w
 misses_nothing held (Prompt none) reads told =
     let r = held.rests reads told in
     let same = same_socket held.due none in

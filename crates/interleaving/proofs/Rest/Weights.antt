@@ -198,7 +198,7 @@ not_so b h = grind arith
 
 -- A poll: each name that it gives leaves the queue
 
-same_is : (n m : Name) → same n m ≡ true → n ≡ m
+pub same_is : (n m : Name) → same n m ≡ true → n ≡ m
 same_is n m h = grind (arith, same_end_is)
 
 pub same_self : (n : Name) → same n n ≡ true

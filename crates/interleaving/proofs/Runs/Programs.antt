@@ -350,7 +350,7 @@ slot_calls now p k c r line is made = rw (is, made) refl
 
 -- Before a slot is opened it is free: nobody has anything to do with it
 
-none_by : (h : Holder) (o : Option Connection) → h ≡ Free → is_shaped h (is_some o) ≡ true → o ≡ None
+pub none_by : (h : Holder) (o : Option Connection) → h ≡ Free → is_shaped h (is_some o) ≡ true → o ≡ None
 none_by h o is shape = grind arith
 
 no_tickets : (xs : List ℕ) → total (of_slot 0) (map ticket xs) ≡ 0 → xs ≡ []

@@ -1,0 +1,134 @@
+-- The threads at one slot over wires that rest are the threads without such wires, where what is late comes later.
+pub mod Turns
+pub use Turns.*
+use Rattle.std.proofs.Common.{Contains}
+use Rattle.readiness.{specs.{Delays.{IsOnItsWay, MissesNothing, WillBeTold}}, proofs.Runs.{misses_nothing, will_be_told}}
+use Rattle.world.{proofs.Headline.Ends.Pairs.Holders.{Turns as HasTurns, first_free, turns_after}, specs.{CoreLaws.{CoreLaws}, Slots.{SlotState, WorkerState}, States.State, declared.limits.Limits.{Limits}}}
+use Rattle.interleaving.specs.{Likeness.{EveryInterleavingIsARun, IsHalfOpen, IsSettled, Like, Settled, machine_of, opened_slot}, Wires.{ComeLate, EndHolds, WiresComeLate, delay, happened, none_late, start, way}}
+use Rattle.interleaving.proofs.{Rest.{known_in}, Runs.{count_free, Programs.{none_by}}}
+
+-- while a slot is free, it has no connection
+
+free_settled : (st : System) (p : SlotState) (workers : List WorkerState) → Settled st p workers → HasTurns (machine_of st p st.entry st.tickets workers) → (n : ℕ) → st.free ≡ suc n → st.ends ≡ None
+free_settled st p workers set turns n some =
+    let unused = first_free (machine_of st p st.entry st.tickets workers) 0 p refl (rw some refl) turns in
+    set.ends ∙ ap (option_map (λ (c : Connection). c.ends)) (none_by p.holder p.connection unused.holder (turns.each 0 p refl).shape)
+
+free_none : (st : System) (w : State) → Like st w → HasTurns w → (n : ℕ) → st.free ≡ n → 1 ≤ n → st.ends ≡ None
+free_none st w like turns zero is some = absurd (omega arith)
+free_none st w (IsSettled p workers is set) turns (suc n) free some = free_settled st p workers set (rw is at turns) n free
+free_none st w (IsHalfOpen t c workers is half) turns (suc n) free some =
+    let now : HasTurns (machine_of st (opened_slot t.generation c) t.generation (t.generation ∷ []) workers) = rw is at turns in
+    absurd (omega (arith, (now.each 0 (opened_slot t.generation c) refl).gone, count_free st.free, free))
+
+-- A list of steps
+
+record Went (w : Wired) (d : Delay) (e : List (Option Registered)) (q : List Name) (steps : List wired.Step) (to : Wired) : Type 0 where
+  there : List (Option Registered)
+  queue : List Name
+  leads : run (seen_as w.system e q (batch_there w.poll d.early w.system.batch)) (happened w d steps)
+      ≡ Some (seen_as to.system there queue (batch_there to.poll (delay w d steps).early to.system.batch))
+  joined : Joined (rim to.system) to.wires to.poll (delay w d steps) there queue
+
+module _ (core : CoreLaws) (law : EveryInterleavingIsARun) (l : Limits) (one : l.slots ≡ 1) where
+  went : (steps : List wired.Step) (w to : Wired) (d : Delay) (e : List (Option Registered)) (q : List Name) → Joined (rim w.system) w.wires w.poll d e q
+      → (is_none w.poll || poller_rests w.system) ≡ true → (made : List alone.Step) → run (alone.start l) made ≡ Some (seen_as w.system e q (batch_there w.poll d.early w.system.batch))
+      → wired.run w steps ≡ Some to → Went w d e q steps to
+  went [] w to d e q j rested made ran h = rw (some_is h) (record { there = e; queue = q; leads = refl; joined = j })
+  went (x ∷ steps) w to d e q j rested made ran h = option_and_then_some (λ (v : Wired). wired.run v steps) (wired.step w x) to h (λ v is rest.
+      let before = seen_as w.system e q (batch_there w.poll d.early w.system.batch) in
+      let r = law l made before one ran in
+      let free = free_none before r.world r.like (turns_after core l r.made r.world r.allowed) before.free refl in
+      let next = step_next w d e q j rested (known_in core law l one made before r) free x v is in
+      let led = next.0 in
+      let own = comes d.late (catching w x) ++ happens w d x in
+      let more = went steps v to (delay_after w d x) led.there led.queue led.joined next.1 (made ++ own) (run_on made own (alone.start l) before ran ∙ led.leads) rest in
+      record {
+        there = more.there;
+        queue = more.queue;
+        leads = rw (is, sym (append_assoc (comes d.late (catching w x)) (happens w d x) (happened v (delay_after w d x) steps)))
+            (run_on own (happened v (delay_after w d x) steps) before _ led.leads ∙ more.leads);
+        joined = rw is more.joined;
+      })
+
+-- What is so after any list of steps
+
+-- a report that is coming will be told
+coming_told_way : (w : Wired) (side : Side) (r : Registered) → coming w.system.kernel.queue w.poll (End r.token) ≡ true → WillBeTold (way w side r)
+coming_told_way w side r h = elim (or_cases (has (End r.token) w.system.kernel.queue) (soon w.poll (End r.token)) h) [ inl queued ↦ inl queued | inr later ↦ inr (by w.poll later) ]
+  where
+    by : (poll : Option Polling) → soon poll (End r.token) ≡ true
+        → Contains (unwrap_or (option_map (λ (p : Polling). if has (End r.token) p.left then p.reading (End r.token) ∷ [] else []) poll) []) true
+    by None later = cc
+    by (Some p) later = let parts = and_parts (has (End r.token) p.left) (p.reading (End r.token)) later in rw parts.0 (0, omega arith, parts.1)
+
+on_way_way : (w : Wired) (early : Bool) (side : Side) (r : Registered) → (has (End r.token) w.system.kernel.queue || in_poll early w.poll (End r.token)) ≡ true → IsOnItsWay (way w side r)
+on_way_way w early side r h = elim (or_cases (has (End r.token) w.system.kernel.queue) (in_poll early w.poll (End r.token)) h) [ inl queued ↦ inl queued | inr taken ↦ inr (by early w.poll taken) ]
+  where
+    by : (early : Bool) (poll : Option Polling) → in_poll early poll (End r.token) ≡ true
+        → (unwrap_or (option_map (λ (p : Polling). if has (End r.token) p.left then p.reading (End r.token) ∷ [] else []) poll) [] ≢ [])
+        ⊎ (unwrap_or (option_map (λ (p : Polling). has (End r.token) p.names.items && not (has (End r.token) p.left)) poll) false ≡ true)
+    by false (Some p) taken = left (has (End r.token) p.left) taken
+      where
+        left : (b : Bool) → has (End r.token) p.names.items ≡ true → ((if b then p.reading (End r.token) ∷ [] else []) ≢ []) ⊎ ((has (End r.token) p.names.items && not b) ≡ true)
+        left true taken = inl (λ e. cc)
+        left false taken = inr (rw taken refl)
+    by false None taken = cc
+    by true poll taken = cc
+
+-- of an end, with its wire
+end_holds : (w : Wired) (g : ℕ) (e x : EndState) (side : Side) (late : List Change) (queue : List Name) (early : Bool) → EndOk e (coming w.system.kernel.queue w.poll (End (token g side))) (w.wires side) late x
+    → ((n : Name) → has n queue ≡ true → (has n w.system.kernel.queue || in_poll early w.poll n) ≡ true) → EndHolds w side late queue (record { token = token g side; socket = e })
+end_holds w g e x side late queue early ok on_way =
+    let r : Registered = record { token = token g side; socket = e } in
+    let b = coming w.system.kernel.queue w.poll (End r.token) in
+    record {
+      coming = λ some. coming_told_way w side r (told_soon e b (w.wires side) (will_be_told ok.held.waits (λ none. some (no_inputs late none))));
+      nothing_missed = λ reads told. (let it = misses_nothing ok.held ok.held.waits reads told in
+        record { armed = it.armed; coming = λ some. coming_told_way w side r (told_soon e b (w.wires side) (it.coming some)) });
+      queued = λ had. on_way_way w early side r (on_way (End r.token) had);
+    }
+
+-- once all that is late has come
+record Caught_up (w : Wired) (d : Delay) (e : List (Option Registered)) (q b : List Name) : Type 0 where
+  queue : List Name
+  comes_all : run (seen_as w.system e q b) (comes d.late (Client ∷ Target ∷ [])) ≡ Some (seen_as w.system w.system.kernel.ends queue b)
+
+module _ (w : Wired) (d : Delay) (e : List (Option Registered)) (q b : List Name) where
+  caught_up : {o : Option ℕ} → Both (rim w.system) w.wires w.poll d.late e o → Caught_up w d e q b
+  caught_up (Away ends real empty late) = record { queue = q; comes_all = rw (late Client, late Target, real) refl }
+  caught_up (Opened {g} f s ends real as_seen oks) =
+      let c1 = comes_at w.system g s q b Client (f Client) (d.late Client) ends (oks Client).may (oks Client).held.due in
+      let c2 = comes_at w.system g (on Client (f Client) s) c1.queue b Target (f Target) (d.late Target) ends (oks Target).may (oks Target).held.due in
+      record {
+        queue = c2.queue;
+        comes_all = rw (as_seen, append-nil (map (Network Target) (d.late Target))) (run_on (map (Network Client) (d.late Client)) _ _ _ c1.leads ∙ c2.leads)
+            ∙ ap (λ (sockets : List (Option Registered)). Some (seen_as w.system sockets c2.queue b)) (sym real);
+      }
+
+  ends_hold : {o : Option ℕ} → Both (rim w.system) w.wires w.poll d.late e o → ((n : Name) → has n q ≡ true → (has n w.system.kernel.queue || in_poll d.early w.poll n) ≡ true)
+      → (side : Side) (r : Registered) → end_here w.system side ≡ Some r → EndHolds w side (d.late side) q r
+  ends_hold (Away ends real empty late) on_way side r is = let never = rw ends at is in cc
+  ends_hold (Opened {g} f s ends real as_seen oks) on_way side r is =
+      let here : end_here w.system side ≡ Some (record { token = token g side; socket = f side }) = rw (ends, real) (end_as g f side) in
+      let same : r ≡ record { token = token g side; socket = f side } = some_is (sym here ∙ is) in
+      rw same (end_holds w g (f side) (s side) side (d.late side) q d.early (oks side) on_way)
+
+pub wires_come_late : CoreLaws → EveryInterleavingIsARun → WiresComeLate
+wires_come_late core law l steps w one ran =
+    let first : Joined (rim (alone.start l)) (start l).wires None none_late [] [] =
+    record { generation = None; ends = Away refl refl (inl refl) (λ side. refl); known = record { each = λ n h. cc }; polls = Idle; on_way = λ n h. cc } in
+    let it = went core law l one steps (start l) w none_late [] [] first refl [] refl ran in
+    let d = delay (start l) none_late steps in
+    let b = batch_there w.poll d.early w.system.batch in
+    let up = caught_up w d it.there it.queue b it.joined.ends in
+    record {
+      seen = seen_as w.system it.there it.queue b;
+      leads = it.leads;
+      run = law l (happened (start l) none_late steps) (seen_as w.system it.there it.queue b) one it.leads;
+      same = refl;
+      settled = seen_as w.system w.system.kernel.ends up.queue b;
+      comes = up.comes_all;
+      sockets = refl;
+      ends = ends_hold w d it.there it.queue b it.joined.ends it.joined.on_way;
+    }

@@ -1,0 +1,541 @@
+-- The two ends of the slot's connection over wires that rest, and the same ends where what is late has not come: what the
+-- kernel does at one of them, and what is kept of both.
+pub use Rattle.std.{proofs.{Common.{◌≡◌, ◌≢◌, ◌⊎◌, Bool, true, false, not, ◌&&◌, ◌||◌, ◌==◌, if◌then◌else◌, List, [], ◌∷◌, ◌++◌, ℕ, map, length, Option, Some, None, option_map, option_and_then, refl, ap, ◌∙◌, sym, inl, inr, nat_le, nat_lt, arith, Contains}, lemmas.{Bool.{and_parts, cases_eq, or_left, or_right, or_cases}, List.map-append, Option.{option_and_then_some, same_Some}}}, specs.{Cmp.{first_so, second_so}, List.{filter, list_all}, Option.{is_none, is_some}}}
+pub use Rattle.token.specs.{Names.EndName, declared.{name.Name.{Name, TheVariants.{End, Listener, Waker}}, side.Side.{Side, TheVariants.{Client, Target}}}}
+pub use Rattle.kernel_model.specs.{Ends.{EndState, arrival, failure, finish, is_readable, is_writable, new_room, opened}, Kernel.{KernelState, Registered, changed, close_both, end_at, open_both, reported}, Names.{are_distinct, has, same, with_name, without_name, without_names}, Outcome.{Told, guard}, declared.{both.{Descriptors.Descriptors, Sockets.Sockets}, reply.Reply.Reply}}
+pub use Rattle.readiness.{specs.{Machine.{Call, Change as Input, Way, after_call, change_of, may_call, reads_after}, Delays.{Called, Seen, at_call, WillBeTold, late_call}}, proofs.Runs.{After, Asleep, Behind, Held, Prompt, Settled, both_down, goes, is_beside, mapped, Settles, Waits, guarded, prompt, same_socket, some_is, will_be_told}}
+pub use Rattle.world.{proofs.Headline.Ends.Pairs.Holders.Events.Lists.{has_reported, has_with, has_without, reported_has}, specs.{Calls.{descriptor, when}, Steps.change_at, declared.event.{Change.{Change, TheVariants.{Arrive, Fin, Reset, Room}}, Reported.Reported}}}
+pub use Rattle.interleaving.specs.{Threads.{Network, Spurious, System, Vanish, over_kernel, step, run}, Wires.{Delay, Polling, Wire, comes, end_here, is_input, on, report_of, seen_as, waits}}
+pub use Rattle.interleaving.proofs.Rest.Weights.{same_is, same_self}
+pub use Rattle.interleaving.specs.Threads as alone
+pub use Rattle.kernel_model.specs.Kernel as kernel
+pub use Rattle.readiness.specs.Machine as machine
+pub use Rattle.kernel_model.specs.declared.reply.Reply.TheVariants as reply
+pub use Rattle.world.specs.declared.event.Reported.TheVariants as reports
+
+-- Names
+
+pub has_filter : (n : Name) (p : Name → Bool) (xs : List Name) → has n (filter p xs) ≡ true → (has n xs ≡ true) × (p n ≡ true)
+has_filter n p [] h = cc
+has_filter n p (x ∷ xs) h = let rest = has_filter n p xs in let is = same_is n x in grind arith
+
+pub still_has : (n : Name) (p : Name → Bool) (xs : List Name) → has n xs ≡ true → p n ≡ true → has n (filter p xs) ≡ true
+still_has n p [] h passes = cc
+still_has n p (x ∷ xs) h passes = let rest = still_has n p xs in let is = same_is n x in grind arith
+
+has_push : (n m : Name) (xs : List Name) → has n (xs ++ m ∷ []) ≡ true → (has n xs ≡ true) ⊎ (n ≡ m)
+has_push n m [] h = let is = same_is n m in inr (grind arith)
+has_push n m (x ∷ xs) h = by (same n x) refl h (has_push n m xs)
+  where
+    by : (b : Bool) → same n x ≡ b → (b || has n (xs ++ m ∷ [])) ≡ true → (has n (xs ++ m ∷ []) ≡ true → (has n xs ≡ true) ⊎ (n ≡ m))
+        → ((b || has n xs) ≡ true) ⊎ (n ≡ m)
+    by true is h rest = inl refl
+    by false is h rest = rest h
+
+-- a name that is queued was so before, or is the one that is queued then
+pub has_with_back : (n m : Name) (xs : List Name) → has n (with_name m xs) ≡ true → (has n xs ≡ true) ⊎ (n ≡ m)
+has_with_back n m xs h = by (has m xs) h
+  where
+    by : (b : Bool) → has n (if b then xs else xs ++ m ∷ []) ≡ true → (has n xs ≡ true) ⊎ (n ≡ m)
+    by true h = inl h
+    by false h = has_push n m xs h
+
+pub has_reported_back : (n m : Name) (b : Bool) (xs : List Name) → has n (reported xs m b) ≡ true → (has n xs ≡ true) ⊎ ((n ≡ m) × (b ≡ true))
+has_reported_back n m false xs h = inl h
+has_reported_back n m true xs h = elim (has_with_back n m xs h) [ inl was ↦ inl was | inr is ↦ inr (is, refl) ]
+
+-- what is so of all names of a list
+pub all_has : (p : Name → Bool) (n : Name) (xs : List Name) → list_all p xs ≡ true → has n xs ≡ true → p n ≡ true
+all_has p n [] all h = cc
+all_has p n (x ∷ xs) all h = let rest = all_has p n xs in let is = same_is n x in grind arith
+
+-- The ends of the slot's connection of generation g, by side
+
+abbrev pub two : Descriptors
+two = record { client = 0; target = 1 }
+
+abbrev pub token : ℕ → Side → EndName
+token g side = record { slot = 0; side = side; generation = g }
+
+abbrev pub open_as : ℕ → (Side → EndState) → List (Option Registered)
+open_as g f = Some (record { token = token g Client; socket = f Client }) ∷ Some (record { token = token g Target; socket = f Target }) ∷ []
+
+pub end_as : (g : ℕ) (f : Side → EndState) (side : Side) → end_at (open_as g f) (descriptor two side) ≡ Some (record { token = token g side; socket = f side })
+end_as g f Client = refl
+end_as g f Target = refl
+
+pub on_here : {X : Type 0} (side : Side) (x : X) (f : Side → X) → on side x f side ≡ x
+on_here Client x f = refl
+on_here Target x f = refl
+
+pub on_same : {X : Type 0} (side : Side) (f : Side → X) (j : Side) → on side (f side) f j ≡ f j
+on_same Client f Client = refl
+on_same Client f Target = refl
+on_same Target f Client = refl
+on_same Target f Target = refl
+
+pub open_twice : (g : ℕ) (side : Side) (x y : EndState) (f : Side → EndState) → open_as g (on side y (on side x f)) ≡ open_as g (on side y f)
+open_twice g Client x y f = refl
+open_twice g Target x y f = refl
+
+pub open_same : (g : ℕ) (side : Side) (f : Side → EndState) → open_as g (on side (f side) f) ≡ open_as g f
+open_same g Client f = refl
+open_same g Target f = refl
+
+pub changed_at : (k : KernelState) (g : ℕ) (f : Side → EndState) (side : Side) (change : EndState → Option (Told EndState Bool)) → k.ends ≡ open_as g f
+    → changed k (descriptor two side) change
+    ≡ option_map (λ (t : Told EndState Bool). record k { ends = open_as g (on side t.value f); queue = reported k.queue (End (token g side)) t.told }) (change (f side))
+changed_at k g f Client change is = rw is refl
+changed_at k g f Target change is = rw is refl
+
+pub called_at : (k : KernelState) (g : ℕ) (f : Side → EndState) (side : Side) (call : EndState → Option EndState) → k.ends ≡ open_as g f
+    → kernel.called k (descriptor two side) call ≡ option_map (λ (e : EndState). record k { ends = open_as g (on side e f) }) (call (f side))
+called_at k g f Client call is = rw is refl
+called_at k g f Target call is = rw is refl
+
+-- The network
+
+abbrev pub fits : Change → Bool
+fits (Arrive bytes) = nat_le (length bytes.items) 1024
+fits change = true
+
+abbrev pub effect : Change → EndState → Option (Told EndState Bool)
+effect (Arrive bytes) e = arrival e bytes.items
+effect Fin e = finish e
+effect Reset e = failure e
+effect Room e = new_room e
+
+-- a change that concerns reading, as `readiness` has it
+abbrev pub as_input : Change → Input
+as_input (Arrive bytes) = machine.Bytes bytes.items
+as_input Reset = machine.Error
+as_input change = machine.Fin
+
+pub same_effect : (c : Change) (e : EndState) → is_input c ≡ true → effect c e ≡ change_of e (as_input c)
+same_effect (Arrive bytes) e is = refl
+same_effect Fin e is = refl
+same_effect Reset e is = refl
+same_effect Room e is = cc
+
+abbrev pub at_end : KernelState → ℕ → (Side → EndState) → Side → Told EndState Bool → KernelState
+at_end k g f side t = record k { ends = open_as g (on side t.value f); queue = reported k.queue (End (token g side)) t.told }
+
+pub change_at_end : (k : KernelState) (g : ℕ) (f : Side → EndState) (side : Side) (c : Change) → k.ends ≡ open_as g f
+    → change_at k (descriptor two side) c ≡ when (fits c) (option_map (at_end k g f side) (effect c (f side)))
+change_at_end k g f side (Arrive bytes) is = ap (when (fits (Arrive bytes))) (changed_at k g f side (λ (e : EndState). arrival e bytes.items) is)
+change_at_end k g f side Fin is = changed_at k g f side finish is
+change_at_end k g f side Reset is = changed_at k g f side failure is
+change_at_end k g f side Room is = changed_at k g f side new_room is
+
+-- what such a step has done
+pub net_back : {X Y Z : Type 0} (b : Bool) (F : X → Y) (G : Y → Z) (o : Option X) (z : Z) → option_map G (when b (option_map F o)) ≡ Some z
+    → (b ≡ true) × (x : X) × (o ≡ Some x) × (z ≡ G (F x))
+net_back true F G (Some x) z h = (refl, x, refl, some_is h)
+net_back true F G None z h = cc
+net_back false F G o z h = cc
+
+pub network_here : (st : System) (g : ℕ) (f : Side → EndState) (side : Side) (c : Change) → st.ends ≡ Some two → st.kernel.ends ≡ open_as g f
+    → step st (Network side c) ≡ option_map (λ (k : KernelState). record st { kernel = k }) (when (fits c) (option_map (at_end st.kernel g f side) (effect c (f side))))
+network_here st g f side c ends real = ap (λ (o : Option Descriptors). option_and_then (λ (ends : Descriptors). over_kernel st (change_at st.kernel (descriptor ends side) c)) o) ends
+    ∙ ap (over_kernel st) (change_at_end st.kernel g f side c real)
+
+-- what is late comes
+pub network_there : (st : System) (g : ℕ) (s : Side → EndState) (q b : List Name) (side : Side) (c : Change) (t : Told EndState Bool) → st.ends ≡ Some two → fits c ≡ true
+    → effect c (s side) ≡ Some t → step (seen_as st (open_as g s) q b) (Network side c) ≡ Some (seen_as st (open_as g (on side t.value s)) (reported q (End (token g side)) t.told) b)
+network_there st g s q b side c t ends fit is =
+    rw (ends, change_at_end (record st.kernel { ends = open_as g s; queue = q }) g s side c refl, fit, is) refl
+
+-- more is queued, and only this end's name
+pub record MoreOf (n : Name) (q more : List Name) : Type 0 where
+  pub back : (m : Name) → has m more ≡ true → (has m q ≡ true) ⊎ (m ≡ n)
+
+abbrev pub may_come : Change → Bool
+may_come c = is_input c && fits c
+
+pub record Came (st : System) (g : ℕ) (s : Side → EndState) (q b : List Name) (side : Side) (late : List Change) (f : EndState) : Type 0 where
+  pub queue : List Name
+  pub leads : run (seen_as st (open_as g s) q b) (map (Network side) late) ≡ Some (seen_as st (open_as g (on side f s)) queue b)
+  pub more : MoreOf (End (token g side)) q queue
+  pub none : late ≡ [] → queue ≡ q
+
+come : (st : System) (g : ℕ) (s : Side → EndState) (q b : List Name) (side : Side) (x f : EndState) (late : List Change) → st.ends ≡ Some two → list_all may_come late ≡ true
+    → Settles x (map as_input late) f → Came st g (on side x s) q b side late f
+come st g s q b side x f [] ends may Settled =
+    record { queue = q; leads = rw (open_twice g side x x s) refl; more = record { back = λ m h. inl h }; none = λ e. refl }
+come st g s q b side x f (c ∷ late) ends may (After t is rest) =
+    let parts = and_parts (may_come c) (list_all may_come late) may in
+    let first = and_parts (is_input c) (fits c) parts.0 in
+    let effect_is : effect c (on side x s side) ≡ Some t = rw (on_here side x s) (same_effect c x first.0 ∙ is) in
+    let one = network_there st g (on side x s) q b side c t ends first.1 effect_is in
+    let r = come st g s (reported q (End (token g side)) t.told) b side t.value f late ends parts.1 rest in
+    record {
+      queue = r.queue;
+      leads = rw (one, open_twice g side x t.value s) (r.leads ∙ rw (open_twice g side t.value f s, open_twice g side x f s) refl);
+      more = record { back = λ m h. elim (r.more.back m h) [
+        | inl was ↦ elim (has_reported_back m (End (token g side)) t.told q was) [ inl old ↦ inl old | inr new ↦ inr new.0 ]
+        | inr is ↦ inr is
+      ] };
+      none = λ e. cc;
+    }
+
+pub comes_at : (st : System) (g : ℕ) (s : Side → EndState) (q b : List Name) (side : Side) (f : EndState) (late : List Change) → st.ends ≡ Some two → list_all may_come late ≡ true
+    → Settles (s side) (map as_input late) f → Came st g s q b side late f
+comes_at st g s q b side f late ends may due =
+    let r = come st g s q b side (s side) f late ends may due in
+    record { queue = r.queue; leads = rw (open_same g side s, open_twice g side (s side) f s) at r.leads; more = r.more; none = r.none }
+
+-- An end with its wire
+
+-- a report that names reading is queued, or taken and not passed on yet
+abbrev pub soon : Option Polling → Name → Bool
+soon None n = false
+soon (Some p) n = has n p.left && p.reading n
+
+abbrev pub coming : List Name → Option Polling → Name → Bool
+coming queue poll n = has n queue || soon poll n
+
+abbrev pub near : EndState → Bool → Wire → Way
+near e comes wire = record { socket = e; queued = comes; taken = []; owed = false; told = wire.told; reads = wire.reads }
+
+-- the socket is e, and x where this is late; `comes` says whether a report is coming
+pub record EndOk (e : EndState) (comes : Bool) (wire : Wire) (late : List Change) (x : EndState) : Type 0 where
+  pub held : Held (near e comes wire) (map as_input late) (record { socket = x; queued = false })
+  pub may : list_all may_come late ≡ true
+
+-- as `readiness` keeps it, where more comes
+pub eased : {e x : EndState} {b c q : Bool} {wire : Wire} {late : List Input} → (is_readable e ≡ true → b ≡ true → c ≡ true)
+    → Held (near e b wire) late (record { socket = x; queued = q }) → Held (near e c wire) late (record { socket = x; queued = false })
+eased more h = record {
+  due = h.due;
+  waits = elim h.waits [
+    | Prompt none ↦ Prompt none
+    | Behind a ↦ Behind (record { reads = a.reads; told = a.told; readable = a.readable; coming = elim a.coming [ inl was ↦ inl (more a.readable was) | inr never ↦ inr never ] })
+  ];
+  rests = h.rests;
+  queued = λ q. cc;
+  owed = λ o. cc;
+}
+
+-- the wire reads or was told: nothing is late
+pub awake : (e : EndState) (b : Bool) (wire : Wire) → (wire.reads ≡ true) ⊎ (wire.told ≡ true) → EndOk e b wire [] e
+awake e b wire up = record {
+  held = record { due = Settled; waits = Prompt refl; rests = λ reads told. elim up [ inl r ↦ cc | inr t ↦ cc ]; queued = λ q. cc; owed = λ o. cc };
+  may = refl;
+}
+
+pub no_inputs : (late : List Change) → map as_input late ≡ [] → late ≡ []
+no_inputs [] is = refl
+no_inputs (c ∷ late) is = cc
+
+pub told_soon : (e : EndState) (b : Bool) (wire : Wire) → WillBeTold (near e b wire) → b ≡ true
+told_soon e b wire (inl is) = is
+told_soon e b wire (inr (k, below, is)) = absurd (omega arith)
+
+-- nothing is late where the wire reads or was told, or where there is nothing to read
+pub same_here : {e x : EndState} {b : Bool} {wire : Wire} {late : List Change} → EndOk e b wire late x → (wire.reads ≡ false → wire.told ≡ false → is_readable e ≡ true → ⊥) → (late ≡ []) × (x ≡ e)
+same_here {late = late} ok never =
+    let none : map as_input late ≡ [] = prompt (λ a. never a.reads a.told a.readable) ok.held.waits in
+    (no_inputs late none, same_socket ok.held.due none)
+
+-- a call that does not fail has the same reply there
+pub record Answered (x : EndState) (b : Bool) (wire : Wire) (late : List Change) (f : EndState) (call : Call) (r : Reply) : Type 0 where
+  pub there : EndState
+  pub is : after_call x call r ≡ Some there
+  pub ok : EndOk f b (record wire { reads = reads_after wire.reads call r }) late there
+
+all_push : (p : Change → Bool) (xs : List Change) (c : Change) → list_all p xs ≡ true → p c ≡ true → list_all p (xs ++ c ∷ []) ≡ true
+all_push p [] c all this = rw this refl
+all_push p (x ∷ xs) c all this = let rest = all_push p xs c in grind arith
+
+once : {X : Type 0} (o : Option X) → option_and_then (λ x. Some x) o ≡ o
+once None = refl
+once (Some x) = refl
+
+abbrev pub is_failed : Reply → Bool
+is_failed (reply.Failed kind) = true
+is_failed r = false
+
+at_call_sound : (late : List Input) (call : Call) (r : Reply) → is_failed r ≡ false → at_call late call r ≡ Called call r ∷ []
+at_call_sound late call (reply.Failed kind) sound = cc
+at_call_sound late call r sound = refl
+
+late_call_sound : (late : List Input) (r : Reply) → is_failed r ≡ false → late_call r late ≡ late
+late_call_sound late (reply.Failed kind) sound = cc
+late_call_sound late r sound = refl
+
+-- a change that does not wait comes there too
+pub record Moved (e x : EndState) (b : Bool) (wire : Wire) (late : List Change) (c : Change) (t : Told EndState Bool) : Type 0 where
+  pub there : Told EndState Bool
+  pub is : effect c x ≡ Some there
+  pub told : there.told ≡ t.told
+  pub ok : EndOk t.value (b || t.told) wire late there.value
+
+held_back : {e x : EndState} {b : Bool} {wire : Wire} {late : List Input} → Held (near e b wire) late (record { socket = x; queued = false }) → (c : Input) (t : Told EndState Bool)
+    → change_of e c ≡ Some t → (not wire.reads && not wire.told) ≡ true → Held (near t.value (b || t.told) wire) (late ++ c ∷ []) (record { socket = x; queued = false })
+held_back {e} {x} {b} {wire} held c t is wait =
+    let g = goes held (record (near e b wire) { socket = t.value; queued = b || t.told }) (machine.Comes c) (rw is refl) in
+    let same : g.next ≡ record { socket = x; queued = false } = some_is (ap (λ x. x.0) (rw wait at (g.shows []))) in
+    rw (wait, same) at g.kept
+
+module _ {e x : EndState} {b : Bool} {wire : Wire} {late : List Change} (ok : EndOk e b wire late x) where
+  comes_now : (c : Change) (t : Told EndState Bool) → effect c e ≡ Some t → (not wire.reads && not wire.told) ≡ false → Moved e x b wire late c t
+  comes_now c t is up =
+      let same = same_here ok (λ reads told some. cc) in
+      let awoken : (wire.reads ≡ true) ⊎ (wire.told ≡ true) = grind arith in
+      record { there = t; is = rw same.1 is; told = refl; ok = rw same.0 (awake t.value (b || t.told) wire awoken) }
+
+  pub moves : (c : Change) (t : Told EndState Bool) → effect c e ≡ Some t → waits wire c ≡ false → Moved e x b wire late c t
+  moves Room t is up =
+      let full = guarded (not e.room && not e.err) _ t is in
+      let g = goes ok.held (record (near e b wire) { socket = t.value; queued = b || t.told }) machine.HasRoom (rw is refl) in
+      let after = rw once at (ap (λ x. x.0) (g.shows [])) in
+      mapped _ (new_room x) g.next after (λ u there next.
+      let armed : x.write_armed ≡ e.write_armed = (is_beside ok.held.due).write_armed (both_down e.room e.err full.0).1 in
+      let told : u.told ≡ t.told = (ap (λ (v : Told EndState Bool). v.told) (guarded _ _ u there).1) ∙ (armed ∙ sym (ap (λ (v : Told EndState Bool). v.told) full.1)) in
+      record { there = u; is = there; told = told; ok = record { held = eased (λ _ h. h) (rw next at g.kept); may = ok.may } })
+  moves c t is up = comes_now c t is up
+
+  -- one that waits is late
+  pub waited : (c : Change) (t : Told EndState Bool) → effect c e ≡ Some t → fits c ≡ true → waits wire c ≡ true → EndOk t.value (b || t.told) wire (late ++ c ∷ []) x
+  waited c t is fit wait =
+      let parts = and_parts (is_input c) (not wire.reads && not wire.told) wait in
+      record {
+        held = rw (map-append as_input late (c ∷ [])) (held_back ok.held (as_input c) t (sym (same_effect c e parts.0) ∙ is) parts.1);
+        may = all_push may_come late c ok.may (rw (parts.0, fit) refl);
+      }
+
+  pub answers : (f : EndState) (call : Call) (r : Reply) → may_call wire.reads call ≡ true → after_call e call r ≡ Some f → is_failed r ≡ false → Answered x b wire late f call r
+  answers f call r asks is sound =
+      let g = goes ok.held (record (near e b wire) { socket = f; reads = reads_after wire.reads call r }) (machine.Calls call r) (rw (is, asks) refl) in
+      let after = rw once at (rw (at_call_sound (map as_input late) call r sound) at (ap (λ x. x.0) (g.shows []))) in
+      let kept = rw (late_call_sound (map as_input late) r sound) at g.kept in
+      mapped _ (after_call x call r) g.next after (λ u there next. record { there = u; is = there; ok = record { held = eased (λ _ h. h) (rw next at kept); may = ok.may } })
+
+  -- a read that the wire answers by itself would block there
+  pub would_block : (most : ℕ) → wire.reads ≡ false → wire.told ≡ false → after_call x (machine.Read most) reply.Blocked ≡ Some x
+  would_block most reads told =
+      let rests = ok.held.rests reads told in
+      rw (rests.empty, ap (λ a. record x { read_armed = a }) (sym rests.armed)) refl
+
+  pub looks : EndOk e b (record { reads = wire.reads || wire.told; told = false }) late x
+  looks =
+      let g = goes ok.held (record (near e b wire) { reads = wire.reads || wire.told; told = false }) machine.Looks refl in
+      let same : g.next ≡ record { socket = x; queued = false } = some_is (ap (λ x. x.0) (g.shows [])) in
+      record { held = eased (λ _ h. h) (rw same at g.kept); may = ok.may }
+
+-- One end becomes another, and of the other end no less is coming
+pub all_on : (side : Side) {f s : Side → EndState} {b c : Side → Bool} {wires : Side → Wire} {late : Side → List Change} (e x : EndState) (wire : Wire) (more : List Change)
+    → EndOk e (c side) wire more x → ((j : Side) → (j ≡ side → ⊥) → is_readable (f j) ≡ true → b j ≡ true → c j ≡ true) → ((j : Side) → EndOk (f j) (b j) (wires j) (late j) (s j))
+    → (j : Side) → EndOk (on side e f j) (c j) (on side wire wires j) (on side more late j) (on side x s j)
+all_on Client e x wire more here beside all Client = here
+all_on Client e x wire more here beside all Target = record { held = eased (beside Target (λ is. cc)) (all Target).held; may = (all Target).may }
+all_on Target e x wire more here beside all Client = record { held = eased (beside Client (λ is. cc)) (all Client).held; may = (all Client).may }
+all_on Target e x wire more here beside all Target = here
+
+-- the same, of what is coming in this queue and this poll
+pub changed_end : (g : ℕ) (queue : List Name) (poll : Option Polling) (next : List Name) (after : Option Polling) (side : Side) {f s : Side → EndState} {wires : Side → Wire} {late : Side → List Change}
+    (e x : EndState) (wire : Wire) (more : List Change) → EndOk e (coming next after (End (token g side))) wire more x
+    → ((j : Side) → (j ≡ side → ⊥) → is_readable (f j) ≡ true → coming queue poll (End (token g j)) ≡ true → coming next after (End (token g j)) ≡ true)
+    → ((j : Side) → EndOk (f j) (coming queue poll (End (token g j))) (wires j) (late j) (s j))
+    → (j : Side) → EndOk (on side e f j) (coming next after (End (token g j))) (on side wire wires j) (on side more late j) (on side x s j)
+changed_end g queue poll next after side e x wire more = all_on side {b = λ j. coming queue poll (End (token g j))} {c = λ j. coming next after (End (token g j))} e x wire more
+
+-- What is kept
+
+abbrev pub in_poll : Bool → Option Polling → Name → Bool
+in_poll false (Some p) n = has n p.names.items
+in_poll early poll n = false
+
+-- what the threads see of the kernel, and the batch
+pub record Rim : Type 0 where
+  pub ends : Option Descriptors
+  pub sockets : List (Option Registered)
+  pub queue : List Name
+  pub batch : List Name
+
+abbrev pub rim : System → Rim
+rim st = record { ends = st.ends; sockets = st.kernel.ends; queue = st.kernel.queue; batch = st.batch }
+
+-- a name of the slot, which has a connection of this generation, or none
+abbrev pub Named : Option ℕ → Name → Type 0
+Named o Listener = Unit {0}
+Named o Waker = Unit {0}
+Named None (End n) = ⊥
+Named (Some g) (End n) = n ≡ token g n.side
+
+pub record AllNamed (o : Option ℕ) (names : List Name) : Type 0 where
+  pub each : (n : Name) → has n names ≡ true → Named o n
+
+-- the sockets here and there
+pub data Both (r : Rim) (wires : Side → Wire) (poll : Option Polling) (late : Side → List Change) (there : List (Option Registered)) : Option ℕ → Type 0 where
+  Away : r.ends ≡ None → r.sockets ≡ there → (there ≡ []) ⊎ (there ≡ None ∷ None ∷ []) → ((side : Side) → late side ≡ []) → Both r wires poll late there None
+  Opened : {g : ℕ} (f s : Side → EndState) → r.ends ≡ Some two → r.sockets ≡ open_as g f → there ≡ open_as g s
+      → ((side : Side) → EndOk (f side) (coming r.queue poll (End (token g side))) (wires side) (late side) (s side)) → Both r wires poll late there (Some g)
+
+-- a poll in progress, whose names are the slot's, if it was not handed over before the slot's sockets closed
+pub data Polls (batch : List Name) (early : Bool) (o : Option ℕ) : Option Polling → Type 0 where
+  Idle : Polls batch early o None
+  Busy : {p : Polling} → batch ≡ [] → nat_le (length p.names.items) 256 ≡ true → are_distinct p.names.items ≡ true → (early ≡ false → AllNamed o p.names.items)
+      → (early ≡ true → o ≡ None) → ((n : Name) → has n p.left ≡ true → has n p.names.items ≡ true) → Polls batch early o (Some p)
+
+pub record Joined (r : Rim) (wires : Side → Wire) (poll : Option Polling) (d : Delay) (there : List (Option Registered)) (queue : List Name) : Type 0 where
+  pub generation : Option ℕ
+  pub ends : Both r wires poll d.late there generation
+  pub known : AllNamed generation r.queue
+  pub polls : Polls r.batch d.early generation poll
+  pub on_way : (n : Name) → has n queue ≡ true → (has n r.queue || in_poll d.early poll n) ≡ true
+
+-- What is queued
+
+pub more_or : (a b c : Bool) → (a ≡ true → b ≡ true) → (a || c) ≡ true → (b || c) ≡ true
+more_or a b c more h = grind arith
+
+pub way_reported : (n : Name) (t : Bool) (real q : List Name) (also : Name → Bool) → ((m : Name) → has m q ≡ true → (has m real || also m) ≡ true)
+    → (m : Name) → has m (reported q n t) ≡ true → (has m (reported real n t) || also m) ≡ true
+way_reported n t real q also way m h = elim (has_reported_back m n t q h) [
+  | inl was ↦ more_or (has m real) (has m (reported real n t)) (also m) (has_reported m n t real) (way m was)
+  | inr new ↦ or_left _ (also m) (rw (new.0, new.1) (reported_has n true real refl))
+]
+
+pub known_reported : {o : Option ℕ} (n : Name) (t : Bool) (queue : List Name) → Named o n → AllNamed o queue → AllNamed o (reported queue n t)
+known_reported {o} n t queue here all = record { each = λ m h. elim (has_reported_back m n t queue h) [ inl was ↦ all.each m was | inr new ↦ rw new.0 here ] }
+
+pub known_filter : {o : Option ℕ} (p : Name → Bool) (queue : List Name) → AllNamed o queue → AllNamed o (filter p queue)
+known_filter p queue all = record { each = λ m h. all.each m (has_filter m p queue h).0 }
+
+pub way_filter : (p : Name → Bool) (real q : List Name) (also : Name → Bool) → ((m : Name) → has m q ≡ true → (has m real || also m) ≡ true)
+    → (m : Name) → has m (filter p q) ≡ true → (has m (filter p real) || also m) ≡ true
+way_filter p real q also way m h =
+    let had = has_filter m p q h in
+    more_or (has m real) (has m (filter p real)) (also m) (λ was. still_has m p real was had.1) (way m had.0)
+
+-- what is reported is coming
+pub coming_told : (n : Name) (t : Bool) (queue : List Name) (poll : Option Polling) → (coming queue poll n || t) ≡ true → coming (reported queue n t) poll n ≡ true
+coming_told n t queue poll h = elim (or_cases (coming queue poll n) t h) [
+  | inl was ↦ more_or (has n queue) (has n (reported queue n t)) (soon poll n) (has_reported n n t queue) was
+  | inr told ↦ or_left _ (soon poll n) (reported_has n t queue told)
+]
+
+pub coming_still : (n m : Name) (t : Bool) (queue : List Name) (poll : Option Polling) → coming queue poll m ≡ true → coming (reported queue n t) poll m ≡ true
+coming_still n m t queue poll = more_or (has m queue) (has m (reported queue n t)) (soon poll m) (has_reported m n t queue)
+
+pub easier : {e x : EndState} {b c : Bool} {wire : Wire} {late : List Change} → (b ≡ true → c ≡ true) → EndOk e b wire late x → EndOk e c wire late x
+easier more ok = record { held = eased (λ _. more) ok.held; may = ok.may }
+
+-- Reports without cause, and polls
+
+-- the slot's connection, with its generation and its sockets
+abbrev pub Shape : Option Descriptors → List (Option Registered) → Option (ℕ × (Side → EndState)) → Type 0
+Shape ends sockets None = ends ≡ None
+Shape ends sockets (Some x) = (ends ≡ Some two) × (sockets ≡ open_as x.0 x.1)
+
+abbrev pub generation_of : Option (ℕ × (Side → EndState)) → Option ℕ
+generation_of o = option_map (λ (x : ℕ × (Side → EndState)). x.0) o
+
+abbrev pub name_here : Option ℕ → Reported → Option Name
+name_here o reports.Listener = Some Listener
+name_here o reports.Waker = Some Waker
+name_here o (reports.End s side) = option_map (λ (g : ℕ). End (token g side)) o
+
+pub named_here : (o : Option ℕ) (who : Reported) (n : Name) → name_here o who ≡ Some n → Named o n
+named_here o reports.Listener n is = rw (some_is is) tt
+named_here o reports.Waker n is = rw (some_is is) tt
+named_here None (reports.End s side) n is = cc
+named_here (Some g) (reports.End s side) n is = rw (some_is is) refl
+
+abbrev pub queue_more : System → Name → System
+queue_more st n = record st { kernel = record st.kernel { queue = with_name n st.kernel.queue } }
+
+pub spurious_is : (st : System) (o : Option (ℕ × (Side → EndState))) → Shape st.ends st.kernel.ends o → (who : Reported) → step st (Spurious who) ≡ option_map (queue_more st) (name_here (generation_of o) who)
+spurious_is st o shape reports.Listener = refl
+spurious_is st o shape reports.Waker = refl
+spurious_is st None shape (reports.End s side) = rw shape refl
+spurious_is st (Some x) shape (reports.End s side) = rw (shape.0, shape.1, end_as x.0 x.1 side) refl
+
+abbrev pub quiet_here : ℕ → Option (ℕ × (Side → EndState)) → Reported → Bool
+quiet_here backlog o reports.Listener = backlog == 0
+quiet_here backlog o reports.Waker = true
+quiet_here backlog None (reports.End s side) = true
+quiet_here backlog (Some x) (reports.End s side) = not (is_readable (x.1 side) || is_writable (x.1 side))
+
+abbrev pub queue_less : System → Name → System
+queue_less st n = record st { kernel = record st.kernel { queue = without_name n st.kernel.queue } }
+
+over_guard : {X Y : Type 0} (b : Bool) (F : X → Y) (x : X) → option_map F (guard b x) ≡ guard b (F x)
+over_guard true F x = refl
+over_guard false F x = refl
+
+pub vanish_is : (st : System) (o : Option (ℕ × (Side → EndState))) → Shape st.ends st.kernel.ends o → (who : Reported) → step st (Vanish who)
+    ≡ option_and_then (λ (n : Name). guard (has n st.kernel.queue && quiet_here st.kernel.backlog o who) (queue_less st n)) (name_here (generation_of o) who)
+vanish_is st o shape reports.Listener = over_guard _ _ _
+vanish_is st o shape reports.Waker = over_guard _ _ _
+vanish_is st None shape (reports.End s side) = rw shape refl
+vanish_is st (Some x) shape (reports.End s side) = rw (shape.0, shape.1, end_as x.0 x.1 side) (over_guard _ _ _)
+
+pub has_itself : (n : Name) (q : List Name) → has n (with_name n q) ≡ true
+has_itself n q = reported_has n true q refl
+
+pub all_from : (p : Name → Bool) (xs : List Name) → ((n : Name) → has n xs ≡ true → p n ≡ true) → list_all p xs ≡ true
+all_from p [] each = refl
+all_from p (x ∷ xs) each = rw (each x (or_left (same x x) (has x xs) (same_self x))) (all_from p xs (λ n h. each n (or_right (same n x) _ h)))
+
+-- each of these names is reported without cause
+pub record Reports (st : System) (e : List (Option Registered)) (q b : List Name) (names : List Name) : Type 0 where
+  pub queue : List Name
+  pub leads : (more : List alone.Step) → run (seen_as st e q b) (map report_of names ++ more) ≡ run (seen_as st e queue b) more
+  pub has_all : (n : Name) → has n names ≡ true → has n queue ≡ true
+  pub keeps : (n : Name) → has n q ≡ true → has n queue ≡ true
+  pub back : (n : Name) → has n queue ≡ true → (has n q ≡ true) ⊎ (has n names ≡ true)
+
+report_here : (st : System) (o : Option (ℕ × (Side → EndState))) → Shape st.ends st.kernel.ends o → (n : Name) → Named (generation_of o) n → step st (report_of n) ≡ Some (queue_more st n)
+report_here st o shape Listener is = refl
+report_here st o shape Waker is = refl
+report_here st None shape (End n) is = elim is [ ]
+report_here st (Some x) shape (End n) is = spurious_is st (Some x) shape (reports.End 0 n.side) ∙ ap (λ (m : EndName). Some (queue_more st (End m))) (sym is)
+
+pub reports_all : (st : System) (e : List (Option Registered)) (q b : List Name) (o : Option (ℕ × (Side → EndState))) → Shape st.ends e o → (names : List Name) → AllNamed (generation_of o) names
+    → Reports st e q b names
+reports_all st e q b o shape [] named = record { queue = q; leads = λ more. refl; has_all = λ n h. cc; keeps = λ n h. h; back = λ n h. inl h }
+reports_all st e q b o shape (n ∷ names) named =
+    let one = report_here (seen_as st e q b) o shape n (named.each n (or_left (same n n) _ (same_self n))) in
+    let r = reports_all st e (with_name n q) b o shape names (record { each = λ m h. named.each m (or_right (same m n) _ h) }) in
+    record {
+      queue = r.queue;
+      leads = λ more. rw one (r.leads more);
+      has_all = λ m h. elim (or_cases (same m n) (has m names) h) [ inl is ↦ r.keeps m (rw (same_is m n is) (has_itself n q)) | inr later ↦ r.has_all m later ];
+      keeps = λ m h. r.keeps m (has_with m n q h);
+      back = λ m h. elim (r.back m h) [
+        | inl was ↦ elim (has_with_back m n q was) [ inl old ↦ inl old | inr is ↦ inr (or_left _ (has m names) (rw is (same_self n))) ]
+        | inr later ↦ inr (or_right (same m n) _ later)
+      ];
+    }
+
+pub not_in : (early : Bool) (n : Name) → in_poll early None n ≡ false
+not_in true n = refl
+not_in false n = refl
+
+-- what is coming to an end is on its way
+pub coming_way : {batch : List Name} {early : Bool} {g : ℕ} {poll : Option Polling} (queue : List Name) (n : Name) → Polls batch early (Some g) poll → coming queue poll n ≡ true
+    → (has n queue || in_poll early poll n) ≡ true
+coming_way {early = early} queue n Idle h = let was : has n queue ≡ true = grind arith in or_left (has n queue) (in_poll early None n) was
+coming_way {early = false} queue n (Busy {p} none few once named gone within) h = elim (or_cases (has n queue) (soon (Some p) n) h) [
+  | inl was ↦ or_left _ _ was
+  | inr taken ↦ or_right _ _ (within n (first_so (has n p.left) _ taken))
+]
+coming_way {early = true} queue n (Busy none few once named gone within) h = let never = gone refl in cc
+
+some_or_none : {X : Type 0} (xs : List X) → (xs ≡ []) ⊎ (xs ≢ [])
+some_or_none [] = inl refl
+some_or_none (x ∷ xs) = inr (λ e. cc)
+
+-- once what is late has come, what is queued there is on its way
+pub came_way : {st : System} {g : ℕ} {s : Side → EndState} {q b : List Name} {side : Side} {late : List Change} {f e x : EndState} {wire : Wire} {early : Bool} {poll : Option Polling} {batch : List Name} (queue : List Name)
+    → Polls batch early (Some g) poll → EndOk e (coming queue poll (End (token g side))) wire late x → ((m : Name) → has m q ≡ true → (has m queue || in_poll early poll m) ≡ true)
+    → (c : Came st g s q b side late f) → (m : Name) → has m c.queue ≡ true → (has m queue || in_poll early poll m) ≡ true
+came_way {g = g} {side = side} {late = late} {e = e} {wire = wire} queue polls ok way c m h = elim (some_or_none late) [
+  | inl none ↦ way m (rw (c.none none) at h)
+  | inr some ↦ elim (c.more.back m h) [
+    | inl was ↦ way m was
+    | inr is ↦ rw is (coming_way queue (End (token g side)) polls (told_soon e _ wire (will_be_told ok.held.waits (λ e. some (no_inputs late e)))))
+  ]
+]
