@@ -1,10 +1,13 @@
 -- The threads at one slot over wires that rest are the threads without such wires, where what is late comes later.
+pub mod Order
 pub mod Turns
 pub use Turns.*
-use Rattle.std.proofs.Common.{Contains}
-use Rattle.readiness.{specs.{Delays.{IsOnItsWay, MissesNothing, WillBeTold}}, proofs.Runs.{misses_nothing, will_be_told}}
+use Order.{same_calls, same_changes, same_words}
+use Rattle.std.{proofs.{Common.{Contains}, lemmas.Grind.{flat_map-append}}, specs.List.{flat_map}}
+use Rattle.readiness.{specs.{Delays.{IsOnItsWay, MissesNothing, WillBeTold}}, proofs.Runs.{misses_nothing, seam, will_be_told}}
 use Rattle.world.{proofs.Headline.Ends.Pairs.Holders.{Turns as HasTurns, first_free, turns_after}, specs.{CoreLaws.{CoreLaws}, Slots.{SlotState, WorkerState}, States.State, declared.limits.Limits.{Limits}}}
-use Rattle.interleaving.specs.{Likeness.{EveryInterleavingIsARun, IsHalfOpen, IsSettled, Like, Settled, machine_of, opened_slot}, Wires.{ComeLate, EndHolds, WiresComeLate, delay, happened, none_late, start, way}}
+use Rattle.interleaving.specs.{Likeness.{EveryInterleavingIsARun, IsHalfOpen, IsSettled, Like, Settled, call_of, exchanges, machine_of, opened_slot}, Wires.{came_at, exchanges_at, steps_of, words, ComeLate, EndHolds, WiresComeLate, delay, happened, none_late, start, way}}
+use Rattle.claims.specs.declared.view.Exchange.{Exchange}
 use Rattle.interleaving.proofs.{Rest.{known_in}, Runs.{count_free, Programs.{none_by}}}
 
 -- while a slot is free, it has no connection
@@ -29,27 +32,71 @@ record Went (w : Wired) (d : Delay) (e : List (Option Registered)) (q : List Nam
   leads : run (seen_as w.system e q (batch_there w.poll d.early w.system.batch)) (happened w d steps)
       ≡ Some (seen_as to.system there queue (batch_there to.poll (delay w d steps).early to.system.batch))
   joined : Joined (rim to.system) to.wires to.poll (delay w d steps) there queue
+  calls : flat_map call_of (happened w d steps) ≡ flat_map call_of (flat_map steps_of steps)
+  changes : (side : Side) → flat_map (came_at side) (happened w d steps) ++ (delay w d steps).late side ≡ d.late side ++ flat_map (came_at side) (flat_map steps_of steps)
+  words_too : exchanges (seen_as w.system e q (batch_there w.poll d.early w.system.batch)) (happened w d steps) ≡ words w steps
+
+all_inputs : (late : List Change) → list_all may_come late ≡ true → list_all is_input late ≡ true
+all_inputs [] all = refl
+all_inputs (c ∷ late) all =
+    let parts = and_parts (may_come c) (list_all may_come late) all in
+    rw (and_parts (is_input c) (is_short c) parts.0).0 (all_inputs late parts.1)
+
+module _ {r : Rim} {wires : Side → Wire} {poll : Option Polling} {late : Side → List Change} {e : List (Option Registered)} where
+  inputs_of : {o : Option ℕ} → Both r wires poll late e o → (side : Side) → list_all is_input (late side) ≡ true
+  inputs_of (Away ends real empty none) side = rw (none side) refl
+  inputs_of (Opened f s ends real as_seen oks) side = all_inputs (late side) (oks side).may
+
+  prompt_of : {o : Option ℕ} → Both r wires poll late e o → (side : Side) → (not (wires side).reads && not (wires side).told) ≡ false → late side ≡ []
+  prompt_of (Away ends real empty none) side awake = none side
+  prompt_of (Opened f s ends real as_seen oks) side awake = (same_here (oks side) (λ reads told some. cc)).0
+
+-- a delivery is of the batch that is there too
+whole_batch : {o : Option ℕ} (st : System) (early : Bool) {poll : Option Polling} → Polls st.batch early o poll → (next : System) → delivers st st.batch ≡ Some next → batch_there poll early st.batch ≡ st.batch
+whole_batch st early Idle next h = refl
+whole_batch st early (Busy none few once named gone within) next h = let never = rw none at h in cc
+
+whole : (w v : Wired) (d : Delay) {o : Option ℕ} → Polls w.system.batch d.early o w.poll → (x : wired.Step) → wired.step w x ≡ Some v → x ≡ Plain Deliver → batch_there w.poll d.early w.system.batch ≡ w.system.batch
+whole w v d polls (Plain Deliver) h is = option_and_then_some _ (step w.system Deliver) v h (λ next ran rest.
+    whole_batch w.system d.early polls next (when_back (poller_rests w.system) _ next ran).1)
+whole w v d polls x h is = cc
+
+-- a step, and then the rest
+one_more : (x : wired.Step) (steps : List wired.Step) (w v to : Wired) (d : Delay) (e : List (Option Registered)) (q : List Name) → Joined (rim w.system) w.wires w.poll d e q → wired.step w x ≡ Some v
+    → (led : Led (seen_as w.system e q (batch_there w.poll d.early w.system.batch)) (comes d.late (catching w x) ++ happens w d x) v (delay_after w d x))
+    → Went v (delay_after w d x) led.there led.queue steps to → Went w d e q (x ∷ steps) to
+one_more x steps w v to d e q j is led more =
+    let b = batch_there w.poll d.early w.system.batch in
+    let own = comes d.late (catching w x) ++ happens w d x in
+    let rest = happened v (delay_after w d x) steps in
+    let shown : happened w d (x ∷ steps) ≡ own ++ rest = rw is (sym (append_assoc (comes d.late (catching w x)) (happens w d x) rest)) in
+    let last : delay w d (x ∷ steps) ≡ delay v (delay_after w d x) steps = rw is refl in
+    record {
+      there = more.there;
+      queue = more.queue;
+      leads = rw (shown, last) (run_on own rest (seen_as w.system e q b) _ led.leads ∙ more.leads);
+      joined = rw last more.joined;
+      calls = rw shown (flat_map-append call_of own rest ∙ (ap (λ (xs : List (ℕ × Reply)). xs ++ flat_map call_of rest) (same_calls w d x)
+          ∙ (ap (λ (xs : List (ℕ × Reply)). flat_map call_of (steps_of x) ++ xs) more.calls ∙ sym (flat_map-append call_of (steps_of x) (flat_map steps_of steps)))));
+      changes = λ side. rw (shown, last, flat_map-append (came_at side) own rest, flat_map-append (came_at side) (steps_of x) (flat_map steps_of steps))
+          (seam (flat_map (came_at side) own) (flat_map (came_at side) rest) ((delay_after w d x).late side) ((delay v (delay_after w d x) steps).late side) (d.late side)
+          (flat_map (came_at side) (steps_of x)) (flat_map (came_at side) (flat_map steps_of steps)) (same_changes w d (inputs_of j.ends) (prompt_of j.ends) x side) (more.changes side));
+      words_too = rw shown (same_words w d e q b x (whole w v d j.polls x is) _ led.leads rest ∙ ap (λ (xs : List Exchange). exchanges_at w x ++ xs) (more.words_too ∙ rw is refl));
+    }
 
 module _ (core : CoreLaws) (law : EveryInterleavingIsARun) (l : Limits) (one : l.slots ≡ 1) where
   went : (steps : List wired.Step) (w to : Wired) (d : Delay) (e : List (Option Registered)) (q : List Name) → Joined (rim w.system) w.wires w.poll d e q
       → (is_none w.poll || poller_rests w.system) ≡ true → (made : List alone.Step) → run (alone.start l) made ≡ Some (seen_as w.system e q (batch_there w.poll d.early w.system.batch))
       → wired.run w steps ≡ Some to → Went w d e q steps to
-  went [] w to d e q j rested made ran h = rw (some_is h) (record { there = e; queue = q; leads = refl; joined = j })
+  went [] w to d e q j rested made ran h = rw (some_is h) (record { there = e; queue = q; leads = refl; joined = j; calls = refl; changes = λ side. sym (append-nil (d.late side)); words_too = refl })
   went (x ∷ steps) w to d e q j rested made ran h = option_and_then_some (λ (v : Wired). wired.run v steps) (wired.step w x) to h (λ v is rest.
       let before = seen_as w.system e q (batch_there w.poll d.early w.system.batch) in
       let r = law l made before one ran in
       let free = free_none before r.world r.like (turns_after core l r.made r.world r.allowed) before.free refl in
       let next = step_next w d e q j rested (known_in core law l one made before r) free x v is in
-      let led = next.0 in
       let own = comes d.late (catching w x) ++ happens w d x in
-      let more = went steps v to (delay_after w d x) led.there led.queue led.joined next.1 (made ++ own) (run_on made own (alone.start l) before ran ∙ led.leads) rest in
-      record {
-        there = more.there;
-        queue = more.queue;
-        leads = rw (is, sym (append_assoc (comes d.late (catching w x)) (happens w d x) (happened v (delay_after w d x) steps)))
-            (run_on own (happened v (delay_after w d x) steps) before _ led.leads ∙ more.leads);
-        joined = rw is more.joined;
-      })
+      one_more x steps w v to d e q j is next.0
+      (went steps v to (delay_after w d x) next.0.there next.0.queue next.0.joined next.1 (made ++ own) (run_on made own (alone.start l) before ran ∙ next.0.leads) rest))
 
 -- What is so after any list of steps
 
@@ -131,4 +178,7 @@ wires_come_late core law l steps w one ran =
       comes = up.comes_all;
       sockets = refl;
       ends = ends_hold w d it.there it.queue b it.joined.ends it.joined.on_way;
+      calls = it.calls;
+      changes = it.changes;
+      words = it.words_too;
     }

@@ -289,6 +289,9 @@ pub record ComeLate (l : Limits) (own : List alone.Step) (steps : List Step) (w 
   pub comes : alone.run seen (comes d.late (Client ∷ Target ∷ [])) ≡ Some settled
   pub sockets : settled.kernel.ends ≡ w.system.kernel.ends
   pub ends : (side : Side) (r : Registered) → end_here w.system side ≡ Some r → EndHolds w side (d.late side) seen.kernel.queue r
+  pub calls : flat_map call_of own ≡ flat_map call_of (flat_map steps_of steps)
+  pub changes : (side : Side) → flat_map (came_at side) own ++ d.late side ≡ flat_map (came_at side) (flat_map steps_of steps)
+  pub words : exchanges (alone.start l) own ≡ words (start l) steps
 
 abbrev pub WiresComeLate : Type 0
 WiresComeLate = (l : Limits) (steps : List Step) (w : Wired) → l.slots ≡ 1 → run (start l) steps ≡ Some w

@@ -494,7 +494,7 @@ record Went (w to : Way) (late : List Change) (s : Seen) (steps : List Step) : T
   kept : Held to (still_late w late steps) seen
 
 -- what came and what is late, one list after another
-seam : (c1 c2 later last late d1 d2 : List Change) → c1 ++ later ≡ late ++ d1 → c2 ++ last ≡ later ++ d2 → (c1 ++ c2) ++ last ≡ late ++ (d1 ++ d2)
+pub seam : {X : Type 0} (c1 c2 later last late d1 d2 : List X) → c1 ++ later ≡ late ++ d1 → c2 ++ last ≡ later ++ d2 → (c1 ++ c2) ++ last ≡ late ++ (d1 ++ d2)
 seam c1 c2 later last late d1 d2 first rest = rw (append_assoc c1 c2 last, rest, ← (append_assoc c1 later d2), first, append_assoc late d1 d2)
 
 went : (steps : List Step) (w to : Way) (late : List Change) (s : Seen) → Held w late s → run w steps ≡ Some to → Went w to late s steps

@@ -73,7 +73,7 @@ polls_opened : {batch : List Name} {early : Bool} {o : Option ℕ} {poll : Optio
 polls_opened Idle = Idle
 polls_opened (Busy none few once named gone within) = Busy none few once (λ e. cc) (λ e. refl) within
 
-when_back : {X : Type 0} (b : Bool) (o : Option X) (x : X) → when b o ≡ Some x → (b ≡ true) × (o ≡ Some x)
+pub when_back : {X : Type 0} (b : Bool) (o : Option X) (x : X) → when b o ≡ Some x → (b ≡ true) × (o ≡ Some x)
 when_back true o x h = (refl, h)
 when_back false o x h = cc
 

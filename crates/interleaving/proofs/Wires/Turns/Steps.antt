@@ -208,11 +208,11 @@ module _ (w : Wired) (d : Delay) (e : List (Option Registered)) (q : List Name) 
       (record d { late = if waits (w.wires side) c then on side (d.late side ++ c ∷ []) d.late else d.late })
   nets side c next wires h new (Away ends real there late) known polls = cc (rw ends at h)
   nets side c next wires h new (Opened {g} f s ends real there oks) known polls =
-      let n = net_back (fits c) (at_end st.kernel g f side) (λ (k : KernelState). record st { kernel = k }) (effect c (f side)) next (sym (network_here st g f side c ends real) ∙ h) in
+      let n = net_back (is_short c) (at_end st.kernel g f side) (λ (k : KernelState). record st { kernel = k }) (effect c (f side)) next (sym (network_here st g f side c ends real) ∙ h) in
       let same = old_wires next wires (ap (λ (x : System). x.ends) n.3) new in
       rw (n.3, same) (by n.1 n.2 n.0 (waits (w.wires side) c) refl)
     where
-      by : (t : Told EndState Bool) → effect c (f side) ≡ Some t → fits c ≡ true → (b : Bool) → waits (w.wires side) c ≡ b
+      by : (t : Told EndState Bool) → effect c (f side) ≡ Some t → is_short c ≡ true → (b : Bool) → waits (w.wires side) c ≡ b
           → Led seen (if b then [] else Network side c ∷ []) (record w { system = record st { kernel = at_end st.kernel g f side t } })
           (record d { late = if b then on side (d.late side ++ c ∷ []) d.late else d.late })
       by t is fit true late =

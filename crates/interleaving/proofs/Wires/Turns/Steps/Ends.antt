@@ -95,9 +95,9 @@ called_at k g f Target call is = rw is refl
 
 -- The network
 
-abbrev pub fits : Change → Bool
-fits (Arrive bytes) = nat_le (length bytes.items) 1024
-fits change = true
+abbrev pub is_short : Change → Bool
+is_short (Arrive bytes) = nat_le (length bytes.items) 1024
+is_short change = true
 
 abbrev pub effect : Change → EndState → Option (Told EndState Bool)
 effect (Arrive bytes) e = arrival e bytes.items
@@ -121,8 +121,8 @@ abbrev pub at_end : KernelState → ℕ → (Side → EndState) → Side → Tol
 at_end k g f side t = record k { ends = open_as g (on side t.value f); queue = reported k.queue (End (token g side)) t.told }
 
 pub change_at_end : (k : KernelState) (g : ℕ) (f : Side → EndState) (side : Side) (c : Change) → k.ends ≡ open_as g f
-    → change_at k (descriptor two side) c ≡ when (fits c) (option_map (at_end k g f side) (effect c (f side)))
-change_at_end k g f side (Arrive bytes) is = ap (when (fits (Arrive bytes))) (changed_at k g f side (λ (e : EndState). arrival e bytes.items) is)
+    → change_at k (descriptor two side) c ≡ when (is_short c) (option_map (at_end k g f side) (effect c (f side)))
+change_at_end k g f side (Arrive bytes) is = ap (when (is_short (Arrive bytes))) (changed_at k g f side (λ (e : EndState). arrival e bytes.items) is)
 change_at_end k g f side Fin is = changed_at k g f side finish is
 change_at_end k g f side Reset is = changed_at k g f side failure is
 change_at_end k g f side Room is = changed_at k g f side new_room is
@@ -135,12 +135,12 @@ net_back true F G None z h = cc
 net_back false F G o z h = cc
 
 pub network_here : (st : System) (g : ℕ) (f : Side → EndState) (side : Side) (c : Change) → st.ends ≡ Some two → st.kernel.ends ≡ open_as g f
-    → step st (Network side c) ≡ option_map (λ (k : KernelState). record st { kernel = k }) (when (fits c) (option_map (at_end st.kernel g f side) (effect c (f side))))
+    → step st (Network side c) ≡ option_map (λ (k : KernelState). record st { kernel = k }) (when (is_short c) (option_map (at_end st.kernel g f side) (effect c (f side))))
 network_here st g f side c ends real = ap (λ (o : Option Descriptors). option_and_then (λ (ends : Descriptors). over_kernel st (change_at st.kernel (descriptor ends side) c)) o) ends
     ∙ ap (over_kernel st) (change_at_end st.kernel g f side c real)
 
 -- what is late comes
-pub network_there : (st : System) (g : ℕ) (s : Side → EndState) (q b : List Name) (side : Side) (c : Change) (t : Told EndState Bool) → st.ends ≡ Some two → fits c ≡ true
+pub network_there : (st : System) (g : ℕ) (s : Side → EndState) (q b : List Name) (side : Side) (c : Change) (t : Told EndState Bool) → st.ends ≡ Some two → is_short c ≡ true
     → effect c (s side) ≡ Some t → step (seen_as st (open_as g s) q b) (Network side c) ≡ Some (seen_as st (open_as g (on side t.value s)) (reported q (End (token g side)) t.told) b)
 network_there st g s q b side c t ends fit is =
     rw (ends, change_at_end (record st.kernel { ends = open_as g s; queue = q }) g s side c refl, fit, is) refl
@@ -150,7 +150,7 @@ pub record MoreOf (n : Name) (q more : List Name) : Type 0 where
   pub back : (m : Name) → has m more ≡ true → (has m q ≡ true) ⊎ (m ≡ n)
 
 abbrev pub may_come : Change → Bool
-may_come c = is_input c && fits c
+may_come c = is_input c && is_short c
 
 pub record Came (st : System) (g : ℕ) (s : Side → EndState) (q b : List Name) (side : Side) (late : List Change) (f : EndState) : Type 0 where
   pub queue : List Name
@@ -164,7 +164,7 @@ come st g s q b side x f [] ends may Settled =
     record { queue = q; leads = rw (open_twice g side x x s) refl; more = record { back = λ m h. inl h }; none = λ e. refl }
 come st g s q b side x f (c ∷ late) ends may (After t is rest) =
     let parts = and_parts (may_come c) (list_all may_come late) may in
-    let first = and_parts (is_input c) (fits c) parts.0 in
+    let first = and_parts (is_input c) (is_short c) parts.0 in
     let effect_is : effect c (on side x s side) ≡ Some t = rw (on_here side x s) (same_effect c x first.0 ∙ is) in
     let one = network_there st g (on side x s) q b side c t ends first.1 effect_is in
     let r = come st g s (reported q (End (token g side)) t.told) b side t.value f late ends parts.1 rest in
@@ -296,7 +296,7 @@ module _ {e x : EndState} {b : Bool} {wire : Wire} {late : List Change} (ok : En
   moves c t is up = comes_now c t is up
 
   -- one that waits is late
-  pub waited : (c : Change) (t : Told EndState Bool) → effect c e ≡ Some t → fits c ≡ true → waits wire c ≡ true → EndOk t.value (b || t.told) wire (late ++ c ∷ []) x
+  pub waited : (c : Change) (t : Told EndState Bool) → effect c e ≡ Some t → is_short c ≡ true → waits wire c ≡ true → EndOk t.value (b || t.told) wire (late ++ c ∷ []) x
   waited c t is fit wait =
       let parts = and_parts (is_input c) (not wire.reads && not wire.told) wait in
       record {
