@@ -1,2 +1,3 @@
 pub mod Divided
 pub mod Loops
+pub mod Served

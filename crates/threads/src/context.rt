@@ -2,7 +2,7 @@
 ghost use Rattle.std.specs.Prelude.{◌≡◌, Bool};
 ghost use Rattle.threads.specs.Loops.{AllWoken, EndsAll, IsTold};
 
-use crate::ending::{Ended, Ending};
+use crate::ending::{Ended, Ending, Why};
 use crate::faults::Recorded;
 use dispatch::{Front, Shared, Split, Timing};
 use ready::{Closed, ReadyQueue};
@@ -44,8 +44,28 @@ pub struct Context<'a, G, C, R, S = AtomicBool> {
 /// closed. Only [`Context::end`] makes this value.
 #[derive(Drop)]
 pub struct Told<'a> {
+    number: usize,
+    why: Why,
     recorded: Option<Recorded<'a>>,
     closed: Option<Closed>,
+}
+
+/// The thread with this number came to its end, for this reason, and told of it. Only a [`Told`] becomes this value.
+#[derive(Drop)]
+pub(crate) struct ThreadEnd {
+    number: usize,
+    why: Why,
+}
+
+impl Told<'_> {
+    pub(crate) fn end(self) -> ThreadEnd
+        ensures { (result.number ≡ self.entry.number) × (result.why ≡ self.entry.why) }
+    {
+        ThreadEnd {
+            number: self.number,
+            why: self.why,
+        }
+    }
 }
 
 impl<G, C, R: Wait, S> Context<'_, G, C, R, S> {
@@ -60,15 +80,22 @@ impl<G, C, R: Wait, S> Context<'_, G, C, R, S> {
     ) -> Told<'_>
         ensures ready { ready.new ≡ ready.old }
         ensures told { IsTold self.now.ending.now number ended.why result.recorded result.closed }
+        ensures of { (result.number ≡ number) × (result.why ≡ ended.why) }
         ensures woken { EndsAll ended.why → AllWoken (F.woke shared.now.waker) self.now.split }
     {
+        let why = ended.why();
         let ends_all = ended.ends_all();
         let recorded = self.ending.end(self.rt, number, ended);
         let closed = if ends_all { Some(ready.close()) } else { None };
         if ends_all {
             self.wake_pollers(shared);
         }
-        Told { recorded, closed }
+        Told {
+            number,
+            why,
+            recorded,
+            closed,
+        }
     }
 
     pub(crate) fn wake_pollers<F: Front>(&self, shared: &Shared<F>)

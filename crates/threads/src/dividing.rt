@@ -3,6 +3,7 @@ ghost use Rattle.std.specs.{Prelude.{◌≡◌, ◌-◌, ◌∷◌, All, length,
 ghost use Rattle.claims.specs.Seats.{fresh_seat};
 ghost use Rattle.dispatch.specs.Posts.{AreFresh};
 ghost use Rattle.threads.specs.Divided.{numbered, IsEndOf, AreEndsFrom, AreLeft, HasOneOfEach};
+ghost use Rattle.threads.specs.Served.{IsDivided, poller_part, worker_part};
 
 use crate::polling::PollerThread;
 use crate::working::Worker;
@@ -55,12 +56,9 @@ pub fn divide<F: Front + Drop>(
     workers: usize,
 ) -> Result<ServerThreads<F>, ServerFault>
     requires { AreFresh (arc_value shared.now).claims rest.parts.seats.items }
-    ensures pollers { IfOk result (λ made. map (λ thread. (thread.number, thread.poller)) made.pollers.items ≡ numbered pollers.items) }
-    ensures own_slots { IfOk result (λ made. All (λ thread. IsEndOf rest.free thread.number thread.own.free) made.pollers.items) }
-    ensures workers { IfOk result (λ made. map (λ worker. worker.number) made.workers.items ≡ range_with_len (length pollers.items)
-        workers) }
-    ensures all_slots { IfOk result (λ made. All (λ worker. HasOneOfEach rest.free (worker.own.free ∷ worker.others.items))
-        made.workers.items) }
+    ensures { IfOk result (λ made. IsDivided (fresh_seat (arc_value shared.now).claims) rest.free pollers.items workers
+        (map (λ p. poller_part p.number p.poller p.own) made.pollers.items)
+        (map (λ w. worker_part w.number w.own w.others.items) made.workers.items)) }
 {
     let first = pollers.len();
     let pollers = pollers_of(alloc, shared, &mut rest, pollers)?;
@@ -78,6 +76,7 @@ fn pollers_of<F: Front + Drop>(
     requires { AreFresh (arc_value shared.now).claims rest.old.parts.seats.items }
     ensures fresh { OnOk result (AreFresh (arc_value shared.now).claims rest.new.parts.seats.items) }
     ensures pollers { IfOk result (λ threads. map (λ thread. (thread.number, thread.poller)) threads.items ≡ numbered pollers.items) }
+    ensures seats { IfOk result (λ threads. All (λ thread. thread.own.seat ≡ fresh_seat (arc_value shared.now).claims) threads.items) }
     ensures slots { IfOk result (λ threads. All (λ thread. IsEndOf rest.old.free thread.number thread.own.free) threads.items) }
     ensures left { OnOk result (AreLeft rest.old.free rest.new.free) }
 {
@@ -106,6 +105,7 @@ fn thread_of<F: Front + Drop>(
     requires { AreFresh (arc_value shared.now).claims rest.old.parts.seats.items }
     ensures fresh { OnOk result (AreFresh (arc_value shared.now).claims rest.new.parts.seats.items) }
     ensures made { IfOk result (λ thread. (thread.number ≡ number) × (thread.poller ≡ poller)) }
+    ensures seat { IfOk result (λ thread. thread.own.seat ≡ fresh_seat (arc_value shared.now).claims) }
     ensures slots { IfOk result (λ thread. IsEndOf rest.old.free thread.number thread.own.free) }
     ensures left { OnOk result (AreLeft rest.old.free rest.new.free) }
 {
@@ -137,6 +137,7 @@ fn workers_of<F: Front + Drop>(
 ) -> Result<Vec<Worker<F>>, ServerFault>
     requires { AreFresh (arc_value shared.now).claims rest.old.parts.seats.items }
     ensures numbers { IfOk result (λ made. map (λ worker. worker.number) made.items ≡ range_with_len first workers) }
+    ensures seats { IfOk result (λ made. All (λ worker. worker.own.seat ≡ fresh_seat (arc_value shared.now).claims) made.items) }
     ensures slots { IfOk result (λ made. All (λ worker. HasOneOfEach rest.old.free (worker.own.free ∷ worker.others.items))
         made.items) }
 {

@@ -1,5 +1,5 @@
 //! How the threads of a server come to their end: why the loop of each ends, and what becomes of a fault.
-ghost use Rattle.std.specs.Prelude.{◌≡◌, ◌↔◌, IfOk, IfErr, IsTrue, OnErr, OnOk, option_map, true, false};
+ghost use Rattle.std.specs.Prelude.{◌≡◌, ◌↔◌, IfOk, IfErr, IsTrue, OnErr, OnOk, Some, option_map, true, false};
 ghost use Rattle.dispatch.specs.Outgoing.{PutAll};
 ghost use Rattle.ready.specs.Steps.{HeldOnce};
 ghost use Rattle.relay_log.specs.declared.faults.ServerFault.{ServerFault};
@@ -76,6 +76,12 @@ impl Ended {
         Ended {
             why: Why::FaultFound,
         }
+    }
+
+    pub(crate) fn why(&self) -> Why
+        ensures { result ≡ self.now.why }
+    {
+        self.why
     }
 
     /// Whether this ends all other threads, too: a fault does, whichever thread met it.
@@ -191,7 +197,10 @@ impl Ending {
         self.polling.fetch_sub(1, SeqCst) <= 1
     }
 
-    pub(crate) fn outcome(self, _served: Served) -> Outcome {
-        self.first.into_inner().outcome()
+    pub(crate) fn outcome(self, served: Served) -> Outcome
+        ensures few { served.few ≡ true → result.fault ≡ Some ServerFault.Threads }
+        ensures served { result.served ≡ Some served }
+    {
+        self.first.into_inner().outcome(served)
     }
 }

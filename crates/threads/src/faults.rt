@@ -1,7 +1,8 @@
 //! What becomes of a fault: it is kept, unless a thread with a lower number has met one, and a mark is set.
-ghost use Rattle.std.specs.Prelude.{◌≡◌, ◌↔◌, IfErr, IsOk, None, Some, option_map};
+ghost use Rattle.std.specs.Prelude.{◌≡◌, ◌↔◌, IfErr, IsOk, None, Some, if◌then◌else◌, option_map};
 ghost use Rattle.threads.specs.Loops.{announced, lowest};
 
+use crate::running::Served;
 use dispatch::ServerFault;
 use std::marker::Model;
 use std::sync::{OnceLock, OnceToken, Wait};
@@ -41,6 +42,8 @@ impl<'a> Model for Recorded<'a> {
 /// returns it.
 pub struct Outcome {
     fault: Option<ServerFault>,
+    /// How its threads ended. None if it was refused before it served.
+    served: Option<Served>,
 }
 
 impl Lowest {
@@ -63,12 +66,19 @@ impl Lowest {
         Kept { number, fault }
     }
 
-    /// How the server ended, once all its threads have ended: by the fault that was kept, if any.
-    pub(crate) fn outcome(self) -> Outcome
-        ensures { result.fault ≡ option_map (λ first. first.1) self.kept }
+    /// How the server ended, once all its threads have ended: by the lack of a thread, or the fault that was kept, if any.
+    pub(crate) fn outcome(self, served: Served) -> Outcome
+        ensures fault { result.fault ≡ if served.few then Some ServerFault.Threads else option_map (λ first. first.1) self.kept }
+        ensures served { result.served ≡ Some served }
     {
+        let fault = if served.few {
+            Some(ServerFault::Threads)
+        } else {
+            self.kept.map(|(_, fault)| fault)
+        };
         Outcome {
-            fault: self.kept.map(|(_, fault)| fault),
+            fault,
+            served: Some(served),
         }
     }
 }
@@ -94,9 +104,13 @@ impl Kept {
 impl Outcome {
     /// The outcome of a server that was refused before it served.
     pub fn refused(fault: ServerFault) -> Outcome
-        ensures { result.fault ≡ Some fault }
+        ensures fault { result.fault ≡ Some fault }
+        ensures none { result.served ≡ None }
     {
-        Outcome { fault: Some(fault) }
+        Outcome {
+            fault: Some(fault),
+            served: None,
+        }
     }
 
     /// The fault by which the server ended, if one did.
@@ -104,7 +118,7 @@ impl Outcome {
         ensures well { IsOk result ↔ self.fault ≡ None }
         ensures fault { IfErr result (λ fault. self.fault ≡ Some fault) }
     {
-        let Outcome { fault } = self;
+        let Outcome { fault, served: _ } = self;
         match fault {
             Some(fault) => Err(fault),
             None => Ok(()),

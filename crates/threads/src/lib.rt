@@ -15,7 +15,9 @@
 //! look, as a token of that mark shows; a thread that met a fault or found one closes the queue of tickets (`told`),
 //! and wakes every poller (`woken`). What it told (`Told`) is what `run` returns; a poller that leaves has told
 //! before (`leave`). The lowest number's fault is kept (`Lowest::keep`), and says how a server ended, once all its
-//! threads have (`Served`). Each thread owns its part by value (`start_all`).
+//! threads have (`Served`). Each part is run to its end, in a thread of its own or the
+//! caller's (`run_threads`: `ran`). If a thread could not be started, the first parts have one, and the outcome is the
+//! fault `Threads` (`few`).
 //!
 //! Each round, turn and taking of a ticket requires a look of its own that found no fault (`NoFault`); a worker's
 //! turn requires a look after the taking (`Cleared`). A poller counts its sweeps from a second that the clock gave
@@ -27,6 +29,7 @@ mod context;
 mod dividing;
 mod ending;
 mod faults;
+mod joining;
 mod polling;
 mod running;
 mod working;

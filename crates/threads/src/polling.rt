@@ -4,7 +4,7 @@ ghost use Rattle.claims.specs.Seats.{HoldsNothing};
 ghost use Rattle.rounds.specs.{Episodes.no_drops, Pollers.HasOpenedAll};
 ghost use Rattle.turns.specs.Turns.{NoOwnTurn};
 ghost use Rattle.relay_log.specs.declared.faults.ServerFault.TheVariants.{Worn};
-ghost use Rattle.threads.specs.{declared.ending.Why.Why, Loops.{AllWoken, Asked, EndsWell, IsTold, LoopMade, OwnTurnsRan, PollerRan, RoundCut, RoundOver, RunMade, StepCut, StepMade, TurnsAfter, TurnsCut, WornEnd}};
+ghost use Rattle.threads.specs.{Loops.{AllWoken, Asked, EndsWell, IsTold, LoopMade, OwnTurnsRan, PollerRan, RoundCut, RoundOver, RunMade, StepCut, StepMade, TurnsAfter, TurnsCut, WornEnd}};
 
 use crate::context::{Context, StopFlag, Told};
 use crate::ending::{Ended, NoFault, end_if_over};
@@ -33,10 +33,11 @@ impl<F: Front + Drop> PollerThread<F> {
         &mut self,
         context: &'c Context<'_, G, C, R, S>,
     ) -> Told<'c>
-        ensures made { (why : Why) × RunMade (S.said context.now.is_stopped.now)
+        ensures made { RunMade (S.said context.now.is_stopped.now)
             (EndsWell (C.tells context.now.timing.clock.now) F.gave_none context.now.timing.limit)
-            (C.tells context.now.timing.clock.now) why self.old.poller self.old.own self.new.own
-            × IsTold context.now.ending.now self.old.number why result.recorded result.closed }
+            (C.tells context.now.timing.clock.now) result.why self.old.poller self.old.own self.new.own }
+        ensures told { IsTold context.now.ending.now self.old.number result.why result.recorded result.closed }
+        ensures number { result.number ≡ self.old.number }
         ensures ran { PollerRan self.old.own self.new.own }
     {
         let number = self.number;
@@ -66,6 +67,7 @@ impl<F: Front + Drop> PollerThread<F> {
     ) -> Told<'c>
         ensures own { self.new.own ≡ self.old.own }
         ensures told { IsTold context.now.ending.now number ended.why result.recorded result.closed }
+        ensures of { (result.number ≡ number) × (result.why ≡ ended.why) }
         ensures logged { self.new.poller.episodes.drops ≡ no_drops }
     {
         self.poller.end_episodes(context.rt);

@@ -1,12 +1,15 @@
 //! A server's threads, from the first to the last.
-ghost use Rattle.std.specs.Prelude.{◌≡◌};
+ghost use Rattle.std.specs.Prelude.{◌≡◌, List, [], IfOk, IfSome, None, Some, map, option_to_list, true};
+ghost use Rattle.std.specs.Thread.{IsSend, IsSync};
+ghost use Rattle.claims.specs.Seats.{fresh_seat};
 ghost use Rattle.dispatch.specs.Posts.{AreFresh};
-ghost use Rattle.threads.specs.Loops.{announced};
+ghost use Rattle.threads.specs.{Loops.{announced}, Served.{AllRan, IsDivided, OfFirst, PollerPart, PollerRuns, WorkerPart, WorkerRuns, poller_part, worker_part}};
 
-use crate::context::Context;
+use crate::context::{Context, StopFlag, ThreadEnd};
 use crate::dividing::{Rest, ServerThreads, divide};
 use crate::ending::Ending;
 use crate::faults::{Outcome, Recorded};
+use crate::joining::{Joins, Part, start_both};
 use crate::polling::PollerThread;
 use crate::working::Worker;
 use dispatch::{Clock, Front, Gate, Parts, ServerFault, Shared, Split, Timing};
@@ -16,7 +19,6 @@ use ready::FreeQueue;
 use relay_log::log_few_threads;
 use rounds::Poller;
 use std::alloc::Global;
-use std::sync::atomic::AtomicBool;
 use std::sync::{Arc, Wait};
 use std::thread::{self, Scope, Threads};
 
@@ -41,12 +43,18 @@ pub struct Server<F: Front> {
 /// Refuses with `NoMemory`, before any thread has started, if there is none for what the threads own; else with the
 /// fault that a thread met, or `Threads` if one could not be started. Of several faults it is `Threads`, or else that of
 /// the lowest thread: pollers come before workers.
-pub fn run_threads<F, G: Gate + Sync, C: Clock + Sync, R: Wait + Threads + Log + Sync>(
+pub fn run_threads<
+    F,
+    G: Gate + Sync,
+    C: Clock + Sync,
+    R: Wait + Threads + Log + Sync,
+    S: StopFlag + Sync,
+>(
     rt: &R,
     alloc: Global,
     gate: &G,
     timing: Timing<'_, C>,
-    is_stopped: &AtomicBool,
+    is_stopped: &S,
     server: Server<F>,
 ) -> Outcome
 where
@@ -54,6 +62,12 @@ where
     F::Client: Send,
     F::Target: Send,
     F::Waker: Send + Sync,
+    ensures ran { IfSome result.served (λ served. (pollers : List PollerPart) × (workers : List WorkerPart)
+        × IsDivided (fresh_seat server.shared.claims) (map (λ ends. ends.items) server.free.items) server.pollers.items server.workers
+        pollers workers
+        × AllRan (PollerRuns (S.said is_stopped.now) (C.tells timing.entry.clock.now) F.gave_none timing.entry.limit) WorkerRuns pollers workers
+        served.few served.pollers.items served.workers.items served.first) }
+    ensures few { IfSome result.served (λ served. served.few ≡ true → result.fault ≡ Some ServerFault.Threads) }
 {
     let (split, count) = (server.split, server.pollers.len());
     let threads = match threads_of(alloc, server) {
@@ -72,13 +86,20 @@ where
     };
     let served = run_all(&context, threads);
     drop(context);
-    ending.outcome(served)
+    match served {
+        Ok(served) => ending.outcome(served),
+        Err(fault) => Outcome::refused(fault),
+    }
 }
 
 fn threads_of<F: Front + Drop>(
     alloc: Global,
     server: Server<F>,
-) -> Result<ServerThreads<F>, ServerFault> {
+) -> Result<ServerThreads<F>, ServerFault>
+    ensures { IfOk result (λ made. IsDivided (fresh_seat server.shared.claims) (map (λ ends. ends.items) server.free.items)
+        server.pollers.items server.workers (map (λ p. poller_part p.number p.poller p.own) made.pollers.items)
+        (map (λ w. worker_part w.number w.own w.others.items) made.workers.items)) }
+{
     let Server {
         shared,
         parts,
@@ -91,92 +112,158 @@ fn threads_of<F: Front + Drop>(
     divide(alloc, &shared, Rest { parts, free }, pollers, workers)
 }
 
-/// All threads of a server have ended. Only [`run_all`] makes this value.
+/// All threads of a server have ended, and how. Only [`run_in`] makes this value.
 #[derive(Drop)]
-pub(crate) struct Served(());
+pub(crate) struct Served {
+    /// A thread could not be started.
+    pub(crate) few: bool,
+    pollers: Vec<ThreadEnd>,
+    workers: Vec<ThreadEnd>,
+    /// Of the first poller, which ran in the thread that serves.
+    first: Option<ThreadEnd>,
+}
 
-/// Starts the threads of the workers and of all pollers but the first, runs that one in the calling thread, and returns
-/// when all have ended.
-fn run_all<F, G: Gate + Sync, C: Clock + Sync, R: Wait + Threads + Log + Sync>(
-    context: &Context<'_, G, C, R>,
+impl<'a, F: Front + Drop, G: Gate, C: Clock, R: Wait + Log, S: StopFlag> Part<
+    Context<'a, G, C, R, S>,
+> for PollerThread<F> {
+    ghost use Rattle.threads.specs.Served.{PollerRuns, poller_part};
+
+    ghost runs = { λ context poller end. PollerRuns (S.said context.is_stopped.now) (C.tells context.timing.clock.now) F.gave_none
+        context.timing.limit (poller_part poller.number poller.poller poller.own) end };
+
+    /// The thread is shown by that name by tools such as top(1).
+    fn run_to_end(self, context: &Context<'a, G, C, R, S>) -> ThreadEnd {
+        let mut poller = self;
+        set_thread_name(b"poller");
+        poller.run(context).end()
+    }
+}
+
+impl<'a, F: Front + Drop, G: Gate, C: Clock, R: Wait + Log, S: StopFlag> Part<
+    Context<'a, G, C, R, S>,
+> for Worker<F> {
+    ghost use Rattle.threads.specs.Served.{WorkerRuns, worker_part};
+
+    ghost runs = { λ _ worker end. WorkerRuns (worker_part worker.number worker.own worker.others.items) end };
+
+    fn run_to_end(self, context: &Context<'a, G, C, R, S>) -> ThreadEnd {
+        let mut worker = self;
+        set_thread_name(b"worker");
+        worker.run(context).end()
+    }
+}
+
+/// Runs all threads of a server, and returns when all have ended. Refuses with `NoMemory` before any has started.
+fn run_all<F, G: Gate + Sync, C: Clock + Sync, R: Wait + Threads + Log + Sync, S: StopFlag + Sync>(
+    context: &Context<'_, G, C, R, S>,
     threads: ServerThreads<F>,
-) -> Served
+) -> Result<Served, ServerFault>
 where
     F: Front + Drop + Send,
     F::Client: Send,
     F::Target: Send,
     F::Waker: Send + Sync,
+    ensures { IfOk result (λ served. AllRan (PollerRuns (S.said context.now.is_stopped.now)
+        (C.tells context.now.timing.clock.now) F.gave_none context.now.timing.limit) WorkerRuns
+        (map (λ p. poller_part p.number p.poller p.own) threads.pollers.items)
+        (map (λ w. worker_part w.number w.own w.others.items) threads.workers.items)
+        served.few served.pollers.items served.workers.items served.first) }
+{
+    thread::scope(
+        thread::scope_env(),
+        context.rt,
+        move |scope| -> Result<Served, ServerFault>
+            requires { IsSend F.row × IsSend F.Client.row × IsSend F.Target.row × IsSend F.Waker.row × IsSync F.Waker.row
+                × IsSync G.row × IsSync C.row × IsSync R.row × IsSync S.row }
+            ensures { IfOk result (λ served. AllRan (PollerRuns (S.said context.entry.now.is_stopped.now)
+                (C.tells context.entry.now.timing.clock.now) F.gave_none context.entry.now.timing.limit) WorkerRuns
+                (map (λ p. poller_part p.number p.poller p.own) threads.pollers.items)
+                (map (λ w. worker_part w.number w.own w.others.items) threads.workers.items)
+                served.few served.pollers.items served.workers.items served.first) }
+        { run_in(scope, context, threads) },
+    )
+}
+
+/// Starts the threads of the workers and of all pollers but the first, runs that one in the calling thread, and joins all.
+fn run_in<
+    's,
+    E,
+    F,
+    G: Gate + Sync,
+    C: Clock + Sync,
+    R: Wait + Threads + Log + Sync,
+    S: StopFlag + Sync,
+>(
+    scope: &'s Scope<'s, E>,
+    context: &'s Context<'_, G, C, R, S>,
+    threads: ServerThreads<F>,
+) -> Result<Served, ServerFault>
+where
+    F: Front + Drop + Send + 's,
+    F::Client: Send,
+    F::Target: Send,
+    F::Waker: Send + Sync,
+    ensures { IfOk result (λ served. AllRan (PollerRuns (S.said context.now.is_stopped.now)
+        (C.tells context.now.timing.clock.now) F.gave_none context.now.timing.limit) WorkerRuns
+        (map (λ p. poller_part p.number p.poller p.own) threads.pollers.items)
+        (map (λ w. worker_part w.number w.own w.others.items) threads.workers.items)
+        served.few served.pollers.items served.workers.items served.first) }
 {
     let ServerThreads {
         mut pollers,
         workers,
     } = threads;
     let first = pollers.pop();
-    thread::scope(thread::scope_env(), context.rt, move |scope| {
-        start_all(scope, context, pollers, workers);
-        if !context.ending.is_recorded() {
-            context.gate.all_started();
-        }
-        if let Some(mut poller) = first {
-            poller.run(context);
-        }
-    });
-    Served(())
-}
-
-/// Starts the threads of these workers and pollers, until one cannot be started. Each is given what it owns by value.
-fn start_all<'s, E, F, G: Gate + Sync, C: Clock + Sync, R: Wait + Threads + Log + Sync>(
-    scope: &'s Scope<'s, E>,
-    context: &'s Context<'_, G, C, R>,
-    pollers: Vec<PollerThread<F>>,
-    workers: Vec<Worker<F>>,
-)
-where
-    F: Front + Drop + Send + 's,
-    F::Client: Send,
-    F::Target: Send,
-    F::Waker: Send + Sync,
-{
     let wanted = pollers.len().saturating_add(workers.len());
-    let mut started = 0usize;
-    for worker in workers {
-        if scope.spawn(move || run_worker(context, worker)).is_err() {
-            not_started(context, started, wanted);
-            return;
-        }
-        started = started.saturating_add(1);
+    let mut of_workers = Joins::for_parts(context.alloc, workers.len())?;
+    let mut of_pollers = Joins::for_parts(context.alloc, pollers.len())?;
+    let all = start_both(
+        scope,
+        context,
+        &mut of_workers,
+        workers,
+        &mut of_pollers,
+        pollers,
+    );
+    if !all {
+        not_started(
+            context,
+            of_workers.len().saturating_add(of_pollers.len()),
+            wanted,
+        );
     }
-    for poller in pollers {
-        if scope.spawn(move || run_poller(context, poller)).is_err() {
-            not_started(context, started, wanted);
-            return;
-        }
-        started = started.saturating_add(1);
+    if !context.ending.is_recorded() {
+        context.gate.all_started();
     }
+    let first = run_first(context, first);
+    Ok(Served {
+        few: !all,
+        pollers: of_pollers.join(context.rt),
+        workers: of_workers.join(context.rt),
+        first,
+    })
 }
 
-/// Runs a poller, in a thread that tools such as top(1) show by that name.
-fn run_poller<F: Front + Drop, G: Gate, C: Clock, R: Wait + Log>(
-    context: &Context<'_, G, C, R>,
-    mut poller: PollerThread<F>,
-) {
-    set_thread_name(b"poller");
-    poller.run(context);
-}
-
-/// Runs a worker, in a thread that tools show by that name.
-fn run_worker<F: Front + Drop, G: Gate, C: Clock, R: Wait + Log>(
-    context: &Context<'_, G, C, R>,
-    mut worker: Worker<F>,
-) {
-    set_thread_name(b"worker");
-    worker.run(context);
+/// Runs this poller, if there is one, in the calling thread.
+fn run_first<F: Front + Drop, G: Gate, C: Clock, R: Wait + Log, S: StopFlag>(
+    context: &Context<'_, G, C, R, S>,
+    first: Option<PollerThread<F>>,
+) -> Option<ThreadEnd>
+    ensures ran { OfFirst (PollerRuns (S.said context.now.is_stopped.now) (C.tells context.now.timing.clock.now) F.gave_none
+        context.now.timing.limit)
+        (map (λ p. poller_part p.number p.poller p.own) (option_to_list first)) (option_to_list result) [] }
+    ensures none { result ≡ None → first ≡ None }
+{
+    match first {
+        Some(mut poller) => Some(poller.run(context).end()),
+        None => None,
+    }
 }
 
 /// A thread could not be started, after so many of those that are wanted beside the first. Number 0 makes this fault
 /// count before those of all threads.
-fn not_started<'a, G, C, R: Wait + Log>(
-    context: &Context<'a, G, C, R>,
+fn not_started<'a, G, C, R: Wait + Log, S>(
+    context: &Context<'a, G, C, R, S>,
     started: usize,
     wanted: usize,
 ) -> Recorded<'a>

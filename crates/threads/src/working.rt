@@ -3,7 +3,7 @@ ghost use Rattle.std.specs.{Prelude.{◌≡◌, ◌<◌, [], ◌∷◌, Ok, Err,
 ghost use Rattle.claims.specs.Seats.{HoldsNothing};
 ghost use Rattle.dispatch.specs.{Hands.HasRoom, Outgoing.{outgoing, PutAll}};
 ghost use Rattle.relay_log.specs.declared.faults.ServerFault.TheVariants.{Worn};
-ghost use Rattle.threads.specs.{declared.ending.Why.Why, Loops.{Changes, GivesToOwner, IsTold, OneRan, WorkerEnded, WorkerRan, WornEnd}};
+ghost use Rattle.threads.specs.{Loops.{Changes, GivesToOwner, IsTold, OneRan, WorkerEnded, WorkerRan, WornEnd}};
 
 use crate::context::{Context, Told};
 use crate::ending::{Cleared, Ended, take};
@@ -34,8 +34,9 @@ impl<F: Front + Drop> Worker<F> {
         &mut self,
         context: &'c Context<'_, G, C, R, S>,
     ) -> Told<'c>
-        ensures ran { (why : Why) × WorkerEnded why self.old.own self.new.own self.old.others.items self.new.others.items
-            × IsTold context.now.ending.now self.old.number why result.recorded result.closed }
+        ensures ran { WorkerEnded result.why self.old.own self.new.own self.old.others.items self.new.others.items }
+        ensures told { IsTold context.now.ending.now self.old.number result.why result.recorded result.closed }
+        ensures number { result.number ≡ self.old.number }
     {
         let number = self.number;
         let ended = self.run_turns(context);
@@ -51,6 +52,7 @@ impl<F: Front + Drop> Worker<F> {
     ) -> Told<'c>
         ensures own { self.new.own ≡ self.old.own }
         ensures told { IsTold context.now.ending.now number ended.why result.recorded result.closed }
+        ensures of { (result.number ≡ number) × (result.why ≡ ended.why) }
         ensures others { self.new.others.items ≡ self.old.others.items }
     {
         context.end(&self.shared, number, &mut self.own.ready, ended)

@@ -1,4 +1,6 @@
 use Rattle.std.proofs.{Common.{◌≡◌, length, arith}, lemmas.List.Elements.All-nil}
+use Rattle.std.specs.Arc.{arc_value}
+use Rattle.claims.specs.Seats.{fresh_seat}
 use Rattle.threads.{specs.Divided.IsEndOf, proofs.Divided.{all_left, all_made, all_pushed, left_of_left, threads_more}}
 use Rattle.threads.proofs.dividing.pollers_of.Goals as goal
 
@@ -12,6 +14,7 @@ loop-thread-preserved g c =
       left = omega (arith, was.left, c.in-Some.ensures.len, c.loop-thread.pollers.ok.0, c.pop.new.self.ok.0);
       numbered = threads_more _ _ _ _ _ _ _ c.len-number.result _ pushed.items c.in-Some.ensures.items
           (omega (arith, c.len-number.ensures, c.pop.new.self.ok.0)) (rw (made.made.0, made.made.1)) was.numbered;
+      seats = all_pushed (λ thread. thread.own.seat ≡ fresh_seat (arc_value c.args.shared.now).claims) _ pushed.items was.seats made.seat;
       slots = all_pushed (λ thread. IsEndOf c.args.rest.now.free thread.number thread.own.free) _ pushed.items was.slots (was.ends.each _ _ made.slots);
       ends = left_of_left was.ends made.left;
       len = omega (arith, pushed.len, was.len);
@@ -25,6 +28,7 @@ loop-thread-init g c =
       fresh = c.requires;
       left = omega (arith, c.len-count.ensures, c.args.pollers.ok.0);
       numbered = rw made.items;
+      seats = rw made.items (All-nil (λ thread. thread.own.seat ≡ fresh_seat (arc_value c.args.shared.now).claims));
       slots = rw made.items (All-nil (λ thread. IsEndOf c.args.rest.now.free thread.number thread.own.free));
       ends = all_left;
       len = made.len;
@@ -35,7 +39,7 @@ pub returns : goal.returns
 returns g c =
     let was = c.loop-thread.invariant in
     let none : length c.loop-thread.pollers.items ≡ 0 = omega (arith, was.left, c.loop-thread-test.false) in
-    record { fresh = was.fresh; pollers = all_made _ _ c.loop-thread.pollers.items none was.numbered; slots = was.slots; left = was.ends }
+    record { fresh = was.fresh; pollers = all_made _ _ c.loop-thread.pollers.items none was.numbered; seats = was.seats; slots = was.slots; left = was.ends }
 
 pub thread_of-requires : goal.thread_of-requires
 thread_of-requires g c = c.loop-thread.invariant.fresh

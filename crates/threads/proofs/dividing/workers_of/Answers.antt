@@ -1,5 +1,6 @@
 use Rattle.std.proofs.{Common.{◌≡◌, refl, ◌∷◌, arith}, lemmas.List.Elements.All-nil}
-use Rattle.claims.proofs.Seats.{fresh_holds_nothing}
+use Rattle.std.specs.Arc.{arc_value}
+use Rattle.claims.{proofs.Seats.{fresh_holds_nothing}, specs.Seats.{fresh_seat}}
 use Rattle.threads.{specs.Divided.HasOneOfEach, proofs.Divided.{all_left, all_pushed, left_of_left, numbers_more, one_of_all, one_of_each}}
 use Rattle.threads.proofs.dividing.workers_of.Goals as goal
 
@@ -17,6 +18,7 @@ loop-index-preserved g c =
     record {
       fresh = owned.fresh;
       numbers = numbers_more _ _ _ _ _ _ pushed.items refl was.numbers;
+      seats = all_pushed (λ worker. worker.own.seat ≡ fresh_seat (arc_value c.args.shared.now).claims) _ pushed.items was.seats owned.own;
       slots = all_pushed (λ worker. HasOneOfEach c.args.rest.now.free (worker.own.free ∷ worker.others.items)) _ pushed.items was.slots
           (one_of_all was.ends (c.in_ok-shared.own.free ∷ c.in_ok-others.others.items) (one_of_each _ _ others.ends others.all others.left owned.slots));
       ends = left_of_left ends owned.left;
@@ -30,6 +32,7 @@ loop-index-init g c =
     record {
       fresh = c.requires;
       numbers = rw made.items;
+      seats = rw made.items (All-nil (λ worker. worker.own.seat ≡ fresh_seat (arc_value c.args.shared.now).claims));
       slots = rw made.items (All-nil (λ worker. HasOneOfEach c.args.rest.now.free (worker.own.free ∷ worker.others.items)));
       ends = all_left;
       len = made.len;
@@ -40,7 +43,7 @@ pub returns : goal.returns
 returns g c =
     let was = c.loop-index.invariant in
     let all : c.loop-index.index ≡ c.args.workers = omega (arith, c.loop-index-test.false, c.loop-index.auto.index-end) in
-    record { numbers = rw all at was.numbers; slots = was.slots }
+    record { numbers = rw all at was.numbers; seats = was.seats; slots = was.slots }
 
 pub next_own-requires : goal.next_own-requires
 next_own-requires g c = rw c.in_ok-others.ensures.parts c.loop-index.invariant.fresh
