@@ -184,182 +184,94 @@ abbrev told_at : EndState → PairCall → Reply → Option answer.AnswerValue
 told_at e (Read side most) (reply.Bytes n) = option_map (λ (bytes : List ℕ). answer.Bytes bytes) (bytes_read e most n)
 told_at e call r = plain_answer r
 
-told_is : (k : KernelState) (c : Connection) (t : Thread) (g : ℕ) (f : Side → EndState) (call : PairCall) (r : Reply) → k.ends ≡ open_as g f → c.ends ≡ two
+told_is : (k : KernelState) (c : Connection) (g : ℕ) (f : Side → EndState) (call : PairCall) (r : Reply) → k.ends ≡ open_as g f → c.ends ≡ two
     → told_of (record { kernel = k; connection = c }) call r ≡ told_at (f (side_of call)) call r
-told_is k c t g f (Read side most) (reply.Bytes n) real own = rw (own, real, end_as g f side) refl
-told_is k c t g f call r real own = refl
+told_is k c g f (Read side most) (reply.Bytes n) real own = rw (own, real, end_as g f side) refl
+told_is k c g f call r real own = refl
 
-made_is : (k : KernelState) (c : Connection) (t : Thread) (g : ℕ) (f : Side → EndState) (call : PairCall) (r : Reply) → k.ends ≡ open_as g f → c.ends ≡ two →
-    made (record { kernel = k; connection = c }) call r ≡ option_map (λ (x : EndState). record k { ends = open_as g (on (side_of call) x f) }) (after_call (f (side_of call)) (as_call c.pair call) r)
-made_is k c t g f (Read side most) r real own = rw own (called_at k g f side (λ (x : EndState). after_call x (machine.Read most) r) real)
-made_is k c t g f (Write side) r real own = rw own (called_at k g f side (λ (x : EndState). after_call x (machine.Write (offer c.pair side)) r) real)
-made_is k c t g f (Join side) r real own = rw own (called_at k g f side (λ (x : EndState). after_call x machine.Join r) real)
-made_is k c t g f (Shut side) r real own = rw own (called_at k g f side (λ (x : EndState). after_call x machine.Shut r) real)
+made_is : (k : KernelState) (c : Connection) (g : ℕ) (f : Side → EndState) (call : PairCall) (r : Reply) → k.ends ≡ open_as g f → c.ends ≡ two → made (record { kernel = k; connection = c }) call r
+    ≡ option_map (λ (x : EndState). record k { ends = open_as g (on (side_of call) x f) }) (after_call (f (side_of call)) (as_call c.pair call) r)
+made_is k c g f (Read side most) r real own = rw own (called_at k g f side (λ (x : EndState). after_call x (machine.Read most) r) real)
+made_is k c g f (Write side) r real own = rw own (called_at k g f side (λ (x : EndState). after_call x (machine.Write (offer c.pair side)) r) real)
+made_is k c g f (Join side) r real own = rw own (called_at k g f side (λ (x : EndState). after_call x machine.Join r) real)
+made_is k c g f (Shut side) r real own = rw own (called_at k g f side (λ (x : EndState). after_call x machine.Shut r) real)
 
--- the call was answered so, and the end is then this
-record Answer (now : ℕ) (k : KernelState) (c : Connection) (t : Thread) (g : ℕ) (f : Side → EndState) (call : PairCall) (r : Reply) (line : OpenConnection) : Type 0 where
+-- the thread i is to make the call a
+record Makes (st : System) (i : ℕ) (a : Asked) : Type 0 where
+  there : slice_get st.threads i ≡ Some a.thread
+  rest : List Act
+  todo : a.thread.todo ≡ Call ∷ rest
+  out : a.thread.out ≡ Some a.connection
+  next : next_call a.connection.pair ≡ Some a.asks
+
+makes_back : (st : System) (i : ℕ) (a : Asked) → asks st i ≡ Some a → Makes st i a
+makes_back st i a h = option_and_then_some (λ (t : Thread). asked_by t t.todo) (slice_get st.threads i) a h (λ t there made. by t there t.todo refl made)
+  where
+    by : (t : Thread) → slice_get st.threads i ≡ Some t → (todo : List Act) → t.todo ≡ todo → asked_by t todo ≡ Some a → Makes st i a
+    by t there (Call ∷ rest) todo h = option_and_then_some _ t.out a h (λ c out more. mapped _ (next_call c.pair) a more (λ call next is.
+        rw is (record { there = there; rest = rest; todo = todo; out = out; next = next })))
+    by t there other todo h = cc
+
+-- the call a has this answer r of the socket e
+record Answer (e : EndState) (a : Asked) (r : Reply) : Type 0 where
   value : answer.AnswerValue
-  told : told_at (f (side_of call)) call r ≡ Some value
-  fit : fits c.pair call value ≡ true
+  told : told_at e a.asks r ≡ Some value
+  fit : fits a.connection.pair a.asks value ≡ true
   socket : EndState
-  after : after_call (f (side_of call)) (as_call c.pair call) r ≡ Some socket
-  line_is : line ≡ record { kernel = record k { ends = open_as g (on (side_of call) socket f) }; connection = record c { pair = answered now c.pair call value } }
+  after : after_call e (as_call a.connection.pair a.asks) r ≡ Some socket
 
-call_back : (now : ℕ) (k : KernelState) (c : Connection) (t : Thread) (g : ℕ) (f : Side → EndState) (call : PairCall) (r : Reply) (line : OpenConnection) → k.ends ≡ open_as g f → c.ends ≡ two
-    → next_call c.pair ≡ Some call → called now (record { kernel = k; connection = c }) r ≡ Some line → Answer now k c t g f call r line
-unfolding called
-call_back now k c t g f call r line real own next h =
-    option_and_then_some _ (told_of (record { kernel = k; connection = c }) call r) line (rw next at h) (λ value told rest.
-    let w = when_back (fits c.pair call value) _ line rest in
-    mapped _ (made (record { kernel = k; connection = c }) call r) line w.1 (λ k' is line_is.
-    mapped _ (after_call (f (side_of call)) (as_call c.pair call) r) k' (sym (made_is k c t g f call r real own) ∙ is) (λ x after k_is.
-    record { value = value; told = sym (told_is k c t g f call r real own) ∙ told; fit = w.0; socket = x; after = after; line_is = line_is ∙ rw k_is refl })))
+-- and then the thread goes on so
+abbrev goes_so : System → ℕ → Asked → KernelState → answer.AnswerValue → System
+goes_so st i a k value = with_thread (record st { kernel = k }) i
+    (planned st a.thread (a.thread.left - 1) (record a.connection { pair = answered st.second a.connection.pair a.asks value }))
 
-call_on : (now : ℕ) (k : KernelState) (c : Connection) (t : Thread) (g : ℕ) (f : Side → EndState) (call : PairCall) (r : Reply) (value : answer.AnswerValue) (x : EndState) → k.ends ≡ open_as g f → c.ends ≡ two
-    → next_call c.pair ≡ Some call → told_at (f (side_of call)) call r ≡ Some value → fits c.pair call value ≡ true → after_call (f (side_of call)) (as_call c.pair call) r ≡ Some x
-    → called now (record { kernel = k; connection = c }) r
-    ≡ Some (record { kernel = record k { ends = open_as g (on (side_of call) x f) }; connection = record c { pair = answered now c.pair call value } })
-unfolding called
-call_on now k c t g f call r value x real own next told fit after =
-    let first = told_is k c t g f call r real own ∙ told in
-    let last = rw after at (made_is k c t g f call r real own) in
-    rw (next, first, fit, last) refl
+module _ (st : System) (i : ℕ) (a : Asked) (m : Makes st i a) (own : a.connection.ends ≡ two) (g : ℕ) (f : Side → EndState) (real : st.kernel.ends ≡ open_as g f) (r : Reply) where
+  abbrev its_end : EndState
+  its_end = f (side_of a.asks)
 
-abbrev lines : System → ℕ → Thread → OpenConnection → System
-lines st i t line = with_thread (record st { kernel = line.kernel }) i (planned st t (t.left - 1) line.connection)
+  abbrev then_kernel : EndState → KernelState
+  then_kernel x = record st.kernel { ends = open_as g (on (side_of a.asks) x f) }
 
-call_runs : (st : System) (i : ℕ) (t : Thread) (rest : List Act) (c : Connection) (r : Reply) (line : OpenConnection) → slice_get st.threads i ≡ Some t → t.todo ≡ Call ∷ rest → t.out ≡ Some c
-    → called st.second (record { kernel = st.kernel; connection = c }) r ≡ Some line → step st (Calls i r) ≡ Some (lines st i t line)
-call_runs st i t rest c r line there todo out does = ap (option_and_then (λ (t : Thread). calls st i t r t.todo)) there ∙ (ap (calls st i t r) todo
-    ∙ (ap (option_and_then (λ (c : Connection). option_map (lines st i t) (called st.second (record { kernel = st.kernel; connection = c }) r))) out ∙ ap (option_map (lines st i t)) does))
+  abbrev lines : OpenConnection → System
+  lines line = with_thread (record st { kernel = line.kernel }) i (planned st a.thread (a.thread.left - 1) line.connection)
 
--- what such a step has done
-call_ran : (st next : System) (i : ℕ) (t : Thread) (rest : List Act) (c : Connection) (r : Reply) → slice_get st.threads i ≡ Some t → t.todo ≡ Call ∷ rest → t.out ≡ Some c → step st (Calls i r) ≡ Some next
-    → option_map (lines st i t) (called st.second (record { kernel = st.kernel; connection = c }) r) ≡ Some next
-call_ran st next i t rest c r there todo out h = sym (ap (option_and_then (λ (t : Thread). calls st i t r t.todo)) there ∙ (ap (calls st i t r) todo
-    ∙ ap (option_and_then (λ (c : Connection). option_map (lines st i t) (called st.second (record { kernel = st.kernel; connection = c }) r))) out)) ∙ h
+  call_is : step st (Calls i r) ≡ option_map lines (called st.second (record { kernel = st.kernel; connection = a.connection }) r)
+  call_is = ap (option_and_then (λ (t : Thread). calls st i t r t.todo)) m.there ∙ (ap (calls st i a.thread r) m.todo
+      ∙ ap (option_and_then (λ (c : Connection). option_map lines (called st.second (record { kernel = st.kernel; connection = c }) r))) m.out)
+
+  called_is : called st.second (record { kernel = st.kernel; connection = a.connection }) r ≡ option_and_then (λ (v : answer.AnswerValue). when (fits a.connection.pair a.asks v)
+      (option_map (λ (k : KernelState). record { kernel = k; connection = record a.connection { pair = answered st.second a.connection.pair a.asks v } })
+      (option_map then_kernel (after_call its_end (as_call a.connection.pair a.asks) r)))) (told_at its_end a.asks r)
+  unfolding called
+  called_is = rw (m.next, told_is st.kernel a.connection g f a.asks r real own, made_is st.kernel a.connection g f a.asks r real own) refl
+
+  answer_runs : (n : Answer its_end a r) → run st (Calls i r ∷ []) ≡ Some (goes_so st i a (then_kernel n.socket) n.value)
+  answer_runs n = ap (option_and_then (λ (y : System). Some y)) (call_is ∙ ap (option_map lines) (rw (n.told, n.fit, n.after) at called_is))
+
+  answer_ran : (next : System) → step st (Calls i r) ≡ Some next → (n : Answer its_end a r) × (next ≡ goes_so st i a (then_kernel n.socket) n.value)
+  answer_ran next h = mapped lines (called st.second (record { kernel = st.kernel; connection = a.connection }) r) next (sym call_is ∙ h) (λ line does after.
+      option_and_then_some _ (told_at its_end a.asks r) line (sym called_is ∙ does) (λ value told rest.
+      let fit = when_back (fits a.connection.pair a.asks value) _ line rest in
+      mapped _ (option_map then_kernel (after_call its_end (as_call a.connection.pair a.asks) r)) line fit.1 (λ k made line_is.
+      mapped then_kernel (after_call its_end (as_call a.connection.pair a.asks) r) k made (λ x ends k_is.
+      (record { value = value; told = told; fit = fit.0; socket = x; after = ends }, after ∙ rw (line_is, k_is) refl)))))
 
 told_failed : (e x : EndState) (call : PairCall) (kind : Kind) → told_at e call (reply.Failed kind) ≡ told_at x call (reply.Failed kind)
 told_failed e x (Read side most) kind = refl
 told_failed e x call kind = refl
 
 -- the bytes that a read gives are the same there: nothing is late while the wire reads
-told_same : {e x : EndState} {b : Bool} {wire : Wire} {late : List Change} → EndOk e b wire late x → (t : Thread) (c : Connection) (call : PairCall) (r : Reply) → may_call wire.reads (as_call c.pair call) ≡ true
+told_same : {e x : EndState} {b : Bool} {wire : Wire} {late : List Change} → EndOk e b wire late x → (p : PairState) (call : PairCall) (r : Reply) → may_call wire.reads (as_call p call) ≡ true
     → told_at e call r ≡ told_at x call r
-told_same ok t c (Read side most) (reply.Bytes n) may = rw (same_here ok (λ reads told some. cc)).1 refl
-told_same ok t c call r may = refl
+told_same ok p (Read side most) (reply.Bytes n) may = rw (same_here ok (λ reads told some. cc)).1 refl
+told_same ok p call r may = refl
 
-itself : {e x : EndState} {b : Bool} {wire : Wire} {late : List Change} → EndOk e b wire late x → (call : PairCall) (p : PairState) → may_call wire.reads (as_call p call) ≡ false → wire.told ≡ false
-    → (told_at x call reply.Blocked ≡ Some answer.Blocked) × (fits p call answer.Blocked ≡ true) × (after_call x (as_call p call) reply.Blocked ≡ Some x)
-itself ok (Read side most) p asleep untold = (refl, refl, would_block ok most asleep untold)
-itself ok call p asleep untold = cc
-
--- the thread i is to make the call a
-record Asks (s : System) (i : ℕ) (a : Asked) : Type 0 where
-  thread : Thread
-  there : slice_get s.threads i ≡ Some thread
-  rest : List Act
-  todo : thread.todo ≡ Call ∷ rest
-  connection : Connection
-  out : thread.out ≡ Some connection
-  call : PairCall
-  next : next_call connection.pair ≡ Some call
-  is : a ≡ record { thread = thread; connection = connection; asks = call }
-
-asks_back : (s : System) (i : ℕ) (a : Asked) → asks s i ≡ Some a → Asks s i a
-asks_back s i a h = option_and_then_some (λ (t : Thread). asked_by t t.todo) (slice_get s.threads i) a h (λ t there made. by t there t.todo refl made)
-  where
-    by : (t : Thread) → slice_get s.threads i ≡ Some t → (todo : List Act) → t.todo ≡ todo → asked_by t todo ≡ Some a → Asks s i a
-    by t there (Call ∷ rest) todo h = option_and_then_some _ t.out a h (λ c out more. mapped _ (next_call c.pair) a more (λ call next is.
-        record { thread = t; there = there; rest = rest; todo = todo; connection = c; out = out; call = call; next = next; is = is }))
-    by t there other todo h = cc
-
-module _ (w : Wired) (d : Delay) (e : List (Option Registered)) (q : List Name) (j : Joined (rim w.system) w.wires w.poll d e q) (i : ℕ) (t : Thread) (there : slice_get w.system.threads i ≡ Some t) (rest : List Act)
-    (todo : t.todo ≡ Call ∷ rest) (c : Connection) (out : t.out ≡ Some c) (call : PairCall) (next : next_call c.pair ≡ Some call) {g : ℕ} (f s : Side → EndState) (own : c.ends ≡ two) (ends : w.system.ends ≡ Some two)
-    (real : w.system.kernel.ends ≡ open_as g f) (as_seen : e ≡ open_as g s)
-    (oks : (side : Side) → EndOk (f side) (coming w.system.kernel.queue w.poll (End (token g side))) (w.wires side) (d.late side) (s side)) (known : AllNamed (Some g) w.system.kernel.queue)
-    (busy : Polls w.system.batch d.early (Some g) w.poll) where
-  abbrev mine : Asked
-  mine = record { thread = t; connection = c; asks = call }
-
-  abbrev wire_then : Reply → Wire
-  wire_then r = record (w.wires (side_of call)) { reads = reads_after (w.wires (side_of call)).reads (as_call c.pair call) r }
-
-  -- the thread after the call
-  abbrev then_ : System → List (Option Registered) → answer.AnswerValue → System
-  then_ st sockets value = with_thread (record st { kernel = record st.kernel { ends = sockets } }) i (planned st t (t.left - 1) (record c { pair = answered st.second c.pair call value }))
-
-  call_there : (s : Side → EndState) (queue : List Name) (r : Reply) (value : answer.AnswerValue) (x : EndState) → told_at (s (side_of call)) call r ≡ Some value → fits c.pair call value ≡ true
-      → after_call (s (side_of call)) (as_call c.pair call) r ≡ Some x → let st = seen_as w.system (open_as g s) queue (batch_there w.poll d.early w.system.batch) in
-      run st (Calls i r ∷ []) ≡ Some (then_ st (open_as g (on (side_of call) x s)) value)
-  call_there s queue r value x told fit after =
-      let st = seen_as w.system (open_as g s) queue (batch_there w.poll d.early w.system.batch) in
-      ap (option_and_then (λ (y : System). Some y))
-      (call_runs st i t rest c r _ there todo out (call_on w.system.second (record w.system.kernel { ends = open_as g s; queue = queue }) c t g s call r value x refl own next told fit after))
-
-  module _ (value : answer.AnswerValue) (fit : fits c.pair call value ≡ true) (x : EndState) where
-    -- a call that does not fail
-    replies : (r : Reply) → is_failed r ≡ false → may_call (w.wires (side_of call)).reads (as_call c.pair call) ≡ true → told_at (f (side_of call)) call r ≡ Some value → after_call (f (side_of call)) (as_call c.pair call) r ≡ Some x
-        → Led (seen_as w.system e q (batch_there w.poll d.early w.system.batch)) (Calls i r ∷ [])
-        (record w { system = then_ w.system (open_as g (on (side_of call) x f)) value; wires = on (side_of call) (wire_then r) w.wires }) d
-    replies r sound may told after =
-        let side = (side_of call) in
-        let m = answers (oks side) x (as_call c.pair call) r may after sound in
-        let all = changed_end g w.system.kernel.queue w.poll w.system.kernel.queue w.poll side x m.there (wire_then r) (d.late side) m.ok (λ k other some more. more) oks in
-        record {
-          there = open_as g (on side m.there s);
-          queue = q;
-          leads = rw as_seen (call_there s q r value m.there (sym (told_same (oks side) t c call r may) ∙ told) fit m.is);
-          joined = record {
-            generation = Some g;
-            ends = Opened (on side x f) (on side m.there s) ends refl refl (λ k. rw (on_same side d.late k) at (all k));
-            known = known;
-            polls = busy;
-            on_way = j.on_way;
-          };
-        }
-
-    -- a call that fails: what is late comes before it
-    fails : (kind : Kind) → told_at (f (side_of call)) call (reply.Failed kind) ≡ Some value → after_call (f (side_of call)) (as_call c.pair call) (reply.Failed kind) ≡ Some x
-        → Led (seen_as w.system e q (batch_there w.poll d.early w.system.batch)) (comes d.late ((side_of call) ∷ []) ++ Calls i (reply.Failed kind) ∷ [])
-        (record w { system = then_ w.system (open_as g (on (side_of call) x f)) value; wires = on (side_of call) (wire_then (reply.Failed kind)) w.wires }) (record d { late = on (side_of call) [] d.late })
-    fails kind told after =
-        let side = (side_of call) in
-        let r = reply.Failed kind in
-        let c1 = comes_at w.system g s q (batch_there w.poll d.early w.system.batch) side (f side) (d.late side) ends (oks side).may (oks side).held.due in
-        let wire = wire_then r in
-        let all = changed_end g w.system.kernel.queue w.poll w.system.kernel.queue w.poll side x x wire []
-        (awake x _ wire (inl (failed_reads (w.wires side).reads (as_call c.pair call) kind))) (λ k other some more. more) oks in
-        let same = on_here side (f side) s in
-        let made = call_there (on side (f side) s) c1.queue r value x (rw same told) fit (rw same after) in
-        record {
-          there = open_as g (on side x s);
-          queue = c1.queue;
-          leads = rw (as_seen, append-nil (map (Network side) (d.late side))) (run_on (map (Network side) (d.late side)) _ _ _ c1.leads ∙ rw (open_twice g side (f side) x s) at made);
-          joined = record {
-            generation = Some g;
-            ends = Opened (on side x f) (on side x s) ends refl refl all;
-            known = known;
-            polls = busy;
-            on_way = came_way w.system.kernel.queue busy (oks side) j.on_way c1;
-          };
-        }
-
-  blocked_there : may_call (w.wires (side_of call)).reads (as_call c.pair call) ≡ false → (w.wires (side_of call)).told ≡ false → let st = seen_as w.system (open_as g s) q (batch_there w.poll d.early w.system.batch) in
-      run st (Calls i reply.Blocked ∷ []) ≡ Some (then_ st (open_as g s) answer.Blocked)
-  blocked_there asleep untold =
-      let side = side_of call in
-      let b = itself (oks side) call c.pair asleep untold in
-      rw (open_same g side s) at (call_there s q reply.Blocked answer.Blocked (s side) b.0 b.1 b.2)
-
-  -- the wire answers by itself, as the socket there would
-  answers_itself : (v : Wired) → unasked w i mine ≡ Some v → Led (seen_as w.system e q (batch_there w.poll d.early w.system.batch)) (Calls i reply.Blocked ∷ []) v d
-  answers_itself v h =
-      let it = w.wires (side_of call) in
-      let gave = guarded (not (may_call it.reads (as_call c.pair call)) && not it.told) (record w { system = blocked w.system i mine }) v h in
-      let none = both_down (may_call it.reads (as_call c.pair call)) it.told gave.0 in
-      let does = blocked_there none.0 none.1 in
-      rw gave.1 (record { there = e; queue = q; leads = rw as_seen does; joined = j })
+-- a wire answers a read by itself as the socket there would
+itself : {x : EndState} (a : Asked) (call : PairCall) → a.asks ≡ call → (reads : Bool) → ((most : ℕ) → reads ≡ false → after_call x (machine.Read most) reply.Blocked ≡ Some x)
+    → may_call reads (as_call a.connection.pair a.asks) ≡ false → (n : Answer x a reply.Blocked) × (n.socket ≡ x) × (n.value ≡ answer.Blocked)
+itself {x} a (Read side most) is reads blocks asleep =
+    (record { value = answer.Blocked; told = rw is refl; fit = rw is refl; socket = x; after = rw is (blocks most (rw is at asleep)) }, refl, refl)
+itself a call is reads blocks asleep = let never = rw is at asleep in cc
 
 deliver_ends : (st : System) (batch : List Name) (next : System) → delivers st batch ≡ Some next → next.ends ≡ st.ends
 deliver_ends st [] next h = cc
@@ -397,52 +309,93 @@ module _ (w : Wired) (d : Delay) (e : List (Option Registered)) (q : List Name) 
   abbrev asking_wire : Asked → Reply → Side → Wire
   asking_wire a r = on (side_of a.asks) (record (w.wires (side_of a.asks)) { reads = reads_after (w.wires (side_of a.asks)).reads (as_call a.connection.pair a.asks) r }) w.wires
 
-  abbrev Called_by : ℕ → Reply → Asked → System → List Side → Type 0
-  Called_by i r a next sides = Led before (comes d.late sides ++ Calls i r ∷ []) (record w { system = next; wires = asking_wire a r }) (record d { late = cleared sides d.late })
-
   abbrev failing : Reply → Asked → List Side
   failing r a = if is_failed r then side_of a.asks ∷ [] else []
 
-  module _ (i : ℕ) (t : Thread) (there : slice_get w.system.threads i ≡ Some t) (rest : List Act) (todo : t.todo ≡ Call ∷ rest) (c : Connection) (out : t.out ≡ Some c) (call : PairCall)
-      (asking : next_call c.pair ≡ Some call) where
-    abbrev it : Asked
-    it = record { thread = t; connection = c; asks = call }
+  abbrev Called_by : ℕ → Reply → Asked → System → Type 0
+  Called_by i r a next = Led before (comes d.late (failing r a) ++ Calls i r ∷ []) (record w { system = next; wires = asking_wire a r }) (record d { late = cleared (failing r a) d.late })
 
-    answered_at : (r : Reply) {g : ℕ} (f s : Side → EndState) → c.ends ≡ two → w.system.ends ≡ Some two → w.system.kernel.ends ≡ open_as g f → e ≡ open_as g s
-        → ((side : Side) → EndOk (f side) (coming w.system.kernel.queue w.poll (End (token g side))) (w.wires side) (d.late side) (s side)) → AllNamed (Some g) w.system.kernel.queue
-        → Polls w.system.batch d.early (Some g) w.poll → may_call (w.wires (side_of call)).reads (as_call c.pair call) ≡ true → (value : answer.AnswerValue) (x : EndState)
-        → fits c.pair call value ≡ true → told_at (f (side_of call)) call r ≡ Some value → after_call (f (side_of call)) (as_call c.pair call) r ≡ Some x
-        → Called_by i r it (lines w.system i t (record { kernel = record w.system.kernel { ends = open_as g (on (side_of call) x f) }; connection = record c { pair = answered w.system.second c.pair call value } }))
-        (failing r it)
-    answered_at (reply.Failed kind) f s own ends real as_seen oks named busy may value x fit told after =
-        fails w d e q j i t there rest todo c out call asking f s own ends real as_seen oks named busy value fit x kind told after
-    answered_at r f s own ends real as_seen oks named busy may value x fit told after =
-        replies w d e q j i t there rest todo c out call asking f s own ends real as_seen oks named busy value fit x r refl may told after
+  abbrev b : List Name
+  b = batch_there w.poll d.early w.system.batch
 
-    calls_at : {o : Option ℕ} (r : Reply) (next : System) → step w.system (Calls i r) ≡ Some next → may_call (w.wires (side_of call)).reads (as_call c.pair call) ≡ true
-        → Both (rim w.system) w.wires w.poll d.late e o → AllNamed o w.system.kernel.queue → Polls w.system.batch d.early o w.poll → Called_by i r it next (failing r it)
-    calls_at r next h may (Away ends real empty late) named busy = let never = (known_calls (known i t there) todo).1.ends in cc
-    calls_at r next h may (Opened {g} f s ends real as_seen oks) named busy =
-        let k = known_calls (known i t there) todo in
-        let own : c.ends ≡ two = (let has = k.1.out in let are = k.1.ends in cc) in
-        mapped (lines w.system i t) (called w.system.second (record { kernel = w.system.kernel; connection = c }) r) next (call_ran w.system next i t rest c r there todo out h) (λ line does after.
-        let ans = call_back w.system.second w.system.kernel c t g f call r line real own asking does in
-        rw (after ∙ ap (lines w.system i t) ans.line_is) (answered_at r f s own ends real as_seen oks named busy may ans.value ans.socket ans.fit ans.told ans.after))
+  -- the call a of the thread i, on the connection of generation g
+  module _ (i : ℕ) (a : Asked) (m : Makes w.system i a) {g : ℕ} (f s : Side → EndState) (own : a.connection.ends ≡ two) (ends : w.system.ends ≡ Some two) (real : w.system.kernel.ends ≡ open_as g f)
+      (as_seen : e ≡ open_as g s) (oks : (side : Side) → EndOk (f side) (coming w.system.kernel.queue w.poll (End (token g side))) (w.wires side) (d.late side) (s side))
+      (named : AllNamed (Some g) w.system.kernel.queue) (busy : Polls w.system.batch d.early (Some g) w.poll) where
+    abbrev side : Side
+    side = side_of a.asks
 
-    itself_at : {o : Option ℕ} (v : Wired) → unasked w i it ≡ Some v → Both (rim w.system) w.wires w.poll d.late e o → AllNamed o w.system.kernel.queue → Polls w.system.batch d.early o w.poll
-        → Led before (Calls i reply.Blocked ∷ []) v d
-    itself_at v h (Away ends real empty late) named busy = let never = (known_calls (known i t there) todo).1.ends in cc
-    itself_at v h (Opened {g} f s ends real as_seen oks) named busy =
-        let k = known_calls (known i t there) todo in
-        let own : c.ends ≡ two = (let has = k.1.out in let are = k.1.ends in cc) in
-        answers_itself w d e q j i t there rest todo c out call asking f s own ends real as_seen oks named busy v h
+    answer_there : (s : Side → EndState) (queue : List Name) (r : Reply) (n : Answer (s side) a r) → let st = seen_as w.system (open_as g s) queue b in
+        run st (Calls i r ∷ []) ≡ Some (goes_so st i a (record st.kernel { ends = open_as g (on side n.socket s) }) n.value)
+    answer_there s queue r n = answer_runs (seen_as w.system (open_as g s) queue b) i a (record { there = m.there; rest = m.rest; todo = m.todo; out = m.out; next = m.next }) own g s refl r n
 
-  calls_by : (i : ℕ) (r : Reply) (a : Asked) → asks w.system i ≡ Some a → (next : System) → step w.system (Calls i r) ≡ Some next
-      → may_call (w.wires (side_of a.asks)).reads (as_call a.connection.pair a.asks) ≡ true → Called_by i r a next (failing r a)
-  calls_by i r a asking next h may =
-      let of = asks_back w.system i a asking in
-      subst (λ (b : Asked). may_call (w.wires (side_of b.asks)).reads (as_call b.connection.pair b.asks) ≡ true → Called_by i r b next (failing r b)) (sym of.is)
-      (λ may. calls_at i of.thread of.there of.rest of.todo of.connection of.out of.call of.next r next h may j.ends j.known j.polls) may
+    answered_at : (r : Reply) (n : Answer (f side) a r) → may_call (w.wires side).reads (as_call a.connection.pair a.asks) ≡ true
+        → Called_by i r a (goes_so w.system i a (record w.system.kernel { ends = open_as g (on side n.socket f) }) n.value)
+    -- what is late comes before a call that fails
+    answered_at (reply.Failed kind) n may =
+        let r = reply.Failed kind in
+        let c1 = comes_at w.system g s q b side (f side) (d.late side) ends (oks side).may (oks side).held.due in
+        let wire : Wire = record (w.wires side) { reads = reads_after (w.wires side).reads (as_call a.connection.pair a.asks) r } in
+        let all = changed_end g w.system.kernel.queue w.poll w.system.kernel.queue w.poll side n.socket n.socket wire []
+        (awake n.socket _ wire (inl (failed_reads (w.wires side).reads (as_call a.connection.pair a.asks) kind))) (λ k other some more. more) oks in
+        let same = on_here side (f side) s in
+        let made = answer_there (on side (f side) s) c1.queue r (record { value = n.value; told = rw same n.told; fit = n.fit; socket = n.socket; after = rw same n.after }) in
+        record {
+          there = open_as g (on side n.socket s);
+          queue = c1.queue;
+          leads = rw (as_seen, append-nil (map (Network side) (d.late side))) (run_on (map (Network side) (d.late side)) _ _ _ c1.leads ∙ rw (open_twice g side (f side) n.socket s) at made);
+          joined = record {
+            generation = Some g;
+            ends = Opened (on side n.socket f) (on side n.socket s) ends refl refl all;
+            known = named;
+            polls = busy;
+            on_way = came_way w.system.kernel.queue busy (oks side) j.on_way c1;
+          };
+        }
+    answered_at r n may =
+        let x = answers (oks side) n.socket (as_call a.connection.pair a.asks) r may n.after refl in
+        let wire : Wire = record (w.wires side) { reads = reads_after (w.wires side).reads (as_call a.connection.pair a.asks) r } in
+        let all = changed_end g w.system.kernel.queue w.poll w.system.kernel.queue w.poll side n.socket x.there wire (d.late side) x.ok (λ k other some more. more) oks in
+        record {
+          there = open_as g (on side x.there s);
+          queue = q;
+          leads = rw as_seen (answer_there s q r (record { value = n.value; told = sym (told_same (oks side) a.connection.pair a.asks r may) ∙ n.told; fit = n.fit; socket = x.there; after = x.is }));
+          joined = record {
+            generation = Some g;
+            ends = Opened (on side n.socket f) (on side x.there s) ends refl refl (λ k. rw (on_same side d.late k) at (all k));
+            known = named;
+            polls = busy;
+            on_way = j.on_way;
+          };
+        }
+
+    blocked_at : (v : Wired) → unasked w i a ≡ Some v → Led before (Calls i reply.Blocked ∷ []) v d
+    blocked_at v h =
+        let it = w.wires side in
+        let gave = guarded (not (may_call it.reads (as_call a.connection.pair a.asks)) && not it.told) (record w { system = blocked w.system i a }) v h in
+        let none = both_down (may_call it.reads (as_call a.connection.pair a.asks)) it.told gave.0 in
+        let n = itself a a.asks refl it.reads (λ most asleep. would_block (oks side) most asleep none.1) none.0 in
+        let does = rw (n.1, n.2, open_same g side s) at (answer_there s q reply.Blocked n.0) in
+        rw gave.1 (record { there = e; queue = q; leads = rw as_seen does; joined = j })
+
+  -- a connection that is out is the slot's
+  its_own : (i : ℕ) (a : Asked) → Makes w.system i a → w.system.ends ≡ Some a.connection.ends
+  its_own i a m = let k = known_calls (known i a.thread m.there) m.todo in let has = k.1.out in let are = k.1.ends in cc m.out
+
+  calls_by : {o : Option ℕ} (i : ℕ) (r : Reply) (a : Asked) → Makes w.system i a → (next : System) → step w.system (Calls i r) ≡ Some next
+      → may_call (w.wires (side_of a.asks)).reads (as_call a.connection.pair a.asks) ≡ true
+      → Both (rim w.system) w.wires w.poll d.late e o → AllNamed o w.system.kernel.queue → Polls w.system.batch d.early o w.poll → Called_by i r a next
+  calls_by i r a m next h may (Away ends real empty late) named busy = let never = its_own i a m in cc
+  calls_by i r a m next h may (Opened {g} f s ends real as_seen oks) named busy =
+      let own : a.connection.ends ≡ two = (let has = its_own i a m in cc) in
+      let n = answer_ran w.system i a m own g f real r next h in
+      rw n.1 (answered_at i a m f s own ends real as_seen oks named busy r n.0 may)
+
+  blocks_by : {o : Option ℕ} (i : ℕ) (a : Asked) → Makes w.system i a → (v : Wired) → unasked w i a ≡ Some v
+      → Both (rim w.system) w.wires w.poll d.late e o → AllNamed o w.system.kernel.queue → Polls w.system.batch d.early o w.poll → Led before (Calls i reply.Blocked ∷ []) v d
+  blocks_by i a m v h (Away ends real empty late) named busy = let never = its_own i a m in cc
+  blocks_by i a m v h (Opened {g} f s ends real as_seen oks) named busy =
+      blocked_at i a m f s (let has = its_own i a m in cc) ends real as_seen oks named busy v h
 
   -- which changes come first, where this call is made
   failing_is : (i : ℕ) (r : Reply) (a : Asked) → asks w.system i ≡ Some a → catching w (Plain (Calls i r)) ≡ failing r a
@@ -463,7 +416,7 @@ module _ (w : Wired) (d : Delay) (e : List (Option Registered)) (q : List Name) 
       acts_next i t there next wires new t.todo refl made (closes w.system i) refl)
   plain_next (Calls i r) next wires h new = option_and_then_some (called_wire w.wires r) (asks w.system i) wires new (λ a asking made.
       let g = guarded (may_call (w.wires (side_of a.asks)).reads (as_call a.connection.pair a.asks)) (asking_wire a r) wires made in
-      rw (g.1, failing_is i r a asking) (calls_by i r a asking next h g.0))
+      rw (g.1, failing_is i r a asking) (calls_by i r a (makes_back w.system i a asking) next h g.0 j.ends j.known j.polls))
   plain_next s next wires h new =
       let a = kept_at (step w.system s) next h (steps_apart w.system e q (batch_there w.poll d.early w.system.batch) s refl) in
       stays w d e q j s next wires a (old_wires w d e q j next wires (ap (λ (r : Rim). r.ends) a.1) new)
@@ -515,8 +468,6 @@ module _ (w : Wired) (d : Delay) (e : List (Option Registered)) (q : List Name) 
       rw g.1 (hands p is (rw is at rested) (nil_from_length p.left (eqb-true (length p.left) 0 g.0)), refl))
   step_next (Looks side) v h = rw (some_is h) (looks_at w d e q j side, rested)
   step_next (Unasked i) v h = option_and_then_some (λ (a : Asked). unasked w i a) (asks w.system i) v h (λ a asking made.
-      let of = asks_back w.system i a asking in
-      let own = rw of.is at made in
-      let g = guarded (not (may_call (w.wires (side_of of.call)).reads (as_call of.connection.pair of.call)) && not (w.wires (side_of of.call)).told)
-      (record w { system = blocked w.system i (record { thread = of.thread; connection = of.connection; asks = of.call }) }) v own in
-      (itself_at i of.thread of.there of.rest of.todo of.connection of.out of.call of.next v own j.ends j.known j.polls, rw g.1 (poller_stays i of.thread _ of.rest of.there of.todo)))
+      let m = makes_back w.system i a asking in
+      let g = guarded (not (may_call (w.wires (side_of a.asks)).reads (as_call a.connection.pair a.asks)) && not (w.wires (side_of a.asks)).told) (record w { system = blocked w.system i a }) v made in
+      (blocks_by i a m v made j.ends j.known j.polls, rw g.1 (poller_stays i a.thread _ m.rest m.there m.todo)))
