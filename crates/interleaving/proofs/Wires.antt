@@ -1,14 +1,13 @@
 -- The threads at one slot over wires that rest are the threads without such wires, where what is late comes later.
 pub mod Order
 pub mod Turns
-pub use Turns.*
 use Order.{same_calls, same_changes, same_words}
-use Rattle.std.{proofs.{Common.{Contains}, lemmas.Grind.{flat_map-append}}, specs.List.{flat_map}}
-use Rattle.readiness.{specs.{Delays.{IsOnItsWay, MissesNothing, WillBeTold}}, proofs.Runs.{misses_nothing, seam, will_be_told}}
-use Rattle.world.{proofs.Headline.Ends.Pairs.Holders.{Turns as HasTurns, first_free, turns_after}, specs.{CoreLaws.{CoreLaws}, Slots.{SlotState, WorkerState}, States.State, declared.limits.Limits.{Limits}}}
-use Rattle.interleaving.specs.{Likeness.{EveryInterleavingIsARun, IsHalfOpen, IsSettled, Like, Settled, call_of, exchanges, machine_of, opened_slot}, Wires.{came_at, exchanges_at, steps_of, words, ComeLate, EndHolds, WiresComeLate, delay, happened, none_late, start, way}}
 use Rattle.claims.specs.declared.view.Exchange.{Exchange}
-use Rattle.interleaving.proofs.{Rest.{known_in}, Runs.{count_free, Programs.{none_by}}}
+use Rattle.interleaving.{proofs.{Rest.{known_in}, Runs.{count_free, Programs.{none_by}}}, specs.{Likeness.{EveryInterleavingIsARun, IsHalfOpen, IsSettled, Like, Settled, call_of, exchanges, machine_of, opened_slot}, Wires.{ComeLate, EndHolds, WiresComeLate, came_at, delay, exchanges_at, happened, none_late, start, steps_of, way, words}}}
+use Rattle.readiness.{proofs.Runs.{misses_nothing, seam}, specs.Delays.{IsOnItsWay, MissesNothing}}
+use Rattle.std.{proofs.lemmas.Grind.{flat_map-append}, specs.List.{flat_map}}
+use Rattle.world.{proofs.Headline.Ends.Pairs.Holders.{Turns as HasTurns, first_free, turns_after}, specs.{CoreLaws.{CoreLaws}, Slots.{SlotState, WorkerState}, States.{State}, declared.limits.Limits.{Limits}}}
+pub use Turns.*
 
 -- while a slot is free, it has no connection
 

@@ -1,18 +1,15 @@
 -- What the threads do over wires that rest, act by act and call by call, and what happens there.
 pub mod Steps
+pub use Rattle.interleaving.{proofs.{Rest.Acts.{Calling, Ending, IsOut, Known, Opening}, Runs.{run_on}}, specs.{Threads.{calls, planned, registered, registering}, Wires.{Asked, Handed, Looks, Polled, Tells, Unasked, as_call, asked_by, asks, blocked, called as called_wire, handed, plain, polled, unasked}}}
+pub use Rattle.kernel_model.specs.Replies.{bytes_read}
+pub use Rattle.readiness.proofs.Runs.{failed_reads}
+pub use Rattle.relay_core.specs.{Calls.{side_of}, Order.{next_call, offer}, Pairs.{PairState, verdict}, Replies.{after as answered, fits}, declared.call.Call.{Call as PairCall, TheVariants.{Join, Read, Shut, Write}}}
+pub use Rattle.std.proofs.Common.{append_assoc, ltb-true, subst, ◌<◌, ◌≤◌}
+pub use Rattle.token.specs.declared.kind.Kind.{Kind}
+pub use Rattle.world.{proofs.Headline.Ends.Pairs.Holders.Events.Lists.{get-set_other}, specs.{Calls.{OpenConnection, made, plain as plain_answer, told_of}, Steps.{token_of}}}
 pub use Steps.*
-pub use Rattle.std.proofs.Common.{◌≤◌, ◌<◌, append_assoc, ltb-true, subst}
-pub use Rattle.kernel_model.specs.{Ends.opened, Kernel.open_both, Replies.bytes_read}
-pub use Rattle.relay_core.specs.{declared.call.Call.{Call as PairCall, TheVariants.{Join, Read, Shut, Write}}, Calls.side_of, Order.{next_call, offer}, Pairs.{PairState, verdict}, Replies.{after as answered, fits}}
-pub use Rattle.world.specs.{Calls.{OpenConnection, made, plain as plain_answer, told_of}, Steps.token_of}
 unfoldable pub use Rattle.world.specs.Calls.{called}
 pub use Rattle.interleaving.specs.Wires as wired
-pub use Rattle.interleaving.specs.{Threads.{calls, planned, registered, registering}, Wires.{Asked, Handed, Looks, Polled, Tells, Unasked, as_call, asked_by, handed, plain, polled, asks, blocked, called as called_wire, unasked}}
-pub use Rattle.interleaving.proofs.Runs.{run_on}
-pub use Rattle.interleaving.proofs.Rest.Acts.{Calling, Ending, IsOut, Known, Opening}
-pub use Rattle.token.specs.declared.kind.Kind.{Kind}
-pub use Rattle.readiness.proofs.Runs.{failed_reads}
-pub use Rattle.world.proofs.Headline.Ends.Pairs.Holders.Events.Lists.{get-set_other}
 pub use Rattle.relay_core.specs.Replies as answer
 
 -- What is known of a thread by the rest of its program

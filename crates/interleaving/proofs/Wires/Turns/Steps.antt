@@ -1,19 +1,13 @@
 -- A step over wires that rest, and what happens there: what the network, the kernel, the poller and the wires do.
 pub mod Ends
-pub use Rattle.std.{proofs.{Common.{append-nil, ◌≡◌, ◌≢◌, ◌⊎◌, Bool, true, false, not, ◌&&◌, ◌||◌, ◌==◌, ◌-◌, ◌+◌, if◌then◌else◌, List, [], ◌∷◌, ◌++◌, ℕ, suc, zero, map, length, Option, Some, None, option_map, option_and_then, unwrap_or, slice_get, Vec, refl, ap, ◌∙◌, sym, inl, inr, nat_le, nat_lt, arith}, lemmas.{Bool.{and_parts, eqb-true, cases_eq, or_left, or_right, or_cases, not-true}, Option.{option_and_then_some, same_Some}, List.{map-append, nil_from_length}}}, specs.{Cmp.{first_so, second_so}, Global.Global, List.list_all, Option.{is_none, is_some}}}
-pub use Rattle.token.specs.{Names.EndName, declared.{name.Name.{Name, TheVariants.{End, Listener, Waker}}, side.Side.{Side, TheVariants.{Client, Target}}}}
-pub use Rattle.kernel_model.specs.{Ends.{EndState, is_readable, is_writable}, Kernel.{KernelState, Registered, end_at, reported}, Names.{are_among, are_distinct, has, same, with_name, without_name, without_names}, Outcome.{Told, guard}, declared.{both.Descriptors.Descriptors, reply.Reply.Reply, accepting.Accepting.TheVariants.{Accepted, Again, Blocked, Starved}}}
-pub use Rattle.readiness.proofs.Runs.{goes, guarded, mapped, some_is}
-pub use Rattle.world.{proofs.Headline.Ends.Pairs.Holders.Events.Lists.{Kept, has_polled, has_reported, has_with, has_without, kept_at, kept_bind, kept_guard, kept_if, kept_map, kept_none, kept_over, kept_some, kept_when, reported_has}, specs.{Calls.{descriptor, when}, Steps.{change_at, is_worn}, declared.{connection.Connection.Connection, event.{Change.Change, Reported.Reported}}}}
-pub use Rattle.interleaving.specs.{Threads.{Accept, Act, Acts, Adopt, Begin, Call, Calls, Claim, Close, Connect, Deliver, Discard, Drop, Enter, Give, Network, Open, Play, Poll, Post, PutIn, Register, Release, Retire, Spurious, Sweep, System, TakeNotes, TakeOut, Thread, Tick, Vanish, acts, after_act, begun, delivers, goes_on, poller_rests, posted, rests, run, step, taken_out, taking, watched_of, with_thread}, Wires.{cleared, Delay, Plain, Polling, Step, Wire, Wired, batch_there, catching, comes, closes, delay_after, end_here, fresh, happens, is_close, is_input, may_name, on, polls, sides_told, tells, told, report_of, seen_as, waits, wires_after}}
+pub use Rattle.interleaving.specs.{Threads.{Accept, Act, Acts, Adopt, Begin, Call, Calls, Claim, Close, Connect, Deliver, Discard, Drop, Enter, Give, Open, Play, Poll, Post, PutIn, Register, Release, Retire, Sweep, TakeNotes, TakeOut, Thread, Tick, acts, after_act, begun, delivers, goes_on, poller_rests, posted, rests, taken_out, taking, watched_of, with_thread}, Wires.{Plain, Step, Wired, batch_there, catching, cleared, closes, delay_after, fresh, happens, is_close, may_name, polls, sides_told, tells, told, wires_after}}
+pub use Rattle.kernel_model.specs.{Names.{are_among}, declared.accepting.Accepting.TheVariants.{Accepted, Again, Blocked, Starved}}
+pub use Rattle.std.{proofs.{Common.{Vec, append-nil, slice_get, suc, unwrap_or, zero, ◌+◌, ◌-◌}, lemmas.{Bool.{eqb-true, not-true}, List.{nil_from_length}}}, specs.Global.{Global}}
+pub use Rattle.world.{proofs.Headline.Ends.Pairs.Holders.Events.Lists.{Kept, has_polled, kept_at, kept_bind, kept_guard, kept_if, kept_map, kept_none, kept_over, kept_some, kept_when}, specs.{Steps.{is_worn}, declared.connection.Connection.{Connection}}}
 pub use Ends.*
-pub use Rattle.interleaving.proofs.Rest.Weights.{same_is, same_self}
 pub use Rattle.claims.specs.Words as word
-pub use Rattle.interleaving.specs.Threads as alone
-pub use Rattle.kernel_model.specs.Kernel as kernel
 pub use Rattle.kernel_model.specs.declared.watched.Watched.TheVariants as watched
 pub use Rattle.token.specs.declared.name.Name.TheVariants as name
-pub use Rattle.world.specs.declared.event.Reported.TheVariants as reports
 
 -- These steps lead from here to what the threads over wires have come to
 pub record Led (before : System) (own : List alone.Step) (v : Wired) (d : Delay) : Type 0 where

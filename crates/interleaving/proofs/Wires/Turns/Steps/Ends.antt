@@ -1,12 +1,11 @@
 -- The two ends of the slot's connection over wires that rest, and the same ends where what is late has not come: what the
 -- kernel does at one of them, and what is kept of both.
-pub use Rattle.std.{proofs.{Common.{◌≡◌, ◌≢◌, ◌⊎◌, Bool, true, false, not, ◌&&◌, ◌||◌, ◌==◌, if◌then◌else◌, List, [], ◌∷◌, ◌++◌, ℕ, map, length, Option, Some, None, option_map, option_and_then, refl, ap, ◌∙◌, sym, inl, inr, nat_le, nat_lt, arith, Contains}, lemmas.{Bool.{and_parts, cases_eq, or_left, or_right, or_cases}, List.map-append, Option.{option_and_then_some, same_Some}}}, specs.{Cmp.{first_so, second_so}, List.{filter, list_all}, Option.{is_none, is_some}}}
-pub use Rattle.token.specs.{Names.EndName, declared.{name.Name.{Name, TheVariants.{End, Listener, Waker}}, side.Side.{Side, TheVariants.{Client, Target}}}}
-pub use Rattle.kernel_model.specs.{Ends.{EndState, arrival, failure, finish, is_readable, is_writable, new_room, opened}, Kernel.{KernelState, Registered, changed, close_both, end_at, open_both, reported}, Names.{are_distinct, has, same, with_name, without_name, without_names}, Outcome.{Told, guard}, declared.{both.{Descriptors.Descriptors, Sockets.Sockets}, reply.Reply.Reply}}
-pub use Rattle.readiness.{specs.{Machine.{Call, Change as Input, Way, after_call, change_of, may_call, reads_after}, Delays.{Called, Seen, at_call, WillBeTold, late_call}}, proofs.Runs.{After, Asleep, Behind, Held, Prompt, Settled, both_down, goes, is_beside, mapped, Settles, Waits, guarded, prompt, same_socket, some_is, will_be_told}}
-pub use Rattle.world.{proofs.Headline.Ends.Pairs.Holders.Events.Lists.{has_reported, has_with, has_without, reported_has}, specs.{Calls.{descriptor, when}, Steps.change_at, declared.event.{Change.{Change, TheVariants.{Arrive, Fin, Reset, Room}}, Reported.Reported}}}
-pub use Rattle.interleaving.specs.{Threads.{Network, Spurious, System, Vanish, over_kernel, step, run}, Wires.{Delay, Polling, Wire, comes, end_here, is_input, on, report_of, seen_as, waits}}
-pub use Rattle.interleaving.proofs.Rest.Weights.{same_is, same_self}
+pub use Rattle.interleaving.{proofs.Rest.Weights.{same_is, same_self}, specs.{Threads.{Network, Spurious, System, Vanish, over_kernel, run, step}, Wires.{Delay, Polling, Wire, comes, end_here, is_input, on, report_of, seen_as, waits}}}
+pub use Rattle.kernel_model.specs.{Ends.{EndState, arrival, failure, finish, is_readable, is_writable, new_room, opened}, Kernel.{KernelState, Registered, changed, close_both, end_at, open_both, reported}, Names.{are_distinct, has, same, with_name, without_name, without_names}, Outcome.{Told, guard}, declared.{both.{Descriptors.{Descriptors}, Sockets.{Sockets}}, reply.Reply.{Reply}}}
+pub use Rattle.readiness.{proofs.Runs.{After, Asleep, Behind, Held, Prompt, Settled, Settles, Waits, both_down, goes, guarded, is_beside, mapped, prompt, same_socket, some_is, will_be_told}, specs.{Delays.{Called, Seen, WillBeTold, at_call, late_call}, Machine.{Call, Change as Input, Way, after_call, change_of, may_call, reads_after}}}
+pub use Rattle.std.{proofs.{Common.{Bool, Contains, List, None, Option, Some, [], ap, arith, false, if◌then◌else◌, inl, inr, length, map, nat_le, nat_lt, not, option_and_then, option_map, refl, sym, true, ℕ, ◌&&◌, ◌++◌, ◌==◌, ◌||◌, ◌∙◌, ◌∷◌, ◌≡◌, ◌≢◌, ◌⊎◌}, lemmas.{Bool.{and_parts, cases_eq, or_cases, or_left, or_right}, List.{map-append}, Option.{option_and_then_some, same_Some}}}, specs.{Cmp.{first_so, second_so}, List.{filter, list_all}, Option.{is_none, is_some}}}
+pub use Rattle.token.specs.{Names.{EndName}, declared.{name.Name.{Name, TheVariants.{End, Listener, Waker}}, side.Side.{Side, TheVariants.{Client, Target}}}}
+pub use Rattle.world.{proofs.Headline.Ends.Pairs.Holders.Events.Lists.{has_reported, has_with, has_without, reported_has}, specs.{Calls.{descriptor, when}, Steps.{change_at}, declared.event.{Change.{Change, TheVariants.{Arrive, Fin, Reset, Room}}, Reported.{Reported}}}}
 pub use Rattle.interleaving.specs.Threads as alone
 pub use Rattle.kernel_model.specs.Kernel as kernel
 pub use Rattle.readiness.specs.Machine as machine
