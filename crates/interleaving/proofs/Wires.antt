@@ -131,7 +131,7 @@ end_holds w g e x side late queue early ok on_way =
     record {
       coming = λ some. coming_told_way w side r (told_soon e b (w.wires side) (will_be_told ok.held.waits (λ none. some (no_inputs late none))));
       nothing_missed = λ reads told. (let it = misses_nothing ok.held ok.held.waits reads told in
-        record { armed = it.armed; coming = λ some. coming_told_way w side r (told_soon e b (w.wires side) (it.coming some)) });
+          record { armed = it.armed; coming = λ some. coming_told_way w side r (told_soon e b (w.wires side) (it.coming some)) });
       queued = λ had. on_way_way w early side r (on_way (End r.token) had);
     }
 

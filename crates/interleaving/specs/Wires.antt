@@ -2,12 +2,12 @@
 -- kernel answers each call. Here a wire answers reads by itself once one would block, until a report that names reading was
 -- passed on to it (`Machine.antt` of `readiness`). Without such wires, what comes meanwhile is late.
 use Rattle.std.specs.{Prelude.{◌≡◌, ◌≢◌, ℕ, ◌-◌, ◌==◌, Bool, true, false, not, ◌&&◌, ◌||◌, if◌then◌else◌, List, [], ◌∷◌, ◌++◌, length, map, slice_get, Option, Some, None, option_map, option_and_then, unwrap_or, Vec}, Global.Global, Option.{is_none, is_some}, List.{flat_map, list_all}}
-use Rattle.token.specs.{declared.{side.Side.{Side, TheVariants.{Client, Target}}, name.Name.{Name, TheVariants.{Listener, Waker, End}}}, Names.EndName, Sides.side_number}
-use Rattle.kernel_model.specs.{declared.{reply.Reply.Reply, both.Descriptors.Descriptors}, Outcome.guard, Ends.{EndState, is_readable}, Kernel.{KernelState, Registered, end_at}, Names.has}
+use Rattle.token.specs.{declared.{side.Side.{Side, TheVariants.{Client, Target}}, name.Name.{Name, TheVariants.{Listener, Waker, End}}}, Sides.side_number}
+use Rattle.kernel_model.specs.{declared.{reply.Reply.Reply, both.Descriptors.Descriptors}, Outcome.guard, Ends.{is_readable}, Kernel.{KernelState, Registered, end_at}, Names.has}
 use Rattle.relay_core.specs.{declared.call.Call.{Call as PairCall, TheVariants.{Read, Write, Join, Shut}}, Pairs.PairState, Calls.side_of, Order.{next_call, offer}, Replies.after}
-use Rattle.readiness.specs.{Machine.{Call, Way, may_call, reads_after}, Delays.{IsOnItsWay, MissesNothing, WillBeTold, is_late}}
+use Rattle.readiness.specs.{Machine.{Call, Way, may_call, reads_after}, Delays.{IsOnItsWay, MissesNothing, WillBeTold}}
 use Rattle.claims.specs.declared.view.Exchange.{Exchange}
-use Rattle.world.specs.{declared.{connection.Connection.Connection, limits.Limits.Limits, event.{Change.{Change, TheVariants.Room}, Reported.Reported}}, Calls.{when, descriptor}}
+use Rattle.world.specs.{declared.{connection.Connection.Connection, limits.Limits.Limits, event.{Change.{Change, TheVariants.Room}}}, Calls.{when, descriptor}}
 use Rattle.interleaving.specs.{Threads.{Act, Call as CallNext, Close, System, Thread, Network, Spurious, Vanish, Poll, Acts, Calls, poller_rests, planned, with_thread}, Likeness.{IsARun, call_of, exchange, exchanges, kind_in}}
 use Rattle.interleaving.specs.Threads as alone
 use Rattle.readiness.specs.Machine as wire

@@ -1,11 +1,10 @@
 -- Calls, changes and exchanges keep their order.
-use Rattle.std.{proofs.{Common.{◌≡◌, ◌⊎◌, Bool, true, false, not, ◌&&◌, ◌||◌, ◌==◌, length, if◌then◌else◌, List, [], ◌∷◌, ◌++◌, ℕ, map, Option, Some, None, option_map, option_and_then, unwrap_or, slice_get, refl, ap, ◌∙◌, subst, sym, append-nil, append_assoc, arith, inl, inr}, lemmas.{Bool.{and_parts, not-true}, Grind.{flat_map-append}, Option.{option_and_then_some, same_Some}}}, specs.{List.{flat_map, list_all}}}
+use Rattle.std.{proofs.{Common.{◌≡◌, Bool, true, false, not, ◌&&◌, ◌==◌, length, if◌then◌else◌, List, [], ◌∷◌, ◌++◌, ℕ, map, Option, Some, None, option_map, unwrap_or, refl, ap, ◌∙◌, subst, sym, append-nil, append_assoc, arith}, lemmas.{Bool.{and_parts, not-true}, Grind.{flat_map-append}, Option.{option_and_then_some, same_Some}}}, specs.{List.{flat_map, list_all}}}
 use Rattle.relay_core.specs.Calls.{side_of}
 use Rattle.token.specs.{declared.{name.Name.{Name, TheVariants.{End, Listener, Waker}}, side.Side.{Side, TheVariants.{Client, Target}}}, Sides.side_number}
-use Rattle.kernel_model.specs.{Kernel.{KernelState, Registered}, declared.{both.Descriptors.Descriptors, reply.Reply.Reply}}
-use Rattle.claims.specs.declared.view.Exchange.{Exchange}
+use Rattle.kernel_model.specs.{Kernel.{KernelState, Registered}}
 use Rattle.world.{proofs.Headline.Ends.Pairs.Holders.Events.Lists.{Kept, kept_at, kept_bind, kept_map, kept_when}, specs.{Calls.descriptor, Steps.change_at, declared.event.{Change.{Change}}}}
-use Rattle.interleaving.specs.{Likeness.{call_of, exchange, exchanges, first_kind, kind_in, posts}, Threads.{Acts, Calls, Deliver, over_kernel, poller_rests, Network, Poll, Spurious, Sweep, System, Thread, Vanish, run, step, watched_of}, Wires.{Asked, Delay, Handed, Tells, asks, sides_told, Plain, Polling, Step, Wired, came_at, catching, cleared, comes, closes, delay_after, happens, is_input, on, polls, report_of, exchanges_at, seen_as, steps_of, waits}}
+use Rattle.interleaving.specs.{Likeness.{call_of, exchange, exchanges, kind_in, posts}, Threads.{Acts, Calls, Deliver, over_kernel, poller_rests, Network, Poll, Spurious, Sweep, System, Thread, Vanish, run, step, watched_of}, Wires.{Asked, Delay, Handed, Tells, asks, sides_told, Plain, Polling, Step, Wired, came_at, catching, cleared, comes, closes, delay_after, happens, is_input, on, polls, report_of, exchanges_at, seen_as, steps_of, waits}}
 use Rattle.interleaving.specs.Threads as alone
 use Rattle.kernel_model.specs.Kernel as kernel
 use Rattle.kernel_model.specs.declared.reply.Reply.TheVariants as reply
@@ -75,8 +74,10 @@ no_change side s out = refl
 module _ (w : Wired) (d : Delay) where
   calls_there : (x : Step) → flat_map call_of (happens w d x) ≡ flat_map call_of (steps_of x)
   calls_there (Plain (Network side c)) = either_way (λ own. flat_map call_of own ≡ []) (waits (w.wires side) c) [] (Network side c ∷ []) refl refl
-  calls_there (Plain (Acts i)) = rw (flat_map-append call_of (if closes w.system i then polls d.early w.poll else []) (Acts i ∷ []),
-      flat_none call_of is_outside no_call _ (closing_outside (closes w.system i) d.early w.poll)) refl
+  calls_there (Plain (Acts i)) = rw (
+    flat_map-append call_of (if closes w.system i then polls d.early w.poll else []) (Acts i ∷ []),
+    flat_none call_of is_outside no_call _ (closing_outside (closes w.system i) d.early w.poll),
+  ) refl
   calls_there Handed = flat_none call_of is_outside no_call (polls d.early w.poll) (polls_outside d.early w.poll)
   calls_there x = refl
 
@@ -128,10 +129,18 @@ caught_on late all Client (At Client) = rw (append-nil (map (Network Client) (la
 caught_on late all Client (At Target) = rw (append-nil (map (Network Target) (late Target)), never_came Client Target (late Target) refl) refl
 caught_on late all Target (At Client) = rw (append-nil (map (Network Client) (late Client)), never_came Target Client (late Client) refl) refl
 caught_on late all Target (At Target) = rw (append-nil (map (Network Target) (late Target)), came_here Target (late Target) (all Target), append-nil (late Target)) refl
-caught_on late all Client Everywhere = rw (append-nil (map (Network Target) (late Target)), flat_map-append (came_at Client) (map (Network Client) (late Client)) (map (Network Target) (late Target)),
-    came_here Client (late Client) (all Client), never_came Client Target (late Target) refl) (append-nil (late Client ++ []) ∙ append-nil (late Client))
-caught_on late all Target Everywhere = rw (append-nil (map (Network Target) (late Target)), flat_map-append (came_at Target) (map (Network Client) (late Client)) (map (Network Target) (late Target)),
-    came_here Target (late Target) (all Target), never_came Target Client (late Client) refl) (append-nil (late Target))
+caught_on late all Client Everywhere = rw (
+  append-nil (map (Network Target) (late Target)),
+  flat_map-append (came_at Client) (map (Network Client) (late Client)) (map (Network Target) (late Target)),
+  came_here Client (late Client) (all Client),
+  never_came Client Target (late Target) refl,
+) (append-nil (late Client ++ []) ∙ append-nil (late Client))
+caught_on late all Target Everywhere = rw (
+  append-nil (map (Network Target) (late Target)),
+  flat_map-append (came_at Target) (map (Network Client) (late Client)) (map (Network Target) (late Target)),
+  came_here Target (late Target) (all Target),
+  never_came Target Client (late Client) refl,
+) (append-nil (late Target))
 
 none_of : (side : Side) (xs : List alone.Step) → list_all (λ s. not (is_network s)) xs ≡ true → flat_map (came_at side) xs ≡ []
 none_of side = flat_none (came_at side) (λ s. not (is_network s)) (λ s none. no_change side s (not-true (is_network s) none))
@@ -193,8 +202,14 @@ module _ (w : Wired) (d : Delay) (inputs : (side : Side) → list_all is_input (
   same_changes (Plain (Network other c)) side = at_network other c side (waits (w.wires other) c) refl
   same_changes x side =
       let it = elsewhere x side refl in
-      rw (it.late, it.none, flat_map-append (came_at side) (comes d.late (catching w x)) (happens w d x), none_of side (happens w d x) it.beside,
-        append-nil (flat_map (came_at side) (comes d.late (catching w x))), append-nil (d.late side))
+      rw (
+        it.late,
+        it.none,
+        flat_map-append (came_at side) (comes d.late (catching w x)) (happens w d x),
+        none_of side (happens w d x) it.beside,
+        append-nil (flat_map (came_at side) (comes d.late (catching w x))),
+        append-nil (d.late side),
+      )
       (caught_on d.late inputs side (sides_of w x))
 
 -- Exchanges

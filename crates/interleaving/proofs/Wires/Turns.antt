@@ -152,10 +152,11 @@ module _ (w : Wired) (d : Delay) (e : List (Option Registered)) (q : List Name) 
           joined = record {
             generation = None;
             ends = Away refl refl (inr refl) (λ side. both_none side);
-            known = record { each = λ m h.
-                let a = has_filter m (λ x. not (same target x)) (without_name client here.kernel.queue) h in
-                let b = has_filter m (λ x. not (same client x)) here.kernel.queue a.0 in
-                gone_named g m (named.each m b.0) b.1 a.1
+            known = record {
+              each = λ m h.
+                  let a = has_filter m (λ x. not (same target x)) (without_name client here.kernel.queue) h in
+                  let b = has_filter m (λ x. not (same client x)) here.kernel.queue a.0 in
+                  gone_named g m (named.each m b.0) b.1 a.1;
             };
             polls = polls_opened busy;
             on_way = λ m h.

@@ -181,8 +181,11 @@ module _ (w : Wired) (d : Delay) (e : List (Option Registered)) (q : List Name) 
   abbrev pub seen : System
   seen = seen_as w.system e q there_batch
 
+  abbrev pub New : System → (Side → Wire) → Type 0
+  New next wires = Some (if is_none st.ends && is_some next.ends then fresh w.wires else w.wires) ≡ Some wires
+
   -- what a step of `System` with no connection that opens leaves of the wires
-  pub old_wires : (next : System) (wires : Side → Wire) → next.ends ≡ st.ends → Some (if is_none st.ends && is_some next.ends then fresh w.wires else w.wires) ≡ Some wires → wires ≡ w.wires
+  pub old_wires : (next : System) (wires : Side → Wire) → next.ends ≡ st.ends → New next wires → wires ≡ w.wires
   old_wires next wires same h = some_is h ∙ rw same (not_new st.ends (fresh w.wires) w.wires)
 
   pub stays : (s : alone.Step) (next : System) (wires : Side → Wire) → Apart st e q there_batch (λ x. step x s) next → wires ≡ w.wires
@@ -196,7 +199,7 @@ module _ (w : Wired) (d : Delay) (e : List (Option Registered)) (q : List Name) 
 
   -- a change of the network
   pub nets : {o : Option ℕ} (side : Side) (c : Change) (next : System) (wires : Side → Wire) → step st (Network side c) ≡ Some next
-      → Some (if is_none st.ends && is_some next.ends then fresh w.wires else w.wires) ≡ Some wires
+      → New next wires
       → Both (rim st) w.wires w.poll d.late e o → AllNamed o st.kernel.queue → Polls st.batch d.early o w.poll
       → Led seen (if waits (w.wires side) c then [] else Network side c ∷ []) (record w { system = next; wires = wires })
       (record d { late = if waits (w.wires side) c then on side (d.late side ++ c ∷ []) d.late else d.late })
@@ -245,47 +248,41 @@ module _ (w : Wired) (d : Delay) (e : List (Option Registered)) (q : List Name) 
             };
           }
 
-  pub connects : (next : System) (wires : Side → Wire) → step st Connect ≡ Some next → Some (if is_none st.ends && is_some next.ends then fresh w.wires else w.wires) ≡ Some wires
-      → Led seen (Connect ∷ []) (record w { system = next; wires = wires }) d
-  connects next wires h new = mapped _ (kernel.connect_in st.kernel) next h (λ k is after.
-      let g = guarded (nat_lt st.kernel.backlog 4096) (record st.kernel { backlog = st.kernel.backlog + 1; queue = reported st.kernel.queue Listener st.kernel.armed; armed = false }) k is in
-      let same = old_wires next wires (ap (λ (x : System). x.ends) after) new in
-      rw (after, g.1, same) (record {
+  -- a step by which a name is queued here and there
+  queues : (s : alone.Step) (n : Name) (t : Bool) → Named j.generation n → (backlog : ℕ) (armed : Bool)
+      → let next = record st { kernel = record st.kernel { queue = reported st.kernel.queue n t; backlog = backlog; armed = armed } } in
+      step seen s ≡ Some (seen_as next e (reported q n t) there_batch) → (wires : Side → Wire) → New next wires → Led seen (s ∷ []) (record w { system = next; wires = wires }) d
+  queues s n t named backlog armed does wires new =
+      let next = record st { kernel = record st.kernel { queue = reported st.kernel.queue n t; backlog = backlog; armed = armed } } in
+      rw (old_wires next wires refl new) (record {
         there = e;
-        queue = reported q Listener st.kernel.armed;
-        leads = rw g.0 refl;
+        queue = reported q n t;
+        leads = ap (option_and_then (λ (x : System). Some x)) does;
         joined = record {
           generation = j.generation;
-          ends = requeued (reported st.kernel.queue Listener st.kernel.armed) st.batch w.poll (λ g f o ends real k some. coming_still Listener (End (token g k)) st.kernel.armed st.kernel.queue w.poll) j.ends;
-          known = known_reported Listener st.kernel.armed st.kernel.queue tt j.known;
+          ends = requeued (reported st.kernel.queue n t) st.batch w.poll (λ g f o ends real k some. coming_still n (End (token g k)) t st.kernel.queue w.poll) j.ends;
+          known = known_reported n t st.kernel.queue named j.known;
           polls = j.polls;
-          on_way = way_reported Listener st.kernel.armed st.kernel.queue q (in_poll d.early w.poll) j.on_way;
+          on_way = way_reported n t st.kernel.queue q (in_poll d.early w.poll) j.on_way;
         };
-      }))
+      })
+
+  pub connects : (next : System) (wires : Side → Wire) → step st Connect ≡ Some next → New next wires → Led seen (Connect ∷ []) (record w { system = next; wires = wires }) d
+  connects next wires h new = mapped _ (kernel.connect_in st.kernel) next h (λ k is after.
+      let g = guarded (nat_lt st.kernel.backlog 4096) _ k is in
+      rw (after, g.1) (queues Connect Listener st.kernel.armed tt (st.kernel.backlog + 1) false (rw g.0 refl) wires (rw after at new)))
 
   -- a report without cause
-  pub rumours : (who : Reported) (next : System) (wires : Side → Wire) → step st (Spurious who) ≡ Some next → Some (if is_none st.ends && is_some next.ends then fresh w.wires else w.wires) ≡ Some wires
+  pub rumours : (who : Reported) (next : System) (wires : Side → Wire) → step st (Spurious who) ≡ Some next → New next wires
       → Led seen (Spurious who ∷ []) (record w { system = next; wires = wires }) d
   rumours who next wires h new =
       let here = shape_here j.ends in
       let x = shape_there j.ends in
       mapped _ (name_here j.generation who) next (sym (rw here.2 at (spurious_is st here.0 here.1 who)) ∙ h) (λ n is after.
-      let same = old_wires next wires (ap (λ (x : System). x.ends) after) new in
-      rw (after, same) (record {
-        there = e;
-        queue = with_name n q;
-        leads = ap (option_and_then (λ (x : System). Some x)) (rw (x.2, is) at (spurious_is seen x.0 x.1 who));
-        joined = record {
-          generation = j.generation;
-          ends = requeued (with_name n st.kernel.queue) st.batch w.poll (λ g f o ends real k some. coming_still n (End (token g k)) true st.kernel.queue w.poll) j.ends;
-          known = known_reported n true st.kernel.queue (named_here j.generation who n is) j.known;
-          polls = j.polls;
-          on_way = way_reported n true st.kernel.queue q (in_poll d.early w.poll) j.on_way;
-        };
-      }))
+      rw after (queues (Spurious who) n true (named_here j.generation who n is) st.kernel.backlog st.kernel.armed (rw (x.2, is) at (spurious_is seen x.0 x.1 who)) wires (rw after at new)))
 
   -- a report is taken back: one is taken back there too, and is queued before
-  pub vanishes : (who : Reported) (next : System) (wires : Side → Wire) → step st (Vanish who) ≡ Some next → Some (if is_none st.ends && is_some next.ends then fresh w.wires else w.wires) ≡ Some wires
+  pub vanishes : (who : Reported) (next : System) (wires : Side → Wire) → step st (Vanish who) ≡ Some next → New next wires
       → Led seen (Spurious who ∷ Vanish who ∷ []) (record w { system = next; wires = wires }) d
   vanishes who next wires h new =
       let here = shape_here j.ends in

@@ -170,10 +170,12 @@ come st g s q b side x f (c ∷ late) ends may (After t is rest) =
     record {
       queue = r.queue;
       leads = rw (one, open_twice g side x t.value s) (r.leads ∙ rw (open_twice g side t.value f s, open_twice g side x f s) refl);
-      more = record { back = λ m h. elim (r.more.back m h) [
-        | inl was ↦ elim (has_reported_back m (End (token g side)) t.told q was) [ inl old ↦ inl old | inr new ↦ inr new.0 ]
-        | inr is ↦ inr is
-      ] };
+      more = record {
+        back = λ m h. elim (r.more.back m h) [
+          | inl was ↦ elim (has_reported_back m (End (token g side)) t.told q was) [ inl old ↦ inl old | inr new ↦ inr new.0 ]
+          | inr is ↦ inr is
+        ];
+      };
       none = λ e. cc;
     }
 
