@@ -144,12 +144,10 @@ module _ (w : Wired) (d : Delay) (e : List (Option Registered)) (q b : List Name
   caught_up : {o : Option ℕ} → Both (rim w.system) w.wires w.poll d.late e o → Caught_up w d e q b
   caught_up (Away ends real empty late) = record { queue = q; comes_all = rw (late Client, late Target, real) refl }
   caught_up (Opened {g} f s ends real as_seen oks) =
-      let c1 = comes_at w.system g s q b Client (f Client) (d.late Client) ends (oks Client).may (oks Client).held.due in
-      let c2 = comes_at w.system g (on Client (f Client) s) c1.queue b Target (f Target) (d.late Target) ends (oks Target).may (oks Target).held.due in
+      let c = all_come g w.system q b f s ends oks in
       record {
-        queue = c2.queue;
-        comes_all = rw (as_seen, append-nil (map (Network Target) (d.late Target))) (run_on (map (Network Client) (d.late Client)) _ _ _ c1.leads ∙ c2.leads)
-            ∙ ap (λ (sockets : List (Option Registered)). Some (seen_as w.system sockets c2.queue b)) (sym real);
+        queue = c.queue;
+        comes_all = rw as_seen c.leads ∙ ap (λ (sockets : List (Option Registered)). Some (seen_as w.system sockets c.queue b)) (sym real);
       }
 
   ends_hold : {o : Option ℕ} → Both (rim w.system) w.wires w.poll d.late e o → ((n : Name) → has n q ≡ true → (has n w.system.kernel.queue || in_poll d.early w.poll n) ≡ true)

@@ -48,9 +48,6 @@ gone_named g (End k) is one both = by k.side is
     by Client own = let never = rw (own, same_self (End (token g Client))) at one in cc
     by Target own = let never = rw (own, same_self (End (token g Target))) at both in cc
 
-not_it : (n m : Name) → not (same n m) ≡ true → m ≡ n → ⊥
-not_it n m other is = let never = rw (is, same_self n) at other in cc
-
 -- Sockets open
 
 named_then : (g : ℕ) (m : Name) → Named None m → Named (Some g) m
@@ -128,27 +125,24 @@ module _ (w : Wired) (d : Delay) (e : List (Option Registered)) (q : List Name) 
 
     act_closes : {o : Option ℕ} (rest : List Act) → t.todo ≡ Close ∷ rest → (c : Connection) → IsOut there_now t c → acts here i t (Close ∷ rest) ≡ Some next
         → Both (rim here) w.wires w.poll d.late e o → AllNamed o here.kernel.queue → Polls here.batch d.early o w.poll → Acted (Client ∷ Target ∷ []) true
-    act_closes rest todo c out h (Away ends real empty late) named busy = let never = out.ends in cc
-    act_closes rest todo c out h (Opened {g} f s ends real as_seen oks) named busy =
+    act_closes rest todo c' out h (Away ends real empty late) named busy = let never = out.ends in cc
+    act_closes rest todo c' out h (Opened {g} f s ends real as_seen oks) named busy =
         let b = batch_there w.poll d.early here.batch in
-        let own : c.ends ≡ two = (let has = out.ends in cc) in
-        let c1 = comes_at here g s q b Client (f Client) (d.late Client) ends (oks Client).may (oks Client).held.due in
-        let c2 = comes_at here g (on Client (f Client) s) c1.queue b Target (f Target) (d.late Target) ends (oks Target).may (oks Target).held.due in
-        let now = polled_now here (open_as g f) c2.queue (Some (g, f)) (ends, refl) d.early w.poll rested busy in
+        let own : c'.ends ≡ two = (let has = out.ends in cc) in
+        let c = all_come g here q b f s ends oks in
+        let now = polled_now here (open_as g f) c.queue (Some (g, f)) (ends, refl) d.early w.poll rested busy in
         let last = seen_as here (open_as g f) now.queue (batch_there w.poll true here.batch) in
         let closed = rw out.out at h in
-        let is : next ≡ shut here i t rest c g f = some_is (sym (close_is here i t rest c g f own real) ∙ closed) in
+        let is : next ≡ shut here i t rest c' g f = some_is (sym (close_is here i t rest c' g f own real) ∙ closed) in
         let old : wires ≡ w.wires = some_is new ∙ rw ends refl in
         let client = End (token g Client) in
         let target = End (token g Target) in
-        let does : step last (Acts i) ≡ Some (shut last i t rest c g f) = rw (there, todo, out.out) (close_is last i t rest c g f own refl) in
+        let does : step last (Acts i) ≡ Some (shut last i t rest c' g f) = rw (there, todo, out.out) (close_is last i t rest c' g f own refl) in
         rw (is, old) (record {
           there = None ∷ None ∷ [];
           queue = without_name target (without_name client now.queue);
-          leads = rw (as_seen, append-nil (map (Network Target) (d.late Target)), append_assoc (map (Network Client) (d.late Client)) (map (Network Target) (d.late Target)) (polls d.early w.poll ++ Acts i ∷ []))
-              (run_on (map (Network Client) (d.late Client)) _ _ _ c1.leads
-              ∙ (run_on (map (Network Target) (d.late Target)) _ _ _ c2.leads
-              ∙ (run_on (polls d.early w.poll) (Acts i ∷ []) _ last now.leads ∙ ap (option_and_then (λ (x : System). Some x)) does)));
+          leads = rw as_seen (run_on (comes d.late (Client ∷ Target ∷ [])) _ _ _ c.leads
+              ∙ (run_on (polls d.early w.poll) (Acts i ∷ []) _ last now.leads ∙ ap (option_and_then (λ (x : System). Some x)) does));
           joined = record {
             generation = None;
             ends = Away refl refl (inr refl) (λ side. both_none side);
@@ -163,9 +157,7 @@ module _ (w : Wired) (d : Delay) (e : List (Option Registered)) (q : List Name) 
                 let a = has_filter m (λ x. not (same target x)) (without_name client now.queue) h in
                 let b = has_filter m (λ x. not (same client x)) now.queue a.0 in
                 let less = now.less m b.0 in
-                let in2 : has m c2.queue ≡ true = grind (arith, less) in
-                let in1 : has m c1.queue ≡ true = elim (c2.more.back m in2) [ inl was ↦ was | inr is ↦ absurd (not_it target m a.1 is) ] in
-                let in0 : has m q ≡ true = elim (c1.more.back m in1) [ inl was ↦ was | inr is ↦ absurd (not_it client m b.1 is) ] in
+                let in0 = c.back m (grind (arith, less)) b.1 a.1 in
                 let way = j.on_way m in0 in
                 let was : has m here.kernel.queue ≡ true = grind (arith, less, way) in
                 or_left _ _ (still_has m (λ x. not (same target x)) (without_name client here.kernel.queue) (still_has m (λ x. not (same client x)) here.kernel.queue was b.1) a.1);

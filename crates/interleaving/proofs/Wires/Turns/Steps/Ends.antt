@@ -1,9 +1,9 @@
 -- The two ends of the slot's connection over wires that rest, and the same ends where what is late has not come: what the
 -- kernel does at one of them, and what is kept of both.
-pub use Rattle.interleaving.{proofs.Rest.Weights.{same_is, same_self}, specs.{Threads.{Network, Spurious, System, Vanish, over_kernel, run, step}, Wires.{Delay, Polling, Wire, comes, end_here, is_input, on, report_of, seen_as, waits}}}
+pub use Rattle.interleaving.{proofs.{Rest.Weights.{same_is, same_self}, Runs.{run_on}}, specs.{Threads.{Network, Spurious, System, Vanish, over_kernel, run, step}, Wires.{Delay, Polling, Wire, comes, end_here, is_input, on, report_of, seen_as, waits}}}
 pub use Rattle.kernel_model.specs.{Ends.{EndState, arrival, failure, finish, is_readable, is_writable, new_room, opened}, Kernel.{KernelState, Registered, changed, close_both, end_at, open_both, reported}, Names.{are_distinct, has, same, with_name, without_name, without_names}, Outcome.{Told, guard}, declared.{both.{Descriptors.{Descriptors}, Sockets.{Sockets}}, reply.Reply.{Reply}}}
 pub use Rattle.readiness.{proofs.Runs.{After, Asleep, Behind, Held, Prompt, Settled, Settles, Waits, both_down, goes, guarded, is_beside, mapped, prompt, same_socket, some_is, will_be_told}, specs.{Delays.{Called, Seen, WillBeTold, at_call, late_call}, Machine.{Call, Change as Input, Way, after_call, change_of, may_call, reads_after}}}
-pub use Rattle.std.{proofs.{Common.{Bool, Contains, List, None, Option, Some, [], ap, arith, false, if◌then◌else◌, inl, inr, length, map, nat_le, nat_lt, not, option_and_then, option_map, refl, sym, true, ℕ, ◌&&◌, ◌++◌, ◌==◌, ◌||◌, ◌∙◌, ◌∷◌, ◌≡◌, ◌≢◌, ◌⊎◌}, lemmas.{Bool.{and_parts, cases_eq, or_cases, or_left, or_right}, List.{map-append}, Option.{option_and_then_some, same_Some}}}, specs.{Cmp.{first_so, second_so}, List.{filter, list_all}, Option.{is_none, is_some}}}
+pub use Rattle.std.{proofs.{Common.{append-nil, Bool, Contains, List, None, Option, Some, [], ap, arith, false, if◌then◌else◌, inl, inr, length, map, nat_le, nat_lt, not, option_and_then, option_map, refl, sym, true, ℕ, ◌&&◌, ◌++◌, ◌==◌, ◌||◌, ◌∙◌, ◌∷◌, ◌≡◌, ◌≢◌, ◌⊎◌}, lemmas.{Bool.{and_parts, cases_eq, or_cases, or_left, or_right}, List.{map-append}, Option.{option_and_then_some, same_Some}}}, specs.{Cmp.{first_so, second_so}, List.{filter, list_all}, Option.{is_none, is_some}}}
 pub use Rattle.token.specs.{Names.{EndName}, declared.{name.Name.{Name, TheVariants.{End, Listener, Waker}}, side.Side.{Side, TheVariants.{Client, Target}}}}
 pub use Rattle.world.{proofs.Headline.Ends.Pairs.Holders.Events.Lists.{has_reported, has_with, has_without, reported_has}, specs.{Calls.{descriptor, when}, Steps.{change_at}, declared.event.{Change.{Change, TheVariants.{Arrive, Fin, Reset, Room}}, Reported.{Reported}}}}
 pub use Rattle.interleaving.specs.Threads as alone
@@ -540,3 +540,25 @@ came_way {g = g} {side = side} {late = late} {e = e} {wire = wire} queue polls o
     | inr is ↦ rw is (coming_way queue (End (token g side)) polls (told_soon e _ wire (will_be_told ok.held.waits (λ e. some (no_inputs late e)))))
   ]
 ]
+
+-- all that is late comes
+pub record All_come (st : System) (g : ℕ) (f s : Side → EndState) (q b : List Name) (late : Side → List Change) : Type 0 where
+  pub queue : List Name
+  pub leads : run (seen_as st (open_as g s) q b) (comes late (Client ∷ Target ∷ [])) ≡ Some (seen_as st (open_as g f) queue b)
+  pub back : (m : Name) → has m queue ≡ true → not (same (End (token g Client)) m) ≡ true → not (same (End (token g Target)) m) ≡ true → has m q ≡ true
+
+not_it : (n m : Name) → not (same n m) ≡ true → m ≡ n → ⊥
+not_it n m other is = let never = rw (is, same_self n) at other in cc
+
+pub all_come : (g : ℕ) {late : Side → List Change} {wires : Side → Wire} {coming : Side → Bool} (st : System) (q b : List Name) (f s : Side → EndState) → st.ends ≡ Some two
+    → ((side : Side) → EndOk (f side) (coming side) (wires side) (late side) (s side)) → All_come st g f s q b late
+all_come g {late} st q b f s ends oks =
+    let c1 = comes_at st g s q b Client (f Client) (late Client) ends (oks Client).may (oks Client).held.due in
+    let c2 = comes_at st g (on Client (f Client) s) c1.queue b Target (f Target) (late Target) ends (oks Target).may (oks Target).held.due in
+    record {
+      queue = c2.queue;
+      leads = rw (append-nil (map (Network Target) (late Target))) (run_on (map (Network Client) (late Client)) _ _ _ c1.leads ∙ c2.leads);
+      back = λ m h client target.
+          let first : has m c1.queue ≡ true = elim (c2.more.back m h) [ inl was ↦ was | inr is ↦ absurd (not_it (End (token g Target)) m target is) ] in
+          elim (c1.more.back m first) [ inl was ↦ was | inr is ↦ absurd (not_it (End (token g Client)) m client is) ];
+    }
