@@ -1,9 +1,9 @@
 -- The threads at one slot over wires that rest are the threads without such wires, where what is late comes later.
 pub mod Order
 pub mod Turns
-use Order.{same_calls, same_changes, same_words}
+use Order.{same_steps, same_changes, same_words}
 use Rattle.claims.specs.declared.view.Exchange.{Exchange}
-use Rattle.interleaving.{proofs.{Rest.{known_in}, Runs.{count_free, Programs.{none_by}}}, specs.{Likeness.{EveryInterleavingIsARun, IsHalfOpen, IsSettled, Like, Settled, call_of, exchanges, machine_of, opened_slot}, Wires.{ComeLate, EndHolds, WiresComeLate, came_at, delay, exchanges_at, happened, none_late, start, steps_of, way, words}}}
+use Rattle.interleaving.{proofs.{Rest.{known_in}, Runs.{count_free, Programs.{none_by}}}, specs.{Likeness.{EveryInterleavingIsARun, IsHalfOpen, IsSettled, Like, Settled, exchanges, machine_of, opened_slot}, Wires.{inside, ComeLate, EndHolds, WiresComeLate, came_at, delay, exchanges_at, happened, none_late, start, steps_of, way, words}}}
 use Rattle.readiness.{proofs.Runs.{misses_nothing, seam}, specs.Delays.{IsOnItsWay, MissesNothing}}
 use Rattle.std.{proofs.lemmas.Grind.{flat_map-append}, specs.List.{flat_map}}
 use Rattle.world.{proofs.Headline.Ends.Pairs.Holders.{Turns as HasTurns, first_free, turns_after}, specs.{CoreLaws.{CoreLaws}, Slots.{SlotState, WorkerState}, States.{State}, declared.limits.Limits.{Limits}}}
@@ -31,7 +31,7 @@ record Went (w : Wired) (d : Delay) (e : List (Option Registered)) (q : List Nam
   leads : run (seen_as w.system e q (batch_there w.poll d.early w.system.batch)) (happened w d steps)
       ≡ Some (seen_as to.system there queue (batch_there to.poll (delay w d steps).early to.system.batch))
   joined : Joined (rim to.system) to.wires to.poll (delay w d steps) there queue
-  calls : flat_map call_of (happened w d steps) ≡ flat_map call_of (flat_map steps_of steps)
+  inside_too : flat_map inside (happened w d steps) ≡ flat_map inside (flat_map steps_of steps)
   changes : (side : Side) → flat_map (came_at side) (happened w d steps) ++ (delay w d steps).late side ≡ d.late side ++ flat_map (came_at side) (flat_map steps_of steps)
   words_too : exchanges (seen_as w.system e q (batch_there w.poll d.early w.system.batch)) (happened w d steps) ≡ words w steps
 
@@ -75,8 +75,8 @@ one_more x steps w v to d e q j is led more =
       queue = more.queue;
       leads = rw (shown, last) (run_on own rest (seen_as w.system e q b) _ led.leads ∙ more.leads);
       joined = rw last more.joined;
-      calls = rw shown (flat_map-append call_of own rest ∙ (ap (λ (xs : List (ℕ × Reply)). xs ++ flat_map call_of rest) (same_calls w d x)
-          ∙ (ap (λ (xs : List (ℕ × Reply)). flat_map call_of (steps_of x) ++ xs) more.calls ∙ sym (flat_map-append call_of (steps_of x) (flat_map steps_of steps)))));
+      inside_too = rw shown (flat_map-append inside own rest ∙ (ap (λ (xs : List alone.Step). xs ++ flat_map inside rest) (same_steps w d x)
+          ∙ (ap (λ (xs : List alone.Step). flat_map inside (steps_of x) ++ xs) more.inside_too ∙ sym (flat_map-append inside (steps_of x) (flat_map steps_of steps)))));
       changes = λ side. rw (shown, last, flat_map-append (came_at side) own rest, flat_map-append (came_at side) (steps_of x) (flat_map steps_of steps))
           (seam (flat_map (came_at side) own) (flat_map (came_at side) rest) ((delay_after w d x).late side) ((delay v (delay_after w d x) steps).late side) (d.late side)
           (flat_map (came_at side) (steps_of x)) (flat_map (came_at side) (flat_map steps_of steps)) (same_changes w d (inputs_of j.ends) (prompt_of j.ends) x side) (more.changes side));
@@ -87,7 +87,7 @@ module _ (core : CoreLaws) (law : EveryInterleavingIsARun) (l : Limits) (one : l
   went : (steps : List wired.Step) (w to : Wired) (d : Delay) (e : List (Option Registered)) (q : List Name) → Joined (rim w.system) w.wires w.poll d e q
       → (is_none w.poll || poller_rests w.system) ≡ true → (made : List alone.Step) → run (alone.start l) made ≡ Some (seen_as w.system e q (batch_there w.poll d.early w.system.batch))
       → wired.run w steps ≡ Some to → Went w d e q steps to
-  went [] w to d e q j rested made ran h = rw (some_is h) (record { there = e; queue = q; leads = refl; joined = j; calls = refl; changes = λ side. sym (append-nil (d.late side)); words_too = refl })
+  went [] w to d e q j rested made ran h = rw (some_is h) (record { there = e; queue = q; leads = refl; joined = j; inside_too = refl; changes = λ side. sym (append-nil (d.late side)); words_too = refl })
   went (x ∷ steps) w to d e q j rested made ran h = option_and_then_some (λ (v : Wired). wired.run v steps) (wired.step w x) to h (λ v is rest.
       let before = seen_as w.system e q (batch_there w.poll d.early w.system.batch) in
       let r = law l made before one ran in
@@ -175,7 +175,7 @@ wires_come_late core law l steps w one ran =
       comes = up.comes_all;
       sockets = refl;
       ends = ends_hold w d it.there it.queue b it.joined.ends it.joined.on_way;
-      calls = it.calls;
+      acts = it.inside_too;
       changes = it.changes;
       words = it.words_too;
     }

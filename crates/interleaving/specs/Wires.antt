@@ -8,7 +8,7 @@ use Rattle.relay_core.specs.{declared.call.Call.{Call as PairCall, TheVariants.{
 use Rattle.readiness.specs.{Machine.{Call, Way, may_call, reads_after}, Delays.{IsOnItsWay, MissesNothing, WillBeTold}}
 use Rattle.claims.specs.declared.view.Exchange.{Exchange}
 use Rattle.world.specs.{declared.{connection.Connection.Connection, limits.Limits.Limits, event.{Change.{Change, TheVariants.Room}}}, Calls.{when, descriptor}}
-use Rattle.interleaving.specs.{Threads.{Act, Call as CallNext, Close, System, Thread, Network, Spurious, Vanish, Poll, Acts, Calls, poller_rests, planned, with_thread}, Likeness.{IsARun, call_of, exchange, exchanges, kind_in}}
+use Rattle.interleaving.specs.{Threads.{Act, Call as CallNext, Close, System, Thread, Network, Spurious, Vanish, Poll, Acts, Calls, poller_rests, planned, with_thread}, Likeness.{IsARun, exchange, exchanges, kind_in}}
 use Rattle.interleaving.specs.Threads as alone
 use Rattle.readiness.specs.Machine as wire
 use Rattle.kernel_model.specs.Kernel as kernel
@@ -259,11 +259,18 @@ pub record EndHolds (w : Wired) (side : Side) (late : List Change) (queue : List
   pub nothing_missed : MissesNothing (way w side r)
   pub queued : has (End r.token) queue ≡ true → IsOnItsWay (way w side r)
 
--- steps, calls, changes and exchanges, as `System` has them
+-- The steps that are of `System`, those of these that are not the network's, of reports or polls, changes, and exchanges
 abbrev pub steps_of : Step → List alone.Step
 steps_of (Plain s) = s ∷ []
 steps_of (Unasked i) = Calls i reply.Blocked ∷ []
 steps_of s = []
+
+abbrev pub inside : alone.Step → List alone.Step
+inside (Network side change) = []
+inside (Spurious who) = []
+inside (Vanish who) = []
+inside (Poll names) = []
+inside s = s ∷ []
 
 abbrev pub came_at : Side → alone.Step → List Change
 came_at side (Network other change) = if is_input change && side_number side == side_number other then change ∷ [] else []
@@ -277,9 +284,10 @@ abbrev pub words : Wired → List Step → List Exchange
 words w [] = []
 words w (s ∷ steps) = exchanges_at w s ++ unwrap_or (option_map (λ (q : Wired). words q steps) (step w s)) []
 
--- What happens there (`own`) is a run of `System`, so of the machine, of which the headline holds. It has the same calls with
--- the same replies, the same exchanges of the slot's word, and the same changes at each end, but that the last may be late. It
--- leads to the threads as they are, but for queue, batch and sockets. Once what is late has come, the sockets are the same too
+-- What happens there (`own`) is a run of `System`, so of the machine, of which the headline holds. It leads to the threads as
+-- they are, but for queue, batch and sockets; once what is late has come, the sockets are the same too. In order it has the
+-- same acts, and calls with the same replies (`acts`), the same changes at each end, of which the last may still be late, and
+-- the same exchanges of the slot's word with their answers
 pub record ComeLate (l : Limits) (own : List alone.Step) (steps : List Step) (w : Wired) (d : Delay) : Type 0 where
   pub seen : System
   pub leads : alone.run (alone.start l) own ≡ Some seen
@@ -289,7 +297,7 @@ pub record ComeLate (l : Limits) (own : List alone.Step) (steps : List Step) (w 
   pub comes : alone.run seen (comes d.late (Client ∷ Target ∷ [])) ≡ Some settled
   pub sockets : settled.kernel.ends ≡ w.system.kernel.ends
   pub ends : (side : Side) (r : Registered) → end_here w.system side ≡ Some r → EndHolds w side (d.late side) seen.kernel.queue r
-  pub calls : flat_map call_of own ≡ flat_map call_of (flat_map steps_of steps)
+  pub acts : flat_map inside own ≡ flat_map inside (flat_map steps_of steps)
   pub changes : (side : Side) → flat_map (came_at side) own ++ d.late side ≡ flat_map (came_at side) (flat_map steps_of steps)
   pub words : exchanges (alone.start l) own ≡ words (start l) steps
 

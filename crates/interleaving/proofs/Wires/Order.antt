@@ -4,7 +4,7 @@ use Rattle.relay_core.specs.Calls.{side_of}
 use Rattle.token.specs.{declared.{name.Name.{Name, TheVariants.{End, Listener, Waker}}, side.Side.{Side, TheVariants.{Client, Target}}}, Sides.side_number}
 use Rattle.kernel_model.specs.{Kernel.{KernelState, Registered}}
 use Rattle.world.{proofs.Headline.Ends.Pairs.Holders.Events.Lists.{Kept, kept_at, kept_bind, kept_map, kept_when}, specs.{Calls.descriptor, Steps.change_at, declared.event.{Change.{Change}}}}
-use Rattle.interleaving.specs.{Likeness.{call_of, exchange, exchanges, kind_in, posts}, Threads.{Acts, Calls, Deliver, over_kernel, poller_rests, Network, Poll, Spurious, Sweep, System, Thread, Vanish, run, step, watched_of}, Wires.{Asked, Delay, Handed, Tells, asks, sides_told, Plain, Polling, Step, Wired, came_at, catching, cleared, comes, closes, delay_after, happens, is_input, on, polls, report_of, exchanges_at, seen_as, steps_of, waits}}
+use Rattle.interleaving.specs.{Likeness.{exchange, exchanges, kind_in, posts}, Threads.{Acts, Calls, Deliver, over_kernel, poller_rests, Network, Poll, Spurious, Sweep, System, Thread, Vanish, run, step, watched_of}, Wires.{Asked, Delay, Handed, Tells, asks, sides_told, Plain, Polling, Step, Wired, came_at, catching, cleared, comes, closes, delay_after, happens, is_input, on, polls, report_of, exchanges_at, inside, seen_as, steps_of, waits}}
 use Rattle.interleaving.specs.Threads as alone
 use Rattle.kernel_model.specs.Kernel as kernel
 use Rattle.kernel_model.specs.declared.reply.Reply.TheVariants as reply
@@ -57,11 +57,14 @@ abbrev is_net : Step → Bool
 is_net (Plain s) = is_network s
 is_net x = false
 
--- Calls
+-- Acts and calls
 
-no_call : (s : alone.Step) → is_outside s ≡ true → call_of s ≡ []
-no_call (Calls i r) out = cc
-no_call s out = refl
+not_inside : (s : alone.Step) → is_outside s ≡ true → inside s ≡ []
+not_inside (Network side c) out = refl
+not_inside (Spurious who) out = refl
+not_inside (Vanish who) out = refl
+not_inside (Poll names) out = refl
+not_inside s out = cc
 
 either_way : {X : Type 0} (P : X → Type 0) (b : Bool) (x y : X) → P x → P y → P (if b then x else y)
 either_way P true x y p q = p
@@ -72,17 +75,17 @@ no_change side (Network other c) out = cc
 no_change side s out = refl
 
 module _ (w : Wired) (d : Delay) where
-  calls_there : (x : Step) → flat_map call_of (happens w d x) ≡ flat_map call_of (steps_of x)
-  calls_there (Plain (Network side c)) = either_way (λ own. flat_map call_of own ≡ []) (waits (w.wires side) c) [] (Network side c ∷ []) refl refl
-  calls_there (Plain (Acts i)) = rw (
-    flat_map-append call_of (if closes w.system i then polls d.early w.poll else []) (Acts i ∷ []),
-    flat_none call_of is_outside no_call _ (closing_outside (closes w.system i) d.early w.poll),
+  inside_there : (x : Step) → flat_map inside (happens w d x) ≡ flat_map inside (steps_of x)
+  inside_there (Plain (Network side c)) = either_way (λ own. flat_map inside own ≡ []) (waits (w.wires side) c) [] (Network side c ∷ []) refl refl
+  inside_there (Plain (Acts i)) = rw (
+    flat_map-append inside (if closes w.system i then polls d.early w.poll else []) (Acts i ∷ []),
+    flat_none inside is_outside not_inside _ (closing_outside (closes w.system i) d.early w.poll),
   ) refl
-  calls_there Handed = flat_none call_of is_outside no_call (polls d.early w.poll) (polls_outside d.early w.poll)
-  calls_there x = refl
+  inside_there Handed = flat_none inside is_outside not_inside (polls d.early w.poll) (polls_outside d.early w.poll)
+  inside_there x = refl
 
-  pub same_calls : (x : Step) → flat_map call_of (comes d.late (catching w x) ++ happens w d x) ≡ flat_map call_of (steps_of x)
-  same_calls x = rw (flat_map-append call_of (comes d.late (catching w x)) (happens w d x), flat_none call_of is_outside no_call _ (comes_outside d.late (catching w x))) (calls_there x)
+  pub same_steps : (x : Step) → flat_map inside (comes d.late (catching w x) ++ happens w d x) ≡ flat_map inside (steps_of x)
+  same_steps x = rw (flat_map-append inside (comes d.late (catching w x)) (happens w d x), flat_none inside is_outside not_inside _ (comes_outside d.late (catching w x))) (inside_there x)
 
 -- Changes
 
