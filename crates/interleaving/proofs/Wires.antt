@@ -51,11 +51,13 @@ module _ {r : Rim} {wires : Side → Wire} {poll : Option Polling} {late : Side 
   prompt_of (Opened f s ends real as_seen oks) side awake = (same_here (oks side) (λ reads told some. cc)).0
 
 -- a delivery is of the batch that is there too
-whole_batch : {o : Option ℕ} (st : System) (early : Bool) {poll : Option Polling} → Polls st.batch early o poll → (next : System) → delivers st st.batch ≡ Some next → batch_there poll early st.batch ≡ st.batch
+whole_batch : {o : Option ℕ} (st : System) (early : Bool) {poll : Option Polling} → Polls st.batch early o poll → (next : System) → delivers st st.batch ≡ Some next
+    → batch_there poll early st.batch ≡ st.batch
 whole_batch st early Idle next h = refl
 whole_batch st early (Busy none few once named gone within) next h = let never = rw none at h in cc
 
-whole : (w v : Wired) (d : Delay) {o : Option ℕ} → Polls w.system.batch d.early o w.poll → (x : wired.Step) → wired.step w x ≡ Some v → x ≡ Plain Deliver → batch_there w.poll d.early w.system.batch ≡ w.system.batch
+whole : (w v : Wired) (d : Delay) {o : Option ℕ} → Polls w.system.batch d.early o w.poll → (x : wired.Step) → wired.step w x ≡ Some v → x ≡ Plain Deliver
+    → batch_there w.poll d.early w.system.batch ≡ w.system.batch
 whole w v d polls (Plain Deliver) h is = option_and_then_some _ (step w.system Deliver) v h (λ next ran rest.
     whole_batch w.system d.early polls next (when_back (poller_rests w.system) _ next ran).1)
 whole w v d polls x h is = cc
@@ -87,7 +89,8 @@ module _ (core : CoreLaws) (law : EveryInterleavingIsARun) (l : Limits) (one : l
   went : (steps : List wired.Step) (w to : Wired) (d : Delay) (e : List (Option Registered)) (q : List Name) → Joined (rim w.system) w.wires w.poll d e q
       → (is_none w.poll || poller_rests w.system) ≡ true → (made : List alone.Step) → run (alone.start l) made ≡ Some (seen_as w.system e q (batch_there w.poll d.early w.system.batch))
       → wired.run w steps ≡ Some to → Went w d e q steps to
-  went [] w to d e q j rested made ran h = rw (some_is h) (record { there = e; queue = q; leads = refl; joined = j; inside_too = refl; changes = λ side. sym (append-nil (d.late side)); words_too = refl })
+  went [] w to d e q j rested made ran h = rw (some_is h)
+      (record { there = e; queue = q; leads = refl; joined = j; inside_too = refl; changes = λ side. sym (append-nil (d.late side)); words_too = refl })
   went (x ∷ steps) w to d e q j rested made ran h = option_and_then_some (λ (v : Wired). wired.run v steps) (wired.step w x) to h (λ v is rest.
       let before = seen_as w.system e q (batch_there w.poll d.early w.system.batch) in
       let r = law l made before one ran in
@@ -123,7 +126,8 @@ on_way_way w early side r h = elim (or_cases (has (End r.token) w.system.kernel.
     by true poll taken = cc
 
 -- of an end, with its wire
-end_holds : (w : Wired) (g : ℕ) (e x : EndState) (side : Side) (late : List Change) (queue : List Name) (early : Bool) → EndOk e (coming w.system.kernel.queue w.poll (End (token g side))) (w.wires side) late x
+end_holds : (w : Wired) (g : ℕ) (e x : EndState) (side : Side) (late : List Change) (queue : List Name) (early : Bool)
+    → EndOk e (coming w.system.kernel.queue w.poll (End (token g side))) (w.wires side) late x
     → ((n : Name) → has n queue ≡ true → (has n w.system.kernel.queue || in_poll early w.poll n) ≡ true) → EndHolds w side late queue (record { token = token g side; socket = e })
 end_holds w g e x side late queue early ok on_way =
     let r : Registered = record { token = token g side; socket = e } in

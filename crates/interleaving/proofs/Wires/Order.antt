@@ -166,7 +166,8 @@ module _ (w : Wired) (d : Delay) (inputs : (side : Side) → list_all is_input (
     (prompt : (side : Side) → (not (w.wires side).reads && not (w.wires side).told) ≡ false → d.late side ≡ []) where
   -- a change comes at once, or is late
   at_network : (other : Side) (c : Change) (side : Side) (b : Bool) → waits (w.wires other) c ≡ b
-      → flat_map (came_at side) (if b then [] else Network other c ∷ []) ++ (if b then on other (d.late other ++ c ∷ []) d.late else d.late) side ≡ d.late side ++ flat_map (came_at side) (Network other c ∷ [])
+      → flat_map (came_at side) (if b then [] else Network other c ∷ []) ++ (if b then on other (d.late other ++ c ∷ []) d.late else d.late) side
+      ≡ d.late side ++ flat_map (came_at side) (Network other c ∷ [])
   at_network other c side true is = by other side (and_parts (is_input c) _ is).0
     where
       by : (other side : Side) → is_input c ≡ true → on other (d.late other ++ c ∷ []) d.late side ≡ d.late side ++ flat_map (came_at side) (Network other c ∷ [])
@@ -201,7 +202,8 @@ module _ (w : Wired) (d : Delay) (inputs : (side : Side) → list_all is_input (
   elsewhere Handed side is = record { beside = polls_beside d.early w.poll; late = refl; none = refl }
   elsewhere x side is = record { beside = refl; late = refl; none = refl }
 
-  pub same_changes : (x : Step) (side : Side) → flat_map (came_at side) (comes d.late (catching w x) ++ happens w d x) ++ (delay_after w d x).late side ≡ d.late side ++ flat_map (came_at side) (steps_of x)
+  pub same_changes : (x : Step) (side : Side)
+      → flat_map (came_at side) (comes d.late (catching w x) ++ happens w d x) ++ (delay_after w d x).late side ≡ d.late side ++ flat_map (came_at side) (steps_of x)
   same_changes (Plain (Network other c)) side = at_network other c side (waits (w.wires other) c) refl
   same_changes x side =
       let it = elsewhere x side refl in

@@ -108,7 +108,9 @@ module _ (w : Wired) (d : Delay) (e : List (Option Registered)) (q : List Name) 
         let zero_is = rw (known_opens known todo) at there in
         let busy : poller_rests here ≡ false = rw (zero_is, todo) refl in
         let idle : is_none w.poll ≡ true = (let or = rw busy at rested in grind arith) in
-        let does : step there_now (Acts i) ≡ Some (seen_as (registered here i t rest more g (record { value = record here.kernel { ends = open_as g opened }; told = two })) (open_as g opened) q (batch_there w.poll d.early here.batch)) =
+        let does : step there_now (Acts i)
+        ≡ Some (seen_as (registered here i t rest more g (record { value = record here.kernel { ends = open_as g opened }; told = two })) (open_as g opened) q
+        (batch_there w.poll d.early here.batch)) =
         rw (there, todo, count, a.0, one, second, first, other) (ap (λ (told : Told KernelState Descriptors). Some (registered there_now i t rest more g told)) (open_is there_now.kernel g empty)) in
         rw (is, new_wires) (record {
           there = open_as g opened;
@@ -284,9 +286,11 @@ module _ (w : Wired) (d : Delay) (e : List (Option Registered)) (q : List Name) 
   abbrev before : System
   before = seen_as w.system e q (batch_there w.poll d.early w.system.batch)
 
-  acts_next : (i : ℕ) (t : Thread) → slice_get w.system.threads i ≡ Some t → (next : System) (wires : Side → Wire) → Some (if is_none w.system.ends && is_some next.ends then fresh w.wires else w.wires) ≡ Some wires
+  acts_next : (i : ℕ) (t : Thread) → slice_get w.system.threads i ≡ Some t → (next : System) (wires : Side → Wire)
+      → Some (if is_none w.system.ends && is_some next.ends then fresh w.wires else w.wires) ≡ Some wires
       → (todo : List Act) → t.todo ≡ todo → acts w.system i t todo ≡ Some next → (b : Bool) → closes w.system i ≡ b → let sides : List Side = if b then Client ∷ Target ∷ [] else [] in
-      Led before (comes d.late sides ++ ((if b then polls d.early w.poll else []) ++ Acts i ∷ [])) (record w { system = next; wires = wires }) (record { late = cleared sides d.late; early = b || d.early })
+      Led before (comes d.late sides ++ ((if b then polls d.early w.poll else []) ++ Acts i ∷ [])) (record w { system = next; wires = wires })
+      (record { late = cleared sides d.late; early = b || d.early })
   acts_next i t there next wires new [] todo h b is = cc
   acts_next i t there next wires new (Register ∷ rest) todo h b is =
       rw (sym is ∙ closes_is w.system i t _ there todo) (act_opens w d e q j rested i t there (known i t there) next wires new rest w.system.free todo refl free h j.ends j.known)
@@ -436,7 +440,8 @@ module _ (w : Wired) (d : Delay) (e : List (Option Registered)) (q : List Name) 
   tells_rests p [] v h rests = cc
   tells_rests p (n ∷ rest) v h rests = rw (some_is h) rests
 
-  hands : (p : Polling) → w.poll ≡ Some p → poller_rests w.system ≡ true → p.left ≡ [] → Led before (polls d.early w.poll) (record w { system = record w.system { batch = p.names.items }; poll = None }) d
+  hands : (p : Polling) → w.poll ≡ Some p → poller_rests w.system ≡ true → p.left ≡ []
+      → Led before (polls d.early w.poll) (record w { system = record w.system { batch = p.names.items }; poll = None }) d
   hands p is rests none = subst
       (λ (o : Option Polling). Joined (rim w.system) w.wires o d e q
       → Led (seen_as w.system e q (batch_there o d.early w.system.batch)) (polls d.early o) (record w { system = record w.system { batch = p.names.items }; poll = None }) d) (sym is)

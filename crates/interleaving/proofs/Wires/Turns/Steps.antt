@@ -83,14 +83,20 @@ module _ (st : System) (e : List (Option Registered)) (q b : List Name) where
 
   pub steps_apart : (s : alone.Step) → no_socket s ≡ true → Kept (Apart (λ x. step x s)) (step st s)
   steps_apart (Tick n) out = kept_guard _ _ (λ may. (rw may refl, refl))
-  steps_apart (Accept Accepted) out = kept_when _ _ (λ may. kept_map (λ (k : KernelState). record (alone.after_accept st Accepted) { kernel = k }) (kernel.accept st.kernel Accepted) (λ k is. let g = guarded (nat_lt 0 st.kernel.backlog) (record st.kernel { backlog = st.kernel.backlog - 1 }) k is in rw g.1 (rw (may, g.0) refl, refl)))
-  steps_apart (Accept Blocked) out = kept_when _ _ (λ may. kept_map (λ (k : KernelState). record (alone.after_accept st Blocked) { kernel = k }) (kernel.accept st.kernel Blocked) (λ k is. let g = guarded (st.kernel.backlog == 0) (record st.kernel { armed = true }) k is in rw g.1 (rw (may, g.0) refl, refl)))
+  steps_apart (Accept Accepted) out = kept_when _ _
+      (λ may. kept_map (λ (k : KernelState). record (alone.after_accept st Accepted) { kernel = k }) (kernel.accept st.kernel Accepted)
+      (λ k is. let g = guarded (nat_lt 0 st.kernel.backlog) (record st.kernel { backlog = st.kernel.backlog - 1 }) k is in rw g.1 (rw (may, g.0) refl, refl)))
+  steps_apart (Accept Blocked) out = kept_when _ _
+      (λ may. kept_map (λ (k : KernelState). record (alone.after_accept st Blocked) { kernel = k }) (kernel.accept st.kernel Blocked)
+      (λ k is. let g = guarded (st.kernel.backlog == 0) (record st.kernel { armed = true }) k is in rw g.1 (rw (may, g.0) refl, refl)))
   steps_apart (Accept Again) out = kept_when _ _ (λ may. kept_some (rw may refl, refl))
   steps_apart (Accept Starved) out = kept_when _ _ (λ may. kept_some (rw may refl, refl))
   steps_apart Drop out = kept_guard _ _ (λ may. (rw may refl, refl))
   steps_apart Sweep out = kept_guard _ _ (λ may. (rw may refl, refl))
-  steps_apart Open out = kept_bind (λ (t : Thread). guard (rests t && st.accepted) (with_thread st 0 (goes_on t alone.open_slot))) (slice_get st.threads 0) (λ t is. kept_guard (rests t && st.accepted) (with_thread st 0 (goes_on t alone.open_slot)) (λ may. (rw (is, may) refl, refl)))
-  steps_apart (Begin i most) out = kept_bind (λ (t : Thread). alone.begins st i most t) (slice_get st.threads i) (λ t is. kept_when (rests t && nat_le most st.limits.budget) (begun st i most st.tickets) (λ may. begins_by i most st.tickets t is may))
+  steps_apart Open out = kept_bind (λ (t : Thread). guard (rests t && st.accepted) (with_thread st 0 (goes_on t alone.open_slot))) (slice_get st.threads 0)
+      (λ t is. kept_guard (rests t && st.accepted) (with_thread st 0 (goes_on t alone.open_slot)) (λ may. (rw (is, may) refl, refl)))
+  steps_apart (Begin i most) out = kept_bind (λ (t : Thread). alone.begins st i most t) (slice_get st.threads i)
+      (λ t is. kept_when (rests t && nat_le most st.limits.budget) (begun st i most st.tickets) (λ may. begins_by i most st.tickets t is may))
   steps_apart s out = cc
 
 -- the same ends, with another queue or another poll
@@ -114,7 +120,8 @@ shape_here (Away ends real there late) = (None, ends, refl)
 shape_here (Opened {g} f s ends real there oks) = (Some (g, f), (ends, real), refl)
 
 -- where no call could do anything here, none could there
-pub quiet_there : {o : Option ℕ} {r : Rim} {wires : Side → Wire} {poll : Option Polling} {late : Side → List Change} {e : List (Option Registered)} (backlog : ℕ) (ends : Both r wires poll late e o) (who : Reported)
+pub quiet_there : {o : Option ℕ} {r : Rim} {wires : Side → Wire} {poll : Option Polling} {late : Side
+    → List Change} {e : List (Option Registered)} (backlog : ℕ) (ends : Both r wires poll late e o) (who : Reported)
     → quiet_here backlog (shape_here ends).0 who ≡ true → quiet_here backlog (shape_there ends).0 who ≡ true
 quiet_there backlog ends reports.Listener quiet = quiet
 quiet_there backlog ends reports.Waker quiet = quiet
@@ -130,11 +137,16 @@ apart g f Target Client quiet some = refl
 apart g f Target Target quiet some = let never = rw some at quiet in cc
 
 -- a report is withdrawn, of an end where no call could do anything
-withdrawn : {o : Option ℕ} {r : Rim} {wires : Side → Wire} {poll : Option Polling} {late : Side → List Change} {e : List (Option Registered)} (backlog : ℕ) (ends : Both r wires poll late e o) (who : Reported) (n : Name)
+withdrawn : {o : Option ℕ} {r : Rim} {wires : Side → Wire} {poll : Option Polling} {late : Side
+    → List Change} {e : List (Option Registered)} (backlog : ℕ) (ends : Both r wires poll late e o) (who : Reported) (n : Name)
     → name_here o who ≡ Some n → quiet_here backlog (shape_here ends).0 who ≡ true → Both (record r { queue = without_name n r.queue }) wires poll late e o
 withdrawn backlog (Away ends real there late) who n is quiet = Away ends real there late
 withdrawn {r = r} {poll = poll} backlog (Opened {g} f s ends real there oks) who n is quiet = Opened f s ends real there (λ k.
-    record { held = eased (λ some. more_or (has (End (token g k)) r.queue) _ (soon poll (End (token g k))) (has_without (End (token g k)) n r.queue (by who k is quiet some))) (oks k).held; may = (oks k).may })
+    record {
+      held = eased (λ some. more_or (has (End (token g k)) r.queue) _ (soon poll (End (token g k))) (has_without (End (token g k)) n r.queue (by who k is quiet some))) (oks k).held;
+      may =
+          (oks k).may;
+    })
   where
     by : (who : Reported) (k : Side) → name_here (Some g) who ≡ Some n → quiet_here backlog (Some (g, f)) who ≡ true → is_readable (f k) ≡ true → same n (End (token g k)) ≡ false
     by reports.Listener k is quiet some = rw (some_is is) refl
@@ -358,11 +370,13 @@ delivers_on st wires None d e q j (n ∷ rest) is next rested h = rw (some_is h)
 pub polls_on : (st : System) (wires : Side → Wire) (poll : Option Polling) (d : Delay) (e : List (Option Registered)) (q : List Name) → Joined (rim st) wires poll d e q → (names : Vec Name Global)
     (reading : Name → Bool) → is_none poll ≡ true → poller_rests st ≡ true → (length st.batch == 0) ≡ true → list_all (may_name st reading) names.items ≡ true → (k : KernelState)
     → kernel.poll st.kernel names.items ≡ Some k
-    → Led (seen_as st e q (batch_there poll d.early st.batch)) [] (record { system = record st { kernel = k }; wires = wires; poll = Some (record { names = names; reading = reading; left = names.items }) })
+    → Led (seen_as st e q (batch_there poll d.early st.batch)) []
+    (record { system = record st { kernel = k }; wires = wires; poll = Some (record { names = names; reading = reading; left = names.items }) })
     (record d { early = false })
 polls_on st wires (Some p) d e q j names reading idle rested empty may k h = cc
 polls_on st wires None d e q j names reading idle rested empty may k h =
-    let g = guarded (nat_le (length names.items) 256 && (are_among st.kernel.queue names.items && are_distinct names.items)) (record st.kernel { queue = without_names names.items st.kernel.queue }) k h in
+    let g = guarded (nat_le (length names.items) 256 && (are_among st.kernel.queue names.items && are_distinct names.items))
+    (record st.kernel { queue = without_names names.items st.kernel.queue }) k h in
     let parts = and_parts (nat_le (length names.items) 256) _ g.0 in
     let fine = and_parts (are_among st.kernel.queue names.items) (are_distinct names.items) parts.1 in
     let none : st.batch ≡ [] = nil_from_length st.batch (eqb-true (length st.batch) 0 empty) in
@@ -372,7 +386,8 @@ polls_on st wires None d e q j names reading idle rested empty may k h =
       leads = refl;
       joined = record {
         generation = j.generation;
-        ends = requeued (without_names names.items st.kernel.queue) st.batch (Some (record { names = names; reading = reading; left = names.items })) (λ g f o ends real k some more. taken g f ends real k some more) j.ends;
+        ends = requeued (without_names names.items st.kernel.queue) st.batch (Some (record { names = names; reading = reading; left = names.items }))
+            (λ g f o ends real k some more. taken g f ends real k some more) j.ends;
         known = known_filter (λ m. not (has m names.items)) st.kernel.queue j.known;
         polls = Busy none parts.0 fine.1 (λ _. record { each = λ n h. j.known.each n (all_has (λ m. has m st.kernel.queue) n names.items fine.0 h) }) (λ e. cc) (λ n h. h);
         on_way = λ n h. has_polled n names.items st.kernel.queue (at_rest n (d.early) (j.on_way n h));
@@ -430,7 +445,8 @@ module _ (st : System) (wires : Side → Wire) (p : Polling) (d : Delay) (e : Li
       let was = rw left at h in
       grind (arith, never)
 
-  hears_nothing : ((m : EndName) → same (End m) n ≡ true → p.reading (End m) ≡ false) → Led (seen_as st e q (batch_there (Some p) d.early st.batch)) [] (record { system = st; wires = wires; poll = Some after }) d
+  hears_nothing : ((m : EndName) → same (End m) n ≡ true → p.reading (End m) ≡ false)
+      → Led (seen_as st e q (batch_there (Some p) d.early st.batch)) [] (record { system = st; wires = wires; poll = Some after }) d
   hears_nothing never = record {
     there = e;
     queue = q;
@@ -490,12 +506,14 @@ tells_on st wires p d e q j (End m ∷ rest) is v h = rw (some_is h) (by (p.read
   where
     by : (b : Bool) → p.reading (End m) ≡ b → let sides : List Side = if b then m.side ∷ [] else [] in
         Led (seen_as st e q (batch_there (Some p) d.early st.batch)) (comes d.late sides)
-        (record { system = st; wires = if b then on m.side (record (wires m.side) { told = true }) wires else wires; poll = Some (record p { left = rest }) }) (record d { late = cleared sides d.late })
+        (record { system = st; wires = if b then on m.side (record (wires m.side) { told = true }) wires else wires; poll = Some (record p { left = rest }) })
+        (record d { late = cleared sides d.late })
     by true reads = hears st wires p d e q j (End m) rest is m refl j.ends j.known j.polls
     by false reads = hears_nothing st wires p d e q j (End m) rest is (λ k own. rw (same_is (End k) (End m) own) reads)
 
 -- all is handed over
-pub handed_on : (st : System) (wires : Side → Wire) (p : Polling) (d : Delay) (e : List (Option Registered)) (q : List Name) → Joined (rim st) wires (Some p) d e q → poller_rests st ≡ true → p.left ≡ []
+pub handed_on : (st : System) (wires : Side → Wire) (p : Polling) (d : Delay) (e : List (Option Registered)) (q : List Name) → Joined (rim st) wires (Some p) d e q → poller_rests st ≡ true
+    → p.left ≡ []
     → Led (seen_as st e q (batch_there (Some p) d.early st.batch)) (polls d.early (Some p)) (record { system = record st { batch = p.names.items }; wires = wires; poll = None }) d
 handed_on st wires p d e q j rested none =
     let x = shape_there j.ends in

@@ -334,7 +334,8 @@ all_on Target e x wire more here beside all Client = record { held = eased (besi
 all_on Target e x wire more here beside all Target = here
 
 -- the same, of what is coming in this queue and this poll
-pub changed_end : (g : ℕ) (queue : List Name) (poll : Option Polling) (next : List Name) (after : Option Polling) (side : Side) {f s : Side → EndState} {wires : Side → Wire} {late : Side → List Change}
+pub changed_end : (g : ℕ) (queue : List Name) (poll : Option Polling) (next : List Name) (after : Option Polling) (side : Side) {f s : Side → EndState} {wires : Side → Wire} {late : Side
+    → List Change}
     (e x : EndState) (wire : Wire) (more : List Change) → EndOk e (coming next after (End (token g side))) wire more x
     → ((j : Side) → (j ≡ side → ⊥) → is_readable (f j) ≡ true → coming queue poll (End (token g j)) ≡ true → coming next after (End (token g j)) ≡ true)
     → ((j : Side) → EndOk (f j) (coming queue poll (End (token g j))) (wires j) (late j) (s j))
@@ -447,7 +448,8 @@ named_here (Some g) (reports.End s side) n is = rw (some_is is) refl
 abbrev pub queue_more : System → Name → System
 queue_more st n = record st { kernel = record st.kernel { queue = with_name n st.kernel.queue } }
 
-pub spurious_is : (st : System) (o : Option (ℕ × (Side → EndState))) → Shape st.ends st.kernel.ends o → (who : Reported) → step st (Spurious who) ≡ option_map (queue_more st) (name_here (generation_of o) who)
+pub spurious_is : (st : System) (o : Option (ℕ × (Side → EndState))) → Shape st.ends st.kernel.ends o → (who : Reported)
+    → step st (Spurious who) ≡ option_map (queue_more st) (name_here (generation_of o) who)
 spurious_is st o shape reports.Listener = refl
 spurious_is st o shape reports.Waker = refl
 spurious_is st None shape (reports.End s side) = rw shape refl
@@ -530,7 +532,8 @@ some_or_none [] = inl refl
 some_or_none (x ∷ xs) = inr (λ e. cc)
 
 -- once what is late has come, what is queued there is on its way
-pub came_way : {st : System} {g : ℕ} {s : Side → EndState} {q b : List Name} {side : Side} {late : List Change} {f e x : EndState} {wire : Wire} {early : Bool} {poll : Option Polling} {batch : List Name} (queue : List Name)
+pub came_way : {st : System} {g : ℕ} {s : Side
+    → EndState} {q b : List Name} {side : Side} {late : List Change} {f e x : EndState} {wire : Wire} {early : Bool} {poll : Option Polling} {batch : List Name} (queue : List Name)
     → Polls batch early (Some g) poll → EndOk e (coming queue poll (End (token g side))) wire late x → ((m : Name) → has m q ≡ true → (has m queue || in_poll early poll m) ≡ true)
     → (c : Came st g s q b side late f) → (m : Name) → has m c.queue ≡ true → (has m queue || in_poll early poll m) ≡ true
 came_way {g = g} {side = side} {late = late} {e = e} {wire = wire} queue polls ok way c m h = elim (some_or_none late) [
