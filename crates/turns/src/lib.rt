@@ -9,7 +9,8 @@
 //! # Inside
 //!
 //! - A turn touches words, places, queues and what sockets hold back only by its acts ([`Acts`](dispatch::Acts),
-//!   [`Moves`](dispatch::Moves)), and makes these in the order of its program (`acts_of` of `specs/Turns.antt`).
+//!   [`Moves`](dispatch::Moves)), and makes these in the order of its program (`acts_of` of `specs/Turns.antt`). Its gate
+//!   hears of it by one of these alone ([`Gated::play`](dispatch::Gated::play)): no body here knows that `G` is a gate.
 //! - A place is reached by these acts alone (`Places`). What a turn found there, how it played that, and what it put back
 //!   or closed is said of its acts (`Handles` and `PlaysAt` of `specs/Turns.antt`).
 //! - The connection that is put back or closed is the one that was taken out (`Visit`, which cannot be dropped). Its
