@@ -96,7 +96,7 @@ wires_after w (Calls i r) q = option_and_then (called w.wires r) (asks w.system 
 wires_after w (Poll names) q = None
 wires_after w s q = Some (if is_none w.system.ends && is_some q.ends then fresh w.wires else w.wires)
 
--- while it polls, the poller does nothing else
+-- while the poller polls, its thread has no program
 abbrev pub plain : Wired → alone.Step → Option Wired
 plain w s = option_and_then (λ (q : System). when (is_none w.poll || poller_rests q)
     (option_map (λ (wires : Side → Wire). record w { system = q; wires = wires }) (wires_after w s q))) (alone.step w.system s)
@@ -259,7 +259,7 @@ pub record EndHolds (w : Wired) (side : Side) (late : List Change) (queue : List
   pub nothing_missed : MissesNothing (way w side r)
   pub queued : has (End r.token) queue ≡ true → IsOnItsWay (way w side r)
 
--- The steps that are of `System`, those of these that are not the network's, of reports or polls, changes, and exchanges
+-- The steps as those of `System`; of these, those that are no change of the network, report or poll; changes; exchanges
 abbrev pub steps_of : Step → List alone.Step
 steps_of (Plain s) = s ∷ []
 steps_of (Unasked i) = Calls i reply.Blocked ∷ []

@@ -275,8 +275,8 @@ deliver_ends st (End n ∷ rest) next h = rw (some_is h) (by ((n.slot == 0) && (
     by true = refl
     by false = refl
 
-closes_is : (st : System) (i : ℕ) (t : Thread) (todo : List Act) → slice_get st.threads i ≡ Some t → t.todo ≡ todo → closes st i ≡ is_close todo
-closes_is st i t todo there is = ap (λ (o : Option Thread). unwrap_or (option_map (λ (t : Thread). is_close t.todo) o) false) there ∙ ap is_close is
+closes_is : (before : System) (i : ℕ) (t : Thread) (todo : List Act) → slice_get before.threads i ≡ Some t → t.todo ≡ todo → closes before i ≡ is_close todo
+closes_is before i t todo there is = ap (λ (o : Option Thread). unwrap_or (option_map (λ (t : Thread). is_close t.todo) o) false) there ∙ ap is_close is
 
 -- A step
 

@@ -325,22 +325,15 @@ module _ {e x : EndState} {b : Bool} {wire : Wire} {late : List Change} (ok : En
       record { held = eased (λ _ h. h) (rw same at g.kept); may = ok.may }
 
 -- One end becomes another, and of the other end no less is coming
-pub all_on : (side : Side) {f s : Side → EndState} {b c : Side → Bool} {wires : Side → Wire} {late : Side → List Change} (e x : EndState) (wire : Wire) (more : List Change)
-    → EndOk e (c side) wire more x → ((j : Side) → (j ≡ side → ⊥) → is_readable (f j) ≡ true → b j ≡ true → c j ≡ true) → ((j : Side) → EndOk (f j) (b j) (wires j) (late j) (s j))
-    → (j : Side) → EndOk (on side e f j) (c j) (on side wire wires j) (on side more late j) (on side x s j)
-all_on Client e x wire more here beside all Client = here
-all_on Client e x wire more here beside all Target = record { held = eased (beside Target (λ is. cc)) (all Target).held; may = (all Target).may }
-all_on Target e x wire more here beside all Client = record { held = eased (beside Client (λ is. cc)) (all Client).held; may = (all Client).may }
-all_on Target e x wire more here beside all Target = here
-
--- the same, of what is coming in this queue and this poll
-pub changed_end : (g : ℕ) (queue : List Name) (poll : Option Polling) (next : List Name) (after : Option Polling) (side : Side) {f s : Side → EndState} {wires : Side → Wire} {late : Side
-    → List Change}
-    (e x : EndState) (wire : Wire) (more : List Change) → EndOk e (coming next after (End (token g side))) wire more x
+pub changed_end : (g : ℕ) (queue : List Name) (poll : Option Polling) (next : List Name) (after : Option Polling) (side : Side) {f s : Side → EndState} {wires : Side → Wire}
+    {late : Side → List Change} (e x : EndState) (wire : Wire) (more : List Change) → EndOk e (coming next after (End (token g side))) wire more x
     → ((j : Side) → (j ≡ side → ⊥) → is_readable (f j) ≡ true → coming queue poll (End (token g j)) ≡ true → coming next after (End (token g j)) ≡ true)
     → ((j : Side) → EndOk (f j) (coming queue poll (End (token g j))) (wires j) (late j) (s j))
     → (j : Side) → EndOk (on side e f j) (coming next after (End (token g j))) (on side wire wires j) (on side more late j) (on side x s j)
-changed_end g queue poll next after side e x wire more = all_on side {b = λ j. coming queue poll (End (token g j))} {c = λ j. coming next after (End (token g j))} e x wire more
+changed_end g queue poll next after Client e x wire more here beside all Client = here
+changed_end g queue poll next after Client e x wire more here beside all Target = record { held = eased (beside Target (λ is. cc)) (all Target).held; may = (all Target).may }
+changed_end g queue poll next after Target e x wire more here beside all Client = record { held = eased (beside Client (λ is. cc)) (all Client).held; may = (all Client).may }
+changed_end g queue poll next after Target e x wire more here beside all Target = here
 
 -- What is kept
 
