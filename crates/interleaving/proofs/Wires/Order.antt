@@ -1,5 +1,5 @@
 -- Calls, changes and exchanges keep their order.
-use Rattle.std.{proofs.{Common.{◌≡◌, Bool, true, false, not, ◌&&◌, ◌==◌, length, if◌then◌else◌, List, [], ◌∷◌, ◌++◌, ℕ, map, Option, Some, None, option_map, unwrap_or, refl, ap, ◌∙◌, subst, sym, append-nil, append_assoc, arith}, lemmas.{Bool.{and_parts, not-true}, Grind.{flat_map-append}, Option.{option_and_then_some, same_Some}}}, specs.{List.{flat_map, list_all}}}
+use Rattle.std.{proofs.{Common.{◌≡◌, Bool, true, false, not, ◌&&◌, ◌==◌, length, if◌then◌else◌, List, [], ◌∷◌, ◌++◌, ℕ, map, Option, Some, None, option_map, unwrap_or, Vec, refl, ap, ◌∙◌, subst, sym, append-nil, append_assoc, arith}, lemmas.{Bool.{and_parts, eqb-true, not-true}, List.nil_from_length, Grind.{flat_map-append}, Option.{option_and_then_some, same_Some}}}, specs.{Global.Global, List.{flat_map, list_all}}}
 use Rattle.relay_core.specs.Calls.{side_of}
 use Rattle.token.specs.{declared.{name.Name.{Name, TheVariants.{End, Listener, Waker}}, side.Side.{Side, TheVariants.{Client, Target}}}, Sides.side_number}
 use Rattle.kernel_model.specs.{Kernel.{KernelState, Registered}}
@@ -21,29 +21,29 @@ all_both p (x ∷ xs) ys one other = let rest = all_both p xs ys in grind arith
 
 -- what a poll or the network does, and no thread
 abbrev pub is_outside : alone.Step → Bool
-is_outside (Network side change) = true
-is_outside (Spurious who) = true
-is_outside (Vanish who) = true
-is_outside (Poll names) = true
-is_outside s = false
+is_outside s = length (inside s) == 0
 
-all_map : {X : Type 0} (f : X → alone.Step) → ((x : X) → is_outside (f x) ≡ true) → (xs : List X) → list_all is_outside (map f xs) ≡ true
-all_map f each [] = refl
-all_map f each (x ∷ xs) = rw (each x) (all_map f each xs)
+all_map : {X : Type 0} (p : alone.Step → Bool) (f : X → alone.Step) → ((x : X) → p (f x) ≡ true) → (xs : List X) → list_all p (map f xs) ≡ true
+all_map p f each [] = refl
+all_map p f each (x ∷ xs) = rw (each x) (all_map p f each xs)
 
 comes_outside : (late : Side → List Change) (sides : List Side) → list_all is_outside (comes late sides) ≡ true
 comes_outside late [] = refl
-comes_outside late (side ∷ sides) = all_both is_outside (map (Network side) (late side)) (comes late sides) (all_map (Network side) (λ c. refl) (late side)) (comes_outside late sides)
+comes_outside late (side ∷ sides) = all_both is_outside (map (Network side) (late side)) (comes late sides) (all_map is_outside (Network side) (λ c. refl) (late side)) (comes_outside late sides)
+
+polls_all : (p : alone.Step → Bool) → ((n : Name) → p (report_of n) ≡ true) → ((names : Vec Name Global) → p (Poll names) ≡ true) → (early : Bool) (poll : Option Polling)
+    → list_all p (polls early poll) ≡ true
+polls_all p each last false (Some taken) = all_both p (map report_of taken.names.items) (Poll taken.names ∷ []) (all_map p report_of each taken.names.items) (rw (last taken.names) refl)
+polls_all p each last false None = refl
+polls_all p each last true poll = refl
 
 polls_outside : (early : Bool) (poll : Option Polling) → list_all is_outside (polls early poll) ≡ true
-polls_outside false (Some p) = all_both is_outside (map report_of p.names.items) (Poll p.names ∷ []) (all_map report_of by p.names.items) refl
+polls_outside = polls_all is_outside by (λ names. refl)
   where
     by : (n : Name) → is_outside (report_of n) ≡ true
     by Listener = refl
     by Waker = refl
     by (End n) = refl
-polls_outside false None = refl
-polls_outside true poll = refl
 
 closing_outside : (b early : Bool) (poll : Option Polling) → list_all is_outside (if b then polls early poll else []) ≡ true
 closing_outside true early poll = polls_outside early poll
@@ -60,11 +60,7 @@ is_net x = false
 -- Acts and calls
 
 not_inside : (s : alone.Step) → is_outside s ≡ true → inside s ≡ []
-not_inside (Network side c) out = refl
-not_inside (Spurious who) out = refl
-not_inside (Vanish who) out = refl
-not_inside (Poll names) out = refl
-not_inside s out = cc
+not_inside s out = nil_from_length (inside s) (eqb-true (length (inside s)) 0 out)
 
 either_way : {X : Type 0} (P : X → Type 0) (b : Bool) (x y : X) → P x → P y → P (if b then x else y)
 either_way P true x y p q = p
@@ -149,18 +145,12 @@ none_of : (side : Side) (xs : List alone.Step) → list_all (λ s. not (is_netwo
 none_of side = flat_none (came_at side) (λ s. not (is_network s)) (λ s none. no_change side s (not-true (is_network s) none))
 
 polls_beside : (early : Bool) (poll : Option Polling) → list_all (λ s. not (is_network s)) (polls early poll) ≡ true
-polls_beside false (Some p) = all_both _ (map report_of p.names.items) (Poll p.names ∷ []) (by p.names.items) refl
+polls_beside = polls_all (λ s. not (is_network s)) by (λ names. refl)
   where
-    of : (n : Name) → not (is_network (report_of n)) ≡ true
-    of Listener = refl
-    of Waker = refl
-    of (End n) = refl
-
-    by : (names : List Name) → list_all (λ s. not (is_network s)) (map report_of names) ≡ true
-    by [] = refl
-    by (n ∷ names) = rw (of n) (by names)
-polls_beside false None = refl
-polls_beside true poll = refl
+    by : (n : Name) → not (is_network (report_of n)) ≡ true
+    by Listener = refl
+    by Waker = refl
+    by (End n) = refl
 
 module _ (w : Wired) (d : Delay) (inputs : (side : Side) → list_all is_input (d.late side) ≡ true)
     (prompt : (side : Side) → (not (w.wires side).reads && not (w.wires side).told) ≡ false → d.late side ≡ []) where
