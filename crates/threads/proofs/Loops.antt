@@ -184,15 +184,15 @@ worker_both one two = record {
   taken = simp (two.taken, one.taken, map-append, append_assoc, append-nil);
 }
 
-pub worker_then_ends : {why : Why} {a b c : Own} {xs ys zs : List End} → WorkerRan [] [] a b xs ys → WorkerEnded why b c ys zs → WorkerEnded why a c xs zs
+pub worker_then_ends : {mark : ℕ} {why : Why} {a b c : Own} {xs ys zs : List End} → WorkerRan [] [] a b xs ys → WorkerEnded mark why b c ys zs → WorkerEnded mark why a c xs zs
 worker_then_ends one two = record { left = two.left; few = two.few; made = worker_both one two.made; reason = two.reason }
 
 -- no ticket was left
-worker_ends : {why : Why} {a b : Own} {xs ys : List End} → WorkerRan [] (faults_by why) a b xs ys → WorkerMayEnd why b → WorkerEnded why a b xs ys
+worker_ends : {mark : ℕ} {why : Why} {a b : Own} {xs ys : List End} → WorkerRan [] (faults_by why) a b xs ys → WorkerMayEnd mark why b → WorkerEnded mark why a b xs ys
 worker_ends made reason = record { left = []; few = inl refl; made = made; reason = reason }
 
 -- nothing was done since
-pub worker_stops : {why : Why} {a b : Own} {xs : List End} → faults_by why ≡ [] → b ≡ a → WorkerMayEnd why b → WorkerEnded why a b xs xs
+pub worker_stops : {mark : ℕ} {why : Why} {a b : Own} {xs : List End} → faults_by why ≡ [] → b ≡ a → WorkerMayEnd mark why b → WorkerEnded mark why a b xs xs
 worker_stops none same reason = worker_ends (rw (none, same) (worker_none refl refl refl refl refl)) reason
 
 module _ {t : Ticket} {a b : Own} (took : Took t a b) where
@@ -218,13 +218,13 @@ module _ {t : Ticket} {a b : Own} (took : Took t a b) where
   }
 
   -- that turn was the last
-  pub worker_worn : {why : Why} {c : Own} {xs ys : List End} → OneRan t (Err Worn) b c xs ys → c.ready.history.taken ≡ b.ready.history.taken → WornEnd why c
-      → WorkerEnded why a c xs ys
+  pub worker_worn : {mark : ℕ} {why : Why} {c : Own} {xs ys : List End} → OneRan t (Err Worn) b c xs ys → c.ready.history.taken ≡ b.ready.history.taken → WornEnd why c
+      → WorkerEnded mark why a c xs ys
   worker_worn ran taken worn = worker_ends (rw worn.0 (worker_one ran taken)) (rw worn.0 (refl, worn.1))
 
   -- a look found a fault once the ticket was taken, which stays in hand
-  pub worker_kept : {why : Why} {hand : HandState} {xs : List End} → why ≡ FaultFound → hand ≡ record b.hand { tickets = b.hand.tickets ++ t ∷ [] }
-      → WorkerEnded why a (record b { hand = hand }) xs xs
+  pub worker_kept : {mark : ℕ} {why : Why} {hand : HandState} {xs : List End} → why ≡ FaultFound mark → hand ≡ record b.hand { tickets = b.hand.tickets ++ t ∷ [] }
+      → WorkerEnded mark why a (record b { hand = hand }) xs xs
   worker_kept is hand = record {
     left = t ∷ [];
     few = inr (is, refl);
@@ -238,7 +238,7 @@ module _ {t : Ticket} {a b : Own} (took : Took t a b) where
       met = rw is;
       taken = taken_one;
     };
-    reason = rw is tt;
+    reason = rw is refl;
   }
 
 -- a worker's turn, between two exchanges of its ends
@@ -359,8 +359,8 @@ own_turn_ran words acts plays from to (Ok (Some worked)) a b same turn = own_one
 own_turn_ran words acts plays from to (Err fault) a b same turn = own_one same turn
 
 -- in the next turn the seat was worn
-pub cut_worn : {count : ℕ} {why : Why} {p r q : PollerState} {a b c : Own} → WornEnd why c → SharedAndRan count [] p r a b → OwnTurnsRan 1 (Worn ∷ []) b c
-    → q ≡ record p { heavy = q.heavy } → count < own_turns → TurnsCut why p q a c
+pub cut_worn : {count mark : ℕ} {why : Why} {p r q : PollerState} {a b c : Own} → WornEnd why c → SharedAndRan count [] p r a b → OwnTurnsRan 1 (Worn ∷ []) b c
+    → q ≡ record p { heavy = q.heavy } → count < own_turns → TurnsCut mark why p q a c
 cut_worn {count} worn made turn poller few = record {
   count = count;
   made = record {
@@ -492,12 +492,12 @@ pub step_ran : {said : Bool → Type 0} {p q r : PollerState} {a b c : Own} → 
 step_ran round turns = ran_both (round_ran round.round round.took) (turns_ran turns.made)
 
 -- a round, and the turns after it, whether one was cut off or not
-pub step_or_cut : {said : Bool → Type 0} {p q : PollerState} {a b c : Own} (r : PollerState) (answer : Result (Unit {0}) Ended) → RoundMade said p q a b
-    → OnOk answer (TurnsAfter q r b c) → IfErr answer (λ ended. TurnsCut ended.why q r b c) → PollerRan a c
-step_or_cut r (Ok done) round turns cut = step_ran round turns
-step_or_cut r (Err ended) round turns cut = ran_both (round_ran round.round round.took) (turns_ran cut.made)
+pub step_or_cut : {said : Bool → Type 0} {p q : PollerState} {a b c : Own} (mark : ℕ) (r : PollerState) (answer : Result (Unit {0}) Ended) → RoundMade said p q a b
+    → OnOk answer (TurnsAfter q r b c) → IfErr answer (λ ended. TurnsCut mark ended.why q r b c) → PollerRan a c
+step_or_cut mark r (Ok done) round turns cut = step_ran round turns
+step_or_cut mark r (Err ended) round turns cut = ran_both (round_ran round.round round.took) (turns_ran cut.made)
 
-pub cut_ran : {said : Bool → Type 0} {ends : Ends} {why : Why} {p q : PollerState} {a b : Own} → StepCut said ends why p q a b → PollerRan a b
+pub cut_ran : {said : Bool → Type 0} {ends : Ends} {mark : ℕ} {why : Why} {p q : PollerState} {a b : Own} → StepCut said ends mark why p q a b → PollerRan a b
 cut_ran (inl same) = rw same.own ran_none
 cut_ran (inr (inl (inl failed))) = round_ran failed.made.round failed.made.took
 cut_ran (inr (inl (inr worn))) = round_ran worn.made.round worn.made.took

@@ -13,7 +13,7 @@ use Rattle.turns.specs.declared.worker.Worked.TheVariants as worked
 
 -- the fault that ended a thread's loop, if one did
 abbrev pub fault_by : Why → Option ServerFault
-fault_by FaultFound = None
+fault_by (FaultFound mark) = None
 fault_by PollerOver = None
 fault_by QueueClosed = None
 fault_by (Met fault) = Some fault
@@ -23,7 +23,7 @@ faults_by why = option_to_list (fault_by why)
 
 -- a thread that ends so ends all others: it met a fault, or found that another has met one
 abbrev pub EndsAll : Why → Type 0
-EndsAll FaultFound = Unit {0}
+EndsAll (FaultFound mark) = Unit {0}
 EndsAll PollerOver = ⊥
 EndsAll QueueClosed = ⊥
 EndsAll (Met fault) = Unit {0}
@@ -143,19 +143,19 @@ pub record WorkerRan (left : List Ticket) (faults : List ServerFault) (old new :
   pub met : faults_of ran ≡ faults
   pub taken : tickets_in new ≡ tickets_in old ++ (tickets_of ran ++ left)
 
--- a worker may end: it found a fault, or the queue of tickets closed, and empty at one moment, or its seat is worn
-abbrev pub WorkerMayEnd : Why → Own → Type 0
-WorkerMayEnd FaultFound own = Unit {0}
-WorkerMayEnd PollerOver own = ⊥
-WorkerMayEnd QueueClosed own = HeldOnce 0 own.ready.history
-WorkerMayEnd (Met fault) own = OnlyWorn fault own.seat
+-- a worker may end: it found a fault, as this mark shows, or the queue of tickets closed, and empty at one moment, or its seat is worn
+abbrev pub WorkerMayEnd : ℕ → Why → Own → Type 0
+WorkerMayEnd mark (FaultFound found) own = found ≡ mark
+WorkerMayEnd mark PollerOver own = ⊥
+WorkerMayEnd mark QueueClosed own = HeldOnce 0 own.ready.history
+WorkerMayEnd mark (Met fault) own = OnlyWorn fault own.seat
 
 -- A worker's thread ran to its end. If a look found a fault, one ticket at most was taken and not run
-pub record WorkerEnded (why : Why) (old new : Own) (others others_new : List (EndState ℕ)) : Type 0 where
+pub record WorkerEnded (mark : ℕ) (why : Why) (old new : Own) (others others_new : List (EndState ℕ)) : Type 0 where
   pub left : List Ticket
-  pub few : (left ≡ []) ⊎ ((why ≡ FaultFound) × (length left ≡ 1))
+  pub few : (left ≡ []) ⊎ ((why ≡ FaultFound mark) × (length left ≡ 1))
   pub made : WorkerRan left (faults_by why) old new others others_new
-  pub reason : WorkerMayEnd why new
+  pub reason : WorkerMayEnd mark why new
 
 -- the thread took this ticket, and did nothing else
 pub record Took (ticket : Ticket) (old new : Own) : Type 0 where
@@ -198,11 +198,11 @@ pub record TurnsAfter (p q : PollerState) (a b : Own) : Type 0 where
 
 -- After a round fewer than 32 of the tickets that stayed were run, without a fault. If a turn met the fault that ended
 -- the thread, it came after those
-pub record TurnsCut (why : Why) (p q : PollerState) (a b : Own) : Type 0 where
+pub record TurnsCut (mark : ℕ) (why : Why) (p q : PollerState) (a b : Own) : Type 0 where
   pub count : ℕ
   pub made : SharedAndRan (count + length (faults_by why)) (faults_by why) p q a b
   pub few : count < own_turns
-  pub reason : (why ≡ FaultFound) ⊎ WornEnd why b
+  pub reason : (why ≡ FaultFound mark) ⊎ WornEnd why b
 
 abbrev pub NoTicketTaken : Own → Own → Type 0
 NoTicketTaken old new = new.ready.history.taken ≡ old.ready.history.taken
@@ -251,8 +251,8 @@ abbrev pub StepMade : (Bool → Type 0) → Ends → PollerState → PollerState
 StepMade said ends p q a b = RoundAnd said ends TurnsAfter p q a b
 
 -- the last step was not begun
-pub record NotBegun (why : Why) (p q : PollerState) (a b : Own) : Type 0 where
-  pub reason : (why ≡ FaultFound) ⊎ ((why ≡ PollerOver) × (p.over ≡ true))
+pub record NotBegun (mark : ℕ) (why : Why) (p q : PollerState) (a b : Own) : Type 0 where
+  pub reason : (why ≡ FaultFound mark) ⊎ ((why ≡ PollerOver) × (p.over ≡ true))
   pub poller : q ≡ p
   pub own : b ≡ a
 
@@ -272,8 +272,9 @@ abbrev pub RoundCut : (Bool → Type 0) → Why → PollerState → PollerState 
 RoundCut said why p q a b = PollFailed said why p q a b ⊎ RoundWorn said why p q a b
 
 -- the last step of a poller's thread, by why it ended
-abbrev pub StepCut : (Bool → Type 0) → Ends → Why → PollerState → PollerState → Own → Own → Type 0
-StepCut said ends why p q a b = NotBegun why p q a b ⊎ (RoundCut said why p q a b ⊎ RoundAnd said ends (TurnsCut why) p q a b)
+abbrev pub StepCut : (Bool → Type 0) → Ends → ℕ → Why → PollerState → PollerState → Own → Own → Type 0
+StepCut said ends mark why p q a b =
+    NotBegun mark why p q a b ⊎ (RoundCut said why p q a b ⊎ RoundAnd said ends (TurnsCut mark why) p q a b)
 
 -- this many steps, one after the other
 abbrev pub StepsMade : (Bool → Type 0) → Ends → ℕ → PollerState → PollerState → Own → Own → Type 0
@@ -281,14 +282,14 @@ StepsMade said ends zero p q a b = (q ≡ p) × (b ≡ a)
 StepsMade said ends (suc steps) p q a b = (r : PollerState) × (c : Own) × StepsMade said ends steps p r a c × StepMade said ends r q c b
 
 -- any number of steps, and then the last one
-abbrev pub LoopMade : (Bool → Type 0) → Ends → Why → PollerState → PollerState → Own → Own → Type 0
-LoopMade said ends why p q a b =
-    (steps : ℕ) × (r : PollerState) × (c : Own) × StepsMade said ends steps p r a c × StepCut said ends why r q c b
+abbrev pub LoopMade : (Bool → Type 0) → Ends → ℕ → Why → PollerState → PollerState → Own → Own → Type 0
+LoopMade said ends mark why p q a b =
+    (steps : ℕ) × (r : PollerState) × (c : Own) × StepsMade said ends steps p r a c × StepCut said ends mark why r q c b
 
 -- all of a thread's steps, from the second that its clock showed as it began: its sweeps are counted from then
-abbrev pub RunMade : (Bool → Type 0) → Ends → (ℕ → Type 0) → Why → PollerState → Own → Own → Type 0
-RunMade said ends tells why p a b = (second : ℕ) × (q : PollerState) × tells second
-    × LoopMade said ends why (record p { swept = second }) q a b
+abbrev pub RunMade : (Bool → Type 0) → Ends → (ℕ → Type 0) → ℕ → Why → PollerState → Own → Own → Type 0
+RunMade said ends tells mark why p a b = (second : ℕ) × (q : PollerState) × tells second
+    × LoopMade said ends mark why (record p { swept = second }) q a b
 
 -- a note was posted, or a connection opened, or a turn made
 abbrev pub IsPollerAct : ℕ → SeatAct → Type 0

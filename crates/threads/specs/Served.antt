@@ -36,19 +36,19 @@ pub record IsDivided (fresh : SeatState) (free : List (List (EndState ℕ))) (po
   pub other_seats : All (λ (w : WorkerPart). w.own.seat ≡ fresh) of_workers
   pub all_slots : All (λ (w : WorkerPart). HasOneOfEach free (w.own.free ∷ w.others)) of_workers
 
--- a worker's thread ran to its end
-pub record WorkerRuns (part : WorkerPart) (end : ThreadEnd) : Type 0 where
+-- a worker's thread ran to its end. A fault that it found is recorded, as this mark shows
+pub record WorkerRuns (mark : ℕ) (part : WorkerPart) (end : ThreadEnd) : Type 0 where
   pub number_is : end.number ≡ part.number
   pub own : Own
   pub others : List (EndState ℕ)
-  pub ended : WorkerEnded end.why part.own own part.others others
+  pub ended : WorkerEnded mark end.why part.own own part.others others
 
--- a poller's thread ran to its end
-pub record PollerRuns (said : Bool → Type 0) (tells : ℕ → Type 0) (gave_none : Unaccepted → Type 0) (limit : ℕ) (part : PollerPart)
-    (end : ThreadEnd) : Type 0 where
+-- a poller's thread ran to its end, likewise
+pub record PollerRuns (said : Bool → Type 0) (tells : ℕ → Type 0) (gave_none : Unaccepted → Type 0) (limit mark : ℕ)
+    (part : PollerPart) (end : ThreadEnd) : Type 0 where
   pub number_is : end.number ≡ part.number
   pub own : Own
-  pub made : RunMade said (EndsWell tells gave_none limit) tells end.why part.poller part.own own
+  pub made : RunMade said (EndsWell tells gave_none limit) tells mark end.why part.poller part.own own
   pub ran : PollerRan part.own own
 
 -- the second list has, in order, one for each of the first of these parts; these parts are left

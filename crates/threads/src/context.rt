@@ -83,9 +83,8 @@ impl<G, C, R: Wait, S> Context<'_, G, C, R, S> {
         ensures of { (result.number ≡ number) × (result.why ≡ ended.why) }
         ensures woken { EndsAll ended.why → AllWoken (F.woke shared.now.waker) self.now.split }
     {
-        let why = ended.why();
         let ends_all = ended.ends_all();
-        let recorded = self.ending.end(self.rt, number, ended);
+        let (why, recorded) = self.ending.end(self.rt, number, ended);
         let closed = if ends_all { Some(ready.close()) } else { None };
         if ends_all {
             self.wake_pollers(shared);

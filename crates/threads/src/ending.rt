@@ -1,11 +1,11 @@
 //! How the threads of a server come to their end: why the loop of each ends, and what becomes of a fault.
-ghost use Rattle.std.specs.Prelude.{◌≡◌, ◌↔◌, IfOk, IfErr, IsTrue, OnErr, OnOk, Some, option_map, true, false};
+ghost use Rattle.std.specs.Prelude.{◌≡◌, ◌↔◌, IfOk, IfErr, IfSome, IsTrue, OnErr, OnOk, None, Some, option_map, true, false};
 ghost use Rattle.dispatch.specs.Outgoing.{PutAll};
 ghost use Rattle.ready.specs.Steps.{HeldOnce};
 ghost use Rattle.relay_log.specs.declared.faults.ServerFault.{ServerFault};
 ghost use Rattle.threads.specs.Loops.{EndsAll, Took, announced, fault_by};
 
-use crate::faults::{Lowest, Outcome, Recorded};
+use crate::faults::{Found, Lowest, Outcome, Recorded};
 use crate::running::Served;
 use dispatch::{Front, Own, ServerFault};
 use ready::Ticket;
@@ -16,10 +16,10 @@ use std::sync::atomic::Ordering::SeqCst;
 use std::sync::{Mutex, OnceLock, Wait};
 
 /// Why a thread's loop ended.
-#[derive(Clone, Copy)]
+#[derive(Drop)]
 pub enum Why {
     /// A look found a fault recorded.
-    FaultFound,
+    FaultFound(Found),
     /// Its poller is over.
     PollerOver,
     /// The queue of tickets was found closed and empty.
@@ -56,8 +56,8 @@ impl Model for Ending {
 /// turn needs a look of its own.
 #[derive(Drop)]
 pub(crate) struct NoFault {
-    recorded: bool,
-    ghost none: { recorded ≡ false },
+    found: Option<Found>,
+    ghost none: { found ≡ None },
 }
 
 /// A ticket, and a look after it was taken, which found no fault. A look before the thread slept for the ticket would
@@ -69,27 +69,12 @@ pub(crate) struct Cleared {
 }
 
 impl Ended {
-    fn fault_found(_recorded: bool) -> Ended
-        requires { _recorded ≡ true }
-        ensures { result.why ≡ Why.FaultFound }
-    {
-        Ended {
-            why: Why::FaultFound,
-        }
-    }
-
-    pub(crate) fn why(&self) -> Why
-        ensures { result ≡ self.now.why }
-    {
-        self.why
-    }
-
     /// Whether this ends all other threads, too: a fault does, whichever thread met it.
     pub(crate) fn ends_all(&self) -> bool
         ensures { IsTrue result ↔ EndsAll self.now.why }
     {
         match self.why {
-            Why::FaultFound | Why::Met(_) => true,
+            Why::FaultFound(_) | Why::Met(_) => true,
             Why::PollerOver | Why::QueueClosed => false,
         }
     }
@@ -148,15 +133,22 @@ impl Ending {
         }
     }
 
-    /// Records the fault that ended the loop of the thread with this number, if a fault did.
-    pub(crate) fn end(&self, rt: &impl Wait, number: usize, ended: Ended) -> Option<Recorded<'_>>
-        ensures { result ≡ option_map (λ fault. announced self.now (number, fault)) (fault_by ended.why) }
+    /// Records the fault that ended the loop of the thread with this number, if a fault did. Returns why the loop ended.
+    pub(crate) fn end(
+        &self,
+        rt: &impl Wait,
+        number: usize,
+        ended: Ended,
+    ) -> (Why, Option<Recorded<'_>>)
+        ensures why { result.0 ≡ ended.why }
+        ensures recorded { result.1 ≡ option_map (λ fault. announced self.now (number, fault)) (fault_by ended.why) }
     {
         let Ended { why } = ended;
-        match why {
+        let recorded = match why {
             Why::Met(fault) => Some(self.record(rt, number, fault)),
-            Why::FaultFound | Why::PollerOver | Why::QueueClosed => None,
-        }
+            Why::FaultFound(_) | Why::PollerOver | Why::QueueClosed => None,
+        };
+        (why, recorded)
     }
 
     pub(crate) fn record(&self, rt: &impl Wait, number: usize, fault: ServerFault) -> Recorded<'_>
@@ -168,25 +160,32 @@ impl Ending {
 
     /// Whether a fault is recorded.
     pub fn is_recorded(&self) -> bool {
-        self.recorded.get().is_some()
+        self.found().is_some()
+    }
+
+    fn found(&self) -> Option<Found>
+        ensures { IfSome result (λ found. found ≡ self.now) }
+    {
+        let set = self.recorded.witness()?;
+        Some(Found::by(&self.recorded, set))
     }
 
     /// Looks for a recorded fault: the thread goes on only if there is none.
     pub(crate) fn look(&self) -> Result<NoFault, Ended>
-        ensures { IfErr result (λ ended. ended.why ≡ Why.FaultFound) }
+        ensures { IfErr result (λ ended. ended.why ≡ Why.FaultFound self.now) }
     {
-        let recorded = self.is_recorded();
-        if recorded {
-            Err(Ended::fault_found(recorded))
-        } else {
-            Ok(NoFault { recorded })
+        match self.found() {
+            Some(found) => Err(Ended {
+                why: Why::FaultFound(found),
+            }),
+            none => Ok(NoFault { found: none }),
         }
     }
 
     /// Looks again before the turn of a ticket for which the thread may have slept.
     pub(crate) fn look_after_take(&self, ticket: Ticket) -> Result<Cleared, Ended>
         ensures ticket { IfOk result (λ cleared. cleared.ticket ≡ ticket) }
-        ensures found { IfErr result (λ ended. ended.why ≡ Why.FaultFound) }
+        ensures found { IfErr result (λ ended. ended.why ≡ Why.FaultFound self.now) }
     {
         let seen = self.look()?;
         Ok(Cleared { ticket, seen })

@@ -5,6 +5,7 @@ ghost use Rattle.threads.specs.Loops.{announced, lowest};
 use crate::running::Served;
 use dispatch::ServerFault;
 use std::marker::Model;
+use std::snapshot::Snapshot;
 use std::sync::{OnceLock, OnceToken, Wait};
 
 /// The lowest number of a thread that met a fault, and the fault.
@@ -35,6 +36,34 @@ impl<'a> Model for Recorded<'a> {
     ghost Value = { Announced };
 
     ghost view = { λ r. announced r.marked.of (r.number, r.fault) };
+}
+
+/// A look at the mark found it set: a fault was recorded before. Only [`Found::by`] makes this value.
+///
+/// In a clause it is which mark that is.
+#[derive(Drop)]
+pub struct Found {
+    at: Snapshot<OnceLock<()>>,
+}
+
+impl Model for Found {
+    ghost use Rattle.std.specs.Prelude.{ℕ};
+
+    ghost Value = { ℕ };
+
+    ghost view = { λ f. f.at.value.id };
+}
+
+impl Found {
+    /// The token shows that the mark is set.
+    pub(crate) fn by(mark: &OnceLock<()>, _set: OnceToken<'_, ()>) -> Found
+        requires { _set.of ≡ mark.now.id }
+        ensures { result ≡ mark.now.id }
+    {
+        Found {
+            at: Snapshot::of(mark),
+        }
+    }
 }
 
 /// How a server ended: well; or by a fault that threads met, the lowest number's; or by what refused the server before

@@ -37,7 +37,7 @@ mod working;
 pub use context::{Context, StopFlag, Told};
 pub use dividing::{Rest, ServerThreads, divide};
 pub use ending::{Ended, Ending, Why};
-pub use faults::{Outcome, Recorded};
+pub use faults::{Found, Outcome, Recorded};
 pub use polling::PollerThread;
 pub use running::{Server, run_threads};
 pub use working::Worker;

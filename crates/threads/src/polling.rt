@@ -35,7 +35,7 @@ impl<F: Front + Drop> PollerThread<F> {
     ) -> Told<'c>
         ensures made { RunMade (S.said context.now.is_stopped.now)
             (EndsWell (C.tells context.now.timing.clock.now) F.gave_none context.now.timing.limit)
-            (C.tells context.now.timing.clock.now) result.why self.old.poller self.old.own self.new.own }
+            (C.tells context.now.timing.clock.now) context.now.ending.now result.why self.old.poller self.old.own self.new.own }
         ensures told { IsTold context.now.ending.now self.old.number result.why result.recorded result.closed }
         ensures number { result.number ≡ self.old.number }
         ensures ran { PollerRan self.old.own self.new.own }
@@ -83,7 +83,7 @@ impl<F: Front + Drop> PollerThread<F> {
     ) -> Ended
         ensures made { LoopMade (S.said context.now.is_stopped.now)
             (EndsWell (C.tells context.now.timing.clock.now) F.gave_none context.now.timing.limit)
-            result.why self.old.poller self.new.poller self.old.own self.new.own }
+            context.now.ending.now result.why self.old.poller self.new.poller self.old.own self.new.own }
         ensures ran { PollerRan self.old.own self.new.own }
     {
         for _round in context.rt.forever() {
@@ -106,7 +106,7 @@ impl<F: Front + Drop> PollerThread<F> {
             self.old.poller self.new.poller self.old.own self.new.own) }
         ensures cut { IfErr result (λ ended. StepCut (S.said context.now.is_stopped.now)
             (EndsWell (C.tells context.now.timing.clock.now) F.gave_none context.now.timing.limit)
-            ended.why self.old.poller self.new.poller self.old.own self.new.own) }
+            context.now.ending.now ended.why self.old.poller self.new.poller self.old.own self.new.own) }
         ensures ran { PollerRan self.old.own self.new.own }
     {
         let seen = match context.ending.look() {
@@ -168,7 +168,7 @@ impl<F: Front + Drop> PollerThread<F> {
         context: &Context<'_, G, C, R, S>,
     ) -> Result<(), Ended>
         ensures turns { OnOk result (TurnsAfter self.old.poller self.new.poller self.old.own self.new.own) }
-        ensures cut { IfErr result (λ ended. TurnsCut ended.why self.old.poller self.new.poller self.old.own self.new.own) }
+        ensures cut { IfErr result (λ ended. TurnsCut context.now.ending.now ended.why self.old.poller self.new.poller self.old.own self.new.own) }
     {
         let shares_light = self.shared.shares_light;
         let poller = &mut self.poller;

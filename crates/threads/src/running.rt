@@ -1,5 +1,5 @@
 //! A server's threads, from the first to the last.
-ghost use Rattle.std.specs.Prelude.{◌≡◌, List, [], IfOk, IfSome, None, Some, map, option_to_list, true};
+ghost use Rattle.std.specs.Prelude.{◌≡◌, ℕ, List, [], IfOk, IfSome, None, Some, map, option_to_list, true};
 ghost use Rattle.std.specs.Thread.{IsSend, IsSync};
 ghost use Rattle.claims.specs.Seats.{fresh_seat};
 ghost use Rattle.dispatch.specs.Posts.{AreFresh};
@@ -62,10 +62,11 @@ where
     F::Client: Send,
     F::Target: Send,
     F::Waker: Send + Sync,
-    ensures ran { IfSome result.served (λ served. (pollers : List PollerPart) × (workers : List WorkerPart)
+    ensures ran { IfSome result.served (λ served. (mark : ℕ) × (pollers : List PollerPart) × (workers : List WorkerPart)
         × IsDivided (fresh_seat server.shared.claims) (map (λ ends. ends.items) server.free.items) server.pollers.items server.workers
         pollers workers
-        × AllRan (PollerRuns (S.said is_stopped.now) (C.tells timing.entry.clock.now) F.gave_none timing.entry.limit) WorkerRuns pollers workers
+        × AllRan (PollerRuns (S.said is_stopped.now) (C.tells timing.entry.clock.now) F.gave_none timing.entry.limit mark)
+        (WorkerRuns mark) pollers workers
         served.few served.pollers.items served.workers.items served.first) }
     ensures few { IfSome result.served (λ served. served.few ≡ true → result.fault ≡ Some ServerFault.Threads) }
 {
@@ -129,7 +130,7 @@ impl<'a, F: Front + Drop, G: Gate, C: Clock, R: Wait + Log, S: StopFlag> Part<
     ghost use Rattle.threads.specs.Served.{PollerRuns, poller_part};
 
     ghost runs = { λ context poller end. PollerRuns (S.said context.is_stopped.now) (C.tells context.timing.clock.now) F.gave_none
-        context.timing.limit (poller_part poller.number poller.poller poller.own) end };
+        context.timing.limit context.ending.now (poller_part poller.number poller.poller poller.own) end };
 
     /// The thread is shown by that name by tools such as top(1).
     fn run_to_end(self, context: &Context<'a, G, C, R, S>) -> ThreadEnd {
@@ -144,7 +145,7 @@ impl<'a, F: Front + Drop, G: Gate, C: Clock, R: Wait + Log, S: StopFlag> Part<
 > for Worker<F> {
     ghost use Rattle.threads.specs.Served.{WorkerRuns, worker_part};
 
-    ghost runs = { λ _ worker end. WorkerRuns (worker_part worker.number worker.own worker.others.items) end };
+    ghost runs = { λ context worker end. WorkerRuns context.ending.now (worker_part worker.number worker.own worker.others.items) end };
 
     fn run_to_end(self, context: &Context<'a, G, C, R, S>) -> ThreadEnd {
         let mut worker = self;
@@ -164,7 +165,7 @@ where
     F::Target: Send,
     F::Waker: Send + Sync,
     ensures { IfOk result (λ served. AllRan (PollerRuns (S.said context.now.is_stopped.now)
-        (C.tells context.now.timing.clock.now) F.gave_none context.now.timing.limit) WorkerRuns
+        (C.tells context.now.timing.clock.now) F.gave_none context.now.timing.limit context.now.ending.now) (WorkerRuns context.now.ending.now)
         (map (λ p. poller_part p.number p.poller p.own) threads.pollers.items)
         (map (λ w. worker_part w.number w.own w.others.items) threads.workers.items)
         served.few served.pollers.items served.workers.items served.first) }
@@ -176,7 +177,7 @@ where
             requires { IsSend F.row × IsSend F.Client.row × IsSend F.Target.row × IsSend F.Waker.row × IsSync F.Waker.row
                 × IsSync G.row × IsSync C.row × IsSync R.row × IsSync S.row }
             ensures { IfOk result (λ served. AllRan (PollerRuns (S.said context.entry.now.is_stopped.now)
-                (C.tells context.entry.now.timing.clock.now) F.gave_none context.entry.now.timing.limit) WorkerRuns
+                (C.tells context.entry.now.timing.clock.now) F.gave_none context.entry.now.timing.limit context.entry.now.ending.now) (WorkerRuns context.entry.now.ending.now)
                 (map (λ p. poller_part p.number p.poller p.own) threads.pollers.items)
                 (map (λ w. worker_part w.number w.own w.others.items) threads.workers.items)
                 served.few served.pollers.items served.workers.items served.first) }
@@ -204,7 +205,7 @@ where
     F::Target: Send,
     F::Waker: Send + Sync,
     ensures { IfOk result (λ served. AllRan (PollerRuns (S.said context.now.is_stopped.now)
-        (C.tells context.now.timing.clock.now) F.gave_none context.now.timing.limit) WorkerRuns
+        (C.tells context.now.timing.clock.now) F.gave_none context.now.timing.limit context.now.ending.now) (WorkerRuns context.now.ending.now)
         (map (λ p. poller_part p.number p.poller p.own) threads.pollers.items)
         (map (λ w. worker_part w.number w.own w.others.items) threads.workers.items)
         served.few served.pollers.items served.workers.items served.first) }
@@ -250,7 +251,7 @@ fn run_first<F: Front + Drop, G: Gate, C: Clock, R: Wait + Log, S: StopFlag>(
     first: Option<PollerThread<F>>,
 ) -> Option<ThreadEnd>
     ensures ran { OfFirst (PollerRuns (S.said context.now.is_stopped.now) (C.tells context.now.timing.clock.now) F.gave_none
-        context.now.timing.limit)
+        context.now.timing.limit context.now.ending.now)
         (map (λ p. poller_part p.number p.poller p.own) (option_to_list first)) (option_to_list result) [] }
     ensures none { result ≡ None → first ≡ None }
 {

@@ -34,7 +34,7 @@ impl<F: Front + Drop> Worker<F> {
         &mut self,
         context: &'c Context<'_, G, C, R, S>,
     ) -> Told<'c>
-        ensures ran { WorkerEnded result.why self.old.own self.new.own self.old.others.items self.new.others.items }
+        ensures ran { WorkerEnded context.now.ending.now result.why self.old.own self.new.own self.old.others.items self.new.others.items }
         ensures told { IsTold context.now.ending.now self.old.number result.why result.recorded result.closed }
         ensures number { result.number ≡ self.old.number }
     {
@@ -63,7 +63,7 @@ impl<F: Front + Drop> Worker<F> {
         &mut self,
         context: &Context<'_, G, C, R, S>,
     ) -> Ended
-        ensures ran { WorkerEnded result.why self.old.own self.new.own self.old.others.items self.new.others.items }
+        ensures ran { WorkerEnded context.now.ending.now result.why self.old.own self.new.own self.old.others.items self.new.others.items }
     {
         for _turn in context.rt.forever() {
             if let Err(ended) = self.step(context) {
@@ -82,7 +82,7 @@ impl<F: Front + Drop> Worker<F> {
         context: &Context<'_, G, C, R, S>,
     ) -> Result<(), Ended>
         ensures ran { OnOk result (WorkerRan [] [] self.old.own self.new.own self.old.others.items self.new.others.items) }
-        ensures cut { IfErr result (λ ended. WorkerEnded ended.why self.old.own self.new.own self.old.others.items self.new.others.items) }
+        ensures cut { IfErr result (λ ended. WorkerEnded context.now.ending.now ended.why self.old.own self.new.own self.old.others.items self.new.others.items) }
     {
         let seen = match context.ending.look() {
             Ok(seen) => seen,

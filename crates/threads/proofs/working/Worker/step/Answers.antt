@@ -3,7 +3,7 @@ use Rattle.threads.{specs.Loops.faults_by, proofs.Loops.{worker_both, worker_kep
 use Rattle.threads.proofs.working.Worker.step.Goals as goal
 
 pub returns-in-Err-clause-cut : goal.returns-in-Err-clause-cut
-returns-in-Err-clause-cut g c = worker_stops (ap faults_by c.in-Err.ensures) refl (rw c.in-Err.ensures tt)
+returns-in-Err-clause-cut g c = worker_stops (ap faults_by c.in-Err.ensures) refl (rw c.in-Err.ensures refl)
 
 pub returns-in-Err-take-clause-cut : goal.returns-in-Err-take-clause-cut
 returns-in-Err-take-clause-cut g c =
