@@ -291,7 +291,7 @@ abbrev pub RunMade : (Bool → Type 0) → Ends → (ℕ → Type 0) → ℕ →
 RunMade said ends tells mark why p a b = (second : ℕ) × (q : PollerState) × tells second
     × LoopMade said ends mark why (record p { swept = second }) q a b
 
--- a note was posted, or a connection opened, or a turn made
+-- a note was posted, or a client opened, lost with its slot or dropped, or a turn made
 abbrev pub IsPollerAct : ℕ → SeatAct → Type 0
 IsPollerAct words act = IsPost act
     ⊎ (IsTry act ⊎ ((answer : Result Worked ServerFault) × IsTurnOf words act.ticket.slot answer act.exchanges))

@@ -66,9 +66,21 @@ impl Found {
     }
 }
 
-/// How a server ended: well; or by a fault that threads met, the lowest number's; or by what refused the server before
-/// it served. Once threads have run, only [`Lowest::outcome`] makes this value. It cannot be dropped, so whoever serves
-/// returns it.
+/// That a thread could not be started is recorded. Only [`Recorded::few`] makes this value.
+#[derive(Drop)]
+pub(crate) struct Few(());
+
+impl Recorded<'_> {
+    pub(crate) fn few(self) -> Few
+        requires { self.first ≡ (0, ServerFault.Threads) }
+    {
+        Few(())
+    }
+}
+
+/// How a server ended: well; or for want of a thread; or by a fault that threads met, the lowest number's; or by what
+/// refused the server before it served. Once threads have run, [`Lowest::outcome`] makes this value. It cannot be
+/// dropped, so whoever serves returns it.
 pub struct Outcome {
     fault: Option<ServerFault>,
     /// How its threads ended. None if it was refused before it served.

@@ -51,8 +51,8 @@ impl<'s, P: Part<X>, X> Joins<'s, P, X> {
         self.handles.len()
     }
 
-    /// Starts a thread for each part, in order. False: one could not be started, and no more were. Each is given what it owns
-    /// by value.
+    /// Starts a thread for each part, in order, and moves the part into it. False: one could not be started, and no more
+    /// were.
     pub(crate) fn start<E>(
         &mut self,
         scope: &'s Scope<'s, E>,

@@ -1,5 +1,5 @@
 //! A server's threads, from the first to the last.
-ghost use Rattle.std.specs.Prelude.{◌≡◌, ℕ, List, [], IfOk, IfSome, None, Some, map, option_to_list, true};
+ghost use Rattle.std.specs.Prelude.{◌≡◌, ℕ, List, [], IfOk, IfSome, IsSome, None, Some, map, option_to_list, true};
 ghost use Rattle.std.specs.Thread.{IsSend, IsSync};
 ghost use Rattle.claims.specs.Seats.{fresh_seat};
 ghost use Rattle.dispatch.specs.Posts.{AreFresh};
@@ -8,7 +8,7 @@ ghost use Rattle.threads.specs.{Loops.{announced}, Served.{AllRan, IsDivided, Of
 use crate::context::{Context, StopFlag, ThreadEnd};
 use crate::dividing::{Rest, ServerThreads, divide};
 use crate::ending::Ending;
-use crate::faults::{Outcome, Recorded};
+use crate::faults::{Few, Outcome, Recorded};
 use crate::joining::{Joins, Part, start_both};
 use crate::polling::PollerThread;
 use crate::working::Worker;
@@ -40,7 +40,7 @@ pub struct Server<F: Front> {
 /// Runs a server. The calling thread is a poller's, all other threads are started here, and the call returns when all
 /// have ended. Once `is_stopped` is set, the server opens no more connections, and ends once all are closed.
 ///
-/// Refuses with `NoMemory`, before any thread has started, if there is none for what the threads own; else with the
+/// Refuses with `NoMemory`, before any thread has started, if there is none for what they need; else with the
 /// fault that a thread met, or `Threads` if one could not be started. Of several faults it is `Threads`, or else that of
 /// the lowest thread: pollers come before workers.
 pub fn run_threads<
@@ -118,10 +118,12 @@ fn threads_of<F: Front + Drop>(
 pub(crate) struct Served {
     /// A thread could not be started.
     pub(crate) few: bool,
+    recorded: Option<Few>,
     pollers: Vec<ThreadEnd>,
     workers: Vec<ThreadEnd>,
     /// Of the first poller, which ran in the thread that serves.
     first: Option<ThreadEnd>,
+    ghost told: { few ≡ true → IsSome recorded },
 }
 
 impl<'a, F: Front + Drop, G: Gate, C: Clock, R: Wait + Log, S: StopFlag> Part<
@@ -132,7 +134,7 @@ impl<'a, F: Front + Drop, G: Gate, C: Clock, R: Wait + Log, S: StopFlag> Part<
     ghost runs = { λ context poller end. PollerRuns (S.said context.is_stopped.now) (C.tells context.timing.clock.now) F.gave_none
         context.timing.limit context.ending.now (poller_part poller.number poller.poller poller.own) end };
 
-    /// The thread is shown by that name by tools such as top(1).
+    /// Tools such as top(1) show the thread by its name.
     fn run_to_end(self, context: &Context<'a, G, C, R, S>) -> ThreadEnd {
         let mut poller = self;
         set_thread_name(b"poller");
@@ -226,19 +228,19 @@ where
         &mut of_pollers,
         pollers,
     );
-    if !all {
-        not_started(
-            context,
-            of_workers.len().saturating_add(of_pollers.len()),
-            wanted,
-        );
-    }
+    let recorded = if all {
+        None
+    } else {
+        let started = of_workers.len().saturating_add(of_pollers.len());
+        Some(not_started(context, started, wanted).few())
+    };
     if !context.ending.is_recorded() {
         context.gate.all_started();
     }
     let first = run_first(context, first);
     Ok(Served {
         few: !all,
+        recorded,
         pollers: of_pollers.join(context.rt),
         workers: of_workers.join(context.rt),
         first,
@@ -261,8 +263,8 @@ fn run_first<F: Front + Drop, G: Gate, C: Clock, R: Wait + Log, S: StopFlag>(
     }
 }
 
-/// A thread could not be started, after so many of those that are wanted beside the first. Number 0 makes this fault
-/// count before those of all threads.
+/// A thread could not be started, after so many of those that are wanted beside the first. The fault is recorded under
+/// number 0, before those of all threads.
 fn not_started<'a, G, C, R: Wait + Log, S>(
     context: &Context<'a, G, C, R, S>,
     started: usize,
