@@ -4,7 +4,7 @@ pub mod Turns
 use Order.{same_steps, same_changes, same_words}
 use Rattle.claims.specs.declared.view.Exchange.{Exchange}
 use Rattle.interleaving.{proofs.{Rest.{known_in}, Runs.{count_free, Programs.{none_by}}}, specs.{Likeness.{EveryInterleavingIsARun, IsHalfOpen, IsSettled, Like, Settled, exchanges, machine_of, opened_slot}, Wires.{inside, ComeLate, EndHolds, WiresComeLate, came_at, delay, exchanges_at, happened, none_late, start, steps_of, way, words}}}
-use Rattle.readiness.{proofs.Runs.{misses_nothing, seam}, specs.Delays.{IsOnItsWay, MissesNothing}}
+use Rattle.readiness.{proofs.Runs.{misses_nothing, seam}, specs.Delays.MissesNothing}
 use Rattle.std.{proofs.lemmas.Grind.{flat_map-append}, specs.List.{flat_map}}
 use Rattle.world.{proofs.Headline.Ends.Pairs.Holders.{Turns as HasTurns, first_free, turns_after}, specs.{CoreLaws.{CoreLaws}, Slots.{SlotState, WorkerState}, States.{State}, declared.limits.Limits.{Limits}}}
 pub use Turns.*
@@ -111,32 +111,17 @@ coming_told_way w side r h = elim (or_cases (has (End r.token) w.system.kernel.q
     by None later = cc
     by (Some p) later = let parts = and_parts (has (End r.token) p.left) (p.reading (End r.token)) later in rw parts.0 (0, omega arith, parts.1)
 
-on_way_way : (w : Wired) (early : Bool) (side : Side) (r : Registered) → (has (End r.token) w.system.kernel.queue || in_poll early w.poll (End r.token)) ≡ true → IsOnItsWay (way w side r)
-on_way_way w early side r h = elim (or_cases (has (End r.token) w.system.kernel.queue) (in_poll early w.poll (End r.token)) h) [ inl queued ↦ inl queued | inr taken ↦ inr (by early w.poll taken) ]
-  where
-    by : (early : Bool) (poll : Option Polling) → in_poll early poll (End r.token) ≡ true
-        → (unwrap_or (option_map (λ (p : Polling). if has (End r.token) p.left then p.reading (End r.token) ∷ [] else []) poll) [] ≢ [])
-        ⊎ (unwrap_or (option_map (λ (p : Polling). has (End r.token) p.names.items && not (has (End r.token) p.left)) poll) false ≡ true)
-    by false (Some p) taken = left (has (End r.token) p.left) taken
-      where
-        left : (b : Bool) → has (End r.token) p.names.items ≡ true → ((if b then p.reading (End r.token) ∷ [] else []) ≢ []) ⊎ ((has (End r.token) p.names.items && not b) ≡ true)
-        left true taken = inl (λ e. cc)
-        left false taken = inr (rw taken refl)
-    by false None taken = cc
-    by true poll taken = cc
-
 -- of an end, with its wire
-end_holds : (w : Wired) (g : ℕ) (e x : EndState) (side : Side) (late : List Change) (queue : List Name) (early : Bool)
+end_holds : (w : Wired) (g : ℕ) (e x : EndState) (side : Side) (late : List Change)
     → EndOk e (coming w.system.kernel.queue w.poll (End (token g side))) (w.wires side) late x
-    → ((n : Name) → has n queue ≡ true → (has n w.system.kernel.queue || in_poll early w.poll n) ≡ true) → EndHolds w side late queue (record { token = token g side; socket = e })
-end_holds w g e x side late queue early ok on_way =
+    → EndHolds w side late (record { token = token g side; socket = e })
+end_holds w g e x side late ok =
     let r : Registered = record { token = token g side; socket = e } in
     let b = coming w.system.kernel.queue w.poll (End r.token) in
     record {
       coming = λ some. coming_told_way w side r (told_soon e b (w.wires side) (will_be_told ok.held.waits (λ none. some (no_inputs late none))));
       nothing_missed = λ reads told. (let it = misses_nothing ok.held ok.held.waits reads told in
           record { armed = it.armed; coming = λ some. coming_told_way w side r (told_soon e b (w.wires side) (it.coming some)) });
-      queued = λ had. on_way_way w early side r (on_way (End r.token) had);
     }
 
 -- once all that is late has come
@@ -154,13 +139,13 @@ module _ (w : Wired) (d : Delay) (e : List (Option Registered)) (q b : List Name
         comes_all = rw as_seen c.leads ∙ ap (λ (sockets : List (Option Registered)). Some (seen_as w.system sockets c.queue b)) (sym real);
       }
 
-  ends_hold : {o : Option ℕ} → Both (rim w.system) w.wires w.poll d.late e o → ((n : Name) → has n q ≡ true → (has n w.system.kernel.queue || in_poll d.early w.poll n) ≡ true)
-      → (side : Side) (r : Registered) → end_here w.system side ≡ Some r → EndHolds w side (d.late side) q r
-  ends_hold (Away ends real empty late) on_way side r is = let never = rw ends at is in cc
-  ends_hold (Opened {g} f s ends real as_seen oks) on_way side r is =
+  ends_hold : {o : Option ℕ} → Both (rim w.system) w.wires w.poll d.late e o
+      → (side : Side) (r : Registered) → end_here w.system side ≡ Some r → EndHolds w side (d.late side) r
+  ends_hold (Away ends real empty late) side r is = let never = rw ends at is in cc
+  ends_hold (Opened {g} f s ends real as_seen oks) side r is =
       let here : end_here w.system side ≡ Some (record { token = token g side; socket = f side }) = rw (ends, real) (end_as g f side) in
       let same : r ≡ record { token = token g side; socket = f side } = some_is (sym here ∙ is) in
-      rw same (end_holds w g (f side) (s side) side (d.late side) q d.early (oks side) on_way)
+      rw same (end_holds w g (f side) (s side) side (d.late side) (oks side))
 
 pub wires_come_late : CoreLaws → EveryInterleavingIsARun → WiresComeLate
 wires_come_late core law l steps w one ran =
@@ -178,7 +163,8 @@ wires_come_late core law l steps w one ran =
       settled = seen_as w.system w.system.kernel.ends up.queue b;
       comes = up.comes_all;
       sockets = refl;
-      ends = ends_hold w d it.there it.queue b it.joined.ends it.joined.on_way;
+      queue = it.joined.on_way;
+      ends = ends_hold w d it.there it.queue b it.joined.ends;
       acts = it.inside_too;
       changes = it.changes;
       words = it.words_too;

@@ -5,7 +5,7 @@ use Rattle.std.specs.{Prelude.{◌≡◌, ◌≢◌, ℕ, ◌-◌, ◌==◌, Boo
 use Rattle.token.specs.{declared.{side.Side.{Side, TheVariants.{Client, Target}}, name.Name.{Name, TheVariants.{Listener, Waker, End}}}, Sides.side_number}
 use Rattle.kernel_model.specs.{declared.{reply.Reply.Reply, both.Descriptors.Descriptors}, Outcome.guard, Ends.{is_readable}, Kernel.{KernelState, Registered, end_at}, Names.has}
 use Rattle.relay_core.specs.{declared.call.Call.{Call as PairCall, TheVariants.{Read, Write, Join, Shut}}, Pairs.PairState, Calls.side_of, Order.{next_call, offer}, Replies.after}
-use Rattle.readiness.specs.{Machine.{Call, Way, may_call, reads_after}, Delays.{IsOnItsWay, MissesNothing, WillBeTold}}
+use Rattle.readiness.specs.{Machine.{Call, Way, may_call, reads_after}, Delays.{MissesNothing, WillBeTold}}
 use Rattle.claims.specs.declared.view.Exchange.{Exchange}
 use Rattle.world.specs.{declared.{connection.Connection.Connection, limits.Limits.Limits, event.{Change.{Change, TheVariants.Room}}}, Calls.{when, descriptor}}
 use Rattle.interleaving.specs.{Threads.{Act, Call as CallNext, Close, System, Thread, Network, Spurious, Vanish, Poll, Acts, Calls, poller_rests, planned, with_thread}, Likeness.{IsARun, exchange, exchanges, kind_in}}
@@ -252,12 +252,15 @@ abbrev pub batch_there : Option Polling → Bool → List Name → List Name
 batch_there (Some p) true batch = p.names.items
 batch_there poll early batch = batch
 
--- An end, of which this is late, and this queue is there: what is late is told. Nothing is missed. And if its name is queued
--- there, a report is on its way here
-pub record EndHolds (w : Wired) (side : Side) (late : List Change) (queue : List Name) (r : Registered) : Type 0 where
+-- a poll in progress took a report of this name, and was not handed over there yet
+abbrev pub in_poll : Bool → Option Polling → Name → Bool
+in_poll false (Some p) n = has n p.names.items
+in_poll early poll n = false
+
+-- An end, of which this is late: what is late is told. Nothing is missed
+pub record EndHolds (w : Wired) (side : Side) (late : List Change) (r : Registered) : Type 0 where
   pub coming : late ≢ [] → WillBeTold (way w side r)
   pub nothing_missed : MissesNothing (way w side r)
-  pub queued : has (End r.token) queue ≡ true → IsOnItsWay (way w side r)
 
 -- The steps as those of `System`; of these, those that are no change of the network, report or poll; changes; exchanges
 abbrev pub steps_of : Step → List alone.Step
@@ -285,9 +288,10 @@ words w [] = []
 words w (s ∷ steps) = exchanges_at w s ++ unwrap_or (option_map (λ (q : Wired). words q steps) (step w s)) []
 
 -- What happens there (`own`) is a run of `System`, so of the machine, of which the headline holds. It leads to the threads as
--- they are, but for queue, batch and sockets; once what is late has come, the sockets are the same too. In order it has the
--- same acts, and calls with the same replies (`acts`), the same changes at each end, of which the last may still be late, and
--- the same exchanges of the slot's word with their answers
+-- they are, but for queue, batch and sockets; once what is late has come, the sockets are the same too. A name that is queued
+-- there is queued here, or in the poll in progress. In order it has the same acts, and calls with the same replies (`acts`), the
+-- same bytes, ends and errors at each end, of which the last may still be late, and the same exchanges of the slot's word with
+-- their answers
 pub record ComeLate (l : Limits) (own : List alone.Step) (steps : List Step) (w : Wired) (d : Delay) : Type 0 where
   pub seen : System
   pub leads : alone.run (alone.start l) own ≡ Some seen
@@ -296,7 +300,8 @@ pub record ComeLate (l : Limits) (own : List alone.Step) (steps : List Step) (w 
   pub settled : System
   pub comes : alone.run seen (comes d.late (Client ∷ Target ∷ [])) ≡ Some settled
   pub sockets : settled.kernel.ends ≡ w.system.kernel.ends
-  pub ends : (side : Side) (r : Registered) → end_here w.system side ≡ Some r → EndHolds w side (d.late side) seen.kernel.queue r
+  pub queue : (n : Name) → has n seen.kernel.queue ≡ true → (has n w.system.kernel.queue || in_poll d.early w.poll n) ≡ true
+  pub ends : (side : Side) (r : Registered) → end_here w.system side ≡ Some r → EndHolds w side (d.late side) r
   pub acts : flat_map inside own ≡ flat_map inside (flat_map steps_of steps)
   pub changes : (side : Side) → flat_map (came_at side) own ++ d.late side ≡ flat_map (came_at side) (flat_map steps_of steps)
   pub words : exchanges (alone.start l) own ≡ words (start l) steps

@@ -1,6 +1,6 @@
 -- The two ends of the slot's connection over wires that rest, and the same ends where what is late has not come: what the
 -- kernel does at one of them, and what is kept of both.
-pub use Rattle.interleaving.{proofs.{Rest.Weights.{same_is, same_self}, Runs.{run_on}}, specs.{Threads.{Network, Spurious, System, Vanish, over_kernel, run, step}, Wires.{Delay, Polling, Wire, comes, end_here, is_input, on, report_of, seen_as, waits}}}
+pub use Rattle.interleaving.{proofs.{Rest.Weights.{same_is, same_self}, Runs.{run_on}}, specs.{Threads.{Network, Spurious, System, Vanish, over_kernel, run, step}, Wires.{Delay, Polling, Wire, comes, end_here, in_poll, is_input, on, report_of, seen_as, waits}}}
 pub use Rattle.kernel_model.specs.{Ends.{EndState, arrival, failure, finish, is_readable, is_writable, new_room, opened}, Kernel.{KernelState, Registered, changed, close_both, end_at, open_both, reported}, Names.{are_distinct, has, same, with_name, without_name, without_names}, Outcome.{Told, guard}, declared.{both.{Descriptors.{Descriptors}, Sockets.{Sockets}}, reply.Reply.{Reply}}}
 pub use Rattle.readiness.{proofs.Runs.{After, Asleep, Behind, Held, Prompt, Settled, Settles, Waits, both_down, goes, guarded, is_beside, mapped, prompt, same_socket, some_is, will_be_told}, specs.{Delays.{Called, Seen, WillBeTold, at_call, late_call}, Machine.{Call, Change as Input, Way, after_call, change_of, may_call, reads_after}}}
 pub use Rattle.std.{proofs.{Common.{append-nil, Bool, Contains, List, None, Option, Some, [], ap, arith, false, if◌then◌else◌, inl, inr, length, map, nat_le, nat_lt, not, option_and_then, option_map, refl, sym, true, ℕ, ◌&&◌, ◌++◌, ◌==◌, ◌||◌, ◌∙◌, ◌∷◌, ◌≡◌, ◌≢◌, ◌⊎◌}, lemmas.{Bool.{and_parts, cases_eq, or_cases, or_left, or_right}, List.{map-append}, Option.{option_and_then_some, same_Some}}}, specs.{Cmp.{first_so, second_so}, List.{filter, list_all}, Option.{is_none, is_some}}}
@@ -336,10 +336,6 @@ changed_end g queue poll next after Target e x wire more here beside all Client 
 changed_end g queue poll next after Target e x wire more here beside all Target = here
 
 -- What is kept
-
-abbrev pub in_poll : Bool → Option Polling → Name → Bool
-in_poll false (Some p) n = has n p.names.items
-in_poll early poll n = false
 
 -- what the threads see of the kernel, and the batch
 pub record Rim : Type 0 where
