@@ -68,6 +68,10 @@ most_left = 16
 abbrev pub most_lacking : ℕ
 most_lacking = 16
 
+-- the system or the process has no descriptor left (ENFILE, EMFILE), by the numbers of errno(3)
+abbrev pub LacksDescriptors : Error → Type 0
+LacksDescriptors error = (raw_os_error error ≡ Some (pos 23)) ⊎ (raw_os_error error ≡ Some (pos 24))
+
 -- The system lacks memory for a socket (ENOMEM, ENOBUFS), or the user's sockets have their part of it (ENOSPC of
 -- epoll_ctl(2)). The numbers are those of errno(3)
 abbrev pub LacksMemory : Error → Type 0

@@ -1,5 +1,5 @@
 //! The listening socket.
-ghost use Rattle.std.specs.Prelude.{◌≡◌, IfOk, IfErr};
+ghost use Rattle.std.specs.{Prelude.{◌≡◌, ◌↔◌, ◌<◌, IfOk, IfErr, IsTrue}, IoError.error_kind, Net.Socket.socket_port, declared.io.ErrorKind.TheVariants.PermissionDenied};
 ghost use Rattle.sockets.specs.Fronts.{IsAt};
 
 use crate::failure::log_failure_at;
@@ -59,12 +59,19 @@ pub fn bind<R: Net + Log>(rt: &R, settings: &Settings) -> Result<Bound, ServerFa
 
 /// Logs why the relay cannot listen: with the privilege that is missing (ip(7), capabilities(7)).
 fn log_unbound<N: Log>(rt: &N, address: SocketAddr, error: &io::Error) {
-    if error.kind() == io::ErrorKind::PermissionDenied && address.port() < FIRST_FREE {
+    if needs_right(address, error) {
         let why = format_args!("{error}: a port below 1024 needs CAP_NET_BIND_SERVICE");
         error!(rt; target: "relayd", "listen: {address}: {why}");
         return;
     }
     log_failure_at(rt, Level::Error, "listen", address, error);
+}
+
+/// Whether a right is missing to listen at a port below 1024.
+fn needs_right(address: SocketAddr, error: &io::Error) -> bool
+    ensures { IsTrue result ↔ ((error_kind error.now ≡ PermissionDenied) × (socket_port address < 1024)) }
+{
+    error.kind() == io::ErrorKind::PermissionDenied && address.port() < FIRST_FREE
 }
 
 fn listen<R: Net, L: Listening + Drop>(rt: &R, asked: SocketAddr) -> io::Result<Bound<L>>

@@ -2,7 +2,7 @@
 ghost use Rattle.std.specs.{Prelude.{◌≡◌, ◌≢◌, ◌↔◌, ◌⊎◌, IsTrue, if◌then◌else◌, ◌+◌, ◌-◌, ◌<◌, ◌≤◌, ◌++◌, [], length, replicate, true, false, Some, None, IfOk, OnOk, IfErr, OnErr, IsErrAnd, vec_len, vec_capacity}, Arc.arc_value, IoError.error_kind, declared.io.ErrorKind.TheVariants.Interrupted};
 ghost use Rattle.mio.specs.{Event.event_token, Events.items};
 ghost use Rattle.token.specs.Numbers.{name_of};
-ghost use Rattle.sockets.specs.{Fronts.{end_in, fresh_front, heard_of, longest_of, most_lacking, most_left, names_reading, numbers, v4_of, LacksMemory, IsLocal, IsRoute, MayTell, OnlyLacked, WaitEnded}, Wires.{SameButWatched, fresh_wire, patient, under, unlimited}};
+ghost use Rattle.sockets.specs.{Fronts.{end_in, fresh_front, heard_of, longest_of, most_lacking, most_left, names_reading, numbers, v4_of, LacksDescriptors, LacksMemory, IsLocal, IsRoute, MayTell, OnlyLacked, WaitEnded}, Wires.{SameButWatched, fresh_wire, patient, under, unlimited}};
 ghost use Rattle.dispatch.specs.{Splits.parts_of, Told.{unaccepted_of, Waited}, declared.front.{Unaccepted.TheVariants.Starved, Unopened.TheVariants.{Connect, Register}}};
 
 use crate::bound::Bound;
@@ -13,7 +13,7 @@ use crate::limits::{
 };
 use crate::loads::Loads;
 use crate::socket::Socket;
-use crate::stop::Stop;
+use crate::stop::{IsSet, Stop};
 use crate::stream::Stream;
 use crate::waiting::Waiter;
 use crate::wire::SocketWire;
@@ -90,8 +90,8 @@ pub struct Wakers {
 }
 
 impl Wakers {
-    /// Ends the wait of every poller, or its next wait if it does not wait now.
-    pub(crate) fn wake_all(&self) {
+    /// The stop is set: ends the wait of every poller, or its next wait if it does not wait now.
+    pub(crate) fn wake_all(&self, _set: &IsSet) {
         for waker in self.each.iter() {
             let _ = waker.wake();
         }
@@ -223,12 +223,12 @@ fn watched<R: Net + Log>(rt: &R, listener: &mut TcpListener) -> Result<(Poll, Wa
 impl<R: Dial> Sockets<'_, R> {
     /// Starts the connection to the target, and sets its limit, which the system checks only when it sends again. If
     /// the start fails, the client's wire keeps the cause.
-    fn begin<N: Log>(&mut self, rt: &N, client: &mut SocketWire) -> Result<SocketWire, Unopened>
+    fn begin<N: Log>(&mut self, rt: &N, client: &mut SocketWire) -> Result<SocketWire, Failed>
         ensures client { client.new ≡ client.old }
         ensures same { OnOk result (self.new ≡ self.old) }
         ensures lacking { OnlyLacked self.old self.new }
         ensures begun { IfOk result (λ target. target.socket ≡ patient self.old.forwarding.patience (fresh_wire false None)) }
-        ensures refused { IfErr result (λ why. why ≡ Unopened.Connect) }
+        ensures refused { IfErr result (λ failed. failed.why ≡ Unopened.Connect) }
     {
         match self.rt.dial(self.forwarding.target) {
             Ok(stream) => {
@@ -239,18 +239,17 @@ impl<R: Dial> Sockets<'_, R> {
             Err(error) => {
                 log_failure_at(rt, Level::Debug, "connect", self.forwarding.target, &error);
                 client.keep(&error);
-                self.find_short(&error);
-                Err(Unopened::Connect)
+                Err(self.fail(&error, Unopened::Connect))
             }
         }
     }
 
-    fn watch<N: Log>(&mut self, rt: &N, wire: &mut SocketWire, token: Token) -> Result<(), Unopened>
+    fn watch<N: Log>(&mut self, rt: &N, wire: &mut SocketWire, token: Token) -> Result<(), Failed>
         ensures same { OnOk result (self.new ≡ self.old) }
         ensures lacking { OnlyLacked self.old self.new }
         ensures watched { OnOk result (wire.new.socket ≡ under token wire.old.socket) }
         ensures unwatched { OnErr result (wire.new.socket ≡ wire.old.socket) }
-        ensures refused { IfErr result (λ why. why ≡ Unopened.Register) }
+        ensures refused { IfErr result (λ failed. failed.why ≡ Unopened.Register) }
     {
         // A wire without a word for its reports always reads.
         let told = Told::new(&self.told, token.slot(), token.side());
@@ -259,15 +258,15 @@ impl<R: Dial> Sockets<'_, R> {
             Err(error) => {
                 log_failure(rt, Level::Debug, "register", &error);
                 wire.keep(&error);
-                self.find_short(&error);
-                Err(Unopened::Register)
+                Err(self.fail(&error, Unopened::Register))
             }
         }
     }
 
-    /// Keeps what was short if an opening failed for that: a descriptor, or the system's memory (socket(2), connect(2)).
-    /// For epoll_ctl(2) a user's sockets may take only a part of it, and ENOSPC says that they have that.
-    fn find_short(&mut self, error: &io::Error)
+    /// An opening failed. Keeps what was short, if it failed for that: a descriptor, or the system's memory (socket(2),
+    /// connect(2)). For epoll_ctl(2) a user's sockets may take only a part of it, and ENOSPC says that they have that.
+    fn fail(&mut self, error: &io::Error, why: Unopened) -> Failed
+        ensures why { result.why ≡ why }
         ensures lacking { OnlyLacked self.old self.new }
         ensures memory { LacksMemory error.now → self.new.lacking ≡ most_lacking }
         ensures other { (LacksMemory error.now → ⊥) → self.new ≡ self.old }
@@ -275,9 +274,10 @@ impl<R: Dial> Sockets<'_, R> {
         if lacks_memory(error) {
             self.lacking = MOST_LACKING;
         }
-        if matches!(error.raw_os_error(), Some(EMFILE | ENFILE)) {
+        if lacks_descriptors(error) {
             self.loads.set_short(true);
         }
+        Failed { why }
     }
 
     /// Whether it answers as if accept(2) lacked memory. This takes one such answer away.
@@ -289,6 +289,19 @@ impl<R: Dial> Sockets<'_, R> {
         self.lacking = self.lacking.saturating_sub(1);
         lacks
     }
+}
+
+/// An opening failed, and what was short is kept. Only [`Sockets::fail`] makes this value.
+#[derive(Drop)]
+struct Failed {
+    why: Unopened,
+}
+
+/// Whether an opening failed since the process or the system has no descriptor left.
+fn lacks_descriptors(error: &io::Error) -> bool
+    ensures { IsTrue result ↔ LacksDescriptors error.now }
+{
+    matches!(error.raw_os_error(), Some(EMFILE | ENFILE))
 }
 
 /// Whether an opening failed since the system lacks memory for its sockets.
@@ -504,9 +517,17 @@ impl<R: Dial> Front for Sockets<'_, R> {
         ensures kept { OnOk result (self.new ≡ self.old) }
         ensures lacking { OnlyLacked self.old self.new }
     {
-        let mut target = self.begin(rt, client)?;
-        self.watch(rt, client, client_token)?;
-        self.watch(rt, &mut target, target_token)?;
+        let mut target = match self.begin(rt, client) {
+            Ok(target) => target,
+            Err(failed) => return Err(failed.why),
+        };
+        if let Err(failed) = self.watch(rt, client, client_token) {
+            return Err(failed.why);
+        }
+        if let Err(failed) = self.watch(rt, &mut target, target_token) {
+            client.keep_of(&target);
+            return Err(failed.why);
+        }
         client.wait_for_peer(rt, self.forwarding.patience.of_client());
         let route = route_of(self.forwarding.proxy, client);
         Ok(Opened { target, route })

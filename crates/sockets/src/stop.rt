@@ -13,6 +13,10 @@ pub struct Stop {
     wakers: OnceLock<Arc<Wakers>>,
 }
 
+/// The flag was set. Only [`Stop::set_flag`] makes this value.
+#[derive(Drop)]
+pub(crate) struct IsSet(());
+
 impl Stop {
     /// More connections may be opened.
     pub fn new() -> Stop {
@@ -30,10 +34,15 @@ impl Stop {
     /// From now on no more connections may be opened. The flag is set before a poller is woken, so each finds it set. A
     /// poller whose waker is not here yet has not looked at the flag either.
     pub fn set(&self) {
-        self.is_set.store(true, SeqCst);
+        let set = self.set_flag();
         if let Some(wakers) = self.wakers.get() {
-            wakers.wake_all();
+            wakers.wake_all(&set);
         }
+    }
+
+    fn set_flag(&self) -> IsSet {
+        self.is_set.store(true, SeqCst);
+        IsSet(())
     }
 
     /// These pollers, which do not run yet, are woken by a stop.

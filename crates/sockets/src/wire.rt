@@ -175,6 +175,13 @@ impl<S: Stream> SocketWire<S> {
         self.error = error.raw_os_error();
     }
 
+    /// Keeps the error that the connection's other wire kept.
+    pub(crate) fn keep_of(&mut self, other: &SocketWire<S>)
+        ensures { self.new ≡ self.old }
+    {
+        self.error = other.error;
+    }
+
     /// Whether the wire reads its socket. If not, it looks first, and reads from now on if there was a report that
     /// names reading.
     fn looks(&mut self) -> bool

@@ -1,5 +1,5 @@
 -- How what a server is made of is divided among its threads. Part of the promises.
-use Rattle.std.specs.{Prelude.{◌≡◌, ⊤, ℕ, ◌+◌, List, [], ◌∷◌, length, reverse, Contains, slice_index_or}, List.enumerate_from}
+use Rattle.std.specs.{Prelude.{◌≡◌, ⊤, ℕ, ◌+◌, ◌*◌, List, [], ◌∷◌, length, reverse, Contains, slice_index_or}, List.enumerate_from}
 use Rattle.ready.specs.Steps.{EndState}
 use Rattle.dispatch.specs.declared.shared.Parts.{Parts}
 
@@ -29,3 +29,8 @@ pub record AreLeft (old new : List (List (EndState ℕ))) : Type 0 where
 -- a worker's ends: one of each poller's queue, in order
 abbrev pub HasOneOfEach : List (List (EndState ℕ)) → List (EndState ℕ) → Type 0
 HasOneOfEach ends own = AreEndsFrom ends 0 own × (length own ≡ length ends)
+
+-- how many tickets, and how many slots, fit into the hand of a poller of a server of this many slots: two rounds may put each
+-- slot's there, and the reports of two polls
+abbrev pub hand_of_poller : ℕ → ℕ
+hand_of_poller slots = slots * 2 + 512

@@ -86,15 +86,23 @@ impl<G, C, R: Wait, S> Context<'_, G, C, R, S> {
         let ends_all = ended.ends_all();
         let (why, recorded) = self.ending.end(self.rt, number, ended);
         let closed = if ends_all { Some(ready.close()) } else { None };
-        if ends_all {
-            self.wake_pollers(shared);
-        }
-        Told {
+        let told = Told {
             number,
             why,
             recorded,
             closed,
+        };
+        if ends_all {
+            self.wake_after(shared, &told);
         }
+        told
+    }
+
+    /// Wakes every poller, once the thread's end was told: so each finds what was told.
+    fn wake_after<F: Front>(&self, shared: &Shared<F>, _told: &Told<'_>)
+        ensures { AllWoken (F.woke shared.now.waker) self.now.split }
+    {
+        self.wake_pollers(shared);
     }
 
     pub(crate) fn wake_pollers<F: Front>(&self, shared: &Shared<F>)

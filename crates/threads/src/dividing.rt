@@ -1,8 +1,8 @@
 //! Divides what a server is made of among its threads.
-ghost use Rattle.std.specs.{Prelude.{◌≡◌, ◌-◌, ◌∷◌, All, length, map, IfOk, IfSome, OnOk}, Arc.arc_value, List.range_with_len};
+ghost use Rattle.std.specs.{Prelude.{◌≡◌, ◌-◌, ◌≤◌, ◌∷◌, All, length, map, IfOk, IfSome, OnOk}, Arc.arc_value, List.range_with_len};
 ghost use Rattle.claims.specs.Seats.{fresh_seat};
-ghost use Rattle.dispatch.specs.Posts.{AreFresh};
-ghost use Rattle.threads.specs.Divided.{numbered, IsEndOf, AreEndsFrom, AreLeft, HasOneOfEach};
+ghost use Rattle.dispatch.specs.{Hands.empty_hand, Posts.AreFresh};
+ghost use Rattle.threads.specs.Divided.{hand_of_poller, numbered, IsEndOf, AreEndsFrom, AreLeft, HasOneOfEach};
 ghost use Rattle.threads.specs.Served.{IsDivided, poller_part, worker_part};
 
 use crate::polling::PollerThread;
@@ -106,6 +106,8 @@ fn thread_of<F: Front + Drop>(
     ensures fresh { OnOk result (AreFresh (arc_value shared.now).claims rest.new.parts.seats.items) }
     ensures made { IfOk result (λ thread. (thread.number ≡ number) × (thread.poller ≡ poller)) }
     ensures seat { IfOk result (λ thread. thread.own.seat ≡ fresh_seat (arc_value shared.now).claims) }
+    ensures hand { IfOk result (λ thread. (arc_value shared.now).claims.words ≤ 32768
+        → thread.own.hand ≡ empty_hand (hand_of_poller (arc_value shared.now).claims.words)) }
     ensures slots { IfOk result (λ thread. IsEndOf rest.old.free thread.number thread.own.free) }
     ensures left { OnOk result (AreLeft rest.old.free rest.new.free) }
 {
@@ -123,7 +125,9 @@ fn thread_of<F: Front + Drop>(
 }
 
 /// How many tickets, and how many slots, fit into a poller's hand: all that two rounds may put there.
-fn poller_hand(slots: usize) -> usize {
+fn poller_hand(slots: usize) -> usize
+    ensures { slots ≤ 32768 → result ≡ hand_of_poller slots }
+{
     slots.saturating_mul(2).saturating_add(2 * MAX_BATCH)
 }
 
@@ -173,6 +177,7 @@ impl Rest {
         ensures fresh { OnOk result (AreFresh (arc_value shared.now).claims self.new.parts.seats.items) }
         ensures shared { IfOk result (λ made. arc_value made.0 ≡ arc_value shared.now) }
         ensures own { IfOk result (λ made. made.1.seat ≡ fresh_seat (arc_value shared.now).claims) }
+        ensures hand { IfOk result (λ made. made.1.hand ≡ empty_hand capacity) }
         ensures slots { IfOk result (λ made. IsEndOf self.old.free poller made.1.free) }
         ensures left { OnOk result (AreLeft self.old.free self.new.free) }
     {
