@@ -55,8 +55,8 @@ impl<G, C> Copy for Lent<'_, G, C> {}
 /// every socket is closed.
 ///
 /// The fault is `NoMemory` if there is not enough to begin with, `Poll` if the system cannot report on sockets,
-/// `Threads` if a thread cannot be started, and `Worn` if a thread has posted 2^56 notes. Of several it is the first
-/// poller's or `Threads`, whichever came first; or else the next thread's: pollers come before workers.
+/// `Threads` if a thread cannot be started, and `Worn` if a thread has posted 2^56 notes. Of several it is `Threads`, or
+/// else the first poller's, or the next thread's: pollers come before workers.
 pub fn serve<
     G: Gate + Sync,
     C: Clock + Sync,
