@@ -171,7 +171,7 @@ class Relay:
         raise AssertionError("the relay does not come to rest")
 
     def recorded_rest(self, size, seconds):
-        """Whether what it recorded behind so many bytes, in so many seconds, are polls that timed out, of each poller five a
+        """Whether what it recorded after so many bytes, in so many seconds, are polls that timed out, of each poller five a
         second at most; or its recording is over."""
         if not self.record:
             return True

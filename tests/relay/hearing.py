@@ -45,7 +45,7 @@ def of_a_fault_whichever_thread_met_it():
 def of_a_thread_that_does_not_start():
     if not Relay.library:
         return left_out("cc")
-    # Threads for 16 workers and 5 pollers, and none for the next. A tenth of a second passes before that is told.
+    # Threads for 16 workers and 5 pollers, and none for the next. A tenth of a second passes before that is logged.
     begun = time.monotonic()
     assert Relay(preload={"MOST_THREADS": "22"}, recorded=False, **MANY).ended(1)[-1] == "relayd: threads: failed"
     assert time.monotonic() - begun < 0.1 + 3 * SOON

@@ -219,7 +219,7 @@ def writes_each_log_line_within_5_ms():
     assert sorted(times)[3] < 0.02, times
 
 
-# refuses left_out_is_told_last: how many lines were left out is told behind the lines that wait
+# refuses left_out_is_told_last: how many lines were left out is logged after the lines that wait
 def serves_on_when_nobody_reads_its_log():
     reader, writer = os.pipe()
     relay = Relay(target(echo), errors=writer)

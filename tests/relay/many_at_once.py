@@ -124,7 +124,7 @@ def wakes_no_other_poller():
             assert client.recv(1) == b""
         assert all([client.recv(1) == b"?" for client in waiting])
 
-    # A thread wakes a poller by the eight bytes that it writes to an eventfd(2), behind the two close(2) of a connection.
+    # A thread wakes a poller by the eight bytes that it writes to an eventfd(2), after the two close(2) of a connection.
     acts = collections.defaultdict(str)
     for call in made([relay], 0.1, end)[relay]:
         found = re.match(r"(\d+) +(?:<... )?(close|write)\b.* = [08]$", call)
@@ -258,7 +258,7 @@ def small_messages_wait_for_no_bulk():
     is_over.set()
     assert not any(each.result(WAIT) for each in floods)
     few, many = (sorted(taken)[len(taken) // 2] for taken in times.values())
-    # Behind the workers' turns a burst of 48 takes 30 times as long as one of 16.
+    # After the workers' turns a burst of 48 takes 30 times as long as one of 16.
     assert many < 5 * few + 0.008
 
 

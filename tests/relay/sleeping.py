@@ -195,7 +195,7 @@ def a_worker_beside_another():
         assert all([gives(end) for end in ends]), (both.number, both.places)
 
 
-# refuses writer_sleeps_without_its_last_look: the writer of the log announces that it sleeps behind its last look
+# refuses writer_sleeps_without_its_last_look: the writer of the log announces that it sleeps after its last look
 def the_writer_of_the_log_beside_a_poller():
     relay, lines = Relay(target(echo), recorded=False, workers=1), b""
     clients = served(relay, 1)

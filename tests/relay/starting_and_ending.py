@@ -306,9 +306,9 @@ def says_which_right_a_port_needs():
 
 
 # refuses record_is_opened_blindly: a relay waits for a reader of the pipe into which it is to record
-# refuses record_link_is_not_followed: a relay records behind what is in the file that a link leads to
+# refuses record_link_is_not_followed: a relay records after what is in the file that a link leads to
 def looks_where_it_is_to_record():
-    # What is wrong is told before it listens: at that address it cannot.
+    # What is wrong is printed before it listens: at that address it cannot.
     with tempfile.TemporaryDirectory() as folder:
         pipe, link, other, file = f"{folder}/pipe", f"{folder}/link", f"{folder}/other", f"{folder}/file"
         os.mkfifo(pipe)

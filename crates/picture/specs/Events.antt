@@ -1,5 +1,5 @@
 -- The picture of a recording: which events there are, by the records of each poller and of each slot, in the order in which they
--- ended. What a record leads to is looked for behind it. Part of the promises.
+-- ended. What a record leads to is looked for after it. Part of the promises.
 use Rattle.std.specs.{Prelude.{◌≡◌, ℕ, ◌-◌, Bool, ◌==◌, nat_lt, if◌then◌else◌, List, [], ◌∷◌, ◌++◌, length, slice_set, true, false, ◌+◌, Option, Some, None, unwrap_or, codes, Vec}, Global.Global, Io.KnownBytes.Appends, List.Sorted.{IsPermutation, IsNonDecreasingBy}}
 use Rattle.token.specs.declared.name.Name.TheVariants.{End as IsEnd}
 use Rattle.records.specs.declared.act.{Act.Act, Made.Made, Opening.TheVariants.Opened}
@@ -49,7 +49,7 @@ abbrev pub generation_after : ℕ → Act → ℕ
 generation_after g (act.Poller number (polling.Open slot generation Opened)) = generation
 generation_after g a = g
 
--- What comes behind a record. `last` is the last count of the recording
+-- What comes after a record. `last` is the last count of the recording
 
 -- a round ends when the next wait begins
 abbrev pub round_end : ℕ → List Numbered → ℕ

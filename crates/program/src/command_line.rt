@@ -364,7 +364,7 @@ fn commands() -> &'static [CommandRow] {
     &COMMANDS
 }
 
-/// Whether `relayd forward` takes a value behind the option of this name.
+/// Whether `relayd forward` takes a value after the option of this name.
 pub(crate) fn takes_value(option: &str) -> bool {
     for row in all_arguments() {
         if row.option == Some(option) {

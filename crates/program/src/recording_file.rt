@@ -158,7 +158,7 @@ where
     place_at(rt, path)
 }
 
-/// What is behind the name of a recording in parts, in the name of the part before the last.
+/// What follows the name of a recording in parts, in the name of the part before the last.
 const OLD: &str = ".old";
 
 /// Opens the file at a path to record into, if one is given, where this was found. Refuses with `Record`, and logs the

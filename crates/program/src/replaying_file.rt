@@ -107,7 +107,7 @@ impl<W: Write> Write for Counted<W> {
     }
 }
 
-/// What other files begin with, and what is told of one.
+/// What other files begin with, and what is said of one.
 static OTHERS: [(&[u8], &str); 3] = [
     (
         b"\x1f\x8b",
@@ -126,7 +126,7 @@ static OTHERS: [(&[u8], &str); 3] = [
 /// What each line of the log has after its level.
 const LOGGED: &str = " relayd]";
 
-/// What is told of a file that does not begin as a recording does. A pipe is not read, and counts as a recording.
+/// What is said of a file that does not begin as a recording does. A pipe is not read, and counts as a recording.
 fn other_file(rt: &impl Files, path: &str) -> Option<&'static str> {
     if !fs::metadata(rt, path).ok()?.is_file() {
         return None;

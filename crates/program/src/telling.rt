@@ -20,7 +20,7 @@ use std::time::{Clock, Duration};
 /// The seconds between two writings of the file, if the options do not say.
 const FILE_SECONDS: u32 = 15;
 
-/// The statistics of a relay, and where they are told.
+/// The statistics of a relay, and where they are logged.
 #[derive(Drop)]
 pub struct Teller {
     alloc: Global,
@@ -37,7 +37,7 @@ pub struct Teller {
 struct State {
     /// That the file could not be written was logged.
     has_warned: bool,
-    /// The last sums were told.
+    /// The last sums were logged.
     has_ended: bool,
 }
 

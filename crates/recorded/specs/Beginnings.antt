@@ -1,4 +1,4 @@
--- Which records stay of a file that begins behind a count: the others follow what is in a file before it. In each list the last
+-- Which records stay of a file that begins after a count: the others follow what is in a file before it. In each list the last
 -- record comes first. Part of the promises.
 use Rattle.std.specs.Prelude.{◌≡◌, ◌<◌, ℕ, Bool, true, false, ◌&&◌, ◌||◌, ◌==◌, List, [], ◌∷◌, length, nat_lt, slice_get, unwrap_or}
 use Rattle.records.specs.declared.act.{Record.Record, Act.{Act, TheVariants.{Poller, Begin, End, Wire}}, Polling.{Polling, TheVariants.{Gave, Interrupted, Failed, Open}}}
@@ -32,7 +32,7 @@ follows waited opened (End slot) = opened slot
 follows waited opened (Wire name made) = opened name.slot
 follows waited opened act = true
 
--- a record stays behind these, which stay, if its act began behind the count, and its beginning is among them
+-- a record stays after these, which stay, if its act began after the count, and its beginning is among them
 abbrev pub stays : ℕ → List Record → Record → Bool
 stays from kept r = nat_lt from r.before && follows (λ poller. has (waits poller) kept) (λ slot. has (opens slot) kept) r.act
 

@@ -27,7 +27,7 @@ pub(crate) struct Beginning {
 }
 
 impl Beginning {
-    /// The file begins behind this count, and nothing of it was read.
+    /// The file begins after this count, and nothing of it was read.
     pub(crate) fn new(alloc: Global, sizes: Sizes, from: u64) -> Result<Beginning, AllocError>
         ensures new { IfOk result (λ b. Knows [] b × (b.from ≡ from)) }
         ensures sized { IfOk result (λ b. (length b.waited.items ≡ sizes.header.pollers) × (length b.opened.items ≡ sizes.header.slots)) }

@@ -17,12 +17,12 @@ abbrev pub greatest_of : List Record → ℕ
 greatest_of [] = 0
 greatest_of (r ∷ records) = max (greatest_of records) r.after
 
--- the first line of a file behind these: it names the greatest count in them
+-- the first line of a file after these: it names the greatest count in them
 abbrev pub first_line : Header → List (List Record) → List ℕ
 first_line header [] = header_line header
 first_line header (part ∷ before) = header_line (record header { from = Some (greatest_of (part ++ joined before)) })
 
--- the text of a file of these records behind others
+-- the text of a file of these records after others
 abbrev pub part_text : Header → List (List Record) → List Record → List ℕ
 part_text header before [] = first_line header before
 part_text header before (r ∷ part) = part_text header before part ++ line_of r
@@ -44,7 +44,7 @@ abbrev pub is_over : List Record → Bool
 is_over [] = false
 is_over (r ∷ records) = is_full r.act
 
--- nothing of a file stands behind such a record
+-- nothing of a file stands after such a record
 abbrev pub EndsThere : List Record → Type 0
 EndsThere [] = Unit {0}
 EndsThere (r ∷ part) = (is_over part ≡ false) × EndsThere part

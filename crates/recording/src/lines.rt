@@ -16,7 +16,7 @@ const MAX_HEADER: usize = 256;
 const LEAST: u64 = 1_024;
 
 /// Puts the lines of a recording into its files, each of which begins with a header. A line that has no room in a file,
-/// or would stand behind the record `full`, begins the next one.
+/// or would stand after the record `full`, begins the next one.
 #[derive(Drop)]
 pub struct Lines<P> {
     parts: P,
@@ -67,7 +67,7 @@ impl<P: Parts> Lines<P> {
         Ok(())
     }
 
-    /// Begins the next file, if the last one has no room for so many bytes, or is over.
+    /// Begins the next file, if the last one has no room for that many bytes, or is over.
     fn make_room(&mut self, length: u64) -> io::Result<()>
         requires { length ≤ 256 }
         ensures held { OnOk result ((records : List Record)

@@ -107,7 +107,7 @@ impl RecordQueue {
         if breaks % 2 == 1 {
             return (false, false);
         }
-        // If another record found no room meanwhile, recording goes on behind this one's counts, or not at all.
+        // If another record found no room meanwhile, recording goes on after this one's counts, or not at all.
         if self
             .breaks
             .compare_exchange(breaks, breaks | 1, SeqCst, SeqCst)
@@ -116,7 +116,7 @@ impl RecordQueue {
             return (false, false);
         }
         if self.in_parts {
-            // Behind a record the writer looks at `breaks`. If there is no room still, records wait, and it will look.
+            // After a record the writer looks at `breaks`. If there is no room still, records wait, and it will look.
             return (self.put_one(rt, record), true);
         }
         self.waiting.close();
@@ -128,7 +128,7 @@ impl RecordQueue {
         self.waiting.put(rt, at, *record).is_some()
     }
 
-    /// In parts, once records were lost: has recording go on, and returns the record behind which the next part begins.
+    /// In parts, once records were lost: has recording go on, and returns the record after which the next part begins.
     /// `breaks` changes first: so what was lost, or is not recorded, had begun before the counts of this record.
     pub(crate) fn go_on(&self) -> Option<Record> {
         if !self.in_parts || !self.is_over() {

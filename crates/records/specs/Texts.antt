@@ -72,7 +72,7 @@ record_text r = decimal r.before ++ (codes " " ++ (decimal r.after ++ (codes " "
 abbrev pub yes_or_no : Bool → List ℕ
 yes_or_no so = if so then codes "yes" else codes "no"
 
--- where a part begins: behind this count
+-- where a part begins: after this count
 abbrev pub from_text : Option ℕ → List ℕ
 from_text (Some n) = codes " from=" ++ decimal n
 from_text None = []

@@ -73,7 +73,7 @@ static PROXY: [(&str, bool); 2] = [("proxy=yes", true), ("proxy=no", false)];
 ///
 /// It refuses a line of another form, and sizes that no relay has: 0 or over 4,096 slots, 0 or over 16 pollers or
 /// workers, a ring of 0 or over 65,536 bytes, a budget of 0 or over 1,024 calls, and an idle limit of over 86,400
-/// seconds; and another word than `from=N` behind the sizes, where N is any number below 2^64.
+/// seconds; and another word than `from=N` after the sizes, where N is any number below 2^64.
 pub fn read_header(line: &[u8]) -> Result<Header, Wrong<'_>> {
     let words = &mut Pieces::new(line, b' ');
     begin(words)?;

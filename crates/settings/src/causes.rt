@@ -111,7 +111,7 @@ impl fmt::Display for Near {
     }
 }
 
-/// Prints a value behind its option, or nothing.
+/// Prints a value after its option, or nothing.
 #[derive(Clone, Copy)]
 struct Behind<'a>(&'a str);
 
@@ -255,7 +255,7 @@ pub(crate) enum Slip<'a> {
     Twice(&'a str, usize),
     /// What the line has for this key is no TOML value.
     NoValue(Key, &'a str, Wanted<'a>),
-    /// This stands behind a value.
+    /// This follows a value.
     Behind(&'a str),
     /// These words say what is wrong.
     Other(&'a str),
@@ -309,7 +309,7 @@ fn line_around(text: &str, index: usize) -> Option<(&str, &str)> {
     Some((before, line))
 }
 
-/// How the parser begins to say that something stands behind a value.
+/// How the parser begins to say that something follows a value.
 const BEHIND: &str = "unexpected key or value";
 
 /// What a line has from this byte of a text on.

@@ -10,7 +10,7 @@ use strsim::jaro;
 /// The most bytes of a name that is compared with the keys: in a long one there are letters of any key.
 const MAX_NAME: usize = 16;
 
-/// The options of `relayd run` that are no settings, and whether a value comes behind them.
+/// The options of `relayd run` that are no settings, and whether a value comes after them.
 static OPTIONS: [(&str, bool); 8] = [
     ("connect-timeout", true),
     ("keepalive", true),
@@ -22,7 +22,7 @@ static OPTIONS: [(&str, bool); 8] = [
     ("until-eof", false),
 ];
 
-/// The option that a name stands for, `_` for `-` or not, and whether a value comes behind it.
+/// The option that a name stands for, `_` for `-` or not, and whether a value comes after it.
 pub(crate) fn option_named(name: &str) -> Option<(&'static str, bool)> {
     for (option, has_value) in &OPTIONS {
         if is_option(name, option) {
@@ -76,7 +76,7 @@ pub(crate) fn level_meant(word: &str) -> Option<&'static str> {
     None
 }
 
-/// What a number counts that is often typed with a unit behind it.
+/// What a number counts that is often typed with a unit after it.
 #[derive(Clone, Copy)]
 pub enum Unit {
     Seconds,
