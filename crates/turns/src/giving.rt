@@ -40,7 +40,7 @@ pub(crate) fn give_back<A: Acts, R: Wait>(
     closed: Closed,
 )
     requires retired { HoldsNot own.old.seat ticket.slot }
-    requires closed { closed ≡ ticket.slot }
+    requires closed { closed.slot ≡ ticket.slot }
     requires room { length own.old.hand.slots < own.old.hand.capacity }
     ensures made { AreMade A.made ticket.slot (giving (nat_lt ticket.generation last_generation)) acts.old acts.new }
     ensures seat { own.new.seat ≡ own.old.seat }

@@ -18,20 +18,11 @@ pub(crate) fn log_gone<F: Front, R: Log>(
     if !logs_gone(rt, clients) {
         return;
     }
-    match visit.pair().verdict() {
-        Verdict::Failed(fault) => log_ended(rt, clients, visit, why(visit, fault), second),
-        Verdict::Done if clients.has_done() => log_ended(rt, clients, visit, said("done"), second),
-        Verdict::Done | Verdict::Live => {}
-    }
-}
-
-fn log_ended<F: Front, R: Log>(
-    rt: &R,
-    clients: ClientsAt,
-    visit: &Visit<F>,
-    cause: Why,
-    second: u64,
-) {
+    let cause = match visit.pair().verdict() {
+        Verdict::Failed(fault) => why(visit, fault),
+        Verdict::Done if clients.has_done() => said("done"),
+        Verdict::Done | Verdict::Live => return,
+    };
     let (from, opened) = (Known(visit.peer()), visit.opened());
     let gone = Gone::ended(
         visit.pair(),

@@ -8,7 +8,7 @@ put_ticket-requires-clause-released g c = let_go _ _ c.args.own.now.seat c.relea
 
 pub returns : goal.returns
 returns g c = record {
-  left = elim c.match-release.branch [
+  left = λ h. elim c.match-release.branch [
     | in-Wake w ↦ (let put = w.put_ticket.ensures in
         rw (w.own-is, w.acts-is) (record {
           woke = true;
