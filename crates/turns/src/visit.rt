@@ -7,15 +7,15 @@ ghost use Rattle.turns.specs.Turns.{noted_by, Plays};
 ghost use Rattle.claims.specs.declared.view.Exchange.TheVariants as exchange;
 ghost use Rattle.dispatch.specs.Acts as act;
 
+use crate::gone::log_gone;
 use crate::terms::Terms;
 use claims::ClaimSeat;
-use dispatch::{Berth, Front, Gated, Moves, Own, Settle, Shared, ended_by, moved_by};
+use dispatch::{Berth, ClientsAt, Front, Gated, Moves, Own, Settle, Shared, ended_by, moved_by};
 use engine::Turn;
+use log::Log;
 use ready::Ticket;
 use relay_core::{MAX_READ, Pair};
-use std::net::SocketAddr;
 use std::sync::Wait;
-use token::Side;
 
 /// A connection that was taken out of the place of a held slot. Only [`take_out`] makes a visit. It cannot be dropped,
 /// and only [`put_in`] and [`Visit::close`] end it. So what is put back or closed is what was taken out.
@@ -144,27 +144,9 @@ impl<F: Front> Visit<F> {
         acts.settle(self.ticket.slot, &mut *self.berth);
     }
 
-    /// The client's address, if it is known.
-    pub(crate) fn peer(&self) -> Option<SocketAddr> {
-        F::peer(&self.berth.client)
-    }
-
-    /// Whether the system says that the target's socket is connected. None: that is not known.
-    pub(crate) fn is_connected(&self) -> Option<bool> {
-        self.berth.target.is_connected()
-    }
-
-    /// The errno(3) of the last call that failed on a side's socket, if it was kept.
-    pub(crate) fn error(&self, side: Side) -> Option<i32> {
-        match side {
-            Side::Client => self.berth.client.error(),
-            Side::Target => self.berth.target.error(),
-        }
-    }
-
-    /// The second in which the connection was opened.
-    pub(crate) fn opened(&self) -> u64 {
-        self.berth.second
+    /// Logs that the connection has ended by this second.
+    pub(crate) fn log_gone<R: Log>(&self, rt: &R, clients: ClientsAt, second: u64) {
+        log_gone::<F, R>(rt, clients, &self.berth, second);
     }
 
     /// Counts the connection as ended, and closes both sockets.
@@ -182,7 +164,7 @@ impl<F: Front> Visit<F> {
 }
 
 impl Back {
-    /// The slot was released.
+    /// The slot is released now.
     pub(crate) fn spend(self) {
         let Back { slot: _ } = self;
     }

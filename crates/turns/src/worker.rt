@@ -1,12 +1,11 @@
 //! One turn of a worker.
-ghost use Rattle.std.specs.Prelude.{◌≡◌, ◌⊎◌, ◌<◌, ◌≤◌, true, false, Some, Ok, IfOk, IfErr};
-ghost use Rattle.engine.specs.Turns.{outcome_of, IsServed};
+ghost use Rattle.std.specs.Prelude.{◌≡◌, ◌<◌, ◌≤◌, true, false, Some, Ok, IfOk, IfErr};
+ghost use Rattle.engine.specs.Turns.{IsServed};
 ghost use Rattle.dispatch.specs.{declared.places.Berth.Berth, Hands.HasRoom, Outgoing.KeepsSlot, Posts.{AtRest, OnlyWorn}};
 ghost use Rattle.token.specs.Names.{last_generation};
 ghost use Rattle.turns.specs.Turns.{AtWork, Handled, Handling, LeftSlot, Plays, PlaysAt, RunRest, TurnInOrder, TurnRest, WorkerTurn};
 
 use crate::giving::{give_back, put_ticket};
-use crate::gone::log_gone;
 use crate::terms::Terms;
 use crate::visit::{Back, Visit, put_in, take_out};
 use claims::{Claimed, Posted, Released};
@@ -153,7 +152,7 @@ fn run<F: Front, A: Gated<F, G>, G, R: Wait + Log>(
 {
     match visit.play(acts, shared, &mut own.seat, gate, terms, &mut own.buffer) {
         Turn::Done | Turn::Failed => {
-            log_gone(rt, shared.clients, &visit, terms.moment.second);
+            visit.log_gone(rt, shared.clients, terms.moment.second);
             end(rt, acts, shared, own, visit);
             Ok(Worked::Ended)
         }
@@ -175,7 +174,6 @@ fn again<F: Front, A: Moves<F>, R: Wait>(
     visit: Visit<F>,
 ) -> Result<Worked, ServerFault>
     requires work { AtWork shared.now.claims visit.ticket.slot own.old }
-    requires due { outcome_of visit.berth.value.pair ≡ Turn.Again }
     ensures due { IfOk result (λ worked. worked ≡ Worked.Again) }
     ensures done { (h : Handled F.Client F.Target) → h.left ≡ Some visit.berth.value
         → TurnRest (Handling A.found A.played A.moved A.made h)
@@ -200,7 +198,6 @@ fn rest<F: Front, A: Moves<F>, R: Wait>(
     mut visit: Visit<F>,
 )
     requires work { AtWork shared.now.claims visit.ticket.slot own.old }
-    requires quiet { outcome_of visit.berth.value.pair ≡ Turn.Quiet }
     ensures done { (left : Berth F.Client F.Target) × F.Client.settled left.client × F.Target.settled left.target
         × (left.pair ≡ visit.berth.value.pair)
         × ((h : Handled F.Client F.Target) → h.settled ≡ Some (visit.berth.value, left) → h.left ≡ Some left
@@ -227,11 +224,11 @@ fn leave<F: Front, A: Moves<F>, R: Wait>(
     ensures left { (h : Handled F.Client F.Target) → LeftSlot (Handling A.found A.played A.moved A.made h)
         ticket own.old own.new acts.old acts.new }
 {
+    back.spend();
     match acts.release(&shared.claims, &mut own.seat, ticket.slot) {
         Released::Wake => put_ticket(rt, acts, own, ticket),
         Released::Quiet => {}
     }
-    back.spend();
 }
 
 fn end<F: Front, A: Moves<F>, R: Wait + Log>(
@@ -242,7 +239,6 @@ fn end<F: Front, A: Moves<F>, R: Wait + Log>(
     visit: Visit<F>,
 )
     requires work { AtWork shared.now.claims visit.ticket.slot own.old }
-    requires over { (outcome_of visit.berth.value.pair ≡ Turn.Done) ⊎ (outcome_of visit.berth.value.pair ≡ Turn.Failed) }
     ensures done { (h : Handled F.Client F.Target) → h.left ≡ Some visit.berth.value
         → TurnRest (Handling A.found A.played A.moved A.made h)
         visit.ticket (Ok Worked.Ended) true 2 4 own.old own.new acts.old acts.new }

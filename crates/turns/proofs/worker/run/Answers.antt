@@ -31,20 +31,11 @@ returns-in-Quiet g c =
           c.requires.own p.2 (p.3, p.4) p.5 (refl, refl, refl) (rw play.ticket at rest.4) p.6 (tt, (refl, rest.3), rw rest.3 (sym c.in-Quiet.ensures.outcome));
     }
 
-pub end-requires-clause-work : goal.end-requires-clause-work
-end-requires-clause-work g c = rw c.play.ensures.ticket (still_at_work c.requires.work c.play.ensures.holder c.play.ensures.played.5.only refl)
+pub end-requires : goal.end-requires
+end-requires g c = record { work = rw c.play.ensures.ticket (still_at_work c.requires.work c.play.ensures.holder c.play.ensures.played.5.only refl) }
 
-pub again-requires-clause-work : goal.again-requires-clause-work
-again-requires-clause-work g c = rw c.play.ensures.ticket (still_at_work c.requires.work c.play.ensures.holder c.play.ensures.played.5.only refl)
+pub again-requires : goal.again-requires
+again-requires g c = record { work = rw c.play.ensures.ticket (still_at_work c.requires.work c.play.ensures.holder c.play.ensures.played.5.only refl) }
 
-pub rest-requires-clause-work : goal.rest-requires-clause-work
-rest-requires-clause-work g c = rw c.play.ensures.ticket (still_at_work c.requires.work c.play.ensures.holder c.play.ensures.played.5.only refl)
-
-pub end-requires-clause-over : goal.end-requires-clause-over
-end-requires-clause-over g c = rw c.play.ensures.outcome at c.in-Done.is
-
-pub rest-requires-clause-quiet : goal.rest-requires-clause-quiet
-rest-requires-clause-quiet g c = sym c.in-Quiet.ensures.outcome
-
-pub again-requires-clause-due : goal.again-requires-clause-due
-again-requires-clause-due g c = sym c.in-Again.ensures.outcome
+pub rest-requires : goal.rest-requires
+rest-requires g c = record { work = rw c.play.ensures.ticket (still_at_work c.requires.work c.play.ensures.holder c.play.ensures.played.5.only refl) }
