@@ -1,7 +1,7 @@
 //! What a turn puts into the queues: the ticket of its slot, or the slot. What a queue refuses stays in hand.
 ghost use Rattle.std.specs.Prelude.{◌≡◌, ◌<◌, nat_lt, length};
 ghost use Rattle.claims.specs.Seats.{HoldsNot};
-ghost use Rattle.dispatch.specs.{Acts.{AreMade, giving}, Outgoing.{tickets_out, slots_out, Inserted, KeepsTicket, KeepsSlot}};
+ghost use Rattle.dispatch.specs.{Acts.{AreMade, giving}, Outgoing.{tickets_out, Inserted, KeepsTicket}};
 ghost use Rattle.token.specs.Names.{last_generation};
 ghost use Rattle.turns.specs.{Shares.Passed, Turns.SlotGiven};
 ghost use Rattle.dispatch.specs.Acts as act;
@@ -31,7 +31,8 @@ pub(crate) fn put_ticket<A: Acts, R: Wait>(rt: &R, acts: &mut A, own: &mut Own, 
     }
 }
 
-/// Gives back the slot of a connection that has ended, unless its generation is the last.
+/// Gives back the slot of a connection that has ended, once it is retired, unless its generation is the last. If it were
+/// given back before, its poller could find it held, and lose it.
 pub(crate) fn give_back<A: Acts, R: Wait>(
     rt: &R,
     acts: &mut A,
@@ -49,25 +50,11 @@ pub(crate) fn give_back<A: Acts, R: Wait>(
     ensures ready { own.new.ready ≡ own.old.ready }
     ensures tickets { own.new.hand.tickets ≡ own.old.hand.tickets }
 {
-    if ticket.generation < MAX_GENERATION {
-        give_slot(rt, acts, own, ticket.slot);
-    }
     closed.spend();
-}
-
-/// Gives back a slot that was retired. If it were given back before, its poller could find it held, and lose it.
-fn give_slot<A: Acts, R: Wait>(rt: &R, acts: &mut A, own: &mut Own, slot: usize)
-    requires retired { HoldsNot own.old.seat slot }
-    requires room { length own.old.hand.slots < own.old.hand.capacity }
-    ensures made { A.made act.Give slot acts.old acts.new }
-    ensures seat { own.new.seat ≡ own.old.seat }
-    ensures kept { KeepsSlot slot own.new.free.history own.new.hand }
-    ensures slots { Inserted slot (slots_out own.old) (slots_out own.new) }
-    ensures took { own.new.free.history.taken ≡ own.old.free.history.taken }
-    ensures ready { own.new.ready ≡ own.old.ready }
-    ensures tickets { own.new.hand.tickets ≡ own.old.hand.tickets }
-{
-    if let Err(Full(slot)) = acts.give(rt, &mut own.free, slot) {
+    if ticket.generation >= MAX_GENERATION {
+        return;
+    }
+    if let Err(Full(slot)) = acts.give(rt, &mut own.free, ticket.slot) {
         own.hand.keep_slot(slot);
     }
 }

@@ -31,7 +31,6 @@
 mod giving;
 mod gone;
 mod own_turns;
-mod terms;
 mod visit;
 mod worker;
 

@@ -1,5 +1,5 @@
 //! The connection of a held slot, out of its place.
-ghost use Rattle.std.specs.Prelude.{◌≡◌, ℕ, ◌<◌, [], ◌∷◌, Some, None, IfOk, IfErr};
+ghost use Rattle.std.specs.Prelude.{◌≡◌, ℕ, ◌<◌, ◌≤◌, [], ◌∷◌, Some, None, IfOk, IfErr};
 ghost use Rattle.claims.specs.Seats.{Adds};
 ghost use Rattle.engine.specs.Turns.{outcome_of, IsServed};
 ghost use Rattle.dispatch.specs.{Posts.HoldsOnly, Told.{ended_by, moved_by}};
@@ -8,14 +8,22 @@ ghost use Rattle.claims.specs.declared.view.Exchange.TheVariants as exchange;
 ghost use Rattle.dispatch.specs.Acts as act;
 
 use crate::gone::log_gone;
-use crate::terms::Terms;
 use claims::ClaimSeat;
 use dispatch::{Berth, ClientsAt, Front, Gated, Moves, Own, Settle, Shared, ended_by, moved_by};
-use engine::Turn;
+use engine::{Moment, Turn};
 use log::Log;
 use ready::Ticket;
 use relay_core::{MAX_READ, Pair};
 use std::sync::Wait;
+
+/// What one turn is held to: it makes at most `budget` calls, all at one moment.
+#[derive(Clone, Copy)]
+pub(crate) struct Terms {
+    pub(crate) budget: usize,
+    pub(crate) moment: Moment,
+    pub(crate) ghost least: { 1 ≤ budget },
+    pub(crate) ghost most: { budget ≤ 1024 },
+}
 
 /// A connection that was taken out of the place of a held slot. Only [`take_out`] makes a visit. It cannot be dropped,
 /// and only [`put_in`] and [`Visit::close`] end it. So what is put back or closed is what was taken out.
@@ -171,7 +179,7 @@ impl Back {
 }
 
 impl Closed {
-    /// The slot was given back, unless it had its last generation.
+    /// The slot is given back now, unless it had its last generation.
     pub(crate) fn spend(self) {
         let Closed { slot: _ } = self;
     }

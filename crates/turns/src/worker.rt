@@ -6,8 +6,7 @@ ghost use Rattle.token.specs.Names.{last_generation};
 ghost use Rattle.turns.specs.Turns.{AtWork, Handled, Handling, LeftSlot, Plays, PlaysAt, RunRest, TurnInOrder, TurnRest, WorkerTurn};
 
 use crate::giving::{give_back, put_ticket};
-use crate::terms::Terms;
-use crate::visit::{Back, Visit, put_in, take_out};
+use crate::visit::{Back, Terms, Visit, put_in, take_out};
 use claims::{Claimed, Posted, Released};
 use dispatch::{Clock, Front, Gated, Moves, Own, Shared, Timing, give_slots, put_tickets};
 use engine::Turn;
