@@ -175,6 +175,8 @@ pub record OneMoved (stayed : ℕ) (heavy : List ℕ) (t : Ticket) (old : Own) (
   pub behind : List Ticket
   pub one : OneShared stayed heavy t old.ready then behind new.ready
   pub hand : new.hand ≡ record left { tickets = left.tickets ++ behind }
+  pub few : then ≤ stayed + 1
+  pub took : new.ready.history.taken ≡ old.ready.history.taken
   pub seat : new.seat ≡ old.seat
   pub free : new.free ≡ old.free
 
@@ -182,14 +184,14 @@ module _ {stayed : ℕ} {heavy : List ℕ} {t : Ticket} {old : Own} {left : Hand
   pub kept_moves : IsLight heavy t → then ≡ stayed + 1 → new ≡ o → o.hand ≡ record left { tickets = left.tickets ++ t ∷ [] }
       → o.ready ≡ old.ready → o.seat ≡ old.seat → o.free ≡ old.free → OneMoved stayed heavy t old left then new
   kept_moves light more is hand ready seat free =
-      rw is (record { behind = t ∷ []; one = inl (light, omega arith, refl, ready); hand = hand; seat = seat; free = free })
+      rw is (record { behind = t ∷ []; one = inl (light, omega arith, refl, ready); hand = hand; few = omega arith; took = rw ready; seat = seat; free = free })
 
   pub passed_moves : (Stays stayed heavy t → ⊥) → then ≡ stayed → new ≡ o → Passed t (record old { hand = left }) o
       → o.seat ≡ old.seat → o.free ≡ old.free → OneMoved stayed heavy t old left then new
   passed_moves goes still is (inl put) seat free =
-      rw is (record { behind = []; one = inr (goes, still, inl (put.0, refl)); hand = rw append-nil put.1; seat = seat; free = free })
+      rw is (record { behind = []; one = inr (goes, still, inl (put.0, refl)); hand = rw append-nil put.1; few = omega arith; took = rw put.0.put.put; seat = seat; free = free })
   passed_moves goes still is (inr refused) seat free =
-      rw is (record { behind = t ∷ []; one = inr (goes, still, inr (refused.0, refl)); hand = refused.1; seat = seat; free = free })
+      rw is (record { behind = t ∷ []; one = inr (goes, still, inr (refused.0, refl)); hand = refused.1; few = omega arith; took = rw refused.0.same; seat = seat; free = free })
 
 first_left : (all kept : List Ticket) (done : ℕ) (t : Ticket) → done < length all → slice_get (drop done all ++ kept) 0 ≡ Some t → drop done all ≡ t ∷ drop (done + 1) all
 first_left all kept done t more first =
@@ -214,10 +216,3 @@ module _ {all : List Ticket} {marks : List ℕ} {queue : EndState Ticket} {done 
   shared_all none =
       let rest = drop_all done all none in
       rw (so_far.is, rest) (rw append-nil at (so_far.whole [] heavy now (rw rest (refl, refl, refl))))
-
--- nothing was taken out of the queue
-pub took_none : {stayed : ℕ} {heavy : List ℕ} {t : Ticket} {old : EndState Ticket} {then : ℕ} {behind : List Ticket} {new : EndState Ticket}
-    → OneShared stayed heavy t old then behind new → new.history.taken ≡ old.history.taken
-took_none (inl stays) = rw stays.3
-took_none (inr (goes, still, inl put)) = rw put.0.put.put
-took_none (inr (goes, still, inr refused)) = rw refused.0.same
