@@ -1,12 +1,12 @@
 -- The end of a turn, after the steps that took the notes and ran the connection; and the tickets in hand of which some
 -- were looked at: each of those is put, or after the others in hand.
-use Rattle.std.proofs.{Common.{◌≡◌, ◌⊎◌, ◌+◌, ◌<◌, ◌≤◌, ℕ, List, [], ◌∷◌, length, drop, slice_get, get_or, Bool, true, false, Option, Some, Result, Ok, Err, IfOk, inl, inr, refl, sym, ap, ◌∙◌, arith, suc, ◌++◌, append_assoc, zero}, lemmas.{Option.{same_Some}, Bool.{cases_lt, false≢true}, List.{append-nil, drop_more, drop_all}}}
-use Rattle.std.specs.Option.{is_some}
+use Rattle.std.proofs.{Common.{◌≡◌, ◌⊎◌, ◌+◌, ◌<◌, ◌≤◌, ℕ, List, [], ◌∷◌, length, drop, slice_get, get_or, Bool, true, false, Option, Some, None, Result, Ok, IfSome, IfErr, IfNone, inl, inr, refl, sym, ap, ◌∙◌, arith, suc, ◌++◌, append_assoc, zero}, lemmas.{Option.{same_Some}, Bool.{cases_lt, false≢true}, List.{append-nil, drop_more, drop_all}}}
+use Rattle.std.specs.Option.{is_some, ok_or}
 use Rattle.claims.{specs.{declared.{view.{Account.Account, Exchange.{Exchange, TheVariants.{Held, Take, Post}}}, answers.Posted.Posted}, Calls.PostChange, Views.{after_all, minted_by}, Seats.{TableId, SeatState, Holds, OnlyAt, Adds}}, proofs.Seats.{adds_both, account_after, minted_both, holds_nothing_again}}
-use Rattle.dispatch.{proofs.Holding.holds_from, specs.{declared.{places.Berth.Berth, shared.Own.Own}, Posts.{AtRest, HoldsOnly}, Hands.{HandState, HasRoom}, Acts.{AreMade, Made, giving}, Heavy.looked_at}}
+use Rattle.dispatch.{proofs.Holding.holds_from, specs.{declared.{places.Berth.Berth, shared.Own.Own}, Posts.{AtRest, HoldsOnly, IsWorn, OnlyWorn}, Hands.{HandState, HasRoom}, Acts.{AreMade, Made, giving}, Heavy.looked_at}}
 use Rattle.ready.specs.{declared.ticket.Ticket.Ticket, Steps.EndState}
 use Rattle.engine.specs.Turns.{outcome_of}
-use Rattle.relay_log.specs.declared.faults.ServerFault.{ServerFault}
+use Rattle.relay_log.specs.declared.faults.ServerFault.{ServerFault, TheVariants.Worn}
 use Rattle.turns.specs.{declared.worker.Worked.Worked, Turns.{noted_by, ActsLeft, Handled, Handles, IsLeft, StaysAs, Playing, RunRest, WasHeld, TurnInOrder, program, AtWork, TicketsKept, SlotGiven, SlotsKept, TurnDone, TurnRest, TurnMade}, Shares.{AreShared, IsLight, OneShared, Passed, Stays}}
 use Rattle.claims.specs.declared.answers.Posted.TheVariants as posted
 use Rattle.engine.specs.declared.outcome.Turn.TheVariants as turn
@@ -67,9 +67,9 @@ IsPlayed r = Unit {0}
 abbrev pub EndsAs : {C T : Type 0} → Answer → Handled C T → Berth C T → Berth C T → Type 0
 EndsAs r h now new = IsPlayed r × StaysAs r h now new × IsLeft r new.pair
 
-pub due_as : {C T : Type 0} (r : Answer) (h : Handled C T) (b : Berth C T) → IfOk r (λ w. w ≡ worked.Again) → outcome_of b.pair ≡ turn.Again → EndsAs r h b b
-due_as (Ok w) h b is due = rw is (tt, refl, due)
-due_as (Err fault) h b is due = (tt, refl, due)
+pub due_as : {C T : Type 0} (o : Option Worked) (h : Handled C T) (b : Berth C T) → IfSome o (λ w. w ≡ worked.Again) → outcome_of b.pair ≡ turn.Again → EndsAs (ok_or o Worn) h b b
+due_as (Some w) h b is due = rw is (tt, refl, due)
+due_as None h b is due = (tt, refl, due)
 
 abbrev pub own_of : {C T : Type 0} → ℕ → Berth C T → Berth C T → Berth C T → Option (Berth C T × Berth C T) → Handled C T
 own_of notes old now new settled =
@@ -161,8 +161,17 @@ rests {claims} {t} {r} rest made = record {
   ];
 }
 
-pub given_if_ended : {t : Ticket} {r : Answer} {a b : Own} → SlotsKept t r a b → r ≡ Ok worked.Ended → SlotGiven t a b
+pub given_if_ended : {t : Ticket} {o : Option Worked} {a b : Own} → SlotsKept t (ok_or o Worn) a b → o ≡ Some worked.Ended → SlotGiven t a b
 given_if_ended kept ended = rw ended at kept
+
+-- a turn that is refused met the fault Worn
+pub only_worn : (o : Option Worked) (s : SeatState) → IfNone o (IsWorn s) → IfErr (ok_or o Worn) (λ fault. OnlyWorn fault s)
+only_worn (Some w) s is = tt
+only_worn None s is = (refl, is)
+
+pub answered : (o : Option Worked) (w : Worked) → ok_or o Worn ≡ Ok w → o ≡ Some w
+answered (Some v) w is = cc
+answered None w is = absurd (cc)
 
 -- Of all these, `done` were looked at and `stayed` have stayed. Whatever becomes of the rest, it is what becomes of all
 pub record SharedSoFar (all : List Ticket) (marks : List ℕ) (queue : EndState Ticket) (done stayed : ℕ) (hand : List Ticket) (heavy : List ℕ) (now : EndState Ticket) : Type 0 where

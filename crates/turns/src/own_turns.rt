@@ -133,11 +133,11 @@ pub fn own_turn<F: Front, A: Gated<F, G>, G, C: Clock, R: Wait + Log>(
     // Other connections' reports wait no longer than these calls.
     let budget = shared.budget.min(OWN_BUDGET);
     match turn_of(rt, acts, shared, own, gate, ticket, budget, timing) {
-        Ok(worked) => {
+        Some(worked) => {
             follow_up(shared, heavy, is_closing, ticket, worked);
             Ok(Some(worked))
         }
-        Err(fault) => Err(fault),
+        None => Err(ServerFault::Worn),
     }
 }
 

@@ -1,7 +1,7 @@
 //! One turn of a worker.
-ghost use Rattle.std.specs.Prelude.{◌≡◌, ◌<◌, ◌≤◌, true, false, Some, Ok, IfOk, IfErr};
+ghost use Rattle.std.specs.{Prelude.{◌≡◌, ◌<◌, ◌≤◌, true, false, Some, Ok, IfErr, IfNone, IfSome}, Option.ok_or};
 ghost use Rattle.engine.specs.Turns.{IsServed};
-ghost use Rattle.dispatch.specs.{declared.places.Berth.Berth, Hands.HasRoom, Outgoing.KeepsSlot, Posts.{AtRest, OnlyWorn}};
+ghost use Rattle.dispatch.specs.{declared.places.Berth.Berth, Hands.HasRoom, Outgoing.KeepsSlot, Posts.{AtRest, IsWorn, OnlyWorn}};
 ghost use Rattle.token.specs.Names.{last_generation};
 ghost use Rattle.turns.specs.Turns.{AtWork, Handled, Handling, LeftSlot, Plays, PlaysAt, RunRest, TurnInOrder, TurnRest, WorkerTurn};
 
@@ -66,10 +66,11 @@ pub fn worker_turn<F: Front, A: Gated<F, G>, G, C: Clock, R: Wait + Log>(
     give_slots(rt, &mut own.free, &mut own.hand);
     let turn = turn_of(rt, acts, shared, own, gate, ticket, shared.budget, timing);
     wake_if_ended(shared, own, ticket, turn);
-    turn
+    turn.ok_or(ServerFault::Worn)
 }
 
-/// A turn alone: nothing in hand is put before it, and nobody is woken after it.
+/// A turn alone: nothing in hand is put before it, and nobody is woken after it. None: the seat had posted 2^56 times
+/// before, so its post was refused.
 pub(crate) fn turn_of<F: Front, A: Gated<F, G>, G, C: Clock, R: Wait + Log>(
     rt: &R,
     acts: &mut A,
@@ -79,7 +80,7 @@ pub(crate) fn turn_of<F: Front, A: Gated<F, G>, G, C: Clock, R: Wait + Log>(
     ticket: Ticket,
     budget: usize,
     timing: &Timing<'_, C>,
-) -> Result<Worked, ServerFault>
+) -> Option<Worked>
     requires rest { AtRest shared.now.claims own.old }
     requires room { HasRoom own.old.hand }
     requires budget { (1 ≤ budget) × (budget ≤ 1024) }
@@ -87,15 +88,15 @@ pub(crate) fn turn_of<F: Front, A: Gated<F, G>, G, C: Clock, R: Wait + Log>(
     ensures made { TurnInOrder (Handling A.found A.played A.moved A.made)
         (PlaysAt (IsServed F.Client.told F.Client.does) (IsServed F.Target.told F.Target.does)
         (C.tells timing.now.clock.now) budget timing.now.limit)
-        shared.now.claims.words ticket result own.old own.new acts.old acts.new }
-    ensures worn { IfErr result (λ fault. OnlyWorn fault own.new.seat) }
+        shared.now.claims.words ticket (ok_or result ServerFault.Worn) own.old own.new acts.old acts.new }
+    ensures worn { IfNone result (IsWorn own.new.seat) }
 {
     let moment = timing.moment();
     if ticket.slot >= shared.claims.slots() {
-        return Ok(Worked::Gone);
+        return Some(Worked::Gone);
     }
     match acts.claim(&shared.claims, &mut own.seat, ticket.slot) {
-        Claimed::Busy => Ok(Worked::Busy),
+        Claimed::Busy => Some(Worked::Busy),
         Claimed::Held => match take_out(rt, acts, shared, own, ticket) {
             Ok(visit) if visit.pair().generation() == ticket.generation => {
                 let terms = Terms { budget, moment };
@@ -104,11 +105,11 @@ pub(crate) fn turn_of<F: Front, A: Gated<F, G>, G, C: Clock, R: Wait + Log>(
             Ok(other) => {
                 let back = put_in(rt, acts, shared, own, other);
                 give_up(rt, acts, shared, own, ticket, back);
-                Ok(Worked::Gone)
+                Some(Worked::Gone)
             }
             Err(back) => {
                 give_up(rt, acts, shared, own, ticket, back);
-                Ok(Worked::Gone)
+                Some(Worked::Gone)
             }
         },
     }
@@ -141,24 +142,24 @@ fn run<F: Front, A: Gated<F, G>, G, R: Wait + Log>(
     gate: &G,
     mut visit: Visit<F>,
     terms: Terms,
-) -> Result<Worked, ServerFault>
+) -> Option<Worked>
     requires work { AtWork shared.now.claims visit.ticket.slot own.old }
     requires own { visit.berth.value.pair.generation ≡ visit.ticket.generation }
     ensures done { RunRest (Handling A.found A.played A.moved A.made)
         (Plays (IsServed F.Client.told F.Client.does) (IsServed F.Target.told F.Target.does)
         terms.budget terms.moment.second terms.moment.limit)
-        visit.ticket visit.berth.value result own.old own.new acts.old acts.new }
+        visit.ticket visit.berth.value (ok_or result ServerFault.Worn) own.old own.new acts.old acts.new }
 {
     match visit.play(acts, shared, &mut own.seat, gate, terms, &mut own.buffer) {
         Turn::Done | Turn::Failed => {
             visit.log_gone(rt, shared.clients, terms.moment.second);
             end(rt, acts, shared, own, visit);
-            Ok(Worked::Ended)
+            Some(Worked::Ended)
         }
         Turn::Again => again(rt, acts, shared, own, visit),
         Turn::Quiet => {
             rest(rt, acts, shared, own, visit);
-            Ok(Worked::Quiet)
+            Some(Worked::Quiet)
         }
     }
 }
@@ -171,20 +172,20 @@ fn again<F: Front, A: Moves<F>, R: Wait>(
     shared: &Shared<F, A>,
     own: &mut Own,
     visit: Visit<F>,
-) -> Result<Worked, ServerFault>
+) -> Option<Worked>
     requires work { AtWork shared.now.claims visit.ticket.slot own.old }
-    ensures due { IfOk result (λ worked. worked ≡ Worked.Again) }
+    ensures due { IfSome result (λ worked. worked ≡ Worked.Again) }
     ensures done { (h : Handled F.Client F.Target) → h.left ≡ Some visit.berth.value
         → TurnRest (Handling A.found A.played A.moved A.made h)
-        visit.ticket result true 2 4 own.old own.new acts.old acts.new }
+        visit.ticket (ok_or result ServerFault.Worn) true 2 4 own.old own.new acts.old acts.new }
 {
     let ticket = visit.ticket;
     let back = put_in(rt, acts, shared, own, visit);
     let posted = acts.post(&shared.claims, &mut own.seat, ticket.slot);
     leave(rt, acts, shared, own, ticket, back);
     match posted {
-        Posted::Worn => Err(ServerFault::Worn),
-        Posted::Wake | Posted::Quiet => Ok(Worked::Again),
+        Posted::Worn => None,
+        Posted::Wake | Posted::Quiet => Some(Worked::Again),
     }
 }
 
@@ -255,13 +256,13 @@ fn wake_if_ended<F: Front, A>(
     shared: &Shared<F, A>,
     _own: &Own,
     ticket: Ticket,
-    turn: Result<Worked, ServerFault>,
+    turn: Option<Worked>,
 )
-    requires given { turn ≡ Ok Worked.Ended → ticket.generation < last_generation
+    requires given { turn ≡ Some Worked.Ended → ticket.generation < last_generation
         → KeepsSlot ticket.slot _own.now.free.history _own.now.hand }
-    ensures woken { turn ≡ Ok Worked.Ended → F.woke shared.now.waker ticket.slot }
+    ensures woken { turn ≡ Some Worked.Ended → F.woke shared.now.waker ticket.slot }
 {
-    if let Ok(Worked::Ended) = turn {
+    if turn == Some(Worked::Ended) {
         F::wake(&shared.waker, ticket.slot);
     }
 }

@@ -1,4 +1,5 @@
-use Rattle.std.proofs.Common.{None, Ok, Some, refl, sym}
+use Rattle.std.{proofs.Common.{None, Ok, Some, refl, sym}, specs.Option.ok_or}
+use Rattle.relay_log.specs.declared.faults.ServerFault.TheVariants.{Worn}
 use Rattle.turns.proofs.Turns.{due_as, played_then, still_at_work}
 use Rattle.turns.specs.declared.worker.Worked.TheVariants as worked
 use Rattle.turns.proofs.worker.run.Goals as goal
@@ -17,7 +18,7 @@ returns-in-Again g c =
     let play = c.play.ensures in
     let p = play.played in
     record {
-      done = played_then _ _ c.again.result p.0 c.args.visit.berth.value c.play.new.self.berth.value c.play.new.self.berth.value None c.requires.own p.2 (p.3, p.4) p.5 (refl, refl, refl)
+      done = played_then _ _ (ok_or c.again.result Worn) p.0 c.args.visit.berth.value c.play.new.self.berth.value c.play.new.self.berth.value None c.requires.own p.2 (p.3, p.4) p.5 (refl, refl, refl)
           (λ h settled. (rw play.ticket at c.again.ensures.done) h) p.6 (due_as c.again.result _ _ c.again.ensures.due (sym c.in-Again.ensures.outcome));
     }
 

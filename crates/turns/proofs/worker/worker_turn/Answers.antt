@@ -1,5 +1,6 @@
 use Rattle.std.proofs.Common.{◌∙◌, refl}
-use Rattle.turns.proofs.Turns.{given_if_ended}
+use Rattle.turns.proofs.Turns.{answered, given_if_ended, only_worn}
+use Rattle.turns.specs.declared.worker.Worked.TheVariants.{Ended}
 use Rattle.turns.proofs.worker.worker_turn.Goals as goal
 
 pub returns-clause-made : goal.returns-clause-made
@@ -16,8 +17,14 @@ returns-clause-made g c =
         all_tickets = rw gave.tickets put.all;
         all_slots = gave.all;
       };
-      turn = c.turn_of-turn.ensures.made;
+      turn = rw (← c.ok_or.ensures.value) at c.turn_of-turn.ensures.made;
     }
+
+pub returns-clause-worn : goal.returns-clause-worn
+returns-clause-worn g c = rw c.ok_or.ensures.value (only_worn _ c.turn_of-turn.new.own.seat c.turn_of-turn.ensures.worn)
+
+pub returns-clause-woken : goal.returns-clause-woken
+returns-clause-woken g c = λ ended. c.wake_if_ended.ensures.woken (answered _ Ended (rw c.ok_or.ensures.value at ended))
 
 pub wake_if_ended-requires : goal.wake_if_ended-requires
 wake_if_ended-requires g c = record { given = λ ended. (given_if_ended c.turn_of-turn.ensures.made.0.done.slots ended).kept }
