@@ -1,5 +1,4 @@
 use Rattle.std.proofs.Common.{◌∙◌, refl}
-use Rattle.turns.proofs.Turns.{given_if_ended}
 use Rattle.turns.proofs.worker.worker_turn.Goals as goal
 
 pub returns-clause-made : goal.returns-clause-made
@@ -18,6 +17,3 @@ returns-clause-made g c =
       };
       turn = c.turn_of-turn.ensures.made;
     }
-
-pub wake_if_ended-requires : goal.wake_if_ended-requires
-wake_if_ended-requires g c = record { given = λ ended. (given_if_ended c.turn_of-turn.ensures.made.0.done.slots ended).kept }
