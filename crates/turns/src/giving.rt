@@ -14,6 +14,7 @@ use token::MAX_GENERATION;
 
 /// Puts the ticket of a slot that was released. If it were put before, another thread could take it, find the slot
 /// held, and drop it.
+#[tactic(auto, using(dispatch::proofs::Outgoing::put_inserts, dispatch::proofs::Outgoing::refused_ticket))]
 pub(crate) fn put_ticket<A: Acts, R: Wait>(rt: &R, acts: &mut A, own: &mut Own, ticket: Ticket)
     requires released { HoldsNot own.old.seat ticket.slot }
     requires room { length own.old.hand.tickets < own.old.hand.capacity }
@@ -33,6 +34,7 @@ pub(crate) fn put_ticket<A: Acts, R: Wait>(rt: &R, acts: &mut A, own: &mut Own, 
 
 /// Gives back the slot of a connection that has ended, once it is retired, unless its generation is the last. If it were
 /// given back before, its poller could find it held, and lose it.
+#[tactic(auto, using(dispatch::proofs::Outgoing::put_inserts, dispatch::proofs::Outgoing::refused_slot))]
 pub(crate) fn give_back<A: Acts, R: Wait>(
     rt: &R,
     acts: &mut A,

@@ -43,6 +43,7 @@ pub enum Worked {
 ///
 /// The only refusal is `Worn`, in place of `Again`: the seat had posted 2^56 times before, so no note was posted. The
 /// slot is released then, too. The acts, but those that put what is in hand, are made by `acts`; the server's is `()`.
+#[tactic(auto, using(crate::proofs::Turns::given_if_ended))]
 pub fn worker_turn<F: Front, A: Gated<F, G>, G, C: Clock, R: Wait + Log>(
     rt: &R,
     acts: &mut A,
@@ -71,6 +72,7 @@ pub fn worker_turn<F: Front, A: Gated<F, G>, G, C: Clock, R: Wait + Log>(
 
 /// A turn alone: nothing in hand is put before it, and nobody is woken after it. None: the seat had posted 2^56 times
 /// before, so its post was refused.
+#[tactic(auto, using(crate::proofs::Turns::at_work))]
 pub(crate) fn turn_of<F: Front, A: Gated<F, G>, G, C: Clock, R: Wait + Log>(
     rt: &R,
     acts: &mut A,
@@ -116,6 +118,7 @@ pub(crate) fn turn_of<F: Front, A: Gated<F, G>, G, C: Clock, R: Wait + Log>(
 }
 
 /// Throws the notes away and releases a slot without the ticket's connection.
+#[tactic(auto, using(crate::proofs::Turns::still_at_work, dispatch::proofs::Holding::holds_still))]
 fn give_up<F: Front, A: Moves<F>, R: Wait>(
     rt: &R,
     acts: &mut A,
@@ -134,6 +137,7 @@ fn give_up<F: Front, A: Moves<F>, R: Wait>(
 }
 
 /// Runs the ticket's own connection, and then ends it or puts it back.
+#[tactic(auto, using(crate::proofs::Turns::still_at_work))]
 fn run<F: Front, A: Gated<F, G>, G, R: Wait + Log>(
     rt: &R,
     acts: &mut A,
@@ -166,6 +170,7 @@ fn run<F: Front, A: Gated<F, G>, G, R: Wait + Log>(
 
 /// Puts back a connection that has spent its budget, and keeps it due: it posts a note, and releases the slot. The post
 /// of a holder never answers Wake: the release does.
+#[tactic(auto, using(crate::proofs::Turns::still_at_work, dispatch::proofs::Holding::holds_behind_post, claims::proofs::Seats::only_at_post))]
 fn again<F: Front, A: Moves<F>, R: Wait>(
     rt: &R,
     acts: &mut A,
@@ -211,6 +216,7 @@ fn rest<F: Front, A: Moves<F>, R: Wait>(
 }
 
 /// Releases a slot, and puts a ticket if notes wait.
+#[tactic(auto, using(dispatch::proofs::Holding::let_go))]
 fn leave<F: Front, A: Moves<F>, R: Wait>(
     rt: &R,
     acts: &mut A,
@@ -231,6 +237,7 @@ fn leave<F: Front, A: Moves<F>, R: Wait>(
     }
 }
 
+#[tactic(auto, using(dispatch::proofs::Holding::let_go))]
 fn end<F: Front, A: Moves<F>, R: Wait + Log>(
     rt: &R,
     acts: &mut A,

@@ -1,14 +1,9 @@
 use Rattle.std.proofs.Common.{[], ◌∷◌, Ok, ap, false, refl, true}
-use Rattle.claims.{specs.declared.view.{Account.Account, Exchange.TheVariants.{Post}}, proofs.Seats.{account_after, adds_none, only_at_post}}
-use Rattle.dispatch.proofs.Holding.{holds_behind_post, woke_behind_post, worn_still}
-use Rattle.turns.proofs.Turns.{done_after, posted_quiet, still_at_work}
+use Rattle.claims.{specs.declared.view.{Account.Account, Exchange.TheVariants.{Post}}, proofs.Seats.{account_after, adds_none}}
+use Rattle.dispatch.proofs.Holding.{woke_behind_post, worn_still}
+use Rattle.turns.proofs.Turns.{done_after, posted_quiet}
 use Rattle.turns.specs.declared.worker.Worked.TheVariants as worked
 use Rattle.turns.proofs.worker.again.Goals as goal
-
-pub leave-requires-clause-work : goal.leave-requires-clause-work
-leave-requires-clause-work g c =
-    let posted = c.post-posted in
-    still_at_work c.requires.work (holds_behind_post _ posted.result _ _ c.requires.work.holder posted.ensures.change) (only_at_post _ _ _ posted.result posted.ensures.change) refl
 
 pub returns-in-Worn : goal.returns-in-Worn
 returns-in-Worn g c =

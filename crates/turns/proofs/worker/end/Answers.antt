@@ -1,11 +1,7 @@
-use Rattle.std.proofs.Common.{false, nat_lt, refl}
-use Rattle.dispatch.proofs.Holding.{let_go}
+use Rattle.std.proofs.Common.{false, nat_lt}
 use Rattle.token.specs.Names.{last_generation}
 use Rattle.turns.{specs.Turns.Handling, proofs.Turns.{gives_as}}
 use Rattle.turns.proofs.worker.end.Goals as goal
-
-pub give_back-requires-clause-retired : goal.give_back-requires-clause-retired
-give_back-requires-clause-retired g c = let_go _ _ c.args.own.now.seat c.retire.new.seat c.retire.ensures.change refl
 
 pub returns : goal.returns
 returns g c = record {

@@ -1,9 +1,5 @@
 use Rattle.std.proofs.{Common.{false, refl, sym, true}, lemmas.Bool.false≢true}
-use Rattle.dispatch.proofs.Holding.{let_go}
 use Rattle.turns.proofs.worker.leave.Goals as goal
-
-pub put_ticket-requires-clause-released : goal.put_ticket-requires-clause-released
-put_ticket-requires-clause-released g c = let_go _ _ c.args.own.now.seat c.release.new.seat c.in-Wake.ensures.change refl
 
 pub returns-in-Wake : goal.returns-in-Wake
 returns-in-Wake g c = record {

@@ -1,6 +1,6 @@
 use Rattle.std.{proofs.Common.{None, Ok, Some, refl, sym}, specs.Option.ok_or}
 use Rattle.relay_log.specs.declared.faults.ServerFault.TheVariants.{Worn}
-use Rattle.turns.proofs.Turns.{due_as, played_then, still_at_work}
+use Rattle.turns.proofs.Turns.{due_as, played_then}
 use Rattle.turns.specs.declared.worker.Worked.TheVariants as worked
 use Rattle.turns.proofs.worker.run.Goals as goal
 
@@ -31,12 +31,3 @@ returns-in-Quiet g c =
       done = played_then _ _ (Ok worked.Quiet) p.0 c.args.visit.berth.value c.play.new.self.berth.value rest.0 (Some (c.play.new.self.berth.value, rest.0))
           c.requires.own p.2 (p.3, p.4) p.5 (refl, refl, refl) (rw play.ticket at rest.4) p.6 (tt, (refl, rest.3), rw rest.3 (sym c.in-Quiet.ensures.outcome));
     }
-
-pub end-requires : goal.end-requires
-end-requires g c = record { work = rw c.play.ensures.ticket (still_at_work c.requires.work c.play.ensures.holder c.play.ensures.played.5.only refl) }
-
-pub again-requires : goal.again-requires
-again-requires g c = record { work = rw c.play.ensures.ticket (still_at_work c.requires.work c.play.ensures.holder c.play.ensures.played.5.only refl) }
-
-pub rest-requires : goal.rest-requires
-rest-requires g c = record { work = rw c.play.ensures.ticket (still_at_work c.requires.work c.play.ensures.holder c.play.ensures.played.5.only refl) }

@@ -1,5 +1,5 @@
 use Rattle.std.proofs.Common.{◌∙◌, refl}
-use Rattle.turns.proofs.Turns.{answered, given_if_ended, only_worn}
+use Rattle.turns.proofs.Turns.{answered, only_worn}
 use Rattle.turns.specs.declared.worker.Worked.TheVariants.{Ended}
 use Rattle.turns.proofs.worker.worker_turn.Goals as goal
 
@@ -25,6 +25,3 @@ returns-clause-worn g c = rw c.ok_or.ensures.value (only_worn _ c.turn_of-turn.n
 
 pub returns-clause-woken : goal.returns-clause-woken
 returns-clause-woken g c = λ ended. c.wake_if_ended.ensures.woken (answered _ Ended (rw c.ok_or.ensures.value at ended))
-
-pub wake_if_ended-requires : goal.wake_if_ended-requires
-wake_if_ended-requires g c = record { given = λ ended. (given_if_ended c.turn_of-turn.ensures.made.0.done.slots ended).kept }
