@@ -11,10 +11,6 @@ module _ {slot : ℕ} where
   pub only_at_none : {old new : SeatState} → new ≡ old → OnlyAt slot old new
   only_at_none is = rw is (record { table = refl; others = λ other ne. refl })
 
-  -- one change after the other
-  pub only_at_twice : {first second third : SeatState} → OnlyAt slot first second → OnlyAt slot second third → OnlyAt slot first third
-  only_at_twice one two = record { table = two.table ∙ one.table; others = λ other ne. two.others other ne ∙ one.others other ne }
-
   -- who held nothing, and holds nothing at the one slot where it changed
   pub holds_nothing_again : {old new : SeatState} → HoldsNothing old → OnlyAt slot old new → HoldsNot new slot → HoldsNothing new
   holds_nothing_again nothing only here = record {
@@ -26,7 +22,10 @@ pub adds_none : (slot : ℕ) (s : SeatState) → Adds slot [] s s
 adds_none slot s = record { here = rw append-nil; only = record { table = refl; others = λ other ne. refl } }
 
 pub adds_both : (slot : ℕ) (es fs : List Exchange) (a b c : SeatState) → Adds slot es a b → Adds slot fs b c → Adds slot (es ++ fs) a c
-adds_both slot es fs a b c one two = record { here = rw (two.here, one.here, append_assoc); only = only_at_twice one.only two.only }
+adds_both slot es fs a b c one two = record {
+  here = rw (two.here, one.here, append_assoc);
+  only = record { table = two.only.table ∙ one.only.table; others = λ other ne. two.only.others other ne ∙ one.only.others other ne };
+}
 
 -- the account after such exchanges
 

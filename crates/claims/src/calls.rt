@@ -21,7 +21,7 @@ pub(crate) type Words = Table<(), View, (usize, usize), OneHolder, Global>;
 /// identity of its table, whose `words` is the number of slots.
 #[derive(Drop)]
 pub struct Claims {
-    table: Words,
+    pub(crate) table: Words,
 }
 
 impl Model for Claims {
@@ -36,13 +36,6 @@ impl Model for Claims {
 }
 
 impl Claims {
-    pub(crate) fn over(table: Words) -> Claims
-        requires { table.shared.key.0 ≡ table.shared.table_id.words }
-        ensures { result ≡ table.shared.table_id }
-    {
-        Claims { table }
-    }
-
     /// The number of slots.
     pub fn slots(&self) -> usize
         ensures { result ≡ self.now.words }

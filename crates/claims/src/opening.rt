@@ -54,6 +54,7 @@ impl Claims {
     }
 }
 
+#[tactic(auto, using(crate::proofs::Steps::Rule::opening_rule))]
 fn words_and_seats(
     alloc: Global,
     slots: usize,
@@ -63,25 +64,10 @@ fn words_and_seats(
     requires seats { IsWithin 1 32 seats }
     ensures { IfOk result (λ made. (made.0.words ≡ slots) × (made.1.items ≡ replicate seats (fresh_seat made.0))) }
 {
-    let (table, first) = words_and_first_seat(alloc, slots, seats)?;
-    let all = all_seats(alloc, &table, first, slots, seats)?;
-    Ok((Claims::over(table), all))
-}
-
-// The words, and the seat that may make all others.
-#[tactic(auto, using(crate::proofs::Steps::Rule::opening_rule))]
-fn words_and_first_seat(
-    alloc: Global,
-    slots: usize,
-    seats: usize,
-) -> Result<(Words, Seat<(), View>), AllocError>
-    requires slots { IsWithin 1 32768 slots }
-    requires seats { IsWithin 1 32 seats }
-    ensures table { IfOk result (λ t. (t.0.shared.table_id.words ≡ slots) × (t.0.shared.key.0 ≡ slots)) }
-    ensures seat { IfOk result (λ t. (t.1.table_id ≡ t.0.shared.table_id) × (t.1.me.0 ≡ unused_view slots (seats - 1))) }
-{
     let words = vec![in alloc; UNUSED; slots]?;
-    Table::of_words(alloc, words.as_slice(), &(slots, seats))
+    let (table, first) = Table::of_words(alloc, words.as_slice(), &(slots, seats))?;
+    let all = all_seats(alloc, &table, first, slots, seats)?;
+    Ok((Claims { table }, all))
 }
 
 // All seats: each but the last is made by a split of the first.

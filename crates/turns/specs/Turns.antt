@@ -1,29 +1,15 @@
 -- What a turn does to what its thread owns, by its answer. Part of the promises.
-use Rattle.std.specs.{Prelude.{◌≡◌, ◌≢◌, ◌⊎◌, ℕ, zero, suc, ◌<◌, ◌≤◌, ◌^◌, ◌==◌, Bool, true, false, nat_lt, if◌then◌else◌, Option, Some, None, Result, Ok, Err, List, [], ◌∷◌, drop, length, slice_get, slice_set, IfSome}, Option.is_some}
-use Rattle.claims.specs.{declared.view.Exchange.{Exchange, TheVariants.{Post, Busy, Held, Take, Release, Retire}}, Views.minted_by, Seats.{SeatState, TableId, account_at, posts_of, Adds}}
+use Rattle.std.specs.{Prelude.{◌≡◌, ◌≢◌, ◌⊎◌, ℕ, zero, suc, ◌<◌, ◌≤◌, Bool, true, false, nat_lt, if◌then◌else◌, Option, Some, None, Result, Ok, Err, List, [], ◌∷◌, drop, length, slice_get, slice_set, IfSome, IfErr}, Option.is_some}
+use Rattle.claims.specs.{declared.view.Exchange.{Exchange, TheVariants.{Post, Busy, Held, Take, Release, Retire}}, Views.minted_by, Seats.{TableId, account_at, Adds}}
 use Rattle.ready.specs.declared.ticket.Ticket.{Ticket}
 use Rattle.relay_core.specs.{Pairs.{PairState, noted}, Replies.AnswerValue, declared.Side.Side}
 use Rattle.engine.specs.Turns.{IsTurn, outcome_of}
-use Rattle.turns.specs.declared.{terms.Terms.Terms, worker.Worked.Worked}
-use Rattle.relay_log.specs.declared.faults.ServerFault.{ServerFault, TheVariants.Worn}
-use Rattle.dispatch.specs.{declared.{places.Berth.Berth, shared.Own.Own}, Acts.{Act, Made, TakeOut, Play, Settle, PutIn, Close, AreMade, busy_turn, gone_turn, quiet_turn, again_turn, ended_turn, leaving}, Hands.HasRoom, Limits.heavy_marks, Posts.HoldsOnly, Outgoing.{Inserted, KeepsTicket, KeepsSlot, PutAll, TookNothing, tickets_out, slots_out, without_first}}
+use Rattle.turns.specs.declared.worker.Worked.{Worked}
+use Rattle.relay_log.specs.declared.faults.ServerFault.{ServerFault}
+use Rattle.dispatch.specs.{declared.{places.Berth.Berth, shared.Own.Own}, Acts.{Act, Made, TakeOut, Play, Settle, PutIn, Close, AreMade, busy_turn, gone_turn, quiet_turn, again_turn, ended_turn, leaving}, Hands.HasRoom, Limits.heavy_marks, Posts.{HoldsOnly, OnlyWorn}, Outgoing.{Inserted, KeepsTicket, KeepsSlot, PutAll, TookNothing, tickets_out, slots_out, without_first}}
 use Rattle.token.specs.Names.{last_generation}
 use Rattle.engine.specs.declared.outcome.Turn.TheVariants as turn
 use Rattle.turns.specs.declared.worker.Worked.TheVariants as worked
-
--- after Again a note is posted, unless the seat was worn before
-abbrev pub if_posted : Worked → Bool → Option Worked
-if_posted worked.Again worn = if worn then None else Some worked.Again
-if_posted worked worn = Some worked
-
--- what a turn answers
-abbrev pub answer_of : Option Worked → Result Worked ServerFault
-answer_of (Some worked) = Ok worked
-answer_of None = Err Worn
-
--- by its seat, as it was before the turn
-abbrev pub answer_by : SeatState → Worked → Result Worked ServerFault
-answer_by seat worked = answer_of (if_posted worked (posts_of seat == 2 ^ 56))
 
 -- the claim got the slot: the answer is not Busy
 abbrev pub WasHeld : Result Worked ServerFault → Type 0
@@ -90,12 +76,13 @@ pub record TurnDone (ticket : Ticket) (exchanges : List Exchange) (result : Resu
   pub slots : SlotsKept ticket result old new
   pub took : TookNothing old new
 
--- the rest of a turn, after `exchanged` of its exchanges and `acted` of its acts
+-- The rest of a turn, after `exchanged` of its exchanges and `acted` of its acts
 pub record TurnRest {S : Type 0} (made : Made S) (ticket : Ticket) (result : Result Worked ServerFault)
     (other : Bool) (exchanged acted : ℕ) (old new : Own) (from to : S) : Type 0 where
   pub noted : ℕ
   pub woke : Bool
   pub held : WasHeld result
+  pub refused : IfErr result (λ fault. OnlyWorn fault new.seat)
   pub done : TurnDone ticket (drop exchanged (program result 0 noted woke)) result old new
   pub acts : ActsLeft made ticket result acted other woke from to
 
@@ -143,10 +130,6 @@ Playing C T = ℕ → Berth C T → Berth C T → Type 0
 abbrev pub PlaysAt : {C T : Type 0} → Serves C → Serves T → (ℕ → Type 0) → ℕ → ℕ → Playing C T
 PlaysAt client target tells budget limit notes old new = (second : ℕ) × tells second × Plays client target budget second limit notes old new
 
--- how a connection is played by these terms
-abbrev pub PlaysBy : {C T : Type 0} → Serves C → Serves T → Terms → Playing C T
-PlaysBy client target terms = PlaysAt client target (λ second. second ≡ terms.moment.second) terms.budget terms.moment.limit
-
 -- A turn's connection: which it found in the place, what that was before and after its calls, and before and after its sockets
 -- sent what they held back, and which was put in or closed
 pub record Handled (C T : Type 0) : Type 0 where
@@ -155,12 +138,6 @@ pub record Handled (C T : Type 0) : Type 0 where
   pub settled : Option (Berth C T × Berth C T)
   pub left : Option (Berth C T)
 
--- what is known of a turn's acts, of which the one that puts a connection in or closes it does so with this one
-abbrev pub Leaving : {S C T : Type 0} → (Berth C T → S → Type 0) → Made S → Option (Berth C T) → Made S
-Leaving moved made left PutIn slot from to = made PutIn slot from to × IfSome left (λ berth. moved berth to)
-Leaving moved made left Close slot from to = made Close slot from to × IfSome left (λ berth. moved berth to)
-Leaving moved made left act slot from to = made act slot from to
-
 -- What is known of a turn's acts: the one that looks into the place finds the connection that was found, those that work with
 -- its sockets do so as was said, and the one that puts a connection in or closes it does so with the one that was left
 abbrev pub Handling : {S C T : Type 0} → (Option (Berth C T) → S → Type 0) → (Berth C T → Berth C T → S → Type 0)
@@ -168,7 +145,9 @@ abbrev pub Handling : {S C T : Type 0} → (Option (Berth C T) → S → Type 0)
 Handling found played moved made h TakeOut slot from to = made TakeOut slot from to × found h.found to
 Handling found played moved made h Play slot from to = made Play slot from to × IfSome h.played (λ both. played both.0 both.1 to)
 Handling found played moved made h Settle slot from to = made Settle slot from to × IfSome h.settled (λ both. played both.0 both.1 to)
-Handling found played moved made h act slot from to = Leaving moved made h.left act slot from to
+Handling found played moved made h PutIn slot from to = made PutIn slot from to × IfSome h.left (λ berth. moved berth to)
+Handling found played moved made h Close slot from to = made Close slot from to × IfSome h.left (λ berth. moved berth to)
+Handling found played moved made h act slot from to = made act slot from to
 
 -- what it is in the end, by what it was after its calls: the same, but that after Quiet its sockets sent what they held back
 abbrev pub StaysAs : {C T : Type 0} → Result Worked ServerFault → Handled C T → Berth C T → Berth C T → Type 0
@@ -190,6 +169,14 @@ Handles plays notes ticket (Ok worked.Gone) h = IfSome h.found (λ berth. berth.
 Handles plays notes ticket result h = (old : Berth _ _) × (played : Berth _ _) × (new : Berth _ _) × (h.found ≡ Some old)
     × (h.played ≡ Some (record old { pair = noted_by notes old.pair }, played)) × (h.left ≡ Some new)
     × (old.pair.generation ≡ ticket.generation) × plays notes old played × StaysAs result h played new × IsLeft result new.pair
+
+-- the rest of a turn that found this connection of its own, once it was taken out, and what the turn did with it
+pub record RunRest {S C T : Type 0} (made : Handled C T → Made S) (plays : Playing C T) (ticket : Ticket) (connection : Berth C T)
+    (result : Result Worked ServerFault) (old new : Own) (from to : S) : Type 0 where
+  pub did : Handled C T
+  pub found : did.found ≡ Some connection
+  pub rest : TurnRest (made did) ticket result (is_some did.found) 1 2 old new from to
+  pub handles : Handles plays rest.noted ticket result did
 
 -- `TurnMade`, with the turn's acts, in order, and what it did with the connection. If the claim words lack the slot, none is made
 abbrev pub TurnInOrder : {S C T : Type 0} → (Handled C T → Made S) → Playing C T → ℕ → Ticket

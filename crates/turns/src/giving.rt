@@ -1,7 +1,7 @@
 //! What a turn puts into the queues: the ticket of its slot, or the slot. What a queue refuses stays in hand.
 ghost use Rattle.std.specs.Prelude.{◌≡◌, ◌<◌, nat_lt, length};
 ghost use Rattle.claims.specs.Seats.{HoldsNot};
-ghost use Rattle.dispatch.specs.{Acts.{AreMade, giving}, Outgoing.{tickets_out, slots_out, Inserted, KeepsTicket, KeepsSlot}};
+ghost use Rattle.dispatch.specs.{Acts.{AreMade, giving}, Outgoing.{tickets_out, Inserted, KeepsTicket}};
 ghost use Rattle.token.specs.Names.{last_generation};
 ghost use Rattle.turns.specs.{Shares.Passed, Turns.SlotGiven};
 ghost use Rattle.dispatch.specs.Acts as act;
@@ -14,6 +14,7 @@ use token::MAX_GENERATION;
 
 /// Puts the ticket of a slot that was released. If it were put before, another thread could take it, find the slot
 /// held, and drop it.
+#[tactic(auto, using(dispatch::proofs::Outgoing::put_inserts, dispatch::proofs::Outgoing::refused_ticket))]
 pub(crate) fn put_ticket<A: Acts, R: Wait>(rt: &R, acts: &mut A, own: &mut Own, ticket: Ticket)
     requires released { HoldsNot own.old.seat ticket.slot }
     requires room { length own.old.hand.tickets < own.old.hand.capacity }
@@ -31,7 +32,9 @@ pub(crate) fn put_ticket<A: Acts, R: Wait>(rt: &R, acts: &mut A, own: &mut Own, 
     }
 }
 
-/// Gives back the slot of a connection that has ended, unless its generation is the last.
+/// Gives back the slot of a connection that has ended, once it is retired, unless its generation is the last. If it were
+/// given back before, its poller could find it held, and lose it.
+#[tactic(auto, using(dispatch::proofs::Outgoing::put_inserts, dispatch::proofs::Outgoing::refused_slot))]
 pub(crate) fn give_back<A: Acts, R: Wait>(
     rt: &R,
     acts: &mut A,
@@ -40,7 +43,7 @@ pub(crate) fn give_back<A: Acts, R: Wait>(
     closed: Closed,
 )
     requires retired { HoldsNot own.old.seat ticket.slot }
-    requires closed { closed ≡ ticket.slot }
+    requires closed { closed.slot ≡ ticket.slot }
     requires room { length own.old.hand.slots < own.old.hand.capacity }
     ensures made { AreMade A.made ticket.slot (giving (nat_lt ticket.generation last_generation)) acts.old acts.new }
     ensures seat { own.new.seat ≡ own.old.seat }
@@ -49,25 +52,11 @@ pub(crate) fn give_back<A: Acts, R: Wait>(
     ensures ready { own.new.ready ≡ own.old.ready }
     ensures tickets { own.new.hand.tickets ≡ own.old.hand.tickets }
 {
-    if ticket.generation < MAX_GENERATION {
-        give_slot(rt, acts, own, ticket.slot);
-    }
     closed.spend();
-}
-
-/// Gives back a slot that was retired. If it were given back before, its poller could find it held, and lose it.
-fn give_slot<A: Acts, R: Wait>(rt: &R, acts: &mut A, own: &mut Own, slot: usize)
-    requires retired { HoldsNot own.old.seat slot }
-    requires room { length own.old.hand.slots < own.old.hand.capacity }
-    ensures made { A.made act.Give slot acts.old acts.new }
-    ensures seat { own.new.seat ≡ own.old.seat }
-    ensures kept { KeepsSlot slot own.new.free.history own.new.hand }
-    ensures slots { Inserted slot (slots_out own.old) (slots_out own.new) }
-    ensures took { own.new.free.history.taken ≡ own.old.free.history.taken }
-    ensures ready { own.new.ready ≡ own.old.ready }
-    ensures tickets { own.new.hand.tickets ≡ own.old.hand.tickets }
-{
-    if let Err(Full(slot)) = acts.give(rt, &mut own.free, slot) {
+    if ticket.generation >= MAX_GENERATION {
+        return;
+    }
+    if let Err(Full(slot)) = acts.give(rt, &mut own.free, ticket.slot) {
         own.hand.keep_slot(slot);
     }
 }

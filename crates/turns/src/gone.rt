@@ -1,7 +1,6 @@
 //! What the log has of a connection that has ended.
 
-use crate::visit::Visit;
-use dispatch::{ClientsAt, Front};
+use dispatch::{Berth, ClientsAt, Front, Settle};
 use log::Log;
 use relay_core::{Fault, Verdict};
 use relay_log::{Gone, Known, Why, logs_gone};
@@ -12,56 +11,43 @@ use token::Side;
 pub(crate) fn log_gone<F: Front, R: Log>(
     rt: &R,
     clients: ClientsAt,
-    visit: &Visit<F>,
+    berth: &Berth<F::Client, F::Target>,
     second: u64,
 ) {
     if !logs_gone(rt, clients) {
         return;
     }
-    match visit.pair().verdict() {
-        Verdict::Failed(fault) => log_ended(rt, clients, visit, why(visit, fault), second),
-        Verdict::Done if clients.has_done() => log_ended(rt, clients, visit, said("done"), second),
-        Verdict::Done | Verdict::Live => {}
-    }
-}
-
-fn log_ended<F: Front, R: Log>(
-    rt: &R,
-    clients: ClientsAt,
-    visit: &Visit<F>,
-    cause: Why,
-    second: u64,
-) {
-    let (from, opened) = (Known(visit.peer()), visit.opened());
-    let gone = Gone::ended(
-        visit.pair(),
-        opened,
-        second,
-        &from,
-        connected(visit),
-        &cause,
-    );
+    let cause = match berth.pair.verdict() {
+        Verdict::Failed(fault) => why(berth, fault),
+        Verdict::Done if clients.has_done() => said("done"),
+        Verdict::Done | Verdict::Live => return,
+    };
+    let from = Known(F::peer(&berth.client));
+    let connected = connected(berth);
+    let gone = Gone::ended(&berth.pair, berth.second, second, &from, connected, &cause);
     relay_log::log_gone(rt, clients, gone);
 }
 
 /// Whether the target was ever connected. If no call has shown that and none has failed, the system is asked, to tell a
 /// target that accepted and stays silent from one that never answered.
-fn connected<F: Front>(visit: &Visit<F>) -> Option<bool> {
-    let pair = visit.pair();
-    if pair.joined(Side::Target) {
+fn connected<C, T: Settle>(berth: &Berth<C, T>) -> Option<bool> {
+    if berth.pair.joined(Side::Target) {
         return Some(true);
     }
-    match pair.verdict() {
-        Verdict::Failed(Fault::Idle) => visit.is_connected(),
+    match berth.pair.verdict() {
+        Verdict::Failed(Fault::Idle) => berth.target.is_connected(),
         _ => Some(false),
     }
 }
 
-fn why<F: Front>(visit: &Visit<F>, fault: Fault) -> Why {
+fn why<C: Settle, T: Settle>(berth: &Berth<C, T>, fault: Fault) -> Why {
     match fault {
         Fault::Idle => said("idle"),
         Fault::Broken { side, kind, .. } => Why {
-            error: visit.error(side),
+            error: match side {
+                Side::Client => berth.client.error(),
+                Side::Target => berth.target.error(),
+            },
             word: kind.name(),
         },
     }

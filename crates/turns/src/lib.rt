@@ -14,24 +14,23 @@
 //! - A place is reached by these acts alone (`Places`). What a turn found there, how it played that, and what it put back
 //!   or closed is said of its acts (`Handles` and `PlaysAt` of `specs/Turns.antt`).
 //! - The connection that is put back or closed is the one that was taken out (`Visit`, which cannot be dropped). Its
-//!   bytes, or its end, are counted at its slot (`counted`). After Quiet it is put back once both wires hold nothing back
-//!   (`leave_settled`: `client`, `target`).
+//!   bytes, or its end, are counted at its slot (`counted`). What is put back after Quiet has two wires that hold nothing back
+//!   (`rest`: `done`).
 //! - A slot is released once for each `Back`, which says that no connection of it is out of its place (`leave`:
 //!   `back`). A ticket is put, and a slot is given back, once the seat no longer holds the slot (`put_ticket`:
 //!   `released`; `give_back`: `retired`), and a slot only once its connection is closed (`Closed`). Then the poller is
-//!   woken (`wake_poller`). What is in hand is put oldest first, until nothing is left or the queue was full
+//!   woken (`wake_if_ended`). What is in hand is put oldest first, until nothing is left or the queue was full
 //!   (`put_tickets`, `give_slots` of `dispatch`: `all`).
 //! - The function that takes the notes and makes the calls (`play`) is passed no allocator, and no `Wait`, so that it
 //!   waits for no lock. The connection's place is locked before `play`, and again after it.
 //! - If workers run light tickets, one after the first 16 is kept only after a look of its own, which found no end of
 //!   the ready queue asleep (`keep`: `early`, `alone`; `AllBusy` of `ready`). An own turn makes at most 8 calls
-//!   (`Terms::own`).
+//!   (`own_turn`: `turn`).
 #![tactic(auto)]
 
 mod giving;
 mod gone;
 mod own_turns;
-mod terms;
 mod visit;
 mod worker;
 

@@ -6,9 +6,10 @@ ghost use Rattle.dispatch.specs.{Heavy.looked_at, Limits.{first_light, own_budge
 ghost use Rattle.turns.specs.{Shares.{IsLight, Stays, TicketsShared}, Turns.{marks_after, Handling, NoOwnTurn, OwnTurn, PlaysAt}};
 
 use crate::giving::put_ticket;
-use crate::terms::Terms;
 use crate::worker::{Worked, turn_of};
-use dispatch::{Clock, FIRST_LIGHT, Front, Gated, Hand, HeavyMarks, Own, Shared, Timing};
+use dispatch::{
+    Clock, FIRST_LIGHT, Front, Gated, Hand, HeavyMarks, OWN_BUDGET, Own, Shared, Timing,
+};
 use log::Log;
 use ready::{AllBusy, ReadyQueue, Ticket};
 use relay_log::ServerFault;
@@ -129,8 +130,9 @@ pub fn own_turn<F: Front, A: Gated<F, G>, G, C: Clock, R: Wait + Log>(
     let Some(ticket) = own.hand.take_ticket() else {
         return Ok(None);
     };
-    let terms = Terms::own(shared.budget, timing.moment());
-    match turn_of(rt, acts, shared, own, gate, ticket, terms) {
+    // Other connections' reports wait no longer than these calls.
+    let budget = shared.budget.min(OWN_BUDGET);
+    match turn_of(rt, acts, shared, own, gate, ticket, budget, timing) {
         Some(worked) => {
             follow_up(shared, heavy, is_closing, ticket, worked);
             Ok(Some(worked))

@@ -1,19 +1,29 @@
 //! The connection of a held slot, out of its place.
-ghost use Rattle.std.specs.Prelude.{◌≡◌, ◌<◌, ◌≤◌, Some, None, IfOk, IfErr};
+ghost use Rattle.std.specs.Prelude.{◌≡◌, ℕ, ◌<◌, ◌≤◌, [], ◌∷◌, Some, None, IfOk, IfErr};
+ghost use Rattle.claims.specs.Seats.{Adds};
 ghost use Rattle.engine.specs.Turns.{outcome_of, IsServed};
 ghost use Rattle.dispatch.specs.{Posts.HoldsOnly, Told.{ended_by, moved_by}};
 ghost use Rattle.turns.specs.Turns.{noted_by, Plays};
+ghost use Rattle.claims.specs.declared.view.Exchange.TheVariants as exchange;
 ghost use Rattle.dispatch.specs.Acts as act;
 
-use crate::terms::Terms;
-use dispatch::{Berth, Front, Gated, Moves, Own, Settle, Shared, ended_by, moved_by};
-use engine::Turn;
+use crate::gone::log_gone;
+use claims::ClaimSeat;
+use dispatch::{Berth, ClientsAt, Front, Gated, Moves, Own, Settle, Shared, ended_by, moved_by};
+use engine::{Moment, Turn};
+use log::Log;
 use ready::Ticket;
 use relay_core::{MAX_READ, Pair};
-use std::marker::Model;
-use std::net::SocketAddr;
 use std::sync::Wait;
-use token::Side;
+
+/// What one turn is held to: it makes at most `budget` calls, all at one moment.
+#[derive(Clone, Copy)]
+pub(crate) struct Terms {
+    pub(crate) budget: usize,
+    pub(crate) moment: Moment,
+    pub(crate) ghost least: { 1 ≤ budget },
+    pub(crate) ghost most: { budget ≤ 1024 },
+}
 
 /// A connection that was taken out of the place of a held slot. Only [`take_out`] makes a visit. It cannot be dropped,
 /// and only [`put_in`] and [`Visit::close`] end it. So what is put back or closed is what was taken out.
@@ -24,31 +34,15 @@ pub(crate) struct Visit<F: Front> {
 
 /// Shows that no connection of this slot is out of its place. Only then may the slot be released: otherwise the next
 /// holder would find the place empty, and the connection would never run again. This value cannot be dropped, so each
-/// is followed by one release. In a clause it is the slot.
+/// is followed by one release.
 pub(crate) struct Back {
     slot: usize,
 }
 
 /// Shows that the connection of this slot is closed. This value cannot be dropped, so after each closing the slot is
-/// given back, unless it had its last generation. In a clause it is the slot.
+/// given back, unless it had its last generation.
 pub(crate) struct Closed {
     slot: usize,
-}
-
-impl Model for Back {
-    ghost use Rattle.std.specs.Prelude.{ℕ};
-
-    ghost Value = { ℕ };
-
-    ghost view = { λ b. b.slot };
-}
-
-impl Model for Closed {
-    ghost use Rattle.std.specs.Prelude.{ℕ};
-
-    ghost Value = { ℕ };
-
-    ghost view = { λ c. c.slot };
 }
 
 /// Takes the connection out of the place of the ticket's slot, which the caller holds. The connection may be another
@@ -65,7 +59,7 @@ pub(crate) fn take_out<F: Front, A: Moves<F>, R: Wait>(
     ensures made { A.made act.TakeOut ticket.slot acts.old acts.new }
     ensures out { IfOk result (λ visit. visit.ticket ≡ ticket) }
     ensures found { IfOk result (λ visit. A.found (Some visit.berth.value) acts.new) }
-    ensures empty { IfErr result (λ back. (back ≡ ticket.slot) × A.found None acts.new) }
+    ensures empty { IfErr result (λ back. (back.slot ≡ ticket.slot) × A.found None acts.new) }
 {
     let slot = ticket.slot;
     match acts.take_out(rt, &shared.places, &own.seat, slot) {
@@ -93,7 +87,7 @@ pub(crate) fn put_in<F: Front, A: Moves<F>, R: Wait>(
 ) -> Back
     requires inside { visit.ticket.slot < shared.now.claims.words }
     requires holder { HoldsOnly visit.ticket.slot own.now.seat }
-    ensures back { result ≡ visit.ticket.slot }
+    ensures back { result.slot ≡ visit.ticket.slot }
     ensures counted { A.counted visit.ticket.slot (moved_by visit.berth.value.pair) acts.old }
     ensures made { A.made act.PutIn visit.ticket.slot acts.old acts.new }
     ensures moved { A.moved visit.berth.value acts.new }
@@ -113,26 +107,35 @@ impl<F: Front> Visit<F> {
         &self.berth.pair
     }
 
-    /// Raises the connection's flags if notes waited, and makes its calls on its two wires.
+    /// Takes the notes of the slot, which raise the connection's flags, and makes its calls on its two wires, between the
+    /// gate's two calls. It is passed neither an allocator nor anything that may wait, so it allocates nothing and waits
+    /// for no lock.
+    #[tactic(auto, using(dispatch::proofs::Holding::holds_still))]
     pub(crate) fn play<A: Gated<F, G>, G>(
         &mut self,
         acts: &mut A,
+        shared: &Shared<F, A>,
+        seat: &mut ClaimSeat,
         gate: &G,
-        notes: u64,
         terms: Terms,
         buffer: &mut [u8; MAX_READ],
     ) -> Turn
-        requires least { 1 ≤ terms.budget }
-        requires most { terms.budget ≤ 1024 }
+        requires same { seat.old.table ≡ shared.now.claims }
+        requires inside { self.old.ticket.slot < shared.now.claims.words }
+        requires holder { HoldsOnly self.old.ticket.slot seat.old }
+        ensures holder { HoldsOnly self.old.ticket.slot seat.new }
         ensures ticket { self.new.ticket ≡ self.old.ticket }
         ensures outcome { result ≡ outcome_of self.new.berth.value.pair }
-        ensures made { A.made act.Play self.old.ticket.slot acts.old acts.new }
-        ensures played { A.played (record self.old.berth.value { pair = noted_by notes self.old.berth.value.pair })
-            self.new.berth.value acts.new }
-        ensures run { Plays (IsServed F.Client.told F.Client.does) (IsServed F.Target.told F.Target.does) terms.budget
+        ensures played { (notes : ℕ) × (taken : A) × A.made act.TakeNotes self.old.ticket.slot acts.old taken
+            × A.made act.Play self.old.ticket.slot taken acts.new
+            × A.played (record self.old.berth.value { pair = noted_by notes self.old.berth.value.pair })
+            self.new.berth.value acts.new
+            × Adds self.old.ticket.slot (exchange.Take notes ∷ []) seat.old seat.new
+            × Plays (IsServed F.Client.told F.Client.does) (IsServed F.Target.told F.Target.does) terms.budget
             terms.moment.second terms.moment.limit notes self.old.berth.value self.new.berth.value }
     {
         let slot = self.ticket.slot;
+        let notes = acts.take(&shared.claims, seat, slot);
         let berth = &mut *self.berth;
         tell_notes(&mut berth.pair, notes);
         acts.play(gate, slot, berth, terms.budget, terms.moment, buffer)
@@ -150,32 +153,14 @@ impl<F: Front> Visit<F> {
         acts.settle(self.ticket.slot, &mut *self.berth);
     }
 
-    /// The client's address, if it is known.
-    pub(crate) fn peer(&self) -> Option<SocketAddr> {
-        F::peer(&self.berth.client)
-    }
-
-    /// Whether the system says that the target's socket is connected. None: that is not known.
-    pub(crate) fn is_connected(&self) -> Option<bool> {
-        self.berth.target.is_connected()
-    }
-
-    /// The errno(3) of the last call that failed on a side's socket, if it was kept.
-    pub(crate) fn error(&self, side: Side) -> Option<i32> {
-        match side {
-            Side::Client => self.berth.client.error(),
-            Side::Target => self.berth.target.error(),
-        }
-    }
-
-    /// The second in which the connection was opened.
-    pub(crate) fn opened(&self) -> u64 {
-        self.berth.second
+    /// Logs that the connection has ended by this second.
+    pub(crate) fn log_gone<R: Log>(&self, rt: &R, clients: ClientsAt, second: u64) {
+        log_gone::<F, R>(rt, clients, &self.berth, second);
     }
 
     /// Counts the connection as ended, and closes both sockets.
     pub(crate) fn close<A: Moves<F>>(self, acts: &mut A, shared: &Shared<F, A>) -> Closed
-        ensures closed { result ≡ self.ticket.slot }
+        ensures closed { result.slot ≡ self.ticket.slot }
         ensures counted { A.counted self.ticket.slot (ended_by self.berth.value.pair) acts.old }
         ensures made { A.made act.Close self.ticket.slot acts.old acts.new }
         ensures moved { A.moved self.berth.value acts.new }
@@ -188,14 +173,14 @@ impl<F: Front> Visit<F> {
 }
 
 impl Back {
-    /// The slot was released.
+    /// The slot is released now.
     pub(crate) fn spend(self) {
         let Back { slot: _ } = self;
     }
 }
 
 impl Closed {
-    /// The slot was given back, unless it had its last generation.
+    /// The slot is given back now, unless it had its last generation.
     pub(crate) fn spend(self) {
         let Closed { slot: _ } = self;
     }

@@ -135,10 +135,6 @@ none_more (t ∷ ts) (suc slot) = none_more ts slot
 unused_slot : (n : ℕ) → SlotRule 3 (replicate n [])
 unused_slot n = record { history = []; state = unused; reads = refl; folds = refl; mine = λ seat. sym (same_at n seat []); fair = All-replicate (Keeps blank) n [] tt }
 
-map-replicate : {A B : Type 0} (f : A → B) (n : ℕ) (a : A) → map f (replicate n a) ≡ replicate n (f a)
-map-replicate f zero a = refl
-map-replicate f (suc n) a = ap (λ l. f a ∷ l) (map-replicate f n a)
-
 nothing_posted : (n : ℕ) → sum_by posted_of (map account_of (replicate n [])) ≡ 0
 nothing_posted n = rw (map-replicate account_of n [], sum_by-replicate posted_of n blank) (omega arith)
 

@@ -2,7 +2,7 @@
 pub use Rattle.std.{proofs.{Common.{Bool, List, [], ap, append_assoc, arith, bit_and, bit_or, false, get_or, get_or-set_other, get_or-set_same, if◌then◌else◌, length, length-set, map, refl, replicate, set, subst, suc, sym, true, zero, ℕ, ◌%◌, ◌*◌, ◌++◌, ◌+◌, ◌-◌, ◌<◌, ◌^◌, ◌∙◌, ◌∷◌, ◌≡◌, ◌≢◌, ◌≤◌}, Math.{ListN.get_or-map, Seq.map-set_same}, lemmas.{Bool.{eq-eqb, ne_eqb}, List.{append-nil, ext_get_or, get_or-replicate, get_or_default, get_or_past, length-append, length-map, length-replicate, map-append, map-set, replicate_more, Elements.{All-push, All-replicate, All-set}, Folds.sum_by-replicate, Sums.{get_or-le-sum_by, sum_by-cons, sum_by-le, sum_by-set, sum_by_push}}, Grind.get_or-set_at, Nat.{and_block, and_mask, or_block}}}, specs.{Int.Bits.or_zero_r, List.{All, sum_by}}}
 pub use Rattle.atomic_table.{proofs.Lists.{at_index, at_map, set_again, set_here}, specs.Table.{Allows, Me, Splits, keeps}}
 pub use Rattle.claims.specs.{Calls.{PostChange, ReleaseChange}, Laws.{Counts, HistoriesCount, Knows, OneHolderEach, OpensLawful, due}, Rule.{ClaimRule, History, Keeps, KeepsRule, Leads, NeedsHolder, SlotRule, by_seat, unused}, Seats.{Adds, Holds, HoldsNot, HoldsNothing, OnlyAt, SeatOk, SeatState, TableId, account_at, fresh_seat, seat_state, view_of}, Views.{account_of, accounts_of, after, after_all, blank, column, minted_by, trace_in, traces_at, unused_view}, Words.{StepKind, WordState, adopt, claim, kind_of, made, one, post, release, retire, some_wait, take, wakes, word_after, word_of}, declared.{answers.{Posted.{Posted, TheVariants.{Quiet, Wake, Worn}}, Released.{Released, TheVariants.{Quiet as ReleaseQuiet, Wake as ReleaseWakes}}}, view.{Account.Account, Exchange.{Exchange, TheVariants.{Adopted, Busy, Held, NotFree, Post, Release, Take}}, View.View}}}
-pub use lib.ListN.{get_elem?}
+pub use lib.{LanesLaws.{map-replicate}, ListN.{get_elem?}}
 pub use mathlib.Core.Logic.{dite}
 pub use mathlib.Core.Option.{some}
 pub use native.Mathlib.Decide.{dec_lt, ℕ_discrete}

@@ -1,6 +1,6 @@
 use Rattle.std.proofs.{Common.{arith, ap, sym, ◌∙◌, refl}, lemmas.Bool.false≢true}
 use Rattle.dispatch.specs.Hands.{HandState}
-use Rattle.turns.proofs.{Turns.{OneMoved, kept_moves, passed_moves, shared_more, shared_all, took_none}, own_turns.share_tickets.Goals.{in-Some-stays, in_default-stays}}
+use Rattle.turns.proofs.{Turns.{OneMoved, kept_moves, passed_moves, shared_more, shared_all}, own_turns.share_tickets.Goals.{in-Some-stays, in_default-stays}}
 use Rattle.turns.proofs.own_turns.share_tickets.Goals as goal
 
 pub loop-ticket-preserved : goal.loop-ticket-preserved
@@ -16,11 +16,8 @@ loop-ticket-preserved g c =
     record {
       shared = rw (c.stays.ensures.marks, moved.hand) (shared_more so_far.shared (omega arith) (sym c.take_ticket.ensures.value ∙ c.in-Some.is)
           (ap (λ (h : HandState). h.tickets) c.take_ticket.ensures.left) moved.one);
-      few = elim c.match-stays.branch [
-        | in-Some-stays w ↦ (let more = w.kept-is in let few = so_far.few in omega arith)
-        | in_default-stays w ↦ (let still = w.kept-is in let few = so_far.few in omega arith)
-      ];
-      took = took_none moved.one ∙ so_far.took;
+      few = let more = moved.few in let few = so_far.few in omega arith;
+      took = moved.took ∙ so_far.took;
       seat = moved.seat ∙ so_far.seat;
       free = moved.free ∙ so_far.free;
       slots = ap (λ (h : HandState). h.slots) hand ∙ so_far.slots;

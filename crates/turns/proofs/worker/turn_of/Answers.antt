@@ -1,10 +1,78 @@
-use Rattle.engine.specs.Turns.{IsServed}
-use Rattle.turns.{specs.Turns.{Handling, PlaysBy}, proofs.Turns.{turn_answered}}
+use Rattle.std.proofs.Common.{[], ◌∷◌, ◌∙◌, None, Some, ap, arith, false, refl}
+use Rattle.claims.{specs.declared.view.Exchange.TheVariants.{Busy}, proofs.Seats.{adds_none}}
+use Rattle.relay_core.specs.Pairs.{PairState}
+use Rattle.turns.{specs.Turns.{Handled, Handling}, proofs.Turns.{held_made, own_made, rests}}
 use Rattle.turns.proofs.worker.turn_of.Goals as goal
 
-pub returns : goal.returns
-returns g c =
-    let turn = turn_answered (Handling g.A.Moves.found g.A.Moves.played g.A.Moves.moved g.A.Acts.made)
-    (PlaysBy (IsServed g.F.Client.Wire.told g.F.Client.Wire.does) (IsServed g.F.Target.Wire.told g.F.Target.Wire.does) c.args.terms)
-    c.claim-worked.result c.if_posted.ensures c.is_worn-worn.ensures c.requires.rest c.claim-worked.ensures.made in
-    record { rest = turn.0; made = turn.1; worn = turn.2 }
+pub returns-then-ticket-slots-clause-made : goal.returns-then-ticket-slots-clause-made
+returns-then-ticket-slots-clause-made g c = (
+  record {
+    exchanges = [];
+    are = record { found = 0; noted = 0; woke = false; inside = λ lt. absurd (omega arith); outside = λ gone. (refl, refl) };
+    done = record { seat = adds_none _ _; tickets = refl; slots = refl; took = record { tickets = refl; slots = refl } };
+    outside = λ past. refl;
+  },
+  λ lt. absurd (omega arith),
+  λ gone. refl,
+)
+
+pub returns-in-Busy-clause-made : goal.returns-in-Busy-clause-made
+returns-in-Busy-clause-made g c = (
+  record {
+    exchanges = Busy ∷ [];
+    are = record { found = 0; noted = 0; woke = false; inside = λ lt. refl; outside = λ past. absurd (omega arith) };
+    done = record { seat = c.in-Busy.ensures.change; tickets = refl; slots = refl; took = record { tickets = refl; slots = refl } };
+    outside = λ past. absurd (omega arith);
+  },
+  λ lt. (record { found = None; played = None; settled = None; left = None }, tt, (_, c.in-Busy.ensures.made, refl)),
+  λ past. absurd (omega arith),
+)
+
+pub returns-in-Busy-clause-rest : goal.returns-in-Busy-clause-rest
+returns-in-Busy-clause-rest g c = rests c.requires.rest (returns-in-Busy-clause-made g c).0
+
+-- the place has the ticket's own connection
+
+pub returns-in-Ok-clause-made : goal.returns-in-Ok-clause-made
+returns-in-Ok-clause-made g c =
+    let moment = c.moment-moment in
+    own_made _ _ _ _ (omega arith) c.in-Held.ensures.change.1 _ _ (λ h. c.in-Held.ensures.made) (λ h is. (c.in-Ok.ensures.made, rw is c.in-Ok.ensures.found))
+    (λ notes x y plays. (moment.result.second, moment.ensures.told, rw moment.ensures.limit at plays)) (rw c.in-Ok.ensures.out at c.run.ensures.done)
+
+pub returns-in-Ok-clause-rest : goal.returns-in-Ok-clause-rest
+returns-in-Ok-clause-rest g c = rests c.requires.rest (returns-in-Ok-clause-made g c).0
+
+-- it has another, which is put back
+
+pub returns-in-Ok-2-clause-made : goal.returns-in-Ok-2-clause-made
+returns-in-Ok-2-clause-made g c =
+    let other = Some c.in-Ok.visit.berth.value in
+    let h : Handled _ _ = record { found = other; played = None; settled = None; left = other } in
+    let rest = c.give_up.ensures.done h in
+    let read = c.generation.ensures ∙ ap (λ (p : PairState). p.generation) c.pair.ensures in
+    held_made (Handling g.A.Moves.found g.A.Moves.played g.A.Moves.moved g.A.Acts.made) (λ notes x y. Unit {0}) _ _ (omega arith) c.in-Held.ensures.change.1
+    rest.noted rest.woke h tt rest.done (
+      _,
+      c.in-Held.ensures.made,
+      (
+        _,
+        (c.in-Ok.ensures.made, c.in-Ok.ensures.found),
+        (_, (rw c.in-Ok.ensures.out at c.put_in-back.ensures.made, c.put_in-back.ensures.moved), rest.acts),
+      ),
+    )
+    ((λ same. c.if-generation-ticket.false (read ∙ same)), refl)
+
+pub returns-in-Ok-2-clause-rest : goal.returns-in-Ok-2-clause-rest
+returns-in-Ok-2-clause-rest g c = rests c.requires.rest (returns-in-Ok-2-clause-made g c).0
+
+-- it is empty
+
+pub returns-in-Err-clause-made : goal.returns-in-Err-clause-made
+returns-in-Err-clause-made g c =
+    let h : Handled _ _ = record { found = None; played = None; settled = None; left = None } in
+    let rest = c.give_up-in-Err.ensures.done h in
+    held_made (Handling g.A.Moves.found g.A.Moves.played g.A.Moves.moved g.A.Acts.made) (λ notes x y. Unit {0}) _ _ (omega arith) c.in-Held.ensures.change.1
+    rest.noted rest.woke h tt rest.done (_, c.in-Held.ensures.made, (_, (c.in-Err.ensures.made, c.in-Err.ensures.empty.1), rest.acts)) (tt, refl)
+
+pub returns-in-Err-clause-rest : goal.returns-in-Err-clause-rest
+returns-in-Err-clause-rest g c = rests c.requires.rest (returns-in-Err-clause-made g c).0

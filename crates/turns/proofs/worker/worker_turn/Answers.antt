@@ -1,29 +1,27 @@
-use Rattle.std.proofs.Common.{refl}
-use Rattle.engine.specs.Turns.{IsServed}
-use Rattle.turns.{specs.Turns.Handling, proofs.Turns.{given_if_ended, hand_put, plays_at, turn_more}}
+use Rattle.std.proofs.Common.{◌∙◌, refl}
+use Rattle.turns.proofs.Turns.{answered, only_worn}
+use Rattle.turns.specs.declared.worker.Worked.TheVariants.{Ended}
 use Rattle.turns.proofs.worker.worker_turn.Goals as goal
 
-pub returns-in-Some-clause-made : goal.returns-in-Some-clause-made
-returns-in-Some-clause-made g c =
+pub returns-clause-made : goal.returns-clause-made
+returns-clause-made g c =
     let put = c.put_tickets.ensures in
     let gave = c.give_slots.ensures in
     record {
       begun = _;
-      put = hand_put c.args.own.now c.put_tickets.new.hand put.tickets put.slots put.took put.all gave.slots gave.tickets gave.took gave.all;
-      turn = turn_more (plays_at (IsServed g.F.Client.Wire.told g.F.Client.Wire.does) (IsServed g.F.Target.Wire.told g.F.Target.Wire.does) _ c.moment.ensures.told refl c.moment.ensures.limit)
-          (Handling g.A.Moves.found g.A.Moves.played g.A.Moves.moved g.A.Acts.made) c.in-Some.ensures.made;
+      put = record {
+        seat = refl;
+        tickets = rw gave.tickets put.tickets;
+        slots = gave.slots ∙ rw put.slots;
+        took = record { tickets = put.took; slots = gave.took };
+        all_tickets = rw gave.tickets put.all;
+        all_slots = gave.all;
+      };
+      turn = rw (← c.ok_or.ensures.value) at c.turn_of-turn.ensures.made;
     }
 
-pub returns-in-None-clause-made : goal.returns-in-None-clause-made
-returns-in-None-clause-made g c =
-    let put = c.put_tickets.ensures in
-    let gave = c.give_slots.ensures in
-    record {
-      begun = _;
-      put = hand_put c.args.own.now c.put_tickets.new.hand put.tickets put.slots put.took put.all gave.slots gave.tickets gave.took gave.all;
-      turn = turn_more (plays_at (IsServed g.F.Client.Wire.told g.F.Client.Wire.does) (IsServed g.F.Target.Wire.told g.F.Target.Wire.does) _ c.moment.ensures.told refl c.moment.ensures.limit)
-          (Handling g.A.Moves.found g.A.Moves.played g.A.Moves.moved g.A.Acts.made) c.in-None.ensures.made;
-    }
+pub returns-clause-worn : goal.returns-clause-worn
+returns-clause-worn g c = rw c.ok_or.ensures.value (only_worn _ c.turn_of-turn.new.own.seat c.turn_of-turn.ensures.worn)
 
-pub wake_if_ended-requires : goal.wake_if_ended-requires
-wake_if_ended-requires g c = record { given = λ ended. (given_if_ended c.in-Some.ensures.made.0.done.slots ended).kept }
+pub returns-clause-woken : goal.returns-clause-woken
+returns-clause-woken g c = λ ended. c.wake_if_ended.ensures.woken (answered _ Ended (rw c.ok_or.ensures.value at ended))

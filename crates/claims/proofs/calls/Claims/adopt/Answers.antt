@@ -15,22 +15,23 @@ invariant_of-seat-else-is_free c =
     let e = c.fetch_and-found.ensures in
     kept_beside e c.seat.invariant (makes_not_free (state e) (c.is_free.ensures (state e) (reads e)) c.if-is_free.false) refl c.seat.invariant.unworn (mark_kept e c.seat.invariant)
 
-pub returns-then-is_free-clause-change : goal.returns-then-is_free-clause-change
-returns-then-is_free-clause-change c =
+pub returns-then-is_free : goal.returns-then-is_free
+returns-then-is_free c =
     let e = c.fetch_and-found.ensures in
-    let free = c.is_free.ensures (state e) (reads e) in (
-      (state e).pending,
-      adds e c.seat.invariant c.seat.view_is (makes_adopted (state e) free c.if-is_free.true),
-      held_by_none e c.seat.invariant c.seat.view_is (omega (arith, ap one free, ap one c.if-is_free.true, one_le (state e).held)),
-    )
+    let free = c.is_free.ensures (state e) (reads e) in
+    record {
+      change = (
+        (state e).pending,
+        adds e c.seat.invariant c.seat.view_is (makes_adopted (state e) free c.if-is_free.true),
+        held_by_none e c.seat.invariant c.seat.view_is (omega (arith, ap one free, ap one c.if-is_free.true, one_le (state e).held)),
+      );
+      lawful = stepped e c.seat.invariant c.seat.view_is;
+    }
 
-pub returns-then-is_free-clause-lawful : goal.returns-then-is_free-clause-lawful
-returns-then-is_free-clause-lawful c = stepped c.fetch_and-found.ensures c.seat.invariant c.seat.view_is
-
-pub returns-else-is_free-clause-change : goal.returns-else-is_free-clause-change
-returns-else-is_free-clause-change c =
+pub returns-else-is_free : goal.returns-else-is_free
+returns-else-is_free c =
     let e = c.fetch_and-found.ensures in
-    adds e c.seat.invariant c.seat.view_is (makes_not_free (state e) (c.is_free.ensures (state e) (reads e)) c.if-is_free.false)
-
-pub returns-else-is_free-clause-lawful : goal.returns-else-is_free-clause-lawful
-returns-else-is_free-clause-lawful c = stepped c.fetch_and-found.ensures c.seat.invariant c.seat.view_is
+    record {
+      change = adds e c.seat.invariant c.seat.view_is (makes_not_free (state e) (c.is_free.ensures (state e) (reads e)) c.if-is_free.false);
+      lawful = stepped e c.seat.invariant c.seat.view_is;
+    }

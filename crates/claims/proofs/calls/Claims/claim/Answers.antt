@@ -10,27 +10,28 @@ invariant_of-seat c =
     let e = c.fetch_or-found.ensures in
     kept_beside e c.seat.invariant (makes_busy (state e) (c.is_held.ensures (state e) (reads e)) c.if-is_held.true) refl c.seat.invariant.unworn (mark_kept e c.seat.invariant)
 
-pub returns-then-is_held-clause-change : goal.returns-then-is_held-clause-change
-returns-then-is_held-clause-change c =
+pub returns-then-is_held : goal.returns-then-is_held
+returns-then-is_held c =
     let e = c.fetch_or-found.ensures in
-    adds e c.seat.invariant c.seat.view_is (makes_busy (state e) (c.is_held.ensures (state e) (reads e)) c.if-is_held.true)
-
-pub returns-then-is_held-clause-lawful : goal.returns-then-is_held-clause-lawful
-returns-then-is_held-clause-lawful c = stepped c.fetch_or-found.ensures c.seat.invariant c.seat.view_is
+    record {
+      change = adds e c.seat.invariant c.seat.view_is (makes_busy (state e) (c.is_held.ensures (state e) (reads e)) c.if-is_held.true);
+      lawful = stepped e c.seat.invariant c.seat.view_is;
+    }
 
 pub invariant_of-seat-2 : goal.invariant_of-seat-2
 invariant_of-seat-2 c =
     let e = c.fetch_or-found.ensures in
     kept_beside e c.seat.invariant (makes_held (state e) (c.is_held.ensures (state e) (reads e)) c.if-is_held.false) refl c.seat.invariant.unworn refl
 
-pub returns-clause-change : goal.returns-clause-change
-returns-clause-change c =
+pub returns : goal.returns
+returns c =
     let e = c.fetch_or-found.ensures in
-    let held = c.is_held.ensures (state e) (reads e) in (
-      (state e).pending,
-      adds e c.seat.invariant c.seat.view_is (makes_held (state e) held c.if-is_held.false),
-      held_by_none e c.seat.invariant c.seat.view_is (omega (arith, ap one held, ap one c.if-is_held.false)),
-    )
-
-pub returns-clause-lawful : goal.returns-clause-lawful
-returns-clause-lawful c = stepped c.fetch_or-found.ensures c.seat.invariant c.seat.view_is
+    let held = c.is_held.ensures (state e) (reads e) in
+    record {
+      change = (
+        (state e).pending,
+        adds e c.seat.invariant c.seat.view_is (makes_held (state e) held c.if-is_held.false),
+        held_by_none e c.seat.invariant c.seat.view_is (omega (arith, ap one held, ap one c.if-is_held.false)),
+      );
+      lawful = stepped e c.seat.invariant c.seat.view_is;
+    }

@@ -13,12 +13,11 @@ fetch_and-found-requires c = (
 pub invariant_of-seat : goal.invariant_of-seat
 invariant_of-seat c = kept_beside c.fetch_and-found.ensures c.seat.invariant refl refl c.seat.invariant.unworn refl
 
-pub returns-clause-change : goal.returns-clause-change
-returns-clause-change c =
+pub returns : goal.returns
+returns c =
     let e = c.fetch_and-found.ensures in
-    release_change c.args.slot c.args.seat.now _ _ (some_wait (state e).pending) (c.released.ensures (state e) (reads e))
-    (adds e c.seat.invariant c.seat.view_is refl)
-    (λ none. knew_none e c.seat.invariant c.seat.view_is (none_wait _ none))
-
-pub returns-clause-lawful : goal.returns-clause-lawful
-returns-clause-lawful c = stepped c.fetch_and-found.ensures c.seat.invariant c.seat.view_is
+    record {
+      change = release_change c.args.slot c.args.seat.now _ _ (some_wait (state e).pending) (c.released.ensures (state e) (reads e))
+          (adds e c.seat.invariant c.seat.view_is refl) (λ none. knew_none e c.seat.invariant c.seat.view_is (none_wait _ none));
+      lawful = stepped e c.seat.invariant c.seat.view_is;
+    }

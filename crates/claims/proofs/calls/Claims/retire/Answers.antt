@@ -13,8 +13,7 @@ fetch_or-requires c = (
 pub invariant_of-seat : goal.invariant_of-seat
 invariant_of-seat c = kept_beside c.fetch_or.ensures c.seat.invariant refl refl c.seat.invariant.unworn refl
 
-pub returns-clause-change : goal.returns-clause-change
-returns-clause-change c = adds c.fetch_or.ensures c.seat.invariant c.seat.view_is refl
-
-pub returns-clause-lawful : goal.returns-clause-lawful
-returns-clause-lawful c = stepped c.fetch_or.ensures c.seat.invariant c.seat.view_is
+pub returns : goal.returns
+returns c =
+    let e = c.fetch_or.ensures in
+    record { change = adds e c.seat.invariant c.seat.view_is refl; lawful = stepped e c.seat.invariant c.seat.view_is }

@@ -16,18 +16,13 @@ invariant_of-seat c =
     let e = c.fetch_and-found.ensures in
     kept_beside e c.seat.invariant refl refl c.seat.invariant.unworn (mark_kept e c.seat.invariant)
 
-pub returns-clause-change : goal.returns-clause-change
-returns-clause-change c =
+pub returns : goal.returns
+returns c =
     let e = c.fetch_and-found.ensures in
-    adds e c.seat.invariant c.seat.view_is (ap exchange.Take (sym (c.notes.ensures (state e) (reads e))))
-
-pub returns-clause-known : goal.returns-clause-known
-returns-clause-known c =
-    let e = c.fetch_and-found.ensures in
-    known_few e c.seat.invariant c.seat.view_is (c.notes.ensures (state e) (reads e))
-
-pub returns-clause-few : goal.returns-clause-few
-returns-clause-few c = took_few c.fetch_and-found.ensures
-
-pub returns-clause-lawful : goal.returns-clause-lawful
-returns-clause-lawful c = stepped c.fetch_and-found.ensures c.seat.invariant c.seat.view_is
+    let read = c.notes.ensures (state e) (reads e) in
+    record {
+      change = adds e c.seat.invariant c.seat.view_is (ap exchange.Take (sym read));
+      known = known_few e c.seat.invariant c.seat.view_is read;
+      few = took_few e;
+      lawful = stepped e c.seat.invariant c.seat.view_is;
+    }
