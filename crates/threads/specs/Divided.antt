@@ -2,6 +2,7 @@
 use Rattle.std.specs.{Prelude.{◌≡◌, ⊤, ℕ, ◌+◌, ◌*◌, List, [], ◌∷◌, length, reverse, Contains, slice_index_or}, List.enumerate_from}
 use Rattle.ready.specs.Steps.{EndState}
 use Rattle.dispatch.specs.declared.shared.Parts.{Parts}
+use Rattle.threads.specs.declared.working.Owned.{Owned}
 
 -- what no thread has been given yet: parts, and for each poller the ends of its free queue that are left
 pub record RestState : Type 0 where
@@ -25,6 +26,10 @@ AreEndsFrom ends poller (end ∷ more) = IsEndOf ends poller end × AreEndsFrom 
 pub record AreLeft (old new : List (List (EndState ℕ))) : Type 0 where
   pub pollers : length new ≡ length old
   pub each : (poller : ℕ) (end : EndState ℕ) → IsEndOf new poller end → IsEndOf old poller end
+
+-- a worker's ends of the pollers' free queues, in order: between two turns it uses the first
+abbrev pub ends_of : Owned → List (EndState ℕ)
+ends_of owned = owned.own.free ∷ owned.others.items
 
 -- a worker's ends: one of each poller's queue, in order
 abbrev pub HasOneOfEach : List (List (EndState ℕ)) → List (EndState ℕ) → Type 0

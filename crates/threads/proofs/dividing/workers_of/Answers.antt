@@ -1,7 +1,7 @@
 use Rattle.std.proofs.{Common.{◌≡◌, refl, ◌∷◌, arith}, lemmas.List.Elements.All-nil}
 use Rattle.std.specs.Arc.{arc_value}
 use Rattle.claims.{proofs.Seats.{fresh_holds_nothing}, specs.Seats.{fresh_seat}}
-use Rattle.threads.{specs.Divided.HasOneOfEach, proofs.Divided.{all_left, all_pushed, left_of_left, numbers_more, one_of_all, one_of_each}}
+use Rattle.threads.{specs.Divided.{HasOneOfEach, ends_of}, proofs.Divided.{all_left, all_pushed, left_of_left, numbers_more, one_of_all, one_of_each}}
 use Rattle.threads.proofs.dividing.workers_of.Goals as goal
 
 pub invariant_of-worker : goal.invariant_of-worker
@@ -11,32 +11,28 @@ invariant_of-worker g c =
 pub loop-index-preserved : goal.loop-index-preserved
 loop-index-preserved g c =
     let was = c.loop-index.invariant in
-    let pushed = c.push_reserved.ensures in
+    let pushed = c.in_ok-push.ensures.items in
     let others = c.in_ok-others.ensures in
     let owned = c.in_ok-shared.ensures in
     let ends = left_of_left was.ends others.left in
     record {
       fresh = owned.fresh;
-      numbers = numbers_more _ _ _ _ _ _ pushed.items refl was.numbers;
-      seats = all_pushed (λ worker. worker.own.seat ≡ fresh_seat (arc_value c.args.shared.now).claims) _ pushed.items was.seats owned.own;
-      slots = all_pushed (λ worker. HasOneOfEach c.args.rest.now.free (worker.own.free ∷ worker.others.items)) _ pushed.items was.slots
+      numbers = numbers_more _ _ _ _ _ _ pushed refl was.numbers;
+      seats = all_pushed (λ worker. worker.owned.own.seat ≡ fresh_seat (arc_value c.args.shared.now).claims) _ pushed was.seats owned.own;
+      slots = all_pushed (λ worker. HasOneOfEach c.args.rest.now.free (ends_of worker.owned)) _ pushed was.slots
           (one_of_all was.ends (c.in_ok-shared.own.free ∷ c.in_ok-others.others.items) (one_of_each _ _ others.ends others.all others.left owned.slots));
       ends = left_of_left ends owned.left;
-      len = omega (arith, pushed.len, was.len);
-      room = omega (arith, pushed.capacity, was.room);
     }
 
 pub loop-index-init : goal.loop-index-init
 loop-index-init g c =
-    let made = c.in_ok-made.ensures in
+    let none = c.in_ok-made.ensures.items in
     record {
       fresh = c.requires;
-      numbers = rw made.items;
-      seats = rw made.items (All-nil (λ worker. worker.own.seat ≡ fresh_seat (arc_value c.args.shared.now).claims));
-      slots = rw made.items (All-nil (λ worker. HasOneOfEach c.args.rest.now.free (worker.own.free ∷ worker.others.items)));
+      numbers = rw none;
+      seats = rw none (All-nil (λ worker. worker.owned.own.seat ≡ fresh_seat (arc_value c.args.shared.now).claims));
+      slots = rw none (All-nil (λ worker. HasOneOfEach c.args.rest.now.free (ends_of worker.owned)));
       ends = all_left;
-      len = made.len;
-      room = made.capacity;
     }
 
 pub returns : goal.returns

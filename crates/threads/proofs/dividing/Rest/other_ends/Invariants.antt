@@ -1,4 +1,4 @@
-use Rattle.std.{proofs.Common.{◌≡◌, ◌≤◌, ◌+◌, length}, specs.Prelude.{vec_len, vec_capacity}}
+use Rattle.std.proofs.Common.{◌≡◌, ◌≤◌, ◌+◌, ◌-◌, length}
 use Rattle.threads.specs.Divided.{AreEndsFrom, AreLeft}
 use Rattle.threads.proofs.dividing.Rest.other_ends.Given as goal
 
@@ -9,6 +9,5 @@ invariant-loop-poller l = record {
   ends : AreEndsFrom l.fn.self.free 1 l.ends.items;
   left : AreLeft l.fn.self.free l.self.free;
   len : length l.ends.items + 1 ≡ l.poller;
-  as_many : vec_len l.ends ≡ length l.ends.items;
-  room : l.pollers ≤ vec_capacity l.ends;
+  most : length l.ends.items ≤ l.pollers - 1;
 }

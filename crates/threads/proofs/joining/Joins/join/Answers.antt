@@ -5,7 +5,7 @@ use Rattle.threads.proofs.joining.Joins.join.Goals as goal
 pub loop-handle-init : goal.loop-handle-init
 loop-handle-init g c =
     let all : into_iter_items c.into_iter-handle-iterator.result ≡ c.args.self.handles.items = search rules in
-    record { long = search rules; room = search rules; joined = rw c.requires.none all }
+    record { long = search rules; room = search rules; joined = rw c.args.self.none all }
 
 pub loop-handle-preserved : goal.loop-handle-preserved
 loop-handle-preserved g c =

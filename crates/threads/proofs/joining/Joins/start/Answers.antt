@@ -1,11 +1,11 @@
-use Rattle.std.{proofs.Common.{◌≡◌, [], ◌∷◌, ap, arith, refl, length, rules}, specs.Vec.Iter.{into_iter_items}}
+use Rattle.std.{proofs.Common.{◌≡◌, [], ◌∷◌, ap, arith, length, rules}, specs.Vec.Iter.{into_iter_items}}
 use Rattle.threads.proofs.Served.{next_of_first, none_left}
 use Rattle.threads.proofs.joining.Joins.start.Goals as goal
 
 pub loop-part-init : goal.loop-part-init
 loop-part-init g c =
     let all : into_iter_items c.into_iter-part-iterator.result ≡ c.args.parts.items = search rules in
-    record { long = search rules; room = search rules; started = rw c.requires.none all; ends = refl }
+    record { long = search rules; room = search rules; room_for_ends = search rules; started = rw c.requires.none all }
 
 pub loop-part-preserved : goal.loop-part-preserved
 loop-part-preserved g c =
@@ -14,8 +14,8 @@ loop-part-preserved g c =
     record {
       long = omega (arith, ap length next, c.in-Some.ensures.steps.1, was.long);
       room = search rules;
+      room_for_ends = search rules;
       started = rw c.push_reserved.ensures.items (next_of_first _ _ _ _ _ _ (rw next at was.started) (search rules));
-      ends = was.ends;
     }
 
 pub push_reserved-requires : goal.push_reserved-requires

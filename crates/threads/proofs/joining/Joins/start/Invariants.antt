@@ -6,7 +6,7 @@ abbrev pub invariant-loop-part : goal.invariant-loop-part
 invariant-loop-part g l = record {
   long : length (into_iter_items l.part-iterator) ≡ into_iter_len l.part-iterator;
   room : vec_len l.self.handles + into_iter_len l.part-iterator ≤ vec_capacity l.self.handles;
+  room_for_ends : vec_len l.self.handles + into_iter_len l.part-iterator ≤ vec_capacity l.self.ends;
   started : OfFirst (λ part handle. IsOf l.context part handle.promise.context.now handle.promise.part.value) l.fn.parts.items
       l.self.handles.items (into_iter_items l.part-iterator);
-  ends : l.self.ends ≡ l.fn.self.ends;
 }

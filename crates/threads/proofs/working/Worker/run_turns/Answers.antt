@@ -1,9 +1,8 @@
-use Rattle.std.proofs.Common.{refl}
-use Rattle.threads.proofs.Loops.{worker_none, worker_both, worker_then_ends}
+use Rattle.threads.proofs.Loops.{worker_same, worker_both, worker_then_ends}
 use Rattle.threads.proofs.working.Worker.run_turns.Goals as goal
 
 pub loop-turn-init : goal.loop-turn-init
-loop-turn-init g c = worker_none refl refl refl refl refl
+loop-turn-init g c = worker_same
 
 pub returns-in-Err : goal.returns-in-Err
 returns-in-Err g c = record { ran = worker_then_ends c.loop-turn.invariant c.in-Err.ensures.cut }

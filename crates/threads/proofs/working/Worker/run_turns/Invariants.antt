@@ -3,4 +3,4 @@ use Rattle.threads.specs.Loops.{WorkerRan}
 use Rattle.threads.proofs.working.Worker.run_turns.Given as goal
 
 abbrev pub invariant-loop-turn : goal.invariant-loop-turn
-invariant-loop-turn g l = WorkerRan [] [] l.fn.self.own l.self.own l.fn.self.others.items l.self.others.items
+invariant-loop-turn g l = WorkerRan [] [] l.fn.self.owned l.self.owned
