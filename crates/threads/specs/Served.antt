@@ -1,11 +1,11 @@
 -- How the parts of a server are run to their ends, each in a thread of its own. Part of the promises.
-use Rattle.std.specs.{Prelude.{◌≡◌, ℕ, Bool, All, List, [], ◌∷◌, ◌++◌, length, map, Option, None, option_to_list}, List.{range_with_len}}
+use Rattle.std.specs.{Prelude.{◌≡◌, ℕ, Bool, All, List, [], ◌++◌, length, map, Option, None, option_to_list}, List.{range_with_len}}
 use Rattle.claims.specs.Seats.{SeatState}
 use Rattle.ready.specs.Steps.{EndState}
 use Rattle.dispatch.specs.declared.shared.Own.{Own}
 use Rattle.rounds.specs.Pollers.{PollerState}
 use Rattle.dispatch.specs.declared.front.Unaccepted.{Unaccepted}
-use Rattle.threads.specs.{declared.{context.ThreadEnd.ThreadEnd, faults.Few.Few, running.Served.Served, working.Owned.Owned}, Divided.{HasOneOfEach, IsEndOf, ends_of, numbered}, Loops.{EndsWell, PollerRan, RunMade, WorkerEnded}}
+use Rattle.threads.specs.{declared.{context.ThreadEnd.ThreadEnd, faults.Few.Few, running.Served.Served, working.Owned.Owned}, Divided.{HasOneOfEach, IsEndOf, OfFirst, ends_of, numbered}, Loops.{EndsWell, PollerRan, RunMade, WorkerEnded}}
 
 -- what a poller's thread begins with
 pub record PollerPart : Type 0 where
@@ -48,12 +48,6 @@ pub record PollerRuns (said : Bool → Type 0) (tells : ℕ → Type 0) (gave_no
   pub own : Own
   pub made : RunMade said (EndsWell tells gave_none limit) tells mark end.why part.poller part.own own
   pub ran : PollerRan part.own own
-
--- the second list has, in order, one for each of the first of these parts; these parts are left
-abbrev pub OfFirst : {P E : Type 0} → (P → E → Type 0) → List P → List E → List P → Type 0
-OfFirst is parts [] left = left ≡ parts
-OfFirst is [] (end ∷ ends) left = ⊥
-OfFirst is (part ∷ parts) (end ∷ ends) left = is part end × OfFirst is parts ends left
 
 -- The parts that have threads of their own ran to their ends, in order: all, or if a thread could not be started, the first
 abbrev pub RanToEnds : {P : Type 0} → (P → ThreadEnd → Type 0) → Option Few → List P → List ThreadEnd → Type 0

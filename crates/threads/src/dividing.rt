@@ -1,8 +1,8 @@
 //! Divides what a server is made of among its threads.
-ghost use Rattle.std.specs.{Prelude.{◌≡◌, ◌-◌, ◌≤◌, All, length, map, IfOk, IfSome, OnOk}, Arc.arc_value, List.range_with_len};
+ghost use Rattle.std.specs.{Prelude.{◌≡◌, ◌≤◌, [], All, Contains, drop, map, IfOk, IfSome, OnOk}, Arc.arc_value, List.range_with_len};
 ghost use Rattle.claims.specs.Seats.{fresh_seat};
 ghost use Rattle.dispatch.specs.{Hands.empty_hand, Posts.AreFresh};
-ghost use Rattle.threads.specs.Divided.{hand_of_poller, numbered, IsEndOf, AreEndsFrom, AreLeft, HasOneOfEach, ends_of};
+ghost use Rattle.threads.specs.Divided.{hand_of_poller, numbered, IsEndOf, AreLeft, HasOneOfEach, OfFirst, ends_of};
 ghost use Rattle.threads.specs.Served.{IsDivided, poller_part, worker_part};
 
 use crate::polling::PollerThread;
@@ -186,8 +186,7 @@ impl Rest {
     /// An end of each queue but the first poller's, in order.
     fn other_ends(&mut self, alloc: Global) -> Result<Vec<FreeQueue>, ServerFault>
         ensures parts { OnOk result (self.new.parts ≡ self.old.parts) }
-        ensures ends { IfOk result (λ ends. AreEndsFrom self.old.free 1 ends.items) }
-        ensures all { IfOk result (λ ends. length ends.items ≡ length self.old.free - 1) }
+        ensures ends { IfOk result (λ ends. OfFirst Contains (drop 1 self.old.free) ends.items []) }
         ensures left { OnOk result (AreLeft self.old.free self.new.free) }
     {
         let pollers = self.free.len();

@@ -1,6 +1,6 @@
 //! The threads of parts that have one each: how they are started, and joined.
 ghost use Rattle.std.specs.Prelude.{◌≡◌, ◌≤◌, [], IfOk, true, vec_capacity, vec_len};
-ghost use Rattle.threads.specs.Served.{IsOf, OfFirst};
+ghost use Rattle.threads.specs.{Divided.OfFirst, Served.IsOf};
 
 use crate::context::ThreadEnd;
 use std::alloc::{AllocError, Global};

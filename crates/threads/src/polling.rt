@@ -97,6 +97,7 @@ impl<F: Front + Drop> PollerThread<F> {
     /// One step of the thread: a round, and then the turns of the tickets that stay with this thread, 32 at most.
     /// Refused if the thread ends: the poller is over, a fault was recorded before the round or before one of the
     /// turns, or this step met a fault.
+    #[tactic(auto, using(crate::proofs::Loops::ran_none))]
     pub fn step<G: Gate, C: Clock, R: Wait + Log, S: StopFlag>(
         &mut self,
         context: &Context<'_, G, C, R, S>,

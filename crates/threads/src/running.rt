@@ -3,7 +3,7 @@ ghost use Rattle.std.specs.Prelude.{◌≡◌, ℕ, List, [], IfOk, IfSome, IsSo
 ghost use Rattle.std.specs.Thread.{IsSend, IsSync};
 ghost use Rattle.claims.specs.Seats.{fresh_seat};
 ghost use Rattle.dispatch.specs.Posts.{AreFresh};
-ghost use Rattle.threads.specs.Served.{AllRan, IsDivided, OfFirst, PollerPart, PollerRuns, WorkerPart, WorkerRuns, poller_part, worker_part};
+ghost use Rattle.threads.specs.{Divided.OfFirst, Served.{AllRan, IsDivided, PollerPart, PollerRuns, WorkerPart, WorkerRuns, poller_part, worker_part}};
 
 use crate::context::{Context, StopFlag, ThreadEnd};
 use crate::dividing::{Rest, ServerThreads, divide};

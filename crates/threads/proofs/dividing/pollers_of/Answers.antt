@@ -1,7 +1,7 @@
 use Rattle.std.proofs.{Common.{◌≡◌, arith}, lemmas.List.Elements.All-nil}
 use Rattle.std.specs.Arc.{arc_value}
 use Rattle.claims.specs.Seats.{fresh_seat}
-use Rattle.threads.{specs.Divided.IsEndOf, proofs.Divided.{all_left, all_made, all_pushed, left_of_left, threads_more}}
+use Rattle.threads.{specs.Divided.IsEndOf, proofs.Divided.{all_left, all_made, all_pushed, end_of_left, left_of_left, threads_more}}
 use Rattle.threads.proofs.dividing.pollers_of.Goals as goal
 
 pub loop-poller-init : goal.loop-poller-init
@@ -12,7 +12,7 @@ loop-poller-init g c =
       numbered = rw none;
       seats = rw none (All-nil (λ thread. thread.own.seat ≡ fresh_seat (arc_value c.args.shared.now).claims));
       slots = rw none (All-nil (λ thread. IsEndOf c.args.rest.now.free thread.number thread.own.free));
-      ends = all_left;
+      ends = all_left _;
     }
 
 pub loop-poller-preserved : goal.loop-poller-preserved
@@ -24,7 +24,7 @@ loop-poller-preserved g c =
       fresh = made.fresh;
       numbered = threads_more _ _ _ _ _ _ _ c.len-in-Some.result _ pushed c.in-Some.ensures.items (omega (arith, c.len-in-Some.ensures, c.pop.new.self.ok.0)) (rw (made.made.0, made.made.1)) was.numbered;
       seats = all_pushed (λ thread. thread.own.seat ≡ fresh_seat (arc_value c.args.shared.now).claims) _ pushed was.seats made.seat;
-      slots = all_pushed (λ thread. IsEndOf c.args.rest.now.free thread.number thread.own.free) _ pushed was.slots (was.ends.each _ _ made.slots);
+      slots = all_pushed (λ thread. IsEndOf c.args.rest.now.free thread.number thread.own.free) _ pushed was.slots (end_of_left _ _ _ _ was.ends made.slots);
       ends = left_of_left was.ends made.left;
     }
 

@@ -1,4 +1,4 @@
-use Rattle.std.proofs.{Common.{◌≡◌, refl, ◌∷◌, arith}, lemmas.List.Elements.All-nil}
+use Rattle.std.proofs.{Common.{◌≡◌, refl, ◌∷◌, ap, length, arith}, lemmas.List.Elements.All-nil}
 use Rattle.std.specs.Arc.{arc_value}
 use Rattle.claims.{proofs.Seats.{fresh_holds_nothing}, specs.Seats.{fresh_seat}}
 use Rattle.threads.{specs.Divided.{HasOneOfEach, ends_of}, proofs.Divided.{all_left, all_pushed, left_of_left, numbers_more, one_of_all, one_of_each}}
@@ -20,7 +20,7 @@ loop-index-preserved g c =
       numbers = numbers_more _ _ _ _ _ _ pushed refl was.numbers;
       seats = all_pushed (λ worker. worker.owned.own.seat ≡ fresh_seat (arc_value c.args.shared.now).claims) _ pushed was.seats owned.own;
       slots = all_pushed (λ worker. HasOneOfEach c.args.rest.now.free (ends_of worker.owned)) _ pushed was.slots
-          (one_of_all was.ends (c.in_ok-shared.own.free ∷ c.in_ok-others.others.items) (one_of_each _ _ others.ends others.all others.left owned.slots));
+          (one_of_all was.ends (c.in_ok-shared.own.free ∷ c.in_ok-others.others.items) (one_of_each _ _ others.ends others.left owned.slots));
       ends = left_of_left ends owned.left;
     }
 
@@ -31,8 +31,8 @@ loop-index-init g c =
       fresh = c.requires;
       numbers = rw none;
       seats = rw none (All-nil (λ worker. worker.owned.own.seat ≡ fresh_seat (arc_value c.args.shared.now).claims));
-      slots = rw none (All-nil (λ worker. HasOneOfEach c.args.rest.now.free (ends_of worker.owned)));
-      ends = all_left;
+      slots = λ k d below. absurd (omega (arith, ap length none));
+      ends = all_left _;
     }
 
 pub returns : goal.returns

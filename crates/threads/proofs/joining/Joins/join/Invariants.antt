@@ -1,5 +1,5 @@
 use Rattle.std.specs.{Prelude.{◌≡◌, ◌+◌, ◌≤◌, length, vec_len, vec_capacity}, Vec.Iter.{into_iter_items, into_iter_len}}
-use Rattle.threads.specs.Served.{OfFirst}
+use Rattle.threads.specs.Divided.{OfFirst}
 use Rattle.threads.proofs.joining.Joins.join.Given as goal
 
 abbrev pub invariant-loop-handle : goal.invariant-loop-handle

@@ -1,5 +1,5 @@
 use Rattle.std.specs.{Prelude.{◌≡◌, ◌+◌, ◌≤◌, length, vec_len, vec_capacity}, Vec.Iter.{into_iter_items, into_iter_len}}
-use Rattle.threads.specs.Served.{IsOf, OfFirst}
+use Rattle.threads.specs.{Divided.OfFirst, Served.IsOf}
 use Rattle.threads.proofs.joining.Joins.start.Given as goal
 
 abbrev pub invariant-loop-part : goal.invariant-loop-part
