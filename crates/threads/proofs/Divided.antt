@@ -1,5 +1,5 @@
 -- Which ends of the queues of free slots the threads get, and in which order the threads are made.
-use Rattle.std.{proofs.{Common.{◌≡◌, ℕ, zero, suc, ◌+◌, List, [], ◌∷◌, ◌++◌, length, drop, map, All, slice_index_or, Some, ◌<◌, refl, sym, add-one, append_assoc, append-nil, arith}, Math.Seq.drop-cons, lemmas.List.{map-append, nil_from_length, reverse-append, Elements.{All-push, All-weaker, Contains-append_left, Contains-push}}}, specs.{Prelude.{Contains, Option, None, IfSome, option_to_list}, List.{slice_set, enumerate_from, range_with_len}}}
+use Rattle.std.{proofs.{Common.{◌≡◌, ℕ, zero, suc, ◌+◌, List, [], ◌∷◌, ◌++◌, length, drop, map, All, slice_index_or, Some, ◌<◌, refl, sym, add-one, append_assoc, append-nil, arith}, Math.Seq.drop-cons, lemmas.List.{map-append, map-id, nil_from_length, reverse-append, FromFn.map-range_with_len_more, Elements.{All-push, All-weaker, Contains-append_left, Contains-push}}}, specs.{Prelude.{Contains, Option, None, IfSome, option_to_list}, List.{slice_set, enumerate_from, range_with_len}}}
 use Rattle.ready.specs.Steps.{EndState}
 use Rattle.threads.{specs.Divided.{numbered, IsEndOf, AreLeft, HasOneOfEach, OfFirst}, proofs.Served.{next_of_first, through}}
 
@@ -32,11 +32,7 @@ numbered_more xs x = let e : 0 + length xs ≡ length xs = omega arith in rw (en
 
 -- one number more
 range_more : (first n : ℕ) → range_with_len first (n + 1) ≡ range_with_len first n ++ (first + n) ∷ []
-range_more first zero = let e : first + 0 ≡ first = omega arith in rw e
-range_more first (suc n) =
-    let one : suc n + 1 ≡ suc (n + 1) = omega arith in
-    let last : first + 1 + n ≡ first + suc n = omega arith in
-    rw (one, range_more (first + 1) n, last)
+range_more first n = simp map-id at (map-range_with_len_more (λ (x : ℕ). x) first n (first + n) refl)
 
 -- one more in order
 pub one_end_more : {old new : List (List End)} (poller : ℕ) (xs ys : List End) (x : End) → ys ≡ xs ++ x ∷ [] → poller < length old → AreLeft old new

@@ -9,10 +9,6 @@ next_of_first is parts [] part left end these so = rw (← these) (so, refl)
 next_of_first is [] (e ∷ ends) part left end these so = absurd these
 next_of_first is (p ∷ parts) (e ∷ ends) part left end these so = (these.0, next_of_first is parts ends part left end these.1 so)
 
-pub none_left : {P : Type 0} (parts : List P) → length parts ≡ 0 → parts ≡ []
-none_left [] none = refl
-none_left (part ∷ parts) none = absurd (omega arith)
-
 -- of the first parts, and of all that are of those
 pub through : {P H E : Type 0} (of : P → H → Type 0) (kept : H → E → Type 0) (runs : P → E → Type 0) → ((p : P) (h : H) (e : E) → of p h → kept h e → runs p e)
     → (parts : List P) (handles : List H) (ends : List E) (left : List P) → OfFirst of parts handles left → OfFirst kept handles ends [] → OfFirst runs parts ends left

@@ -193,6 +193,7 @@ impl<F: Front + Drop> PollerThread<F> {
 
     /// Runs the turn of the oldest ticket in hand. None if there is no ticket, or no room in hand for a slot. If the
     /// turn ends the connection, and this poller has opened all that it may, the slot's poller is woken.
+    #[tactic(auto, using(crate::proofs::Loops::own_ran))]
     fn turn<G: Gate, C: Clock, R: Wait + Log, S: StopFlag>(
         &mut self,
         context: &Context<'_, G, C, R, S>,

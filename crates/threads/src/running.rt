@@ -145,10 +145,9 @@ impl<'a, F: Front + Drop, G: Gate, C: Clock, R: Wait + Log, S: StopFlag> Part<
         context.timing.limit context.ending.now (poller_part poller.number poller.poller poller.own) end };
 
     /// Tools such as top(1) show the thread by its name.
-    fn run_to_end(self, context: &Context<'a, G, C, R, S>) -> ThreadEnd {
-        let mut poller = self;
+    fn run_to_end(mut self, context: &Context<'a, G, C, R, S>) -> ThreadEnd {
         set_thread_name(b"poller");
-        poller.run(context).end()
+        self.run(context).end()
     }
 }
 
@@ -159,10 +158,9 @@ impl<'a, F: Front + Drop, G: Gate, C: Clock, R: Wait + Log, S: StopFlag> Part<
 
     ghost runs = { λ context worker end. WorkerRuns context.ending.now (worker_part worker.number worker.owned) end };
 
-    fn run_to_end(self, context: &Context<'a, G, C, R, S>) -> ThreadEnd {
-        let mut worker = self;
+    fn run_to_end(mut self, context: &Context<'a, G, C, R, S>) -> ThreadEnd {
         set_thread_name(b"worker");
-        worker.run(context).end()
+        self.run(context).end()
     }
 }
 

@@ -34,7 +34,7 @@ pub struct Owned {
 }
 
 impl<F: Front + Drop> Worker<F> {
-    /// Makes its steps until one ends the thread.
+    /// Makes its steps until one ends the thread: the queue of tickets is closed and empty, or a fault is recorded or met.
     pub fn run<'c, G: Gate, C: Clock, R: Wait + Log, S>(
         &mut self,
         context: &'c Context<'_, G, C, R, S>,
@@ -44,8 +44,12 @@ impl<F: Front + Drop> Worker<F> {
         ensures number { result.number ≡ self.old.number }
     {
         let number = self.number;
-        let ended = self.run_turns(context);
-        self.finish(context, number, ended)
+        for _turn in context.rt.forever() {
+            if let Err(ended) = self.step(context) {
+                return self.finish(context, number, ended);
+            }
+        }
+        unreachable!()
     }
 
     /// The thread has ended, as [`Context::end`] says.
@@ -60,21 +64,6 @@ impl<F: Front + Drop> Worker<F> {
         ensures of { (result.number ≡ number) × (result.why ≡ ended.why) }
     {
         context.end(&self.shared, number, &mut self.owned.own.ready, ended)
-    }
-
-    /// Makes steps until the queue of tickets is closed and empty, or a fault is recorded or met.
-    fn run_turns<G: Gate, C: Clock, R: Wait + Log, S>(
-        &mut self,
-        context: &Context<'_, G, C, R, S>,
-    ) -> Ended
-        ensures ran { WorkerEnded context.now.ending.now result.why self.old.owned self.new.owned }
-    {
-        for _turn in context.rt.forever() {
-            if let Err(ended) = self.step(context) {
-                return ended;
-            }
-        }
-        unreachable!()
     }
 
     /// One step of the thread: it puts the tickets in hand, which the queue refused before, takes a ticket, for which
@@ -114,6 +103,7 @@ impl<F: Front + Drop> Worker<F> {
     }
 
     /// Puts the tickets that are in hand, as far as their queue has room.
+    #[tactic(auto, using(crate::proofs::Loops::worker_none))]
     fn put_hand(&mut self, rt: &impl Wait)
         ensures ran { WorkerRan [] [] self.old.owned self.new.owned }
         ensures put { PutAll self.new.owned.own.ready self.new.owned.own.hand.tickets }

@@ -1,6 +1,6 @@
-use Rattle.std.proofs.{Common.{◌∙◌, ap, arith, map, sym}, lemmas.List.map-append}
+use Rattle.std.proofs.{Common.{◌∙◌, ap, arith, map, sym}, lemmas.List.{map-append, nil_from_length}}
 use Rattle.std.specs.Prelude.{option_to_list}
-use Rattle.threads.{specs.Served.{poller_part, worker_part}, proofs.Served.{none_left, ran_to_ends}}
+use Rattle.threads.{specs.Served.{poller_part, worker_part}, proofs.Served.{ran_to_ends}}
 use Rattle.threads.proofs.running.run_in.Goals as goal
 
 pub returns : goal.returns
@@ -17,5 +17,5 @@ returns g c =
           enough c.start-all.ensures.started c.join.ensures;
       first_ran = first.ran;
       has_first = λ none. ap (map (λ p. poller_part p.number p.poller p.own))
-          (none_left c.args.threads.pollers.items (let gone = rw (first.none none) at c.pop-first.ensures.cases in omega (arith, gone.0, c.args.threads.pollers.ok.0)));
+          (nil_from_length c.args.threads.pollers.items (let gone = rw (first.none none) at c.pop-first.ensures.cases in omega (arith, gone.0, c.args.threads.pollers.ok.0)));
     }

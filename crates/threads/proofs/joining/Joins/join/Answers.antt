@@ -1,5 +1,5 @@
-use Rattle.std.{proofs.Common.{◌≡◌, [], ◌∷◌, ap, arith, length, rules}, specs.Vec.Iter.{into_iter_items}}
-use Rattle.threads.proofs.Served.{next_of_first, none_left}
+use Rattle.std.{proofs.{Common.{◌≡◌, [], ◌∷◌, ap, arith, length, rules}, lemmas.List.nil_from_length}, specs.Vec.Iter.{into_iter_items}}
+use Rattle.threads.proofs.Served.{next_of_first}
 use Rattle.threads.proofs.joining.Joins.join.Goals as goal
 
 pub loop-handle-init : goal.loop-handle-init
@@ -22,5 +22,5 @@ push_reserved-requires g c = let room = c.loop-handle.invariant.room in search r
 
 pub returns : goal.returns
 returns g c =
-    let none : into_iter_items c.loop-handle.handle-iterator ≡ [] = none_left _ (omega (arith, c.loop-handle.invariant.long, c.in-None.ensures.steps.0)) in
+    let none : into_iter_items c.loop-handle.handle-iterator ≡ [] = nil_from_length _ (omega (arith, c.loop-handle.invariant.long, c.in-None.ensures.steps.0)) in
     rw none at c.loop-handle.invariant.joined

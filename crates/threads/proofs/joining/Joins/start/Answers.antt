@@ -1,5 +1,5 @@
-use Rattle.std.{proofs.Common.{◌≡◌, [], ◌∷◌, ap, arith, length, rules}, specs.Vec.Iter.{into_iter_items}}
-use Rattle.threads.proofs.Served.{next_of_first, none_left}
+use Rattle.std.{proofs.{Common.{◌≡◌, [], ◌∷◌, ap, arith, length, rules}, lemmas.List.nil_from_length}, specs.Vec.Iter.{into_iter_items}}
+use Rattle.threads.proofs.Served.{next_of_first}
 use Rattle.threads.proofs.joining.Joins.start.Goals as goal
 
 pub loop-part-init : goal.loop-part-init
@@ -26,5 +26,5 @@ returns-in-Err-clause-started g c = (_, c.loop-part.invariant.started, λ not. s
 
 pub returns-clause-started : goal.returns-clause-started
 returns-clause-started g c =
-    let none : into_iter_items c.loop-part.part-iterator ≡ [] = none_left _ (omega (arith, c.loop-part.invariant.long, c.in-None.ensures.steps.0)) in
+    let none : into_iter_items c.loop-part.part-iterator ≡ [] = nil_from_length _ (omega (arith, c.loop-part.invariant.long, c.in-None.ensures.steps.0)) in
     (_, c.loop-part.invariant.started, λ _. none)
