@@ -1,5 +1,5 @@
 -- Which ends of the queues of free slots the threads get, and in which order the threads are made.
-use Rattle.std.{proofs.{Common.{◌≡◌, ℕ, zero, suc, ◌+◌, List, [], ◌∷◌, ◌++◌, length, drop, map, All, slice_index_or, Some, ◌<◌, refl, sym, add-one, append_assoc, append-nil, arith}, Math.Seq.drop-cons, lemmas.List.{map-append, map-id, nil_from_length, reverse-append, FromFn.map-range_with_len_more, Elements.{All-push, All-weaker, Contains-append_left, Contains-push}}}, specs.{Prelude.{Contains, Option, None, IfSome, option_to_list}, List.{slice_set, enumerate_from, range_with_len}}}
+use Rattle.std.{proofs.{Common.{◌≡◌, ℕ, zero, suc, ◌+◌, List, [], ◌∷◌, ◌++◌, length, drop, map, All, slice_index_or, Some, ◌<◌, refl, sym, add-one, append_assoc, append-nil, arith}, Math.Seq.drop-cons, lemmas.List.{map-append, map-id, nil_from_length, reverse-append, FromFn.map-range_with_len_more, Elements.{All-push, Contains-append_left, Contains-push}}}, specs.{Prelude.{Contains, Option, None, IfSome, option_to_list}, List.{slice_set, enumerate_from, range_with_len}}}
 use Rattle.ready.specs.Steps.{EndState}
 use Rattle.threads.{specs.Divided.{numbered, IsEndOf, AreLeft, HasOneOfEach, OfFirst}, proofs.Served.{next_of_first, through}}
 
@@ -58,10 +58,6 @@ module _ {X : Type 0} where
 
   pub all_pushed : (P : X → Type 0) {now : List X} (made : List X) {x : X} → now ≡ made ++ x ∷ [] → All P made → P x → All P now
   all_pushed P made {x = x} more all one = rw more (All-push P made x all one)
-
-  pub each_of_all : (f : X → List End) {old new : List (List End)} (xs : List X) → AreLeft old new → All (λ (x : X). HasOneOfEach new (f x)) xs
-      → All (λ (x : X). HasOneOfEach old (f x)) xs
-  each_of_all f {old} {new} xs left all = All-weaker (λ (x : X). HasOneOfEach new (f x)) (λ (x : X). HasOneOfEach old (f x)) (λ x has. one_of_all left (f x) has) xs all
 
   -- one thread more, of the last poller that is left
   pub threads_more : {A : Type 0} (g : X → ℕ × A) (made now : List X) (x : X) (left some : List A) (p : A) (n : ℕ) (all : List (ℕ × A)) → now ≡ made ++ x ∷ []

@@ -29,11 +29,9 @@ worker_part number owned = record { number = number; owned = owned }
 pub record IsDivided (fresh : SeatState) (free : List (List (EndState ℕ))) (pollers : List PollerState) (workers : ℕ)
     (of_pollers : List PollerPart) (of_workers : List WorkerPart) : Type 0 where
   pub pollers_are : map (λ (p : PollerPart). (p.number, p.poller)) of_pollers ≡ numbered pollers
-  pub seats : All (λ (p : PollerPart). p.own.seat ≡ fresh) of_pollers
-  pub own_slots : All (λ (p : PollerPart). IsEndOf free p.number p.own.free) of_pollers
+  pub pollers_own : All (λ (p : PollerPart). (p.own.seat ≡ fresh) × IsEndOf free p.number p.own.free) of_pollers
   pub workers_are : map (λ (w : WorkerPart). w.number) of_workers ≡ range_with_len (length pollers) workers
-  pub other_seats : All (λ (w : WorkerPart). w.owned.own.seat ≡ fresh) of_workers
-  pub all_slots : All (λ (w : WorkerPart). HasOneOfEach free (ends_of w.owned)) of_workers
+  pub workers_own : All (λ (w : WorkerPart). (w.owned.own.seat ≡ fresh) × HasOneOfEach free (ends_of w.owned)) of_workers
 
 -- a worker's thread ran to its end. A fault that it found is recorded, as this mark shows
 pub record WorkerRuns (mark : ℕ) (part : WorkerPart) (end : ThreadEnd) : Type 0 where

@@ -76,8 +76,8 @@ fn pollers_of<F: Front + Drop>(
     requires { AreFresh (arc_value shared.now).claims rest.old.parts.seats.items }
     ensures fresh { OnOk result (AreFresh (arc_value shared.now).claims rest.new.parts.seats.items) }
     ensures pollers { IfOk result (λ threads. map (λ thread. (thread.number, thread.poller)) threads.items ≡ numbered pollers.items) }
-    ensures seats { IfOk result (λ threads. All (λ thread. thread.own.seat ≡ fresh_seat (arc_value shared.now).claims) threads.items) }
-    ensures slots { IfOk result (λ threads. All (λ thread. IsEndOf rest.old.free thread.number thread.own.free) threads.items) }
+    ensures own { IfOk result (λ threads. All (λ thread. (thread.own.seat ≡ fresh_seat (arc_value shared.now).claims)
+        × IsEndOf rest.old.free thread.number thread.own.free) threads.items) }
     ensures left { OnOk result (AreLeft rest.old.free rest.new.free) }
 {
     let mut threads = Vec::with_capacity(alloc, pollers.len())?;
@@ -135,8 +135,8 @@ fn workers_of<F: Front + Drop>(
 ) -> Result<Vec<Worker<F>>, ServerFault>
     requires { AreFresh (arc_value shared.now).claims rest.old.parts.seats.items }
     ensures numbers { IfOk result (λ made. map (λ worker. worker.number) made.items ≡ range_with_len first workers) }
-    ensures seats { IfOk result (λ made. All (λ worker. worker.owned.own.seat ≡ fresh_seat (arc_value shared.now).claims) made.items) }
-    ensures slots { IfOk result (λ made. All (λ worker. HasOneOfEach rest.old.free (ends_of worker.owned)) made.items) }
+    ensures own { IfOk result (λ made. All (λ worker. (worker.owned.own.seat ≡ fresh_seat (arc_value shared.now).claims)
+        × HasOneOfEach rest.old.free (ends_of worker.owned)) made.items) }
 {
     let mut made = Vec::with_capacity(alloc, workers)?;
     for index in 0..workers {

@@ -193,7 +193,7 @@ impl Ending {
     }
 
     pub(crate) fn outcome(self, served: Served) -> Outcome
-        ensures few { IsSome served.few → result.fault ≡ Some ServerFault.Threads }
+        ensures few { IfSome result.served (λ served. IsSome served.few → result.fault ≡ Some ServerFault.Threads) }
         ensures served { result.served ≡ Some served }
     {
         self.first.into_inner().outcome(served)

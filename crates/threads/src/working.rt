@@ -35,6 +35,7 @@ pub struct Owned {
 
 impl<F: Front + Drop> Worker<F> {
     /// Makes its steps until one ends the thread: the queue of tickets is closed and empty, or a fault is recorded or met.
+    #[tactic(auto, using(crate::proofs::Loops::worker_same, crate::proofs::Loops::worker_both))]
     pub fn run<'c, G: Gate, C: Clock, R: Wait + Log, S>(
         &mut self,
         context: &'c Context<'_, G, C, R, S>,

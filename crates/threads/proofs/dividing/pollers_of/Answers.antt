@@ -1,4 +1,4 @@
-use Rattle.std.proofs.{Common.{◌≡◌, arith}, lemmas.List.Elements.All-nil}
+use Rattle.std.proofs.Common.{◌≡◌, ap, arith, length}
 use Rattle.std.specs.Arc.{arc_value}
 use Rattle.claims.specs.Seats.{fresh_seat}
 use Rattle.threads.{specs.Divided.IsEndOf, proofs.Divided.{all_left, all_made, all_pushed, end_of_left, left_of_left, threads_more}}
@@ -10,8 +10,7 @@ loop-poller-init g c =
     record {
       fresh = c.requires;
       numbered = rw none;
-      seats = rw none (All-nil (λ thread. thread.own.seat ≡ fresh_seat (arc_value c.args.shared.now).claims));
-      slots = rw none (All-nil (λ thread. IsEndOf c.args.rest.now.free thread.number thread.own.free));
+      own = λ k d below. absurd (omega (arith, ap length none));
       ends = all_left _;
     }
 
@@ -23,8 +22,8 @@ loop-poller-preserved g c =
     record {
       fresh = made.fresh;
       numbered = threads_more _ _ _ _ _ _ _ c.len-in-Some.result _ pushed c.in-Some.ensures.items (omega (arith, c.len-in-Some.ensures, c.pop.new.self.ok.0)) (rw (made.made.0, made.made.1)) was.numbered;
-      seats = all_pushed (λ thread. thread.own.seat ≡ fresh_seat (arc_value c.args.shared.now).claims) _ pushed was.seats made.seat;
-      slots = all_pushed (λ thread. IsEndOf c.args.rest.now.free thread.number thread.own.free) _ pushed was.slots (end_of_left _ _ _ _ was.ends made.slots);
+      own = all_pushed (λ thread. (thread.own.seat ≡ fresh_seat (arc_value c.args.shared.now).claims) × IsEndOf c.args.rest.now.free thread.number thread.own.free)
+          _ pushed was.own (made.seat, end_of_left _ _ _ _ was.ends made.slots);
       ends = left_of_left was.ends made.left;
     }
 
@@ -35,4 +34,4 @@ pub returns : goal.returns
 returns g c =
     let was = c.loop-poller.invariant in
     let pollers = all_made _ _ c.loop-poller.pollers.items (omega (arith, c.in_default.ensures.cases.0, c.loop-poller.pollers.ok.0)) was.numbered in
-    record { fresh = was.fresh; pollers = pollers; seats = was.seats; slots = was.slots; left = was.ends }
+    record { fresh = was.fresh; pollers = pollers; own = was.own; left = was.ends }

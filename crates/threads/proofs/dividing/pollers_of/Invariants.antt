@@ -8,8 +8,7 @@ abbrev pub invariant-loop-poller : goal.invariant-loop-poller
 invariant-loop-poller g l = record {
   fresh : AreFresh (arc_value l.shared).claims l.rest.parts.seats.items;
   numbered : map (λ thread. (thread.number, thread.poller)) l.threads.items ++ numbered l.pollers.items ≡ numbered l.fn.pollers.items;
-  seats : All (λ thread. thread.own.seat ≡ fresh_seat (arc_value l.shared).claims) l.threads.items;
-  slots : All (λ thread. IsEndOf l.fn.rest.free thread.number thread.own.free) l.threads.items;
+  own : All (λ thread. (thread.own.seat ≡ fresh_seat (arc_value l.shared).claims) × IsEndOf l.fn.rest.free thread.number thread.own.free) l.threads.items;
   ends : AreLeft l.fn.rest.free l.rest.free;
 }
 

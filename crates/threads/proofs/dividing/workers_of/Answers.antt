@@ -1,4 +1,4 @@
-use Rattle.std.proofs.{Common.{◌≡◌, refl, ◌∷◌, ap, length, arith}, lemmas.List.Elements.All-nil}
+use Rattle.std.proofs.Common.{◌≡◌, refl, ◌∷◌, ap, length, arith}
 use Rattle.std.specs.Arc.{arc_value}
 use Rattle.claims.{proofs.Seats.{fresh_holds_nothing}, specs.Seats.{fresh_seat}}
 use Rattle.threads.{specs.Divided.{HasOneOfEach, ends_of}, proofs.Divided.{all_left, all_pushed, left_of_left, numbers_more, one_of_all, one_of_each}}
@@ -18,9 +18,8 @@ loop-index-preserved g c =
     record {
       fresh = owned.fresh;
       numbers = numbers_more _ _ _ _ _ _ pushed refl was.numbers;
-      seats = all_pushed (λ worker. worker.owned.own.seat ≡ fresh_seat (arc_value c.args.shared.now).claims) _ pushed was.seats owned.own;
-      slots = all_pushed (λ worker. HasOneOfEach c.args.rest.now.free (ends_of worker.owned)) _ pushed was.slots
-          (one_of_all was.ends (c.in_ok-shared.own.free ∷ c.in_ok-others.others.items) (one_of_each _ _ others.ends others.left owned.slots));
+      own = all_pushed (λ worker. (worker.owned.own.seat ≡ fresh_seat (arc_value c.args.shared.now).claims) × HasOneOfEach c.args.rest.now.free (ends_of worker.owned))
+          _ pushed was.own (owned.own, one_of_all was.ends (c.in_ok-shared.own.free ∷ c.in_ok-others.others.items) (one_of_each _ _ others.ends others.left owned.slots));
       ends = left_of_left ends owned.left;
     }
 
@@ -30,8 +29,7 @@ loop-index-init g c =
     record {
       fresh = c.requires;
       numbers = rw none;
-      seats = rw none (All-nil (λ worker. worker.owned.own.seat ≡ fresh_seat (arc_value c.args.shared.now).claims));
-      slots = λ k d below. absurd (omega (arith, ap length none));
+      own = λ k d below. absurd (omega (arith, ap length none));
       ends = all_left _;
     }
 
@@ -39,7 +37,7 @@ pub returns : goal.returns
 returns g c =
     let was = c.loop-index.invariant in
     let all : c.loop-index.index ≡ c.args.workers = omega (arith, c.loop-index-test.false, c.loop-index.auto.index-end) in
-    record { numbers = rw all at was.numbers; seats = was.seats; slots = was.slots }
+    record { numbers = rw all at was.numbers; own = was.own }
 
 pub next_own-requires : goal.next_own-requires
 next_own-requires g c = rw c.in_ok-others.ensures.parts c.loop-index.invariant.fresh

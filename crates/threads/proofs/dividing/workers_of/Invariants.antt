@@ -8,7 +8,6 @@ abbrev pub invariant-loop-index : goal.invariant-loop-index
 invariant-loop-index g l = record {
   fresh : AreFresh (arc_value l.shared).claims l.rest.parts.seats.items;
   numbers : map (λ worker. worker.number) l.made.items ≡ range_with_len l.first l.index;
-  seats : All (λ worker. worker.owned.own.seat ≡ fresh_seat (arc_value l.shared).claims) l.made.items;
-  slots : All (λ worker. HasOneOfEach l.fn.rest.free (ends_of worker.owned)) l.made.items;
+  own : All (λ worker. (worker.owned.own.seat ≡ fresh_seat (arc_value l.shared).claims) × HasOneOfEach l.fn.rest.free (ends_of worker.owned)) l.made.items;
   ends : AreLeft l.fn.rest.free l.rest.free;
 }
