@@ -3,7 +3,7 @@ ghost use Rattle.std.specs.Prelude.{◌≡◌, length};
 ghost use Rattle.dispatch.specs.Splits.{parts_of};
 
 use crate::making::{build, split_of};
-use dispatch::{ClientsAt, Clock, Front, Gate, ServerFault, Shared, Split, Timing};
+use dispatch::{ClientsAt, Clock, Front, Gate, ServerFault, Split, Timing};
 use log::Log;
 use os::set_thread_name;
 use recording::{
@@ -268,7 +268,10 @@ fn server_of<F: Front + Drop, G, C, R: Wait>(
 {
     let statistics = another(lent.statistics)?;
     let mut server = build(rt, alloc, settings, split, fronts, waker)?;
-    count_and_log(&mut server.shared, statistics, lent.log_clients);
+    server.shared.statistics = statistics;
+    if lent.log_clients {
+        server.shared.clients = ClientsAt::Info;
+    }
     Ok(server)
 }
 
@@ -276,18 +279,5 @@ fn another(statistics: Option<&Arc<Statistics>>) -> Result<Option<Arc<Statistics
     match statistics {
         Some(statistics) => Ok(Some(statistics.clone()?)),
         None => Ok(None),
-    }
-}
-
-fn count_and_log<F: Front>(
-    shared: &mut Shared<F>,
-    statistics: Option<Arc<Statistics>>,
-    log_clients: bool,
-)
-    ensures { shared.new.claims ≡ shared.old.claims }
-{
-    shared.statistics = statistics;
-    if log_clients {
-        shared.clients = ClientsAt::Info;
     }
 }
