@@ -173,14 +173,10 @@ impl Rest {
         ensures slots { IfOk result (λ made. IsEndOf self.old.free poller made.1.free) }
         ensures left { OnOk result (AreLeft self.old.free self.new.free) }
     {
-        let Some(free) = self.next_end(poller) else {
-            return Err(ServerFault::NoMemory);
-        };
+        let free = self.next_end(poller).ok_or(ServerFault::NoMemory)?;
         let same = Arc::try_clone(shared)?;
-        match self.parts.next_own(alloc, shared, capacity, free)? {
-            Some(own) => Ok((same, own)),
-            None => Err(ServerFault::NoMemory),
-        }
+        let own = self.parts.next_own(alloc, shared, capacity, free)?;
+        Ok((same, own.ok_or(ServerFault::NoMemory)?))
     }
 
     /// An end of each queue but the first poller's, in order.

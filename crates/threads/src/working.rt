@@ -78,19 +78,13 @@ impl<F: Front + Drop> Worker<F> {
         ensures ran { OnOk result (WorkerRan [] [] self.old.owned self.new.owned) }
         ensures cut { IfErr result (λ ended. WorkerEnded context.now.ending.now ended.why self.old.owned self.new.owned) }
     {
-        let seen = match context.ending.look() {
-            Ok(seen) => seen,
-            Err(ended) => return Err(ended),
-        };
+        let seen = context.ending.look()?;
         self.put_hand(context.rt);
         if !self.owned.own.hand.has_room() {
             thread::yield_now();
             return Ok(());
         }
-        let ticket = match take(context.rt, &mut self.owned.own, seen) {
-            Ok(ticket) => ticket,
-            Err(ended) => return Err(ended),
-        };
+        let ticket = take(context.rt, &mut self.owned.own, seen)?;
         match context.ending.look_after_take(ticket) {
             Ok(cleared) => match self.turn(context, cleared) {
                 Ok(_) => Ok(()),

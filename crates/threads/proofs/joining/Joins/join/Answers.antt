@@ -17,9 +17,6 @@ loop-handle-preserved g c =
       joined = rw c.push_reserved.ensures.items (next_of_first _ _ _ _ _ _ (rw next at was.joined) c.join.ensures);
     }
 
-pub push_reserved-requires : goal.push_reserved-requires
-push_reserved-requires g c = let room = c.loop-handle.invariant.room in search rules
-
 pub returns : goal.returns
 returns g c =
     let none : into_iter_items c.loop-handle.handle-iterator ≡ [] = nil_from_length _ (omega (arith, c.loop-handle.invariant.long, c.in-None.ensures.steps.0)) in

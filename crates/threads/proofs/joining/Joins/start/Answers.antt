@@ -18,9 +18,6 @@ loop-part-preserved g c =
       started = rw c.push_reserved.ensures.items (next_of_first _ _ _ _ _ _ (rw next at was.started) (search rules));
     }
 
-pub push_reserved-requires : goal.push_reserved-requires
-push_reserved-requires g c = let room = c.loop-part.invariant.room in search rules
-
 pub returns-in-Err-clause-started : goal.returns-in-Err-clause-started
 returns-in-Err-clause-started g c = (_, c.loop-part.invariant.started, λ not. search rules)
 
