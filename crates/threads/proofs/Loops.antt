@@ -103,12 +103,14 @@ pub record IsUsed (number : ℕ) (old : List End) (was is : End) (new : List End
 pub others_kept : {number : ℕ} {old new : List End} {was is : End} → IsUsed number old was is new → number < length old → OthersKept number old new
 others_kept {old = old} {is = is} used within other apart = rw used.new_is (set_elsewhere old used.at other is (rw (used.mine within) apart))
 
+-- it used the first, which it did not exchange
+first_used : {number : ℕ} {f g h i : End} {xs ys zs : List End} → (g ≡ f) × (ys ≡ xs) → (i ≡ h) × (zs ≡ ys) → (number < suc (length xs) → 0 ≡ number)
+    → IsUsed number (f ∷ xs) g h (i ∷ zs)
+first_used was next mine = record { at = 0; there = rw was.0; new_is = rw (next.0, next.1, was.1); mine = mine }
+
 -- a worker exchanges two of its ends, uses one, and exchanges them again
 pub exchanged : (p : ℕ) {f g h i : End} {xs ys zs : List End} → Changes p f g xs ys → Changes p h i ys zs → IsUsed p (f ∷ xs) g h (i ∷ zs)
-exchanged zero one two =
-    let was = one.first refl in
-    let next = two.first refl in
-    record { at = 0; there = rw was.0; new_is = rw (next.0, next.1, was.1); mine = λ within. refl }
+exchanged zero one two = first_used (one.first refl) (two.first refl) (λ within. refl)
 exchanged (suc n) {f} {g} {h} {i} {xs} {ys} {zs} one two = by (slice_get xs n) refl
   where
     less : suc n - 1 ≡ n
@@ -117,13 +119,7 @@ exchanged (suc n) {f} {g} {h} {i} {xs} {ys} {zs} one two = by (slice_get xs n) r
     by : (got : Option End) → slice_get xs n ≡ got → IsUsed (suc n) (f ∷ xs) g h (i ∷ zs)
     by None is =
         let was = one.none (rw less is) in
-        let next = two.none (rw (was.1, less) is) in
-        record {
-          at = 0;
-          there = rw was.0;
-          new_is = rw (next.0, next.1, was.1);
-          mine = λ within. absurd (let there = slice_get-get_or xs n f (omega arith) in cc (is, there));
-        }
+        first_used was (two.none (rw (was.1, less) is)) (λ within. absurd (let there = slice_get-get_or xs n f (omega arith) in cc (is, there)))
     by (Some o) is =
         let was : (g ≡ o) × (ys ≡ slice_set xs n f) = rw (less, is) at (one.other (omega arith)) in
         let next : (i ≡ f) × (zs ≡ slice_set (slice_set xs n f) n h) = rw (less, was.1, set_at xs n f (slice_get_within xs n o is)) at (two.other (omega arith)) in

@@ -109,7 +109,8 @@ impl Lowest {
 
     /// How the server ended, once all its threads have ended: by the lack of a thread, or the fault that was kept, if any.
     pub(crate) fn outcome(self, served: Served) -> Outcome
-        ensures fault { result.fault ≡ if is_some served.few then Some ServerFault.Threads else option_map (λ first. first.1) self.kept }
+        ensures fault { result.fault ≡ if is_some served.few then Some ServerFault.Threads
+            else option_map (λ first. first.1) self.kept }
         ensures served { result.served ≡ Some served }
     {
         let fault = match served.few {

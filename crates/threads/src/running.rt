@@ -85,18 +85,19 @@ where
         is_stopped,
         split,
     };
-    let shared = &context;
+    let handed = &context;
     let served = thread::scope(
         thread::scope_env(),
         rt,
         move |scope| -> Result<Served, ServerFault>
             requires { IsSend F.row × IsSend F.Client.row × IsSend F.Target.row × IsSend F.Waker.row × IsSync F.Waker.row
                 × IsSync G.row × IsSync C.row × IsSync R.row × IsSync S.row }
-            ensures { IfOk result (λ served. AllRan (PollerRuns (S.said shared.entry.now.is_stopped.now)
-                (C.tells shared.entry.now.timing.clock.now) F.gave_none shared.entry.now.timing.limit shared.entry.now.ending.now) (WorkerRuns shared.entry.now.ending.now)
-                (map (λ p. poller_part p.number p.poller p.own) threads.pollers.items) (map (λ w. worker_part w.number w.owned) threads.workers.items)
-                served) }
-        { run_in(scope, shared, threads) },
+            ensures { IfOk result (λ served. AllRan (PollerRuns (S.said handed.entry.now.is_stopped.now)
+                (C.tells handed.entry.now.timing.clock.now) F.gave_none handed.entry.now.timing.limit
+                handed.entry.now.ending.now) (WorkerRuns handed.entry.now.ending.now)
+                (map (λ p. poller_part p.number p.poller p.own) threads.pollers.items)
+                (map (λ w. worker_part w.number w.owned) threads.workers.items) served) }
+        { run_in(scope, handed, threads) },
     );
     drop(context);
     match served {
@@ -184,9 +185,9 @@ where
     F::Target: Send,
     F::Waker: Send + Sync,
     ensures { IfOk result (λ served. AllRan (PollerRuns (S.said context.now.is_stopped.now)
-        (C.tells context.now.timing.clock.now) F.gave_none context.now.timing.limit context.now.ending.now) (WorkerRuns context.now.ending.now)
-        (map (λ p. poller_part p.number p.poller p.own) threads.pollers.items) (map (λ w. worker_part w.number w.owned) threads.workers.items)
-        served) }
+        (C.tells context.now.timing.clock.now) F.gave_none context.now.timing.limit context.now.ending.now)
+        (WorkerRuns context.now.ending.now) (map (λ p. poller_part p.number p.poller p.own) threads.pollers.items)
+        (map (λ w. worker_part w.number w.owned) threads.workers.items) served) }
 {
     let ServerThreads {
         mut pollers,
