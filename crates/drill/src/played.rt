@@ -235,7 +235,7 @@ fn step_worker<R: Wait + Log>(
 }
 
 fn has_ticket(rt: &impl Wait, alloc: Global, worker: &mut Worker<StageFront>) -> bool {
-    take_and_put(rt, alloc, &mut worker.own.ready).unwrap_or(false)
+    take_and_put(rt, alloc, &mut worker.owned.own.ready).unwrap_or(false)
 }
 
 /// Whether a ticket is queued. Takes all tickets out, and puts them back in the same order.

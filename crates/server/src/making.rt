@@ -64,7 +64,6 @@ pub fn build<F: Front + Drop, R: Wait>(
 }
 
 /// For each part of the slots, the ends of its free queue, which holds them: one for its poller, one for each worker.
-#[tactic(auto, using(crate::proofs::Parts::one_more))]
 fn frees_of(
     rt: &impl Wait,
     alloc: Global,
@@ -81,7 +80,7 @@ fn frees_of(
     for number in 0..pollers {
         let part = split.part(number);
         let ends = FreeQueue::new(rt, alloc, part.first, part.slots, workers + 1)?;
-        frees.push_reserved(ends);
+        frees.push(ends)?;
     }
     Ok(frees)
 }
@@ -91,19 +90,17 @@ fn pollers_of<F: Front + Drop>(
     alloc: Global,
     settings: &Settings,
     split: Split,
-    mut fronts: Vec<F>,
+    fronts: Vec<F>,
 ) -> Result<Vec<Poller<F>>, AllocError>
     requires { length fronts.items ≡ parts_of split.slots split.size }
     ensures { IfOk result (λ all. all.items ≡ all_begun settings.now split 0 (map F.seen fronts.items)) }
 {
     let count = split.pollers();
     let mut pollers = Vec::with_capacity(alloc, count)?;
-    fronts.reverse();
-    for number in 0..count {
-        match fronts.pop() {
-            Some(front) => pollers.push_reserved(poller_of(alloc, settings, split, number, front)?),
-            None => unreachable!(),
-        }
+    let mut number = 0;
+    for front in fronts {
+        pollers.push(poller_of(alloc, settings, split, number, front)?)?;
+        number += 1;
     }
     Ok(pollers)
 }

@@ -3,7 +3,7 @@ ghost use Rattle.std.specs.Prelude.{◌≡◌, length};
 ghost use Rattle.dispatch.specs.Splits.{parts_of};
 
 use crate::making::{build, split_of};
-use dispatch::{ClientsAt, Clock, Front, Gate, ServerFault, Shared, Split, Timing};
+use dispatch::{ClientsAt, Clock, Front, Gate, ServerFault, Split, Timing};
 use log::Log;
 use os::set_thread_name;
 use recording::{
@@ -193,7 +193,10 @@ where
 {
     match server_of(rt, alloc, settings, split, fronts, waker, &lent) {
         Ok(server) => {
-            let timing = timing_of(settings, lent.clock);
+            let timing = Timing {
+                clock: lent.clock,
+                limit: u64::from(settings.idle),
+            };
             run_threads(rt, alloc, lent.gate, timing, lent.stop.flag(), server)
         }
         Err(fault) => Outcome::refused(fault),
@@ -249,15 +252,6 @@ fn header_of(settings: &Settings, split: Split) -> Header {
     }
 }
 
-fn timing_of<'a, C>(settings: &Settings, clock: &'a C) -> Timing<'a, C>
-    ensures { result.limit ≡ settings.now.idle }
-{
-    Timing {
-        clock,
-        limit: u64::from(settings.idle),
-    }
-}
-
 /// A server as the settings say, with the statistics that are lent, which logs clients at level info if asked. It takes
 /// its share of the statistics first, so no server has to be dropped if there is no memory for the share.
 fn server_of<F: Front + Drop, G, C, R: Wait>(
@@ -274,7 +268,10 @@ fn server_of<F: Front + Drop, G, C, R: Wait>(
 {
     let statistics = another(lent.statistics)?;
     let mut server = build(rt, alloc, settings, split, fronts, waker)?;
-    count_and_log(&mut server.shared, statistics, lent.log_clients);
+    server.shared.statistics = statistics;
+    if lent.log_clients {
+        server.shared.clients = ClientsAt::Info;
+    }
     Ok(server)
 }
 
@@ -282,18 +279,5 @@ fn another(statistics: Option<&Arc<Statistics>>) -> Result<Option<Arc<Statistics
     match statistics {
         Some(statistics) => Ok(Some(statistics.clone()?)),
         None => Ok(None),
-    }
-}
-
-fn count_and_log<F: Front>(
-    shared: &mut Shared<F>,
-    statistics: Option<Arc<Statistics>>,
-    log_clients: bool,
-)
-    ensures { shared.new.claims ≡ shared.old.claims }
-{
-    shared.statistics = statistics;
-    if log_clients {
-        shared.clients = ClientsAt::Info;
     }
 }

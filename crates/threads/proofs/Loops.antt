@@ -1,12 +1,12 @@
 -- What the calls of a thread's loop do with the tickets that it is obliged to put.
-use Rattle.std.{proofs.{Common.{◌≡◌, ◌≢◌, ℕ, zero, suc, ◌+◌, ◌-◌, ◌<◌, ◌≤◌, Bool, true, false, cond, List, [], ◌∷◌, ◌++◌, drop, length, length-append, length-set, sym, ◌∙◌, refl, ap, arith, inl, inr, append_assoc}, lemmas.{List.{get_or-set_same, map-append, append-nil, set-set, Concat.flat_map-append, Elements.{All-append, All-head, All-map, All-tail, All-weaker}, Sums.{sum_by-append, sum_by-set}}, Result.IfErr-weaker, Option.{none-some, same_Some, get_or_from_slice_get, slice_get-get_or, slice_get_read, slice_get_within}, Bool.{ltb-true, ltb-false, cases_lt}}, Math.Seq.map-set_same}, specs.{List.{All, slice_set}, Prelude.{◌==◌, ◌&&◌, Option, Some, None, Result, Ok, Err, IsOk, OnOk, slice_get, map, nat_lt, if◌then◌else◌, OnSome, IfErr, ◌⊎◌}}}
+use Rattle.std.{proofs.{Common.{◌≡◌, ◌≢◌, ℕ, zero, suc, ◌+◌, ◌-◌, ◌<◌, ◌≤◌, Bool, true, false, cond, List, [], ◌∷◌, ◌++◌, drop, length, length-append, length-set, sym, ◌∙◌, refl, ap, arith, inl, inr, append_assoc}, lemmas.{List.{get_or-set_same, map-append, append-nil, set-set, Concat.flat_map-append, Elements.{All-append, All-head, All-map, All-tail, All-weaker}, Sums.{sum_by-append, sum_by-set}}, Option.{none-some, same_Some, get_or_from_slice_get, slice_get-get_or, slice_get_read, slice_get_within}, Bool.{ltb-true, ltb-false, cases_lt}}, Math.Seq.map-set_same}, specs.{List.{All, slice_set}, Prelude.{◌==◌, ◌&&◌, Option, Some, None, Result, Ok, Err, IsOk, OnOk, IfErr, slice_get, map, nat_lt, if◌then◌else◌, ◌⊎◌}}}
 use Rattle.claims.specs.{declared.view.Exchange.Exchange, Views.minted_by, Seats.SeatState}
 use Rattle.ready.specs.{declared.ticket.Ticket.Ticket, Steps.EndState}
-use Rattle.relay_log.specs.declared.faults.ServerFault.{ServerFault, TheVariants.{Poll, Worn}}
-use Rattle.dispatch.{proofs.Outgoing.took_both, specs.{declared.{front.Unaccepted.Unaccepted, shared.Own.Own}, Acts.Made, Hands.HandState, Outgoing.{Inserted, outgoing, tickets_out, slots_out, without_first}, Heavy.looked_at, Limits.own_turns, Posts.OnlyWorn}}
+use Rattle.relay_log.specs.declared.faults.ServerFault.{ServerFault, TheVariants.Poll}
+use Rattle.dispatch.{proofs.Outgoing.took_both, specs.{declared.{front.Unaccepted.Unaccepted, shared.Own.Own}, Acts.Made, Hands.HandState, Outgoing.{Inserted, outgoing, tickets_out, slots_out, without_first}, Heavy.looked_at}}
 use Rattle.turns.specs.{declared.worker.Worked.Worked, Shares.{AreShared, OneShared, TicketsShared}, Turns.{TicketsKept, SlotsKept, TurnMade, WorkerTurn, OldestRan, OwnTurn, Handled, Playing, program}}
-use Rattle.threads.{proofs.Divided.End, specs.{declared.ending.{Ended.Ended, Why.{Why, TheVariants.{FaultFound, Met}}}, Loops.{faults_by, times_of, freed, Run, tickets_of, act_of, acts_of, due_from, fault_in, faults_of, IsRun, TurnsMade, takes_of, times_by, times_given, SlotsGiven, Changes, OthersKept, OneRan, tickets_in, Took, WorkerMayEnd, WorkerEnded, WorkerRan, OwnTurnsRan, SharedAndRan, TurnsCut, WornEnd, NoTicketTaken, Asked, Ends, EndsWell, RoundMade, RoundOver, RoundCut, TurnsAfter, StepCut, StepsMade, IsPollerAct, PollerRan, opened_by, openings_of}}}
-use Rattle.rounds.{specs.{Pollers.PollerState, Rounds.{EndedEarly, NotBegun, RoundDone, RoundEnded, RoundRefused, ListenerKept}, Acts.{SeatAct, made_by, due_of, IsPost, IsTry}, Openings.{slots_in, times}}, proofs.Acts.{all_none, all_one, acts_none, acts_one, acts_both, at_slot-append, due-append}}
+use Rattle.threads.{proofs.Divided.End, specs.{Divided.ends_of, declared.{ending.{Ended.Ended, Why.{Why, TheVariants.FaultFound}}, working.Owned.Owned}, Loops.{faults_by, times_of, freed, Run, tickets_of, act_of, acts_of, due_from, fault_in, faults_of, IsRun, TurnsMade, takes_of, times_by, times_given, SlotsGiven, Changes, OthersKept, OneRan, tickets_in, Took, WorkerMayEnd, WorkerEnded, WorkerRan, OwnTurnsRan, OwnRan, SharedAndRan, TurnsCut, NoTicketTaken, Asked, Ends, EndsWell, RoundMade, RoundOver, TurnsAfter, StepCut, StepsMade, IsPollerAct, PollerRan, opened_by, openings_of}}}
+use Rattle.rounds.{specs.{Pollers.PollerState, Rounds.{EndedEarly, NotBegun, RoundDone, RoundEnded, RoundKeeps}, Acts.{SeatAct, made_by, due_of, IsPost, IsTry}, Openings.{slots_in, times}}, proofs.Acts.{all_none, all_one, acts_none, acts_one, acts_both, at_slot-append, due-append}}
 use Rattle.turns.specs.declared.worker.Worked.TheVariants as worked
 
 -- how often a ticket, or a slot, stands in lists one after the other
@@ -103,12 +103,14 @@ pub record IsUsed (number : ℕ) (old : List End) (was is : End) (new : List End
 pub others_kept : {number : ℕ} {old new : List End} {was is : End} → IsUsed number old was is new → number < length old → OthersKept number old new
 others_kept {old = old} {is = is} used within other apart = rw used.new_is (set_elsewhere old used.at other is (rw (used.mine within) apart))
 
+-- it used the first, which it did not exchange
+first_used : {number : ℕ} {f g h i : End} {xs ys zs : List End} → (g ≡ f) × (ys ≡ xs) → (i ≡ h) × (zs ≡ ys) → (number < suc (length xs) → 0 ≡ number)
+    → IsUsed number (f ∷ xs) g h (i ∷ zs)
+first_used was next mine = record { at = 0; there = rw was.0; new_is = rw (next.0, next.1, was.1); mine = mine }
+
 -- a worker exchanges two of its ends, uses one, and exchanges them again
 pub exchanged : (p : ℕ) {f g h i : End} {xs ys zs : List End} → Changes p f g xs ys → Changes p h i ys zs → IsUsed p (f ∷ xs) g h (i ∷ zs)
-exchanged zero one two =
-    let was = one.first refl in
-    let next = two.first refl in
-    record { at = 0; there = rw was.0; new_is = rw (next.0, next.1, was.1); mine = λ within. refl }
+exchanged zero one two = first_used (one.first refl) (two.first refl) (λ within. refl)
 exchanged (suc n) {f} {g} {h} {i} {xs} {ys} {zs} one two = by (slice_get xs n) refl
   where
     less : suc n - 1 ≡ n
@@ -117,13 +119,7 @@ exchanged (suc n) {f} {g} {h} {i} {xs} {ys} {zs} one two = by (slice_get xs n) r
     by : (got : Option End) → slice_get xs n ≡ got → IsUsed (suc n) (f ∷ xs) g h (i ∷ zs)
     by None is =
         let was = one.none (rw less is) in
-        let next = two.none (rw (was.1, less) is) in
-        record {
-          at = 0;
-          there = rw was.0;
-          new_is = rw (next.0, next.1, was.1);
-          mine = λ within. absurd (let there = slice_get-get_or xs n f (omega arith) in cc (is, there));
-        }
+        first_used was (two.none (rw (was.1, less) is)) (λ within. absurd (let there = slice_get-get_or xs n f (omega arith) in cc (is, there)))
     by (Some o) is =
         let was : (g ≡ o) × (ys ≡ slice_set xs n f) = rw (less, is) at (one.other (omega arith)) in
         let next : (i ≡ f) × (zs ≡ slice_set (slice_set xs n f) n h) = rw (less, was.1, set_at xs n f (slice_get_within xs n o is)) at (two.other (omega arith)) in
@@ -132,44 +128,46 @@ exchanged (suc n) {f} {g} {h} {i} {xs} {ys} {zs} one two = by (slice_get xs n) r
 given_out : (s : ℕ) (a : Own) → times s (slots_out a) ≡ times_by s a.free + times s a.hand.slots
 given_out s a = slots-append s (puts a.free) a.hand.slots
 
--- the end in use took nothing, and these slots are free now and given or in hand
-gave : {fs : List ℕ} {number : ℕ} {a d : Own} {g i : End} {xs zs : List End} → IsUsed number (a.free ∷ xs) g d.free (i ∷ zs)
-    → d.free.history.taken ≡ g.history.taken → ((s : ℕ) → times s (slots_out d) ≡ times s (slots_out (record a { free = g })) + times s fs)
-    → SlotsGiven fs a (record d { free = i }) xs zs
-gave {a = a} {d = d} {g = g} {xs = xs} used took slots =
-    let there = get_or_from_slice_get (a.free ∷ xs) used.at g g used.there in
+-- the end in use, as the turn's `own` had it, took nothing, and these slots are free now and given or in hand
+gave : {fs : List ℕ} {number : ℕ} {a b : Owned} {g : End} (d : Own) → IsUsed number (ends_of a) g d.free (ends_of b) → d.free.history.taken ≡ g.history.taken
+    → d.hand ≡ b.own.hand → ((s : ℕ) → times s (slots_out d) ≡ times s (slots_out (record a.own { free = g })) + times s fs) → SlotsGiven fs a b
+gave {a = a} {g = g} d used took hand slots =
+    let there = get_or_from_slice_get (ends_of a) used.at g g used.there in
     record {
-      took = ap takes_of used.new_is ∙ map-set_same (λ (end : End). end.history.taken) (a.free ∷ xs) used.at d.free g (took ∙ ap (λ (end : End). end.history.taken) (sym there));
-      slots = λ s. omega (
+      took = ap takes_of used.new_is ∙ map-set_same (λ (end : End). end.history.taken) (ends_of a) used.at d.free g (took ∙ ap (λ (end : End). end.history.taken) (sym there));
+      slots = λ s. rw (← hand) (omega (
         arith,
         ap (times_given s) used.new_is,
         slots s,
         given_out s d,
-        given_out s (record a { free = g }),
+        given_out s (record a.own { free = g }),
         ap (times_by s) there,
-        sum_by-set (times_by s) (a.free ∷ xs) used.at d.free g (slice_get_within (a.free ∷ xs) used.at g used.there),
-      );
+        sum_by-set (times_by s) (ends_of a) used.at d.free g (slice_get_within (ends_of a) used.at g used.there),
+      ));
     }
 
 -- nothing is free that was not
-gave_none : {a b : Own} {xs : List End} → b.free.history.taken ≡ a.free.history.taken → slots_out b ≡ slots_out a → SlotsGiven [] a b xs xs
-gave_none {a} {b} {xs} took out = gave {number = 0} {a = a} {d = b} {g = a.free} {i = b.free}
-    (record { at = 0; there = refl; new_is = refl; mine = λ within. refl }) took (λ s. omega (arith, ap (times s) out))
+gave_none : {a : Owned} {b : Own} → b.free.history.taken ≡ a.own.free.history.taken → slots_out b ≡ slots_out a.own → SlotsGiven [] a (record a { own = b })
+gave_none {a} {b} took out = gave {number = 0} {a = a} {b = record a { own = b }} {g = a.own.free} b
+    (record { at = 0; there = refl; new_is = refl; mine = λ within. refl }) took refl (λ s. omega (arith, ap (times s) out))
 
 -- A worker
 
 -- nothing was taken and nothing was run, and what was to be put is put or in hand
-pub worker_none : {a b : Own} {xs : List End} → tickets_out b ≡ tickets_out a → b.ready.history.taken ≡ a.ready.history.taken → slots_out b ≡ slots_out a
-    → b.free.history.taken ≡ a.free.history.taken → b.seat ≡ a.seat → WorkerRan [] [] a b xs xs
+pub worker_none : {a : Owned} {b : Own} → tickets_out b ≡ tickets_out a.own → b.ready.history.taken ≡ a.own.ready.history.taken → slots_out b ≡ slots_out a.own
+    → b.free.history.taken ≡ a.own.free.history.taken → b.seat ≡ a.own.seat → WorkerRan [] [] a (record a { own = b })
 worker_none {a} out taken slots took seat = record {
   ran = [];
   did = record { turns = rw seat turns_none; tickets = λ u. omega (arith, ap (times_of u) out); slots = gave_none took slots };
   met = refl;
-  taken = rw taken (sym (append-nil (tickets_in a)));
+  taken = rw taken (sym (append-nil (tickets_in a.own)));
 }
 
-pub worker_both : {left : List Ticket} {faults : List ServerFault} {a b c : Own} {xs ys zs : List End} → WorkerRan [] [] a b xs ys → WorkerRan left faults b c ys zs
-    → WorkerRan left faults a c xs zs
+-- nothing was done since
+pub worker_same : {a : Owned} → WorkerRan [] [] a a
+worker_same = worker_none refl refl refl refl refl
+
+pub worker_both : {left : List Ticket} {faults : List ServerFault} {a b c : Owned} → WorkerRan [] [] a b → WorkerRan left faults b c → WorkerRan left faults a c
 worker_both one two = record {
   ran = one.ran ++ two.ran;
   did = record {
@@ -184,28 +182,24 @@ worker_both one two = record {
   taken = simp (two.taken, one.taken, map-append, append_assoc, append-nil);
 }
 
-pub worker_then_ends : {mark : ℕ} {why : Why} {a b c : Own} {xs ys zs : List End} → WorkerRan [] [] a b xs ys → WorkerEnded mark why b c ys zs → WorkerEnded mark why a c xs zs
+pub worker_then_ends : {mark : ℕ} {why : Why} {a b c : Owned} → WorkerRan [] [] a b → WorkerEnded mark why b c → WorkerEnded mark why a c
 worker_then_ends one two = record { left = two.left; few = two.few; made = worker_both one two.made; reason = two.reason }
 
 -- no ticket was left
-worker_ends : {mark : ℕ} {why : Why} {a b : Own} {xs ys : List End} → WorkerRan [] (faults_by why) a b xs ys → WorkerMayEnd mark why b → WorkerEnded mark why a b xs ys
+pub worker_ends : {mark : ℕ} {why : Why} {a b : Owned} → WorkerRan [] (faults_by why) a b → WorkerMayEnd mark why b.own → WorkerEnded mark why a b
 worker_ends made reason = record { left = []; few = inl refl; made = made; reason = reason }
 
--- nothing was done since
-pub worker_stops : {mark : ℕ} {why : Why} {a b : Own} {xs : List End} → faults_by why ≡ [] → b ≡ a → WorkerMayEnd mark why b → WorkerEnded mark why a b xs xs
-worker_stops none same reason = worker_ends (rw (none, same) (worker_none refl refl refl refl refl)) reason
-
-module _ {t : Ticket} {a b : Own} (took : Took t a b) where
+module _ (a : Owned) {t : Ticket} {b : Own} (took : Took t a.own b) where
   -- what was taken, and what was to be put, once a ticket was taken
-  taken_one : tickets_in b ≡ tickets_in a ++ t ∷ []
+  taken_one : tickets_in b ≡ tickets_in a.own ++ t ∷ []
   taken_one = rw (took.took.taken, map-append)
 
-  took_out : tickets_out b ≡ tickets_out a
+  took_out : tickets_out b ≡ tickets_out a.own
   took_out = rw (took.took.taken, took.hand)
 
   -- a ticket was taken, and its turn was run
-  pub worker_one : {answer : Result Worked ServerFault} {c : Own} {xs ys : List End} → OneRan t answer b c xs ys → c.ready.history.taken ≡ b.ready.history.taken
-      → WorkerRan [] (fault_in answer) a c xs ys
+  pub worker_one : {answer : Result Worked ServerFault} {c : Owned} → OneRan t answer (record a { own = b }) c → c.own.ready.history.taken ≡ b.ready.history.taken
+      → WorkerRan [] (fault_in answer) a c
   worker_one {answer} (es, did) taken = record {
     ran = run_of t answer es ∷ [];
     did = record {
@@ -217,14 +211,9 @@ module _ {t : Ticket} {a b : Own} (took : Took t a b) where
     taken = rw taken taken_one;
   }
 
-  -- that turn was the last
-  pub worker_worn : {mark : ℕ} {why : Why} {c : Own} {xs ys : List End} → OneRan t (Err Worn) b c xs ys → c.ready.history.taken ≡ b.ready.history.taken → WornEnd why c
-      → WorkerEnded mark why a c xs ys
-  worker_worn ran taken worn = worker_ends (rw worn.0 (worker_one ran taken)) (rw worn.0 (refl, worn.1))
-
   -- a look found a fault once the ticket was taken, which stays in hand
-  pub worker_kept : {mark : ℕ} {why : Why} {hand : HandState} {xs : List End} → why ≡ FaultFound mark → hand ≡ record b.hand { tickets = b.hand.tickets ++ t ∷ [] }
-      → WorkerEnded mark why a (record b { hand = hand }) xs xs
+  pub worker_kept : {mark : ℕ} {why : Why} {hand : HandState} → why ≡ FaultFound mark → hand ≡ record b.hand { tickets = b.hand.tickets ++ t ∷ [] }
+      → WorkerEnded mark why a (record a { own = record b { hand = hand } })
   worker_kept is hand = record {
     left = t ∷ [];
     few = inr (is, refl);
@@ -242,33 +231,21 @@ module _ {t : Ticket} {a b : Own} (took : Took t a b) where
   }
 
 -- a worker's turn, between two exchanges of its ends
-pub one_ran : {words p : ℕ} {t : Ticket} {answer : Result Worked ServerFault} {S C T : Type 0} {acts : Handled C T → Made S} {plays : Playing C T} {from to : S} {a c : Own} {g h i : End}
-    {hand : HandState} {xs ys zs : List End}
-    → a.seat.table.words ≡ words → Changes p a.free g xs ys → WorkerTurn acts plays words t answer (record a { free = g }) c from to → hand.tickets ≡ c.hand.tickets
-    → h.history.taken ≡ c.free.history.taken → outgoing h.history hand.slots ≡ slots_out c → Changes p h i ys zs
-    → OneRan t answer a (record c { free = i; hand = hand }) xs zs
-one_ran {p = p} {t = t} {answer = answer} {a = a} {c = c} {g = g} {h = h} {hand = hand} same one made tickets took slots two =
+pub one_ran : {words p : ℕ} {t : Ticket} {answer : Result Worked ServerFault} {S C T : Type 0} {acts : Handled C T → Made S} {plays : Playing C T} {from to : S} {a b : Owned} {c : Own} {g h : End}
+    {xs : List End} → a.own.seat.table.words ≡ words → Changes p a.own.free g a.others.items xs
+    → WorkerTurn acts plays words t answer (record a.own { free = g }) c from to → b.own.seat ≡ c.seat → b.own.ready ≡ c.ready → b.own.hand.tickets ≡ c.hand.tickets
+    → h.history.taken ≡ c.free.history.taken → outgoing h.history b.own.hand.slots ≡ slots_out c → Changes p h b.own.free xs b.others.items → OneRan t answer a b
+one_ran {p = p} {t = t} {answer = answer} {a = a} {b = b} {c = c} {h = h} same one made seat ready tickets took slots two =
     let turn = made.turn.0 in
     let put = made.put in (
       turn.exchanges,
       record {
-        turns = rw put.seat at (turns_one (rw put.seat same) turn);
-        tickets = λ u. rw tickets (omega (arith, tickets_one t (minted_by turn.exchanges) made.begun c turn.done.tickets u, ap (times_of u) put.tickets));
-        slots = gave {d = record c { free = h; hand = hand }} (exchanged p one two) (took ∙ (turn.done.took.slots ∙ put.took.slots))
+        turns = rw (put.seat, ← seat) at (turns_one (rw put.seat same) turn);
+        tickets = λ u. rw (ready, tickets) (omega (arith, tickets_one t (minted_by turn.exchanges) made.begun c turn.done.tickets u, ap (times_of u) put.tickets));
+        slots = gave (record c { free = h; hand = b.own.hand }) (exchanged p one two) (took ∙ (turn.done.took.slots ∙ put.took.slots)) refl
             (λ s. rw slots (omega (arith, slots_one t answer made.begun c turn.done.slots turn.exchanges s, ap (times s) put.slots)));
       },
     )
-
--- a turn was refused, by which its caller ends: its seat was worn
-pub ended_worn : {T : Type 0} {why : Why} {answer : Result T ServerFault} (P : Result T ServerFault → Type 0) (b : Own)
-    → (fault : ServerFault) × (answer ≡ Err fault) × (why ≡ Met fault) → IfErr answer (λ fault. OnlyWorn fault b.seat) → P answer → P (Err Worn) × WornEnd why b
-ended_worn P b (fault, is, was) worn ran = let only : OnlyWorn fault b.seat = rw is at worn in (rw (is, only.0) at ran, (rw only.0 at was, only.1))
-
-pub turn_worn : {t : Ticket} {answer : Result Worked ServerFault} {a b : Own} {xs ys : List End} (said : Result Worked Ended)
-    → IfErr said (λ ended. (fault : ServerFault) × (answer ≡ Err fault) × (ended.why ≡ Met fault)) → IfErr answer (λ fault. OnlyWorn fault b.seat) → OneRan t answer a b xs ys
-    → IfErr said (λ ended. OneRan t (Err Worn) a b xs ys × WornEnd ended.why b)
-turn_worn {t} {a = a} {b = b} {xs = xs} {ys = ys} said met worn ran =
-    IfErr-weaker said _ _ (λ ended met. ended_worn (λ answer. OneRan t answer a b xs ys) b met worn ran) met
 
 -- A poller
 
@@ -347,31 +324,21 @@ own_one {answer = answer} {a = a} {b = b} same run =
       slots = slots_one t answer (without_first a) b made.done.slots made.exchanges;
     }
 
--- what an own turn did, by its answer
-abbrev pub OwnRan : Result (Option Worked) ServerFault → Own → Own → Type 0
-OwnRan (Ok worked) a b = OnSome worked (OwnTurnsRan 1 [] a b)
-OwnRan (Err fault) a b = OwnTurnsRan 1 (fault ∷ []) a b
-
-pub own_turn_ran : (words : ℕ) {S C T : Type 0} (acts : Handled C T → Made S) (plays : Playing C T) (from to : S) (result : Result (Option Worked) ServerFault) (a b : Own)
+pub own_ran : (words : ℕ) {S C T : Type 0} (acts : Handled C T → Made S) (plays : Playing C T) (from to : S) (result : Result (Option Worked) ServerFault) (a b : Own)
     → a.seat.table.words ≡ words → OwnTurn acts plays words result a b from to → OwnRan result a b
-own_turn_ran words acts plays from to (Ok None) a b same turn = tt
-own_turn_ran words acts plays from to (Ok (Some worked)) a b same turn = own_one same turn
-own_turn_ran words acts plays from to (Err fault) a b same turn = own_one same turn
+own_ran words acts plays from to (Ok None) a b same turn = turn.0
+own_ran words acts plays from to (Ok (Some worked)) a b same turn = own_one same turn
+own_ran words acts plays from to (Err fault) a b same turn = own_one same turn
 
--- in the next turn the seat was worn
-pub cut_worn : {count mark : ℕ} {why : Why} {p r q : PollerState} {a b c : Own} → WornEnd why c → SharedAndRan count [] p r a b → OwnTurnsRan 1 (Worn ∷ []) b c
-    → q ≡ record p { heavy = q.heavy } → count < own_turns → TurnsCut mark why p q a c
-cut_worn {count} worn made turn poller few = record {
-  count = count;
-  made = record {
-    heavy = made.heavy;
-    shared = made.shared;
-    sharing = made.sharing;
-    turns = rw worn.0 (own_both made.turns turn);
-    poller = poller;
-  };
-  few = few;
-  reason = inr worn;
+-- more of the tickets that stayed were run
+pub shared_then : {n m : ℕ} {faults : List ServerFault} {p q r : PollerState} {a b c : Own} → SharedAndRan n [] p q a b → OwnTurnsRan m faults b c
+    → r ≡ record q { heavy = r.heavy } → SharedAndRan (n + m) faults p r a c
+shared_then {r = r} made turns same = record {
+  heavy = made.heavy;
+  shared = made.shared;
+  sharing = made.sharing;
+  turns = own_both made.turns turns;
+  poller = same ∙ ap (λ (s : PollerState). record s { heavy = r.heavy }) made.poller;
 }
 
 -- Which connections acts opened
@@ -499,39 +466,22 @@ step_or_cut mark r (Err ended) round turns cut = ran_both (round_ran round.round
 
 pub cut_ran : {said : Bool → Type 0} {ends : Ends} {mark : ℕ} {why : Why} {p q : PollerState} {a b : Own} → StepCut said ends mark why p q a b → PollerRan a b
 cut_ran (inl same) = rw same.own ran_none
-cut_ran (inr (inl (inl failed))) = round_ran failed.made.round failed.made.took
-cut_ran (inr (inl (inr worn))) = round_ran worn.made.round worn.made.took
+cut_ran (inr (inl cut)) = round_ran cut.made.round cut.made.took
 cut_ran (inr (inr step)) = ran_both (round_ran step.round.made.round step.round.made.took) (turns_ran step.turns.made)
 
 pub steps_ran : (said : Bool → Type 0) (ends : Ends) (steps : ℕ) (p q : PollerState) (a b : Own) → StepsMade said ends steps p q a b → PollerRan a b
 steps_ran said ends zero p q a b same = rw same.1 ran_none
 steps_ran said ends (suc steps) p q a b (r, c, before, last) = ran_both (steps_ran said ends steps p r a c before) (step_ran last.round.made last.turns)
 
--- the last round, by the fault that it answered
-pub round_cut : {said : Bool → Type 0} {why : Why} {answer : Result (Unit {0}) ServerFault} {p begun q : PollerState} {a b : Own}
-    → (fault : ServerFault) × (answer ≡ Err fault) × (why ≡ Met fault) → IfErr answer (λ fault. RoundRefused fault begun q a b)
-    → RoundDone begun q a b → Asked said p begun → q.most ≡ begun.most → ListenerKept begun q → NoTicketTaken a b
-    → RoundCut said why p q a b
-round_cut {said} {why} {answer} {p} {begun} {q} {a} {b} (fault, is, was) refused done asked most listens took = by (rw is at refused)
-  where
-    by : RoundRefused fault begun q a b → RoundCut said why p q a b
-    by (inl failed) = inl (record {
-      reason = rw failed.0 at was;
-      failed = failed.1.failed;
-      made = record { begun = begun; asked = asked; round = done; most = most; listens = listens; took = took };
-    })
-    by (inr worn) = inr (record {
-      reason = (rw worn.0 at was, worn.1);
-      made = record { begun = begun; asked = asked; round = done; most = most; listens = listens; took = took };
-    })
+-- a round, after a look at the flag
+abbrev pub round_made : {said : Bool → Type 0} {limit : ℕ} {p begun q : PollerState} {a b : Own} → Asked said p begun → RoundDone begun q a b → RoundKeeps limit begun q a b
+    → RoundMade said p q a b
+round_made {begun = begun} asked done keeps = record { begun = begun; asked = asked; round = done; most = keeps.most; listens = keeps.listens; took = keeps.took }
 
--- a round that was not refused
-pub round_over : {said : Bool → Type 0} {words : ℕ} (tells : ℕ → Type 0) (gave_none : Unaccepted → Type 0) (limit : ℕ) {answer : Result (Unit {0}) ServerFault}
-    {p q : PollerState} {a b : Own} → (done : Unit {0}) → answer ≡ Ok done → (made : RoundMade said p q a b) → words ≡ length q.table
-    → (EndedEarly words a → IsOk answer × NotBegun made.begun q a b)
-    → EndedEarly words a ⊎ ((answer ≡ Err Poll) ⊎ RoundEnded answer tells gave_none limit made.begun q b) → RoundOver said (EndsWell tells gave_none limit) p q a b
-round_over {said} {words} tells gave_none limit {answer} {p} {q} {a} {b} done is made same early how = by (rw is at how) where
-  by : EndedEarly words a ⊎ ((Ok done ≡ Err Poll) ⊎ RoundEnded (Ok done) tells gave_none limit made.begun q b) → RoundOver said (EndsWell tells gave_none limit) p q a b
-  by (inl few) = record { made = made; ended = inl (rw (← same) few, (early few).1) }
-  by (inr (inl failed)) = absurd (cc failed)
-  by (inr (inr ended)) = record { made = made; ended = inr (Ok done, refl, ended) }
+-- it was not refused
+pub round_over : {said : Bool → Type 0} {words : ℕ} (tells : ℕ → Type 0) (gave_none : Unaccepted → Type 0) (limit : ℕ) {done : Unit {0}} {p q : PollerState} {a b : Own}
+    → (made : RoundMade said p q a b) → words ≡ length q.table → (EndedEarly words a → IsOk {E = ServerFault} (Ok done) × NotBegun made.begun q a b)
+    → EndedEarly words a ⊎ ((Ok done ≡ Err Poll) ⊎ RoundEnded (Ok done) tells gave_none limit made.begun q b) → RoundOver said (EndsWell tells gave_none limit) p q a b
+round_over tells gave_none limit made same early (inl few) = record { made = made; ended = inl (rw (← same) few, (early few).1) }
+round_over tells gave_none limit made same early (inr (inl failed)) = absurd (cc failed)
+round_over tells gave_none limit {done} made same early (inr (inr ended)) = record { made = made; ended = inr (Ok done, refl, ended) }

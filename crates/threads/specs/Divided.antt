@@ -1,12 +1,19 @@
 -- How what a server is made of is divided among its threads. Part of the promises.
-use Rattle.std.specs.{Prelude.{◌≡◌, ⊤, ℕ, ◌+◌, ◌*◌, List, [], ◌∷◌, length, reverse, Contains, slice_index_or}, List.enumerate_from}
+use Rattle.std.specs.{Prelude.{◌≡◌, ℕ, ◌+◌, ◌*◌, List, [], ◌∷◌, reverse, Contains, slice_index_or}, List.enumerate_from}
 use Rattle.ready.specs.Steps.{EndState}
 use Rattle.dispatch.specs.declared.shared.Parts.{Parts}
+use Rattle.threads.specs.declared.working.Owned.{Owned}
 
 -- what no thread has been given yet: parts, and for each poller the ends of its free queue that are left
 pub record RestState : Type 0 where
   pub parts : Parts
   pub free : List (List (EndState ℕ))
+
+-- the second list has, in order, one for each of the first of these parts; these parts are left
+abbrev pub OfFirst : {P E : Type 0} → (P → E → Type 0) → List P → List E → List P → Type 0
+OfFirst is parts [] left = left ≡ parts
+OfFirst is [] (end ∷ ends) left = ⊥
+OfFirst is (part ∷ parts) (end ∷ ends) left = is part end × OfFirst is parts ends left
 
 -- the threads of these pollers, each with its number, the last one's first: they begin from the back
 abbrev pub numbered : {A : Type 0} → List A → List (ℕ × A)
@@ -16,19 +23,17 @@ numbered pollers = reverse (enumerate_from 0 pollers)
 abbrev pub IsEndOf : List (List (EndState ℕ)) → ℕ → EndState ℕ → Type 0
 IsEndOf ends poller end = Contains (slice_index_or ends poller []) end
 
--- these are ends of the free queues of the pollers from this one on, in order
-abbrev pub AreEndsFrom : List (List (EndState ℕ)) → ℕ → List (EndState ℕ) → Type 0
-AreEndsFrom ends poller [] = ⊤
-AreEndsFrom ends poller (end ∷ more) = IsEndOf ends poller end × AreEndsFrom ends (poller + 1) more
-
 -- ends may have been taken, and none was added
 pub record AreLeft (old new : List (List (EndState ℕ))) : Type 0 where
-  pub pollers : length new ≡ length old
-  pub each : (poller : ℕ) (end : EndState ℕ) → IsEndOf new poller end → IsEndOf old poller end
+  pub each : OfFirst (λ had has. (end : EndState ℕ) → Contains has end → Contains had end) old new []
+
+-- a worker's ends of the pollers' free queues, in order: between two turns it uses the first
+abbrev pub ends_of : Owned → List (EndState ℕ)
+ends_of owned = owned.own.free ∷ owned.others.items
 
 -- a worker's ends: one of each poller's queue, in order
 abbrev pub HasOneOfEach : List (List (EndState ℕ)) → List (EndState ℕ) → Type 0
-HasOneOfEach ends own = AreEndsFrom ends 0 own × (length own ≡ length ends)
+HasOneOfEach ends own = OfFirst Contains ends own []
 
 -- how many tickets, and how many slots, fit into the hand of a poller of a server of this many slots: two rounds may put each
 -- slot's there, and the reports of two polls

@@ -4,11 +4,11 @@ use Rattle.std.specs.{Prelude.{◌≡◌, ◌≢◌, ◌⊎◌, ℕ, zero, suc, 
 use Rattle.token.specs.Names.{last_generation}
 use Rattle.claims.specs.{declared.view.Exchange.{Exchange, TheVariants.Adopted}, Seats.SeatState}
 use Rattle.ready.specs.{declared.ticket.Ticket.Ticket, Steps.{EndState, HeldOnce, TookOne}}
-use Rattle.relay_log.specs.declared.faults.ServerFault.{ServerFault, TheVariants.{Poll, Worn}}
-use Rattle.dispatch.specs.{declared.{front.Unaccepted.Unaccepted, shared.Own.Own, split.Split.Split}, Limits.own_turns, Outgoing.{TookNothing, tickets_out, slots_out}, Splits.{IsIn, part_of, parts_of}, Posts.{IsWorn, OnlyWorn}}
+use Rattle.relay_log.specs.declared.faults.ServerFault.{ServerFault}
+use Rattle.dispatch.specs.{declared.{front.Unaccepted.Unaccepted, shared.Own.Own, split.Split.Split}, Limits.own_turns, Outgoing.{TookNothing, tickets_out, slots_out}, Splits.{IsIn, part_of, parts_of}, Posts.OnlyWorn}
 use Rattle.turns.specs.{declared.worker.Worked.Worked, Shares.TicketsShared, Turns.{IsTurnOf, NoOwnTurn}}
-use Rattle.rounds.specs.{Acts.{SeatAct, ActsMade, IsPost, IsTry, at_slot, due_of}, Pollers.{PollerState, HasOpenedAll}, Openings.{slots_in, times}, Rounds.{EndedEarly, NotBegun as NoRound, ListenerKept, RoundDone, RoundEnded}}
-use Rattle.threads.specs.declared.ending.Why.{Why, TheVariants.{FaultFound, PollerOver, QueueClosed, Met}}
+use Rattle.rounds.specs.{Acts.{SeatAct, ActsMade, IsPost, IsTry, at_slot, due_of}, Pollers.{PollerState, HasOpenedAll}, Openings.{slots_in, times}, Rounds.{EndedEarly, NotBegun as NoRound, ListenerKept, RoundDone, RoundEnded, RoundRefused}}
+use Rattle.threads.specs.{declared.{ending.Why.{Why, TheVariants.{FaultFound, PollerOver, QueueClosed, Met}}, working.Owned.Owned}, Divided.ends_of}
 use Rattle.turns.specs.declared.worker.Worked.TheVariants as worked
 
 -- the fault that ended a thread's loop, if one did
@@ -113,23 +113,23 @@ times_given slot ends = sum_by (λ (end : EndState ℕ). times_by slot end) ends
 
 -- What a worker did with free slots, by its ends of all pollers' queues: it took none, and each slot that it was to
 -- give before, or that is free now, is given or in hand, once
-pub record SlotsGiven (now_free : List ℕ) (old new : Own) (others others_new : List (EndState ℕ)) : Type 0 where
-  pub took : takes_of (new.free ∷ others_new) ≡ takes_of (old.free ∷ others)
-  pub slots : (slot : ℕ) → times slot new.hand.slots + times_given slot (new.free ∷ others_new)
-      ≡ times slot old.hand.slots + times_given slot (old.free ∷ others) + times slot now_free
+pub record SlotsGiven (now_free : List ℕ) (old new : Owned) : Type 0 where
+  pub took : takes_of (ends_of new) ≡ takes_of (ends_of old)
+  pub slots : (slot : ℕ) → times slot new.own.hand.slots + times_given slot (ends_of new)
+      ≡ times slot old.own.hand.slots + times_given slot (ends_of old) + times slot now_free
 
 -- A worker made these turns. The tickets that it was to put before, those that the turns made, and those in `left` are
 -- put or in hand. The same holds of free slots
-pub record WorkerTurns (ran : List Run) (left : List Ticket) (old new : Own) (others others_new : List (EndState ℕ)) : Type 0 where
-  pub turns : TurnsMade ran old.seat new.seat
-  pub tickets : (t : Ticket) → times_of t (tickets_out new)
-      ≡ times_of t (tickets_out old) + (times_of t (due_from ran) + times_of t left)
-  pub slots : SlotsGiven (freed ran) old new others others_new
+pub record WorkerTurns (ran : List Run) (left : List Ticket) (old new : Owned) : Type 0 where
+  pub turns : TurnsMade ran old.own.seat new.own.seat
+  pub tickets : (t : Ticket) → times_of t (tickets_out new.own)
+      ≡ times_of t (tickets_out old.own) + (times_of t (due_from ran) + times_of t left)
+  pub slots : SlotsGiven (freed ran) old new
 
 -- a worker made one turn, with this ticket and this answer
-abbrev pub OneRan : Ticket → Result Worked ServerFault → Own → Own → List (EndState ℕ) → List (EndState ℕ) → Type 0
-OneRan ticket answer old new others others_new = (exchanges : List Exchange)
-    × WorkerTurns (record { ticket = ticket; answer = answer; exchanges = exchanges } ∷ []) [] old new others others_new
+abbrev pub OneRan : Ticket → Result Worked ServerFault → Owned → Owned → Type 0
+OneRan ticket answer old new = (exchanges : List Exchange)
+    × WorkerTurns (record { ticket = ticket; answer = answer; exchanges = exchanges } ∷ []) [] old new
 
 -- the tickets that a thread has taken out of their queue so far
 abbrev pub tickets_in : Own → List Ticket
@@ -137,25 +137,29 @@ tickets_in own = map (λ (take : ℕ × Ticket). take.1) own.ready.history.taken
 
 -- A worker's thread ran each ticket that it took, in order, except those in `left`, which it took last and has in hand.
 -- Its turns met these faults
-pub record WorkerRan (left : List Ticket) (faults : List ServerFault) (old new : Own) (others others_new : List (EndState ℕ)) : Type 0 where
+pub record WorkerRan (left : List Ticket) (faults : List ServerFault) (old new : Owned) : Type 0 where
   pub ran : List Run
-  pub did : WorkerTurns ran left old new others others_new
+  pub did : WorkerTurns ran left old new
   pub met : faults_of ran ≡ faults
-  pub taken : tickets_in new ≡ tickets_in old ++ (tickets_of ran ++ left)
+  pub taken : tickets_in new.own ≡ tickets_in old.own ++ (tickets_of ran ++ left)
 
--- a worker may end: it found a fault, as this mark shows, or the queue of tickets closed, and empty at one moment, or its seat is worn
+-- a thread that runs turns may end: it found a fault, as this mark shows, or it met one since its seat is worn
+abbrev pub MayEnd : ℕ → Why → Own → Type 0
+MayEnd mark (FaultFound found) own = found ≡ mark
+MayEnd mark (Met fault) own = OnlyWorn fault own.seat
+MayEnd mark why own = ⊥
+
+-- a worker may also end if it found the queue of tickets closed, and empty at one moment
 abbrev pub WorkerMayEnd : ℕ → Why → Own → Type 0
-WorkerMayEnd mark (FaultFound found) own = found ≡ mark
-WorkerMayEnd mark PollerOver own = ⊥
 WorkerMayEnd mark QueueClosed own = HeldOnce 0 own.ready.history
-WorkerMayEnd mark (Met fault) own = OnlyWorn fault own.seat
+WorkerMayEnd mark why own = MayEnd mark why own
 
 -- A worker's thread ran to its end. If a look found a fault, one ticket at most was taken and not run
-pub record WorkerEnded (mark : ℕ) (why : Why) (old new : Own) (others others_new : List (EndState ℕ)) : Type 0 where
+pub record WorkerEnded (mark : ℕ) (why : Why) (old new : Owned) : Type 0 where
   pub left : List Ticket
   pub few : (left ≡ []) ⊎ ((why ≡ FaultFound mark) × (length left ≡ 1))
-  pub made : WorkerRan left (faults_by why) old new others others_new
-  pub reason : WorkerMayEnd mark why new
+  pub made : WorkerRan left (faults_by why) old new
+  pub reason : WorkerMayEnd mark why new.own
 
 -- the thread took this ticket, and did nothing else
 pub record Took (ticket : Ticket) (old new : Own) : Type 0 where
@@ -177,9 +181,11 @@ pub record OwnTurnsRan (count : ℕ) (faults : List ServerFault) (old new : Own)
       ≡ times_of t (tickets_out old) + times_of t (due_from ran)
   pub slots : (slot : ℕ) → times slot (slots_out new) ≡ times slot (slots_out old) + times slot (freed ran)
 
--- the thread ended by the fault Worn, and its seat is worn
-abbrev pub WornEnd : Why → Own → Type 0
-WornEnd why own = (why ≡ Met Worn) × IsWorn own.seat
+-- what a turn of the oldest ticket in hand did, by its answer
+abbrev pub OwnRan : Result (Option Worked) ServerFault → Own → Own → Type 0
+OwnRan (Ok None) old new = new ≡ old
+OwnRan (Ok (Some worked)) old new = OwnTurnsRan 1 [] old new
+OwnRan (Err fault) old new = OwnTurnsRan 1 (fault ∷ []) old new
 
 -- The tickets in hand were shared, and the poller's thread ran this many of those that stayed
 pub record SharedAndRan (count : ℕ) (faults : List ServerFault) (p q : PollerState) (a b : Own) : Type 0 where
@@ -202,7 +208,7 @@ pub record TurnsCut (mark : ℕ) (why : Why) (p q : PollerState) (a b : Own) : T
   pub count : ℕ
   pub made : SharedAndRan (count + length (faults_by why)) (faults_by why) p q a b
   pub few : count < own_turns
-  pub reason : (why ≡ FaultFound mark) ⊎ WornEnd why b
+  pub reason : MayEnd mark why b
 
 abbrev pub NoTicketTaken : Own → Own → Type 0
 NoTicketTaken old new = new.ready.history.taken ≡ old.ready.history.taken
@@ -256,20 +262,12 @@ pub record NotBegun (mark : ℕ) (why : Why) (p q : PollerState) (a b : Own) : T
   pub poller : q ≡ p
   pub own : b ≡ a
 
--- in the last round the wait for reports failed
-pub record PollFailed (said : Bool → Type 0) (why : Why) (p q : PollerState) (a b : Own) : Type 0 where
-  pub reason : why ≡ Met Poll
-  pub failed : q.seen.failed ≡ true
+-- the last round was refused, with the fault that the thread met
+pub record RoundCut (said : Bool → Type 0) (why : Why) (p q : PollerState) (a b : Own) : Type 0 where
+  pub fault : ServerFault
+  pub reason : why ≡ Met fault
   pub made : RoundMade said p q a b
-
--- after the last round the seat is worn
-pub record RoundWorn (said : Bool → Type 0) (why : Why) (p q : PollerState) (a b : Own) : Type 0 where
-  pub reason : WornEnd why b
-  pub made : RoundMade said p q a b
-
--- the last round, if its thread ended in it
-abbrev pub RoundCut : (Bool → Type 0) → Why → PollerState → PollerState → Own → Own → Type 0
-RoundCut said why p q a b = PollFailed said why p q a b ⊎ RoundWorn said why p q a b
+  pub refused : RoundRefused fault made.begun q a b
 
 -- the last step of a poller's thread, by why it ended
 abbrev pub StepCut : (Bool → Type 0) → Ends → ℕ → Why → PollerState → PollerState → Own → Own → Type 0

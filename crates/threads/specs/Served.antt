@@ -1,11 +1,11 @@
 -- How the parts of a server are run to their ends, each in a thread of its own. Part of the promises.
-use Rattle.std.specs.{Prelude.{◌≡◌, ℕ, Bool, false, All, List, [], ◌∷◌, ◌++◌, length, map, Option, None, option_to_list}, List.{range_with_len}}
+use Rattle.std.specs.{Prelude.{◌≡◌, ℕ, Bool, All, List, [], ◌++◌, length, map, Option, None, option_to_list}, List.{range_with_len}}
 use Rattle.claims.specs.Seats.{SeatState}
 use Rattle.ready.specs.Steps.{EndState}
 use Rattle.dispatch.specs.declared.shared.Own.{Own}
 use Rattle.rounds.specs.Pollers.{PollerState}
 use Rattle.dispatch.specs.declared.front.Unaccepted.{Unaccepted}
-use Rattle.threads.specs.{declared.context.ThreadEnd.ThreadEnd, Divided.{HasOneOfEach, IsEndOf, numbered}, Loops.{EndsWell, PollerRan, RunMade, WorkerEnded}}
+use Rattle.threads.specs.{declared.{context.ThreadEnd.ThreadEnd, faults.Few.Few, running.Served.Served, working.Owned.Owned}, Divided.{HasOneOfEach, IsEndOf, OfFirst, ends_of, numbered}, Loops.{EndsWell, PollerRan, RunMade, WorkerEnded}}
 
 -- what a poller's thread begins with
 pub record PollerPart : Type 0 where
@@ -16,32 +16,28 @@ pub record PollerPart : Type 0 where
 -- what a worker's thread begins with
 pub record WorkerPart : Type 0 where
   pub number : ℕ
-  pub own : Own
-  pub others : List (EndState ℕ)
+  pub owned : Owned
 
 abbrev pub poller_part : ℕ → PollerState → Own → PollerPart
 poller_part number poller own = record { number = number; poller = poller; own = own }
 
-abbrev pub worker_part : ℕ → Own → List (EndState ℕ) → WorkerPart
-worker_part number own others = record { number = number; own = own; others = others }
+abbrev pub worker_part : ℕ → Owned → WorkerPart
+worker_part number owned = record { number = number; owned = owned }
 
 -- A server with these pollers, this many workers, and these ends of free queues is divided so: each part has a number and a
 -- fresh seat, each poller an end of its own free queue, and each worker an end of every one. The last poller's part is first
 pub record IsDivided (fresh : SeatState) (free : List (List (EndState ℕ))) (pollers : List PollerState) (workers : ℕ)
     (of_pollers : List PollerPart) (of_workers : List WorkerPart) : Type 0 where
   pub pollers_are : map (λ (p : PollerPart). (p.number, p.poller)) of_pollers ≡ numbered pollers
-  pub seats : All (λ (p : PollerPart). p.own.seat ≡ fresh) of_pollers
-  pub own_slots : All (λ (p : PollerPart). IsEndOf free p.number p.own.free) of_pollers
+  pub pollers_own : All (λ (p : PollerPart). (p.own.seat ≡ fresh) × IsEndOf free p.number p.own.free) of_pollers
   pub workers_are : map (λ (w : WorkerPart). w.number) of_workers ≡ range_with_len (length pollers) workers
-  pub other_seats : All (λ (w : WorkerPart). w.own.seat ≡ fresh) of_workers
-  pub all_slots : All (λ (w : WorkerPart). HasOneOfEach free (w.own.free ∷ w.others)) of_workers
+  pub workers_own : All (λ (w : WorkerPart). (w.owned.own.seat ≡ fresh) × HasOneOfEach free (ends_of w.owned)) of_workers
 
 -- a worker's thread ran to its end. A fault that it found is recorded, as this mark shows
 pub record WorkerRuns (mark : ℕ) (part : WorkerPart) (end : ThreadEnd) : Type 0 where
   pub number_is : end.number ≡ part.number
-  pub own : Own
-  pub others : List (EndState ℕ)
-  pub ended : WorkerEnded mark end.why part.own own part.others others
+  pub owned : Owned
+  pub ended : WorkerEnded mark end.why part.owned owned
 
 -- a poller's thread ran to its end, likewise
 pub record PollerRuns (said : Bool → Type 0) (tells : ℕ → Type 0) (gave_none : Unaccepted → Type 0) (limit mark : ℕ)
@@ -51,27 +47,21 @@ pub record PollerRuns (said : Bool → Type 0) (tells : ℕ → Type 0) (gave_no
   pub made : RunMade said (EndsWell tells gave_none limit) tells mark end.why part.poller part.own own
   pub ran : PollerRan part.own own
 
--- the second list has, in order, one for each of the first of these parts; these parts are left
-abbrev pub OfFirst : {P E : Type 0} → (P → E → Type 0) → List P → List E → List P → Type 0
-OfFirst is parts [] left = left ≡ parts
-OfFirst is [] (end ∷ ends) left = ⊥
-OfFirst is (part ∷ parts) (end ∷ ends) left = is part end × OfFirst is parts ends left
-
 -- The parts that have threads of their own ran to their ends, in order: all, or if a thread could not be started, the first
-abbrev pub RanToEnds : {P : Type 0} → (P → ThreadEnd → Type 0) → Bool → List P → List ThreadEnd → Type 0
-RanToEnds {P} runs few parts ends = (left : List P) × OfFirst runs parts ends left × (few ≡ false → left ≡ [])
+abbrev pub RanToEnds : {P : Type 0} → (P → ThreadEnd → Type 0) → Option Few → List P → List ThreadEnd → Type 0
+RanToEnds {P} runs few parts ends = (left : List P) × OfFirst runs parts ends left × (few ≡ None → left ≡ [])
 
 -- Each worker, and each poller but the first, ran to its end in a thread of its own, unless one could not be started; and
 -- the first poller, which is the last one here, in the thread that serves
 pub record AllRan {P W : Type 0} (poller_runs : P → ThreadEnd → Type 0) (worker_runs : W → ThreadEnd → Type 0) (pollers : List P)
-    (workers : List W) (few : Bool) (of_pollers of_workers : List ThreadEnd) (of_first : Option ThreadEnd) : Type 0 where
+    (workers : List W) (served : Served) : Type 0 where
   pub others : List P
   pub first : List P
   pub pollers_are : others ++ first ≡ pollers
-  pub workers_ran : RanToEnds worker_runs few workers of_workers
-  pub others_ran : RanToEnds poller_runs few others of_pollers
-  pub first_ran : OfFirst poller_runs first (option_to_list of_first) []
-  pub has_first : of_first ≡ None → pollers ≡ []
+  pub workers_ran : RanToEnds worker_runs served.few workers served.workers.items
+  pub others_ran : RanToEnds poller_runs served.few others served.pollers.items
+  pub first_ran : OfFirst poller_runs first (option_to_list served.first) []
+  pub has_first : served.first ≡ None → pollers ≡ []
 
 -- this promise is of this part, and of what its thread is handed
 abbrev pub IsOf : {P X : Type 0} → X → P → X → P → Type 0

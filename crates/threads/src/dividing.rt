@@ -1,12 +1,12 @@
 //! Divides what a server is made of among its threads.
-ghost use Rattle.std.specs.{Prelude.{◌≡◌, ◌-◌, ◌≤◌, ◌∷◌, All, length, map, IfOk, IfSome, OnOk}, Arc.arc_value, List.range_with_len};
+ghost use Rattle.std.specs.{Prelude.{◌≡◌, ◌≤◌, [], All, Contains, drop, map, IfOk, IfSome, OnOk}, Arc.arc_value, List.range_with_len};
 ghost use Rattle.claims.specs.Seats.{fresh_seat};
 ghost use Rattle.dispatch.specs.{Hands.empty_hand, Posts.AreFresh};
-ghost use Rattle.threads.specs.Divided.{hand_of_poller, numbered, IsEndOf, AreEndsFrom, AreLeft, HasOneOfEach};
+ghost use Rattle.threads.specs.Divided.{hand_of_poller, numbered, IsEndOf, AreLeft, HasOneOfEach, OfFirst, ends_of};
 ghost use Rattle.threads.specs.Served.{IsDivided, poller_part, worker_part};
 
 use crate::polling::PollerThread;
-use crate::working::Worker;
+use crate::working::{Owned, Worker};
 use dispatch::{Front, MAX_BATCH, Own, Parts, ServerFault, Shared};
 use ready::FreeQueue;
 use rounds::Poller;
@@ -58,7 +58,7 @@ pub fn divide<F: Front + Drop>(
     requires { AreFresh (arc_value shared.now).claims rest.parts.seats.items }
     ensures { IfOk result (λ made. IsDivided (fresh_seat (arc_value shared.now).claims) rest.free pollers.items workers
         (map (λ p. poller_part p.number p.poller p.own) made.pollers.items)
-        (map (λ w. worker_part w.number w.own w.others.items) made.workers.items)) }
+        (map (λ w. worker_part w.number w.owned) made.workers.items)) }
 {
     let first = pollers.len();
     let pollers = pollers_of(alloc, shared, &mut rest, pollers)?;
@@ -76,20 +76,14 @@ fn pollers_of<F: Front + Drop>(
     requires { AreFresh (arc_value shared.now).claims rest.old.parts.seats.items }
     ensures fresh { OnOk result (AreFresh (arc_value shared.now).claims rest.new.parts.seats.items) }
     ensures pollers { IfOk result (λ threads. map (λ thread. (thread.number, thread.poller)) threads.items ≡ numbered pollers.items) }
-    ensures seats { IfOk result (λ threads. All (λ thread. thread.own.seat ≡ fresh_seat (arc_value shared.now).claims) threads.items) }
-    ensures slots { IfOk result (λ threads. All (λ thread. IsEndOf rest.old.free thread.number thread.own.free) threads.items) }
+    ensures own { IfOk result (λ threads. All (λ thread. (thread.own.seat ≡ fresh_seat (arc_value shared.now).claims)
+        × IsEndOf rest.old.free thread.number thread.own.free) threads.items) }
     ensures left { OnOk result (AreLeft rest.old.free rest.new.free) }
 {
-    let count = pollers.len();
-    let mut threads = Vec::with_capacity(alloc, count)?;
-    for _thread in 0..count {
-        match pollers.pop() {
-            Some(poller) => {
-                let number = pollers.len();
-                threads.push_reserved(thread_of(alloc, shared, rest, number, poller)?);
-            }
-            None => unreachable!(),
-        }
+    let mut threads = Vec::with_capacity(alloc, pollers.len())?;
+    while let Some(poller) = pollers.pop() {
+        let thread = thread_of(alloc, shared, rest, pollers.len(), poller)?;
+        threads.push(thread)?;
     }
     Ok(threads)
 }
@@ -141,9 +135,8 @@ fn workers_of<F: Front + Drop>(
 ) -> Result<Vec<Worker<F>>, ServerFault>
     requires { AreFresh (arc_value shared.now).claims rest.old.parts.seats.items }
     ensures numbers { IfOk result (λ made. map (λ worker. worker.number) made.items ≡ range_with_len first workers) }
-    ensures seats { IfOk result (λ made. All (λ worker. worker.own.seat ≡ fresh_seat (arc_value shared.now).claims) made.items) }
-    ensures slots { IfOk result (λ made. All (λ worker. HasOneOfEach rest.old.free (worker.own.free ∷ worker.others.items))
-        made.items) }
+    ensures own { IfOk result (λ made. All (λ worker. (worker.owned.own.seat ≡ fresh_seat (arc_value shared.now).claims)
+        × HasOneOfEach rest.old.free (ends_of worker.owned)) made.items) }
 {
     let mut made = Vec::with_capacity(alloc, workers)?;
     for index in 0..workers {
@@ -156,10 +149,9 @@ fn workers_of<F: Front + Drop>(
         let worker = Worker {
             shared,
             number: first + index,
-            own,
-            others,
+            owned: Owned { own, others },
         };
-        made.push_reserved(worker);
+        made.push(worker)?;
     }
     Ok(made)
 }
@@ -181,28 +173,23 @@ impl Rest {
         ensures slots { IfOk result (λ made. IsEndOf self.old.free poller made.1.free) }
         ensures left { OnOk result (AreLeft self.old.free self.new.free) }
     {
-        let Some(free) = self.next_end(poller) else {
-            return Err(ServerFault::NoMemory);
-        };
+        let free = self.next_end(poller).ok_or(ServerFault::NoMemory)?;
         let same = Arc::try_clone(shared)?;
-        match self.parts.next_own(alloc, shared, capacity, free)? {
-            Some(own) => Ok((same, own)),
-            None => Err(ServerFault::NoMemory),
-        }
+        let own = self.parts.next_own(alloc, shared, capacity, free)?;
+        Ok((same, own.ok_or(ServerFault::NoMemory)?))
     }
 
     /// An end of each queue but the first poller's, in order.
     fn other_ends(&mut self, alloc: Global) -> Result<Vec<FreeQueue>, ServerFault>
         ensures parts { OnOk result (self.new.parts ≡ self.old.parts) }
-        ensures ends { IfOk result (λ ends. AreEndsFrom self.old.free 1 ends.items) }
-        ensures all { IfOk result (λ ends. length ends.items ≡ length self.old.free - 1) }
+        ensures ends { IfOk result (λ ends. OfFirst Contains (drop 1 self.old.free) ends.items []) }
         ensures left { OnOk result (AreLeft self.old.free self.new.free) }
     {
         let pollers = self.free.len();
         let mut ends = Vec::with_capacity(alloc, pollers)?;
         for poller in 1..pollers {
             match self.next_end(poller) {
-                Some(free) => ends.push_reserved(free),
+                Some(free) => ends.push(free)?,
                 None => return Err(ServerFault::NoMemory),
             }
         }

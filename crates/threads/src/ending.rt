@@ -1,5 +1,5 @@
 //! How the threads of a server come to their end: why the loop of each ends, and what becomes of a fault.
-ghost use Rattle.std.specs.Prelude.{◌≡◌, ◌↔◌, IfOk, IfErr, IfSome, IsTrue, OnErr, OnOk, None, Some, option_map, true, false};
+ghost use Rattle.std.specs.Prelude.{◌≡◌, ◌↔◌, IfOk, IfErr, IfSome, IsSome, IsTrue, OnErr, OnOk, None, Some, option_map, true, false};
 ghost use Rattle.dispatch.specs.Outgoing.{PutAll};
 ghost use Rattle.ready.specs.Steps.{HeldOnce};
 ghost use Rattle.relay_log.specs.declared.faults.ServerFault.{ServerFault};
@@ -79,16 +79,12 @@ impl Ended {
         }
     }
 
-    /// Passes on what a round or a turn returned. A fault ends the loop.
-    pub(crate) fn on_fault<T: Drop>(answer: Result<T, ServerFault>) -> Result<T, Ended>
-        ensures good { IfOk result (λ value. answer ≡ Ok value) }
-        ensures met { IfErr result (λ ended. (fault : ServerFault) × (answer ≡ Err fault) × (ended.why ≡ Why.Met fault)) }
+    /// A round or a turn of this thread met a fault.
+    pub(crate) fn met(fault: ServerFault) -> Ended
+        ensures { result.why ≡ Why.Met fault }
     {
-        match answer {
-            Ok(value) => Ok(value),
-            Err(fault) => Err(Ended {
-                why: Why::Met(fault),
-            }),
+        Ended {
+            why: Why::Met(fault),
         }
     }
 }
@@ -197,7 +193,7 @@ impl Ending {
     }
 
     pub(crate) fn outcome(self, served: Served) -> Outcome
-        ensures few { served.few ≡ true → result.fault ≡ Some ServerFault.Threads }
+        ensures few { IfSome result.served (λ served. IsSome served.few → result.fault ≡ Some ServerFault.Threads) }
         ensures served { result.served ≡ Some served }
     {
         self.first.into_inner().outcome(served)

@@ -1,5 +1,5 @@
 //! What becomes of a fault: it is kept, unless a thread with a lower number has met one, and a mark is set.
-ghost use Rattle.std.specs.Prelude.{◌≡◌, ◌↔◌, IfErr, IsOk, None, Some, if◌then◌else◌, option_map};
+ghost use Rattle.std.specs.{Prelude.{◌≡◌, ◌↔◌, IfErr, IsOk, None, Some, if◌then◌else◌, option_map}, Option.is_some};
 ghost use Rattle.threads.specs.Loops.{announced, lowest};
 
 use crate::running::Served;
@@ -109,13 +109,13 @@ impl Lowest {
 
     /// How the server ended, once all its threads have ended: by the lack of a thread, or the fault that was kept, if any.
     pub(crate) fn outcome(self, served: Served) -> Outcome
-        ensures fault { result.fault ≡ if served.few then Some ServerFault.Threads else option_map (λ first. first.1) self.kept }
+        ensures fault { result.fault ≡ if is_some served.few then Some ServerFault.Threads
+            else option_map (λ first. first.1) self.kept }
         ensures served { result.served ≡ Some served }
     {
-        let fault = if served.few {
-            Some(ServerFault::Threads)
-        } else {
-            self.kept.map(|(_, fault)| fault)
+        let fault = match served.few {
+            Some(_) => Some(ServerFault::Threads),
+            None => self.kept.map(|(_, fault)| fault),
         };
         Outcome {
             fault,

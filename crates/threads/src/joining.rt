@@ -1,6 +1,6 @@
 //! The threads of parts that have one each: how they are started, and joined.
 ghost use Rattle.std.specs.Prelude.{◌≡◌, ◌≤◌, [], IfOk, true, vec_capacity, vec_len};
-ghost use Rattle.threads.specs.Served.{IsOf, OfFirst};
+ghost use Rattle.threads.specs.{Divided.OfFirst, Served.IsOf};
 
 use crate::context::ThreadEnd;
 use std::alloc::{AllocError, Global};
@@ -34,12 +34,14 @@ impl<'s, X, P: Part<X>> Promise<ThreadEnd> for Runs<'s, P, X> {
 pub(crate) struct Joins<'s, P: Part<X>, X> {
     handles: Vec<PromisedHandle<ThreadEnd, Runs<'s, P, X>>>,
     ends: Vec<ThreadEnd>,
+    ghost none: { ends.items ≡ [] },
+    ghost room: { vec_len handles ≤ vec_capacity ends },
 }
 
 impl<'s, P: Part<X>, X> Joins<'s, P, X> {
     /// Room for the threads of so many parts.
     pub(crate) fn for_parts(alloc: Global, count: usize) -> Result<Joins<'s, P, X>, AllocError>
-        ensures none { IfOk result (λ joins. (joins.handles.items ≡ []) × (joins.ends.items ≡ [])) }
+        ensures none { IfOk result (λ joins. joins.handles.items ≡ []) }
         ensures room { IfOk result (λ joins. (count ≤ vec_capacity joins.handles) × (count ≤ vec_capacity joins.ends)) }
     {
         let handles = Vec::with_capacity(alloc, count)?;
@@ -51,23 +53,27 @@ impl<'s, P: Part<X>, X> Joins<'s, P, X> {
         self.handles.len()
     }
 
-    /// Starts a thread for each part, in order, and moves the part into it. False: one could not be started, and no more
-    /// were.
+    /// Starts a thread for each part, in order, and moves the part into it, if all others `so_far` were started. False:
+    /// one could not be started, and no more were.
     pub(crate) fn start<E>(
         &mut self,
         scope: &'s Scope<'s, E>,
         context: &'s X,
         parts: Vec<P>,
+        so_far: bool,
     ) -> bool
     where
         P: Drop + Send + 's,
         X: Sync,
         requires none { self.old.handles.items ≡ [] }
-        requires room { vec_len parts ≤ vec_capacity self.old.handles }
+        requires room { (vec_len parts ≤ vec_capacity self.old.handles) × (vec_len parts ≤ vec_capacity self.old.ends) }
         ensures started { (left : _) × OfFirst (λ part handle. IsOf context.now part handle.promise.context.now handle.promise.part.value)
             parts.items self.new.handles.items left × (result ≡ true → left ≡ []) }
-        ensures ends { self.new.ends ≡ self.old.ends }
+        ensures others { result ≡ true → so_far ≡ true }
     {
+        if !so_far {
+            return false;
+        }
         for part in parts {
             let promise = Runs {
                 part: Snapshot::of(&part),
@@ -85,8 +91,6 @@ impl<'s, P: Part<X>, X> Joins<'s, P, X> {
     pub(crate) fn join(self, rt: &impl Threads) -> Vec<ThreadEnd>
     where
         P: Drop,
-        requires none { self.ends.items ≡ [] }
-        requires room { vec_len self.handles ≤ vec_capacity self.ends }
         ensures { OfFirst (λ handle end. P.runs handle.promise.context.now handle.promise.part.value end)
             self.entry.handles.items result.items [] }
     {
@@ -96,33 +100,4 @@ impl<'s, P: Part<X>, X> Joins<'s, P, X> {
         }
         ends
     }
-}
-
-/// Starts the threads of parts, and if each has one, those of others. False: one could not be started.
-pub(crate) fn start_both<
-    's,
-    E,
-    X: Sync,
-    P: Part<X> + Drop + Send + 's,
-    Q: Part<X> + Drop + Send + 's,
->(
-    scope: &'s Scope<'s, E>,
-    context: &'s X,
-    of_parts: &mut Joins<'s, P, X>,
-    parts: Vec<P>,
-    of_others: &mut Joins<'s, Q, X>,
-    others: Vec<Q>,
-) -> bool
-    requires none { (of_parts.old.handles.items ≡ []) × (of_others.old.handles.items ≡ []) }
-    requires room { (vec_len parts ≤ vec_capacity of_parts.old.handles) × (vec_len others ≤ vec_capacity of_others.old.handles) }
-    ensures parts { (left : _) × OfFirst (λ part handle. IsOf context.now part handle.promise.context.now handle.promise.part.value)
-        parts.items of_parts.new.handles.items left × (result ≡ true → left ≡ []) }
-    ensures others { (left : _) × OfFirst (λ part handle. IsOf context.now part handle.promise.context.now handle.promise.part.value)
-        others.items of_others.new.handles.items left × (result ≡ true → left ≡ []) }
-    ensures ends { (of_parts.new.ends ≡ of_parts.old.ends) × (of_others.new.ends ≡ of_others.old.ends) }
-{
-    if !of_parts.start(scope, context, parts) {
-        return false;
-    }
-    of_others.start(scope, context, others)
 }

@@ -40,4 +40,4 @@ pub use ending::{Ended, Ending, Why};
 pub use faults::{Found, Outcome, Recorded};
 pub use polling::PollerThread;
 pub use running::{Server, run_threads};
-pub use working::Worker;
+pub use working::{Owned, Worker};

@@ -1,14 +1,14 @@
 //! The steps of a poller's thread.
-ghost use Rattle.std.specs.{Prelude.{◌≡◌, ◌⊎◌, ℕ, [], ◌∷◌, length, slice_get, Ok, Some, None, OnOk, OnSome, IfErr, IfOk, IfSome}, Arc.arc_value};
+ghost use Rattle.std.specs.{Prelude.{◌≡◌, ◌⊎◌, ℕ, length, slice_get, Ok, Some, None, OnOk, IfErr, IfSome}, Arc.arc_value};
 ghost use Rattle.claims.specs.Seats.{HoldsNothing};
 ghost use Rattle.rounds.specs.{Episodes.no_drops, Pollers.HasOpenedAll};
 ghost use Rattle.turns.specs.Turns.{NoOwnTurn};
-ghost use Rattle.relay_log.specs.declared.faults.ServerFault.TheVariants.{Worn};
-ghost use Rattle.threads.specs.{Loops.{AllWoken, Asked, EndsWell, IsTold, LoopMade, OwnTurnsRan, PollerRan, RoundCut, RoundOver, RunMade, StepCut, StepMade, TurnsAfter, TurnsCut, WornEnd}};
+ghost use Rattle.dispatch.specs.Posts.{OnlyWorn};
+ghost use Rattle.threads.specs.{Loops.{AllWoken, Asked, EndsWell, IsTold, LoopMade, OwnRan, PollerRan, RoundCut, RoundOver, RunMade, StepCut, StepMade, TurnsAfter, TurnsCut}};
 
 use crate::context::{Context, StopFlag, Told};
 use crate::ending::{Ended, NoFault, end_if_over};
-use dispatch::{Clock, Front, Gate, MAX_OWN_TURNS, Own, Shared};
+use dispatch::{Clock, Front, Gate, MAX_OWN_TURNS, Own, ServerFault, Shared};
 use log::Log;
 use rounds::{Poller, poller_round};
 use std::sync::{Arc, Wait};
@@ -97,6 +97,7 @@ impl<F: Front + Drop> PollerThread<F> {
     /// One step of the thread: a round, and then the turns of the tickets that stay with this thread, 32 at most.
     /// Refused if the thread ends: the poller is over, a fault was recorded before the round or before one of the
     /// turns, or this step met a fault.
+    #[tactic(auto, using(crate::proofs::Loops::ran_none))]
     pub fn step<G: Gate, C: Clock, R: Wait + Log, S: StopFlag>(
         &mut self,
         context: &Context<'_, G, C, R, S>,
@@ -159,7 +160,10 @@ impl<F: Front + Drop> PollerThread<F> {
             &mut self.poller,
             &context.timing,
         );
-        Ended::on_fault(polled)
+        match polled {
+            Ok(()) => Ok(()),
+            Err(fault) => Err(Ended::met(fault)),
+        }
     }
 
     /// Puts the tickets for workers, and runs those that stay, until a fault is recorded.
@@ -181,7 +185,7 @@ impl<F: Front + Drop> PollerThread<F> {
             match self.turn(context, seen) {
                 Ok(Some(_)) => {}
                 Ok(None) => return Ok(()),
-                Err(ended) => return Err(ended),
+                Err(fault) => return Err(Ended::met(fault)),
             }
         }
         Ok(())
@@ -189,15 +193,15 @@ impl<F: Front + Drop> PollerThread<F> {
 
     /// Runs the turn of the oldest ticket in hand. None if there is no ticket, or no room in hand for a slot. If the
     /// turn ends the connection, and this poller has opened all that it may, the slot's poller is woken.
+    #[tactic(auto, using(crate::proofs::Loops::own_ran))]
     fn turn<G: Gate, C: Clock, R: Wait + Log, S: StopFlag>(
         &mut self,
         context: &Context<'_, G, C, R, S>,
         _seen: NoFault,
-    ) -> Result<Option<Worked>, Ended>
-        ensures ran { IfOk result (λ worked. OnSome worked (OwnTurnsRan 1 [] self.old.own self.new.own)) }
-        ensures none { IfOk result (λ worked. worked ≡ None → NoOwnTurn self.old.own × (self.new.own ≡ self.old.own)) }
-        ensures cut { IfErr result (λ ended. OwnTurnsRan 1 (Worn ∷ []) self.old.own self.new.own
-            × WornEnd ended.why self.new.own) }
+    ) -> Result<Option<Worked>, ServerFault>
+        ensures ran { OwnRan result self.old.own self.new.own }
+        ensures none { result ≡ Ok None → NoOwnTurn self.old.own }
+        ensures worn { IfErr result (λ fault. OnlyWorn fault self.new.own.seat) }
         ensures poller { self.new.poller ≡ record self.old.poller { heavy = self.new.poller.heavy } }
         ensures woken { result ≡ Ok (Some Worked.Ended) → HasOpenedAll self.old.poller
             → IfSome (slice_get self.old.own.hand.tickets 0)
@@ -205,7 +209,7 @@ impl<F: Front + Drop> PollerThread<F> {
     {
         let poller = &mut self.poller;
         let is_closing = poller.has_opened_all();
-        let worked = own_turn(
+        own_turn(
             context.rt,
             &mut (),
             &self.shared,
@@ -214,7 +218,6 @@ impl<F: Front + Drop> PollerThread<F> {
             &mut poller.heavy,
             is_closing,
             &context.timing,
-        );
-        Ended::on_fault(worked)
+        )
     }
 }

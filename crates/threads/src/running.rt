@@ -3,13 +3,13 @@ ghost use Rattle.std.specs.Prelude.{◌≡◌, ℕ, List, [], IfOk, IfSome, IsSo
 ghost use Rattle.std.specs.Thread.{IsSend, IsSync};
 ghost use Rattle.claims.specs.Seats.{fresh_seat};
 ghost use Rattle.dispatch.specs.Posts.{AreFresh};
-ghost use Rattle.threads.specs.{Loops.{announced}, Served.{AllRan, IsDivided, OfFirst, PollerPart, PollerRuns, WorkerPart, WorkerRuns, poller_part, worker_part}};
+ghost use Rattle.threads.specs.{Divided.OfFirst, Served.{AllRan, IsDivided, PollerPart, PollerRuns, WorkerPart, WorkerRuns, poller_part, worker_part}};
 
 use crate::context::{Context, StopFlag, ThreadEnd};
 use crate::dividing::{Rest, ServerThreads, divide};
 use crate::ending::Ending;
-use crate::faults::{Few, Outcome, Recorded};
-use crate::joining::{Joins, Part, start_both};
+use crate::faults::{Few, Outcome};
+use crate::joining::{Joins, Part};
 use crate::polling::PollerThread;
 use crate::working::Worker;
 use dispatch::{Clock, Front, Gate, Parts, ServerFault, Shared, Split, Timing};
@@ -44,17 +44,18 @@ pub struct Server<F: Front> {
 /// fault that a thread met, or `Threads` if one could not be started. Of several faults it is `Threads`, or else that of
 /// the lowest thread: pollers come before workers.
 pub fn run_threads<
+    'a,
     F,
     G: Gate + Sync,
     C: Clock + Sync,
     R: Wait + Threads + Log + Sync,
     S: StopFlag + Sync,
 >(
-    rt: &R,
+    rt: &'a R,
     alloc: Global,
-    gate: &G,
-    timing: Timing<'_, C>,
-    is_stopped: &S,
+    gate: &'a G,
+    timing: Timing<'a, C>,
+    is_stopped: &'a S,
     server: Server<F>,
 ) -> Outcome
 where
@@ -66,9 +67,8 @@ where
         × IsDivided (fresh_seat server.shared.claims) (map (λ ends. ends.items) server.free.items) server.pollers.items server.workers
         pollers workers
         × AllRan (PollerRuns (S.said is_stopped.now) (C.tells timing.entry.clock.now) F.gave_none timing.entry.limit mark)
-        (WorkerRuns mark) pollers workers
-        served.few served.pollers.items served.workers.items served.first) }
-    ensures few { IfSome result.served (λ served. served.few ≡ true → result.fault ≡ Some ServerFault.Threads) }
+        (WorkerRuns mark) pollers workers served) }
+    ensures few { IfSome result.served (λ served. IsSome served.few → result.fault ≡ Some ServerFault.Threads) }
 {
     let (split, count) = (server.split, server.pollers.len());
     let threads = match threads_of(alloc, server) {
@@ -85,7 +85,20 @@ where
         is_stopped,
         split,
     };
-    let served = run_all(&context, threads);
+    let handed = &context;
+    let served = thread::scope(
+        thread::scope_env(),
+        rt,
+        move |scope| -> Result<Served, ServerFault>
+            requires { IsSend F.row × IsSend F.Client.row × IsSend F.Target.row × IsSend F.Waker.row × IsSync F.Waker.row
+                × IsSync G.row × IsSync C.row × IsSync R.row × IsSync S.row }
+            ensures { IfOk result (λ served. AllRan (PollerRuns (S.said handed.entry.now.is_stopped.now)
+                (C.tells handed.entry.now.timing.clock.now) F.gave_none handed.entry.now.timing.limit
+                handed.entry.now.ending.now) (WorkerRuns handed.entry.now.ending.now)
+                (map (λ p. poller_part p.number p.poller p.own) threads.pollers.items)
+                (map (λ w. worker_part w.number w.owned) threads.workers.items) served) }
+        { run_in(scope, handed, threads) },
+    );
     drop(context);
     match served {
         Ok(served) => ending.outcome(served),
@@ -99,7 +112,7 @@ fn threads_of<F: Front + Drop>(
 ) -> Result<ServerThreads<F>, ServerFault>
     ensures { IfOk result (λ made. IsDivided (fresh_seat server.shared.claims) (map (λ ends. ends.items) server.free.items)
         server.pollers.items server.workers (map (λ p. poller_part p.number p.poller p.own) made.pollers.items)
-        (map (λ w. worker_part w.number w.own w.others.items) made.workers.items)) }
+        (map (λ w. worker_part w.number w.owned) made.workers.items)) }
 {
     let Server {
         shared,
@@ -116,14 +129,12 @@ fn threads_of<F: Front + Drop>(
 /// All threads of a server have ended, and how. Only [`run_in`] makes this value.
 #[derive(Drop)]
 pub(crate) struct Served {
-    /// A thread could not be started.
-    pub(crate) few: bool,
-    recorded: Option<Few>,
+    /// If a thread could not be started, that is recorded.
+    pub(crate) few: Option<Few>,
     pollers: Vec<ThreadEnd>,
     workers: Vec<ThreadEnd>,
     /// Of the first poller, which ran in the thread that serves.
     first: Option<ThreadEnd>,
-    ghost told: { few ≡ true → IsSome recorded },
 }
 
 impl<'a, F: Front + Drop, G: Gate, C: Clock, R: Wait + Log, S: StopFlag> Part<
@@ -135,10 +146,9 @@ impl<'a, F: Front + Drop, G: Gate, C: Clock, R: Wait + Log, S: StopFlag> Part<
         context.timing.limit context.ending.now (poller_part poller.number poller.poller poller.own) end };
 
     /// Tools such as top(1) show the thread by its name.
-    fn run_to_end(self, context: &Context<'a, G, C, R, S>) -> ThreadEnd {
-        let mut poller = self;
+    fn run_to_end(mut self, context: &Context<'a, G, C, R, S>) -> ThreadEnd {
         set_thread_name(b"poller");
-        poller.run(context).end()
+        self.run(context).end()
     }
 }
 
@@ -147,44 +157,12 @@ impl<'a, F: Front + Drop, G: Gate, C: Clock, R: Wait + Log, S: StopFlag> Part<
 > for Worker<F> {
     ghost use Rattle.threads.specs.Served.{WorkerRuns, worker_part};
 
-    ghost runs = { λ context worker end. WorkerRuns context.ending.now (worker_part worker.number worker.own worker.others.items) end };
+    ghost runs = { λ context worker end. WorkerRuns context.ending.now (worker_part worker.number worker.owned) end };
 
-    fn run_to_end(self, context: &Context<'a, G, C, R, S>) -> ThreadEnd {
-        let mut worker = self;
+    fn run_to_end(mut self, context: &Context<'a, G, C, R, S>) -> ThreadEnd {
         set_thread_name(b"worker");
-        worker.run(context).end()
+        self.run(context).end()
     }
-}
-
-/// Runs all threads of a server, and returns when all have ended. Refuses with `NoMemory` before any has started.
-fn run_all<F, G: Gate + Sync, C: Clock + Sync, R: Wait + Threads + Log + Sync, S: StopFlag + Sync>(
-    context: &Context<'_, G, C, R, S>,
-    threads: ServerThreads<F>,
-) -> Result<Served, ServerFault>
-where
-    F: Front + Drop + Send,
-    F::Client: Send,
-    F::Target: Send,
-    F::Waker: Send + Sync,
-    ensures { IfOk result (λ served. AllRan (PollerRuns (S.said context.now.is_stopped.now)
-        (C.tells context.now.timing.clock.now) F.gave_none context.now.timing.limit context.now.ending.now) (WorkerRuns context.now.ending.now)
-        (map (λ p. poller_part p.number p.poller p.own) threads.pollers.items)
-        (map (λ w. worker_part w.number w.own w.others.items) threads.workers.items)
-        served.few served.pollers.items served.workers.items served.first) }
-{
-    thread::scope(
-        thread::scope_env(),
-        context.rt,
-        move |scope| -> Result<Served, ServerFault>
-            requires { IsSend F.row × IsSend F.Client.row × IsSend F.Target.row × IsSend F.Waker.row × IsSync F.Waker.row
-                × IsSync G.row × IsSync C.row × IsSync R.row × IsSync S.row }
-            ensures { IfOk result (λ served. AllRan (PollerRuns (S.said context.entry.now.is_stopped.now)
-                (C.tells context.entry.now.timing.clock.now) F.gave_none context.entry.now.timing.limit context.entry.now.ending.now) (WorkerRuns context.entry.now.ending.now)
-                (map (λ p. poller_part p.number p.poller p.own) threads.pollers.items)
-                (map (λ w. worker_part w.number w.own w.others.items) threads.workers.items)
-                served.few served.pollers.items served.workers.items served.first) }
-        { run_in(scope, context, threads) },
-    )
 }
 
 /// Starts the threads of the workers and of all pollers but the first, runs that one in the calling thread, and joins all.
@@ -207,10 +185,9 @@ where
     F::Target: Send,
     F::Waker: Send + Sync,
     ensures { IfOk result (λ served. AllRan (PollerRuns (S.said context.now.is_stopped.now)
-        (C.tells context.now.timing.clock.now) F.gave_none context.now.timing.limit context.now.ending.now) (WorkerRuns context.now.ending.now)
-        (map (λ p. poller_part p.number p.poller p.own) threads.pollers.items)
-        (map (λ w. worker_part w.number w.own w.others.items) threads.workers.items)
-        served.few served.pollers.items served.workers.items served.first) }
+        (C.tells context.now.timing.clock.now) F.gave_none context.now.timing.limit context.now.ending.now)
+        (WorkerRuns context.now.ending.now) (map (λ p. poller_part p.number p.poller p.own) threads.pollers.items)
+        (map (λ w. worker_part w.number w.owned) threads.workers.items) served) }
 {
     let ServerThreads {
         mut pollers,
@@ -220,27 +197,16 @@ where
     let wanted = pollers.len().saturating_add(workers.len());
     let mut of_workers = Joins::for_parts(context.alloc, workers.len())?;
     let mut of_pollers = Joins::for_parts(context.alloc, pollers.len())?;
-    let all = start_both(
-        scope,
-        context,
-        &mut of_workers,
-        workers,
-        &mut of_pollers,
-        pollers,
-    );
-    let recorded = if all {
-        None
-    } else {
-        let started = of_workers.len().saturating_add(of_pollers.len());
-        Some(not_started(context, started, wanted).few())
-    };
+    let so_far = of_workers.start(scope, context, workers, true);
+    let all = of_pollers.start(scope, context, pollers, so_far);
+    let started = of_workers.len().saturating_add(of_pollers.len());
+    let few = few_started(context, all, started, wanted);
     if !context.ending.is_recorded() {
         context.gate.all_started();
     }
     let first = run_first(context, first);
     Ok(Served {
-        few: !all,
-        recorded,
+        few,
         pollers: of_pollers.join(context.rt),
         workers: of_workers.join(context.rt),
         first,
@@ -263,19 +229,23 @@ fn run_first<F: Front + Drop, G: Gate, C: Clock, R: Wait + Log, S: StopFlag>(
     }
 }
 
-/// A thread could not be started, after so many of those that are wanted beside the first. The fault is recorded under
+/// If not all threads could be started, but so many of those that are wanted beside the first, the fault is recorded under
 /// number 0, before those of all threads.
-fn not_started<'a, G, C, R: Wait + Log, S>(
-    context: &Context<'a, G, C, R, S>,
+fn few_started<G, C, R: Wait + Log, S>(
+    context: &Context<'_, G, C, R, S>,
+    all: bool,
     started: usize,
     wanted: usize,
-) -> Recorded<'a>
-    ensures { result ≡ announced context.now.ending.now (0, ServerFault.Threads) }
+) -> Option<Few>
+    ensures { result ≡ None → all ≡ true }
 {
+    if all {
+        return None;
+    }
     let fault = log_few_threads(
         context.rt,
         started.saturating_add(1),
         wanted.saturating_add(1),
     );
-    context.ending.record(context.rt, 0, fault)
+    Some(context.ending.record(context.rt, 0, fault).few())
 }

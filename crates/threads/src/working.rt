@@ -1,13 +1,12 @@
 //! The steps of a worker's thread.
-ghost use Rattle.std.specs.{Prelude.{◌≡◌, ◌<◌, [], ◌∷◌, Ok, Err, IfErr, IfOk, OnOk}, Arc.arc_value};
+ghost use Rattle.std.specs.{Prelude.{◌≡◌, ◌<◌, [], IfErr, OnOk}, Arc.arc_value};
 ghost use Rattle.claims.specs.Seats.{HoldsNothing};
-ghost use Rattle.dispatch.specs.{Hands.HasRoom, Outgoing.{outgoing, PutAll}};
-ghost use Rattle.relay_log.specs.declared.faults.ServerFault.TheVariants.{Worn};
-ghost use Rattle.threads.specs.{Loops.{Changes, GivesToOwner, IsTold, OneRan, WorkerEnded, WorkerRan, WornEnd}};
+ghost use Rattle.dispatch.specs.{Hands.HasRoom, Outgoing.{outgoing, PutAll}, Posts.OnlyWorn};
+ghost use Rattle.threads.specs.{Divided.ends_of, Loops.{Changes, GivesToOwner, IsTold, OneRan, WorkerEnded, WorkerRan}};
 
 use crate::context::{Context, Told};
 use crate::ending::{Cleared, Ended, take};
-use dispatch::{Clock, Front, Gate, Hand, Own, Shared, give_slots, put_tickets};
+use dispatch::{Clock, Front, Gate, Hand, Own, ServerFault, Shared, give_slots, put_tickets};
 use log::Log;
 use ready::FreeQueue;
 use std::sync::{Arc, Wait};
@@ -20,27 +19,38 @@ pub struct Worker<F: Front> {
     pub shared: Arc<Shared<F>>,
     /// The thread's number. Of several faults the lowest number's is kept.
     pub number: usize,
+    pub owned: Owned,
+    pub ghost same: { owned.own.seat.table ≡ (arc_value shared).claims },
+    pub ghost idle: { HoldsNothing owned.own.seat },
+}
+
+/// What a worker's thread owns.
+#[derive(Drop)]
+pub struct Owned {
     /// Between two turns its end of a free queue is the first poller's.
     pub own: Own,
     /// The worker's ends of the other pollers' free queues, in order.
     pub others: Vec<FreeQueue>,
-    pub ghost same: { own.seat.table ≡ (arc_value shared).claims },
-    pub ghost idle: { HoldsNothing own.seat },
 }
 
 impl<F: Front + Drop> Worker<F> {
-    /// Makes its steps until one ends the thread.
+    /// Makes its steps until one ends the thread: the queue of tickets is closed and empty, or a fault is recorded or met.
+    #[tactic(auto, using(crate::proofs::Loops::worker_same, crate::proofs::Loops::worker_both))]
     pub fn run<'c, G: Gate, C: Clock, R: Wait + Log, S>(
         &mut self,
         context: &'c Context<'_, G, C, R, S>,
     ) -> Told<'c>
-        ensures ran { WorkerEnded context.now.ending.now result.why self.old.own self.new.own self.old.others.items self.new.others.items }
+        ensures ran { WorkerEnded context.now.ending.now result.why self.old.owned self.new.owned }
         ensures told { IsTold context.now.ending.now self.old.number result.why result.recorded result.closed }
         ensures number { result.number ≡ self.old.number }
     {
         let number = self.number;
-        let ended = self.run_turns(context);
-        self.finish(context, number, ended)
+        for _turn in context.rt.forever() {
+            if let Err(ended) = self.step(context) {
+                return self.finish(context, number, ended);
+            }
+        }
+        unreachable!()
     }
 
     /// The thread has ended, as [`Context::end`] says.
@@ -50,27 +60,11 @@ impl<F: Front + Drop> Worker<F> {
         number: usize,
         ended: Ended,
     ) -> Told<'c>
-        ensures own { self.new.own ≡ self.old.own }
+        ensures owned { self.new.owned ≡ self.old.owned }
         ensures told { IsTold context.now.ending.now number ended.why result.recorded result.closed }
         ensures of { (result.number ≡ number) × (result.why ≡ ended.why) }
-        ensures others { self.new.others.items ≡ self.old.others.items }
     {
-        context.end(&self.shared, number, &mut self.own.ready, ended)
-    }
-
-    /// Makes steps until the queue of tickets is closed and empty, or a fault is recorded or met.
-    fn run_turns<G: Gate, C: Clock, R: Wait + Log, S>(
-        &mut self,
-        context: &Context<'_, G, C, R, S>,
-    ) -> Ended
-        ensures ran { WorkerEnded context.now.ending.now result.why self.old.own self.new.own self.old.others.items self.new.others.items }
-    {
-        for _turn in context.rt.forever() {
-            if let Err(ended) = self.step(context) {
-                return ended;
-            }
-        }
-        unreachable!()
+        context.end(&self.shared, number, &mut self.owned.own.ready, ended)
     }
 
     /// One step of the thread: it puts the tickets in hand, which the queue refused before, takes a ticket, for which
@@ -81,40 +75,35 @@ impl<F: Front + Drop> Worker<F> {
         &mut self,
         context: &Context<'_, G, C, R, S>,
     ) -> Result<(), Ended>
-        ensures ran { OnOk result (WorkerRan [] [] self.old.own self.new.own self.old.others.items self.new.others.items) }
-        ensures cut { IfErr result (λ ended. WorkerEnded context.now.ending.now ended.why self.old.own self.new.own self.old.others.items self.new.others.items) }
+        ensures ran { OnOk result (WorkerRan [] [] self.old.owned self.new.owned) }
+        ensures cut { IfErr result (λ ended. WorkerEnded context.now.ending.now ended.why self.old.owned self.new.owned) }
     {
-        let seen = match context.ending.look() {
-            Ok(seen) => seen,
-            Err(ended) => return Err(ended),
-        };
+        let seen = context.ending.look()?;
         self.put_hand(context.rt);
-        if !self.own.hand.has_room() {
+        if !self.owned.own.hand.has_room() {
             thread::yield_now();
             return Ok(());
         }
-        let ticket = match take(context.rt, &mut self.own, seen) {
-            Ok(ticket) => ticket,
-            Err(ended) => return Err(ended),
-        };
+        let ticket = take(context.rt, &mut self.owned.own, seen)?;
         match context.ending.look_after_take(ticket) {
             Ok(cleared) => match self.turn(context, cleared) {
                 Ok(_) => Ok(()),
-                Err(ended) => Err(ended),
+                Err(fault) => Err(Ended::met(fault)),
             },
             Err(ended) => {
-                self.own.hand.keep_ticket(ticket);
+                self.owned.own.hand.keep_ticket(ticket);
                 Err(ended)
             }
         }
     }
 
     /// Puts the tickets that are in hand, as far as their queue has room.
+    #[tactic(auto, using(crate::proofs::Loops::worker_none))]
     fn put_hand(&mut self, rt: &impl Wait)
-        ensures ran { WorkerRan [] [] self.old.own self.new.own self.old.others.items self.new.others.items }
-        ensures put { PutAll self.new.own.ready self.new.own.hand.tickets }
+        ensures ran { WorkerRan [] [] self.old.owned self.new.owned }
+        ensures put { PutAll self.new.owned.own.ready self.new.owned.own.hand.tickets }
     {
-        put_tickets(rt, &mut self.own.ready, &mut self.own.hand);
+        put_tickets(rt, &mut self.owned.own.ready, &mut self.owned.own.hand);
     }
 
     /// Runs the ticket's turn. If the connection ends, its slot goes back to the slot's poller.
@@ -122,33 +111,34 @@ impl<F: Front + Drop> Worker<F> {
         &mut self,
         context: &Context<'_, G, C, R, S>,
         cleared: Cleared,
-    ) -> Result<Worked, Ended>
-        requires { HasRoom self.old.own.hand }
-        ensures ran { IfOk result (λ worked. OneRan cleared.ticket (Ok worked) self.old.own self.new.own self.old.others.items
-            self.new.others.items) }
-        ensures cut { IfErr result (λ ended. OneRan cleared.ticket (Err Worn) self.old.own self.new.own self.old.others.items
-            self.new.others.items × WornEnd ended.why self.new.own) }
-        ensures took { self.new.own.ready.history.taken ≡ self.old.own.ready.history.taken }
-        ensures given { self.new.own.hand.slots ≡ [] }
+    ) -> Result<Worked, ServerFault>
+        requires { HasRoom self.old.owned.own.hand }
+        ensures ran { OneRan cleared.ticket result self.old.owned self.new.owned }
+        ensures worn { IfErr result (λ fault. OnlyWorn fault self.new.owned.own.seat) }
+        ensures took { self.new.owned.own.ready.history.taken ≡ self.old.owned.own.ready.history.taken }
+        ensures given { self.new.owned.own.hand.slots ≡ [] }
         ensures gives { cleared.ticket.slot < context.now.split.slots
-            → GivesToOwner context.now.split cleared.ticket.slot (self.old.own.free ∷ self.old.others.items)
-            (self.new.own.free ∷ self.new.others.items) }
+            → GivesToOwner context.now.split cleared.ticket.slot (ends_of self.old.owned) (ends_of self.new.owned) }
     {
         let ticket = cleared.ticket;
         let poller = context.split.poller_of(ticket.slot);
-        change_end(&mut self.own.free, &mut self.others, poller);
+        change_end(&mut self.owned.own.free, &mut self.owned.others, poller);
         let worked = worker_turn(
             context.rt,
             &mut (),
             &self.shared,
-            &mut self.own,
+            &mut self.owned.own,
             context.gate,
             ticket,
             &context.timing,
         );
-        give_until_empty(context.rt, &mut self.own.free, &mut self.own.hand);
-        change_end(&mut self.own.free, &mut self.others, poller);
-        Ended::on_fault(worked)
+        give_until_empty(
+            context.rt,
+            &mut self.owned.own.free,
+            &mut self.owned.own.hand,
+        );
+        change_end(&mut self.owned.own.free, &mut self.owned.others, poller);
+        worked
     }
 }
 

@@ -1,5 +1,4 @@
-use Rattle.std.proofs.Common.{arith}
-use Rattle.server.proofs.Parts.{all_fresh}
+use Rattle.std.proofs.{Common.arith, lemmas.List.length-replicate}
 use Rattle.server.proofs.making.build.Goals as goal
 
 pub frees_of-requires : goal.frees_of-requires
@@ -11,4 +10,4 @@ shared_of-requires g c = record {
 }
 
 pub invariant_of-result : goal.invariant_of-result
-invariant_of-result g c = record { seats = all_fresh _ _ _ c.in_ok-shared.ensures.seats }
+invariant_of-result g c = record { seats = record { each = rw (c.in_ok-shared.ensures.seats, length-replicate) } }

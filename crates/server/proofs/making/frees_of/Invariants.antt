@@ -1,13 +1,9 @@
-use Rattle.std.{proofs.Common.{◌≡◌, ◌≤◌, ℕ, ◌∷◌, map, replicate}, specs.{Prelude.{vec_len, vec_capacity}, List.range_with_len}}
+use Rattle.std.{proofs.Common.{◌≡◌, ℕ, ◌∷◌, map, replicate}, specs.List.range_with_len}
 use Rattle.ready.specs.Steps.{unused, opened}
 use Rattle.dispatch.specs.Splits.{part_of}
 use Rattle.server.proofs.making.frees_of.Given as goal
 
 abbrev pub invariant-loop-number : goal.invariant-loop-number
-invariant-loop-number g l = record {
-  made : map (λ ends. ends.items) l.frees.items
-      ≡ map (λ (number : ℕ). opened (part_of l.split.slots l.split.size number).first (part_of l.split.slots l.split.size number).slots
-      ∷ replicate l.workers (unused (part_of l.split.slots l.split.size number).slots)) (range_with_len 0 l.number);
-  len : vec_len l.frees ≡ l.number;
-  room : l.pollers ≤ vec_capacity l.frees;
-}
+invariant-loop-number g l = map (λ ends. ends.items) l.frees.items
+    ≡ map (λ (number : ℕ). opened (part_of l.split.slots l.split.size number).first (part_of l.split.slots l.split.size number).slots
+    ∷ replicate l.workers (unused (part_of l.split.slots l.split.size number).slots)) (range_with_len 0 l.number)

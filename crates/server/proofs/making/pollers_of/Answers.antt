@@ -1,38 +1,25 @@
-use Rattle.std.proofs.{Common.{◌≡◌, ap, ◌∙◌, ◌+◌, ℕ, length, arith}, lemmas.List.{length-reverse, reverse-reverse}}
-use Rattle.server.proofs.Parts.{one_begun, all_made}
+use Rattle.std.{proofs.{Common.{◌≡◌, [], ◌∷◌, arith, rules, append_assoc, append-nil}, lemmas.List.nil_from_length}, specs.Vec.Iter.{into_iter_items}}
 use Rattle.server.proofs.making.pollers_of.Goals as goal
 
-pub loop-number-preserved : goal.loop-number-preserved
-loop-number-preserved g c =
-    let was = c.loop-number.invariant in
-    let pushed = c.push_reserved.ensures in
-    let popped = c.in-Some.ensures in
+pub loop-front-init : goal.loop-front-init
+loop-front-init g c =
+    let all : into_iter_items c.into_iter-front-iterator.result ≡ c.args.fronts.items = search rules in
+    record { left = search rules; begun = rw (c.in_ok-pollers.ensures.items, all) }
+
+pub loop-front-preserved : goal.loop-front-preserved
+loop-front-preserved g c =
+    let was = c.loop-front.invariant in
+    let next : into_iter_items c.loop-front.front-iterator ≡ c.in-Some.front ∷ into_iter_items c.next.new.self = c.in-Some.ensures.steps.0 in
     record {
-      left = omega (arith, was.left, popped.len, c.loop-number.fronts.ok.0, c.pop.new.self.ok.0);
-      begun = one_begun c.args.settings.now c.args.split _ _ _ _ _ c.loop-number.number _ pushed.items popped.items c.in_ok-poller_of-in-Some.ensures was.begun;
-      len = pushed.len ∙ ap (λ (n : ℕ). n + 1) was.len;
-      room = omega (arith, pushed.capacity, was.room);
+      left = omega (arith, c.in-Some.ensures.steps.1, was.left);
+      begun = rw (c.in_ok-push.ensures.items, append_assoc, c.in_ok-poller_of.ensures) (rw next at was.begun);
     }
 
 pub returns : goal.returns
 returns g c =
-    let was = c.loop-number.invariant in
-    let none : length c.loop-number.fronts.items ≡ 0 = omega (arith, was.left, c.loop-number-test.false, c.pollers-count.ensures.parts) in
-    all_made c.args.settings.now c.args.split _ _ c.loop-number.fronts.items _ _ none was.begun
-
-pub loop-number-init : goal.loop-number-init
-loop-number-init g c =
-    let made = c.in_ok-pollers.ensures in
-    let turned = c.reverse.ensures.items in
-    record {
-      left = rw (turned, length-reverse) (omega (arith, c.requires));
-      begun = rw (made.items, turned, reverse-reverse);
-      len = made.len;
-      room = made.capacity;
-    }
+    let was = c.loop-front.invariant in
+    let none : into_iter_items c.loop-front.front-iterator ≡ [] = nil_from_length _ (omega (arith, c.loop-front.front-iterator.rest.ok.0, c.in-None.ensures.steps.0)) in
+    rw (none, append-nil) at was.begun
 
 pub poller_of-requires : goal.poller_of-requires
-poller_of-requires g c = record { number = omega (arith, c.loop-number-test.true, c.pollers-count.ensures.parts) }
-
-pub unreachable-requires : goal.unreachable-requires
-unreachable-requires g c = omega (arith, c.in-None.ensures.cases.0, c.loop-number.fronts.ok.0, c.loop-number.invariant.left, c.loop-number-test.true, c.pollers-count.ensures.parts)
+poller_of-requires g c = record { number = omega (arith, c.in-Some.ensures.steps.1, c.loop-front.invariant.left) }

@@ -1,6 +1,6 @@
-use Rattle.std.{proofs.{Common.{◌≡◌, ℕ, ◌∷◌, ◌∙◌, ap, arith}, lemmas.{List.Elements.All-map, Simd.map-map}}, specs.{Arc.arc_value, List.range_with_len}}
+use Rattle.std.{proofs.{Common.{◌≡◌, ℕ, ◌∙◌, ap, arith, get_or}, lemmas.{List.Elements.All-map, Simd.map-map}}, specs.{Arc.arc_value, List.range_with_len}}
 use Rattle.claims.specs.Seats.{fresh_seat}
-use Rattle.threads.{specs.{Divided.{HasOneOfEach, IsEndOf}, Served.{PollerPart, WorkerPart, poller_part, worker_part}}, proofs.Divided.{each_of_all}}
+use Rattle.threads.{specs.{Divided.{HasOneOfEach, IsEndOf, ends_of}, Served.{PollerPart, WorkerPart, poller_part, worker_part}}, proofs.Divided.{one_of_all}}
 use Rattle.threads.proofs.dividing.divide.Goals as goal
 
 pub returns : goal.returns
@@ -10,11 +10,10 @@ returns g c =
     let ends = c.args.rest.free in
     record {
       pollers_are = map-map (λ (p : PollerPart). (p.number, p.poller)) (λ p. poller_part p.number p.poller p.own) _ ∙ pollers.pollers;
-      seats = All-map (λ (p : PollerPart). p.own.seat ≡ fresh_seat (arc_value c.args.shared.now).claims) (λ p. poller_part p.number p.poller p.own) _ pollers.seats;
-      own_slots = All-map (λ (p : PollerPart). IsEndOf ends p.number p.own.free) (λ p. poller_part p.number p.poller p.own) _ pollers.slots;
-      workers_are = map-map (λ (w : WorkerPart). w.number) (λ w. worker_part w.number w.own w.others.items) _
+      pollers_own = All-map (λ (p : PollerPart). (p.own.seat ≡ fresh_seat (arc_value c.args.shared.now).claims) × IsEndOf ends p.number p.own.free)
+          (λ p. poller_part p.number p.poller p.own) _ pollers.own;
+      workers_are = map-map (λ (w : WorkerPart). w.number) (λ w. worker_part w.number w.owned) _
           ∙ (workers.numbers ∙ ap (λ (n : ℕ). range_with_len n c.args.workers) (omega (arith, c.len-first.ensures, c.args.pollers.ok.0)));
-      other_seats = All-map (λ (w : WorkerPart). w.own.seat ≡ fresh_seat (arc_value c.args.shared.now).claims) (λ w. worker_part w.number w.own w.others.items) _ workers.seats;
-      all_slots = All-map (λ (w : WorkerPart). HasOneOfEach ends (w.own.free ∷ w.others)) (λ w. worker_part w.number w.own w.others.items) _
-          (each_of_all (λ worker. worker.own.free ∷ worker.others.items) _ pollers.left workers.slots);
+      workers_own = All-map (λ (w : WorkerPart). (w.owned.own.seat ≡ fresh_seat (arc_value c.args.shared.now).claims) × HasOneOfEach ends (ends_of w.owned))
+          (λ w. worker_part w.number w.owned) _ (λ k d below. let own = workers.own k d below in (own.0, one_of_all pollers.left (ends_of (get_or c.in_ok-workers.workers.items k d).owned) own.1));
     }

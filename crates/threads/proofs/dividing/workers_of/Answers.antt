@@ -1,7 +1,7 @@
-use Rattle.std.proofs.{Common.{◌≡◌, refl, ◌∷◌, arith}, lemmas.List.Elements.All-nil}
+use Rattle.std.proofs.Common.{◌≡◌, refl, ◌∷◌, ap, length, arith}
 use Rattle.std.specs.Arc.{arc_value}
 use Rattle.claims.{proofs.Seats.{fresh_holds_nothing}, specs.Seats.{fresh_seat}}
-use Rattle.threads.{specs.Divided.HasOneOfEach, proofs.Divided.{all_left, all_pushed, left_of_left, numbers_more, one_of_all, one_of_each}}
+use Rattle.threads.{specs.Divided.{HasOneOfEach, ends_of}, proofs.Divided.{all_left, all_pushed, left_of_left, numbers_more, one_of_all, one_of_each}}
 use Rattle.threads.proofs.dividing.workers_of.Goals as goal
 
 pub invariant_of-worker : goal.invariant_of-worker
@@ -11,39 +11,33 @@ invariant_of-worker g c =
 pub loop-index-preserved : goal.loop-index-preserved
 loop-index-preserved g c =
     let was = c.loop-index.invariant in
-    let pushed = c.push_reserved.ensures in
+    let pushed = c.in_ok-push.ensures.items in
     let others = c.in_ok-others.ensures in
     let owned = c.in_ok-shared.ensures in
     let ends = left_of_left was.ends others.left in
     record {
       fresh = owned.fresh;
-      numbers = numbers_more _ _ _ _ _ _ pushed.items refl was.numbers;
-      seats = all_pushed (λ worker. worker.own.seat ≡ fresh_seat (arc_value c.args.shared.now).claims) _ pushed.items was.seats owned.own;
-      slots = all_pushed (λ worker. HasOneOfEach c.args.rest.now.free (worker.own.free ∷ worker.others.items)) _ pushed.items was.slots
-          (one_of_all was.ends (c.in_ok-shared.own.free ∷ c.in_ok-others.others.items) (one_of_each _ _ others.ends others.all others.left owned.slots));
+      numbers = numbers_more _ _ _ _ _ _ pushed refl was.numbers;
+      own = all_pushed (λ worker. (worker.owned.own.seat ≡ fresh_seat (arc_value c.args.shared.now).claims) × HasOneOfEach c.args.rest.now.free (ends_of worker.owned))
+          _ pushed was.own (owned.own, one_of_all was.ends (c.in_ok-shared.own.free ∷ c.in_ok-others.others.items) (one_of_each _ _ others.ends others.left owned.slots));
       ends = left_of_left ends owned.left;
-      len = omega (arith, pushed.len, was.len);
-      room = omega (arith, pushed.capacity, was.room);
     }
 
 pub loop-index-init : goal.loop-index-init
 loop-index-init g c =
-    let made = c.in_ok-made.ensures in
+    let none = c.in_ok-made.ensures.items in
     record {
       fresh = c.requires;
-      numbers = rw made.items;
-      seats = rw made.items (All-nil (λ worker. worker.own.seat ≡ fresh_seat (arc_value c.args.shared.now).claims));
-      slots = rw made.items (All-nil (λ worker. HasOneOfEach c.args.rest.now.free (worker.own.free ∷ worker.others.items)));
-      ends = all_left;
-      len = made.len;
-      room = made.capacity;
+      numbers = rw none;
+      own = λ k d below. absurd (omega (arith, ap length none));
+      ends = all_left _;
     }
 
 pub returns : goal.returns
 returns g c =
     let was = c.loop-index.invariant in
     let all : c.loop-index.index ≡ c.args.workers = omega (arith, c.loop-index-test.false, c.loop-index.auto.index-end) in
-    record { numbers = rw all at was.numbers; seats = was.seats; slots = was.slots }
+    record { numbers = rw all at was.numbers; own = was.own }
 
 pub next_own-requires : goal.next_own-requires
 next_own-requires g c = rw c.in_ok-others.ensures.parts c.loop-index.invariant.fresh

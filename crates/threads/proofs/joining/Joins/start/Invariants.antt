@@ -1,12 +1,11 @@
-use Rattle.std.specs.{Prelude.{◌≡◌, ◌+◌, ◌≤◌, length, vec_len, vec_capacity}, Vec.Iter.{into_iter_items, into_iter_len}}
-use Rattle.threads.specs.Served.{IsOf, OfFirst}
+use Rattle.std.specs.{Prelude.{◌+◌, ◌≤◌, vec_len, vec_capacity}, Vec.Iter.{into_iter_items, into_iter_len}}
+use Rattle.threads.specs.{Divided.OfFirst, Served.IsOf}
 use Rattle.threads.proofs.joining.Joins.start.Given as goal
 
 abbrev pub invariant-loop-part : goal.invariant-loop-part
 invariant-loop-part g l = record {
-  long : length (into_iter_items l.part-iterator) ≡ into_iter_len l.part-iterator;
   room : vec_len l.self.handles + into_iter_len l.part-iterator ≤ vec_capacity l.self.handles;
+  room_for_ends : vec_len l.self.handles + into_iter_len l.part-iterator ≤ vec_capacity l.self.ends;
   started : OfFirst (λ part handle. IsOf l.context part handle.promise.context.now handle.promise.part.value) l.fn.parts.items
       l.self.handles.items (into_iter_items l.part-iterator);
-  ends : l.self.ends ≡ l.fn.self.ends;
 }

@@ -1,7 +1,7 @@
 use Rattle.std.proofs.Common.{rules, ap, subst}
 use Rattle.rounds.specs.Pollers.{PollerState}
 use Rattle.turns.specs.Shares.{TicketsShared}
-use Rattle.threads.proofs.Loops.{cut_worn, own_both, own_none}
+use Rattle.threads.proofs.Loops.{own_none, shared_then}
 use Rattle.threads.proofs.polling.PollerThread.run_turns.Goals as goal
 
 pub loop-turn-init : goal.loop-turn-init
@@ -15,13 +15,12 @@ loop-turn-init g c = record {
 }
 
 pub loop-turn-preserved : goal.loop-turn-preserved
-loop-turn-preserved g c = record {
-  heavy = c.loop-turn.invariant.heavy;
-  shared = c.loop-turn.invariant.shared;
-  sharing = c.loop-turn.invariant.sharing;
-  turns = own_both c.loop-turn.invariant.turns (rw c.in-Ok-Some.field-0-is at c.in-Ok-Some.ensures.ran);
-  poller = search rules;
-}
+loop-turn-preserved g c = shared_then c.loop-turn.invariant (rw c.in-Ok-Some.field-0-is at c.in-Ok-Some.ensures.ran) (search rules)
 
 pub returns-in-Err-turn-clause-cut : goal.returns-in-Err-turn-clause-cut
-returns-in-Err-turn-clause-cut g c = cut_worn c.in-Err-turn.ensures.cut.1 c.loop-turn.invariant c.in-Err-turn.ensures.cut.0 (search rules) c.loop-turn-test.true
+returns-in-Err-turn-clause-cut g c = record {
+  count = c.loop-turn._turn;
+  made = rw c.met.ensures (shared_then c.loop-turn.invariant c.in-Err-turn.ensures.ran (search rules));
+  few = c.loop-turn-test.true;
+  reason = rw c.met.ensures c.in-Err-turn.ensures.worn;
+}

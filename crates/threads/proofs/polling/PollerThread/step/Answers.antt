@@ -1,12 +1,6 @@
 use Rattle.std.proofs.{Common.{inl, inr}, lemmas.Result.{IfErr-weaker}}
-use Rattle.threads.proofs.Loops.{cut_ran, ran_none, step_or_cut}
+use Rattle.threads.proofs.Loops.{cut_ran, step_or_cut}
 use Rattle.threads.proofs.polling.PollerThread.step.Goals as goal
-
-pub returns-in-Err-clause-ran : goal.returns-in-Err-clause-ran
-returns-in-Err-clause-ran g c = ran_none
-
-pub returns-in-Err-end_if_over-clause-ran : goal.returns-in-Err-end_if_over-clause-ran
-returns-in-Err-end_if_over-clause-ran g c = ran_none
 
 pub returns-in-Err-poll-clause-ran : goal.returns-in-Err-poll-clause-ran
 returns-in-Err-poll-clause-ran g c = cut_ran {ends = λ begun polled own. Unit {0}} {mark = 0} (inr (inl c.in-Err-poll.ensures.cut))

@@ -1,25 +1,28 @@
-use Rattle.std.proofs.Common.{ap, refl}
-use Rattle.threads.{specs.Loops.faults_by, proofs.Loops.{worker_both, worker_kept, worker_one, worker_stops, worker_then_ends, worker_worn}}
+use Rattle.std.proofs.{Common.{refl}, lemmas.Result.{err_from_is_err_and}}
+use Rattle.threads.proofs.Loops.{worker_both, worker_ends, worker_kept, worker_one, worker_same, worker_then_ends}
 use Rattle.threads.proofs.working.Worker.step.Goals as goal
 
-pub returns-in-Err-clause-cut : goal.returns-in-Err-clause-cut
-returns-in-Err-clause-cut g c = worker_stops (ap faults_by c.in-Err.ensures) refl (rw c.in-Err.ensures refl)
+pub returns-in_err-seen-clause-cut : goal.returns-in_err-seen-clause-cut
+returns-in_err-seen-clause-cut g c =
+    let p = err_from_is_err_and c.from_residual.result c.from_residual.ensures.1 in
+    rw (p.1, p.2, c.in_err-seen.ensures) (worker_ends worker_same refl)
 
-pub returns-in-Err-take-clause-cut : goal.returns-in-Err-take-clause-cut
-returns-in-Err-take-clause-cut g c =
-    let closed = c.in-Err-take.ensures.closed in
-    worker_then_ends c.put_hand.ensures.ran (worker_stops (ap faults_by closed.0) c.in-Err-take.ensures.none (rw closed.0 closed.1))
+pub returns-in_err-ticket-clause-cut : goal.returns-in_err-ticket-clause-cut
+returns-in_err-ticket-clause-cut g c =
+    let p = err_from_is_err_and c.from_residual-in_err-ticket.result c.from_residual-in_err-ticket.ensures.1 in
+    let took = c.in_err-ticket.ensures in
+    rw (p.1, p.2, took.none, took.closed.0) (worker_ends c.put_hand.ensures.ran (rw took.none at took.closed.1))
 
 pub returns-in-Ok-turn-clause-ran : goal.returns-in-Ok-turn-clause-ran
 returns-in-Ok-turn-clause-ran g c = worker_both c.put_hand.ensures.ran
-    (worker_one c.in-Ok-take.ensures.taken (rw c.in-Ok-look_after_take.ensures.ticket at c.in-Ok-turn.ensures.ran) c.turn.ensures.took)
+    (worker_one _ c.in_ok-ticket.ensures.taken (rw c.in-Ok.ensures.ticket at c.in-Ok-turn.ensures.ran) c.turn.ensures.took)
 
 pub returns-in-Err-turn-clause-cut : goal.returns-in-Err-turn-clause-cut
 returns-in-Err-turn-clause-cut g c =
-    let cut = c.in-Err-turn.ensures.cut in
-    worker_then_ends c.put_hand.ensures.ran
-    (worker_worn c.in-Ok-take.ensures.taken (rw c.in-Ok-look_after_take.ensures.ticket at cut.0) c.turn.ensures.took cut.1)
+    let cut = c.in-Err-turn.ensures in
+    rw c.met.ensures (worker_ends (worker_both c.put_hand.ensures.ran
+    (worker_one _ c.in_ok-ticket.ensures.taken (rw c.in-Ok.ensures.ticket at cut.ran) cut.took)) cut.worn)
 
-pub returns-in-Err-look_after_take-clause-cut : goal.returns-in-Err-look_after_take-clause-cut
-returns-in-Err-look_after_take-clause-cut g c =
-    worker_then_ends c.put_hand.ensures.ran (worker_kept c.in-Ok-take.ensures.taken c.in-Err-look_after_take.ensures.found c.keep_ticket.ensures)
+pub returns-in-Err-clause-cut : goal.returns-in-Err-clause-cut
+returns-in-Err-clause-cut g c =
+    worker_then_ends c.put_hand.ensures.ran (worker_kept _ c.in_ok-ticket.ensures.taken c.in-Err.ensures.found c.keep_ticket.ensures)

@@ -1,6 +1,0 @@
-use Rattle.std.specs.Prelude.{[]}
-use Rattle.threads.specs.Loops.{WorkerRan}
-use Rattle.threads.proofs.working.Worker.run_turns.Given as goal
-
-abbrev pub invariant-loop-turn : goal.invariant-loop-turn
-invariant-loop-turn g l = WorkerRan [] [] l.fn.self.own l.self.own l.fn.self.others.items l.self.others.items
