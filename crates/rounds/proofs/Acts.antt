@@ -1,14 +1,14 @@
 -- Acts, one after the other, and the posts of a round, in a poller's own slots alone.
-use Rattle.std.{proofs.{Common.{add-one, ◌≡◌, ℕ, zero, suc, ◌+◌, ◌≤◌, Bool, true, false, cond, List, [], ◌∷◌, ◌++◌, length, length-append, refl, sym, ◌∙◌, arith, inl, inr, append_assoc, ◌≢◌, ◌⊎◌, ◌↔◌, IsTrue, slice_index, replicate, slice_set, ◌==◌, ◌||◌, if◌then◌else◌, Option, Some, None, nat_lt, Contains, Result, Ok, Err, IfOk, MatchResult}, lemmas.{Bool.{eq-eqb, ne_eqb, Decides.nat_tests}, List.{append-nil, map-append, length-map, length-replicate, get_or-replicate, get_or_past, get_or-set_other, Elements.{All-append}, Sums.sum_by-append}}}, specs.{List.{All, cons_option}, Result.result_unwrap_or}}
+use Rattle.std.{proofs.{Common.{add-one, ◌≡◌, ℕ, zero, suc, ◌+◌, ◌≤◌, Bool, true, false, cond, List, [], ◌∷◌, ◌++◌, length, length-append, refl, sym, ◌∙◌, arith, inl, inr, append_assoc, ◌≢◌, ◌⊎◌, ◌↔◌, IsTrue, slice_index, replicate, slice_set, ◌==◌, ◌||◌, if◌then◌else◌, Option, Some, None, nat_lt}, lemmas.{Bool.{eq-eqb, ne_eqb, false≢true, Decides.nat_tests}, List.{append-nil, map-append, length-map, length-replicate, get_or-replicate, get_or_past, get_or-set_other, Elements.{All-append}, Sums.sum_by-append}}}, specs.List.{All, cons_option}}
 use Rattle.claims.{specs.{declared.view.Account.Account, Views.{after_all, minted_by}, Seats.{SeatState, trace_at, account_at, HoldsNothing, Adds}}, proofs.Seats.after_both}
 use Rattle.ready.specs.declared.ticket.Ticket.{Ticket}
 use Rattle.rounds.specs.{Acts.{SeatAct, exchanges_at, made_by, due_of, ActsMade, IsPost, ArePosts, opening, InOrder, IsTry, not_free_of, AreTries, at_slot, reported, all_reported, ArePosted, is_due, last_in, opened_in, opened_below, all_opened, sweep_of}, Pollers.{IsOwnTable, PollerState, AreGenerations}, Openings.AreIn}
 use Rattle.relay_core.specs.Idle.{is_past}
-use Rattle.relay_log.specs.declared.faults.ServerFault.{ServerFault}
-use Rattle.dispatch.specs.{Hands.HandState, declared.split.Part.Part, Splits.IsIn, Posts.{IsWorn, OnlyWorn}}
+use Rattle.dispatch.specs.{Hands.HandState, declared.split.Part.Part, Splits.IsIn, Posts.IsWorn}
 use mathlib.Core.Logic.{dite}
 use native.Mathlib.Decide.{ℕ_discrete}
 use Rattle.claims.specs.declared.view.Exchange.TheVariants as exchange
+use Rattle.claims.specs.declared.answers.Posted.TheVariants as answer
 
 pub at_slot-append : (slot : ℕ) (xs ys : List Ticket) → at_slot slot (xs ++ ys) ≡ at_slot slot xs + at_slot slot ys
 at_slot-append slot xs ys = sum_by-append (λ (t : Ticket). cond (t.slot == slot) 1 0) xs ys
@@ -79,14 +79,14 @@ posts_both {us = us} {bs = bs} one none two = record {
 
 -- the seat is worn, and others come to nothing
 posts_worn : {xs : List Ticket} (ys : List Ticket) {us : List SeatAct} {s : SeatState} → ArePosts xs us s → IsWorn s → ArePosts (xs ++ ys) us s
-posts_worn ys one worn = record { left = one.left ++ ys; each = one.each; in_order = rw (← append_assoc, one.in_order); all = inr worn }
+posts_worn ys one is = record { left = one.left ++ ys; each = one.each; in_order = rw (← append_assoc, one.in_order); all = inr is }
 
--- the seat is worn still
+-- a later seat, which is worn if the first is
 pub posts_still : {xs : List Ticket} {us : List SeatAct} {s t : SeatState} → ArePosts xs us s → (IsWorn s → IsWorn t) → ArePosts xs us t
 posts_still {s = s} {t = t} one still = record { left = one.left; each = one.each; in_order = one.in_order; all = by one.all } where
   by : (one.left ≡ []) ⊎ IsWorn s → (one.left ≡ []) ⊎ IsWorn t
   by (inl none) = inl none
-  by (inr worn) = inr (still worn)
+  by (inr is) = inr (still is)
 
 posts_le : {xs : List Ticket} {acts : List SeatAct} {s : SeatState} → ArePosts xs acts s → length (due_of acts) ≤ length xs
 posts_le {acts = acts} posts = rw (← posts.in_order, length-append, length-map) (omega (arith, due_le acts))
@@ -132,44 +132,57 @@ pub in_order : {X S : Type 0} (step : X → S → S → Type 0) (xs ys : List X)
 in_order step [] ys a b c same more = rw same at more
 in_order step (x ∷ xs) ys a b c (between, first, rest) more = (between, first, in_order step xs ys between b c rest more)
 
--- nothing was posted
+-- nothing was posted, since no connection is left, or the seat is worn
+posted_nothing : {xs : List Ticket} {s : SeatState} {h : HandState} → (xs ≡ []) ⊎ IsWorn s → ArePosted xs s s h h
+posted_nothing {xs} {s} why =
+    record { posts = []; are = record { left = xs; each = all_none IsPost; in_order = refl; all = why }; made = acts_none s; hand = rw append-nil; still = λ is. (refl, refl) }
+
 pub posted_none : (s : SeatState) (h : HandState) → ArePosted [] s s h h
-posted_none s h = record { posts = []; are = record { left = []; each = all_none IsPost; in_order = refl; all = inl refl }; made = acts_none s; hand = rw append-nil }
+posted_none s h = posted_nothing (inl refl)
 
--- a worn seat posted nothing
 pub posted_not : (xs : List Ticket) (s : SeatState) (h : HandState) → IsWorn s → ArePosted xs s s h h
-posted_not xs s h worn = record { posts = []; are = record { left = xs; each = all_none IsPost; in_order = refl; all = inr worn }; made = acts_none s; hand = rw append-nil }
+posted_not xs s h is = posted_nothing (inr is)
 
--- connections, and then others, for which a worn seat does nothing
-pub posted_both : {xs ys : List Ticket} {a b c : SeatState} {h k l : HandState} → ArePosted xs a b h k → ArePosted ys b c k l
-    → (IsWorn b → (c ≡ b) × (l ≡ k)) → ArePosted (xs ++ ys) a c h l
-posted_both {xs} {ys} {a} {b} {c} {h} {k} {l} one two still = by one.are.all where
+-- connections, and then others
+pub posted_both : {xs ys : List Ticket} {a b c : SeatState} {h k l : HandState} → ArePosted xs a b h k → ArePosted ys b c k l → ArePosted (xs ++ ys) a c h l
+posted_both {xs} {ys} {a} {b} {c} {h} {k} {l} one two = by one.are.all where
+  still : IsWorn a → (c ≡ a) × (l ≡ h)
+  still is = let same = one.still is in let more = two.still (rw same.0 is) in (more.0 ∙ same.0, more.1 ∙ same.1)
+
   by : (one.are.left ≡ []) ⊎ IsWorn b → ArePosted (xs ++ ys) a c h l
   by (inl none) = record {
     posts = one.posts ++ two.posts;
     are = posts_both one.are none two.are;
     made = acts_both _ _ _ _ _ one.made two.made;
     hand = rw (two.hand, one.hand, due-append one.posts two.posts, append_assoc);
+    still = still;
   }
-  by (inr worn) = rw ((still worn).0, (still worn).1) (record { posts = one.posts; are = posts_worn ys one.are worn; made = one.made; hand = one.hand })
+  by (inr is) = rw ((two.still is).0, (two.still is).1) (record { posts = one.posts; are = posts_worn ys one.are is; made = one.made; hand = one.hand; still = one.still })
 
 pub none_at : (t : Ticket) (slot : ℕ) → slot ≢ t.slot → at_slot slot (t ∷ []) ≡ 0
 none_at t slot other = rw (ne_eqb t.slot slot (λ e. other (sym e)))
 
 module _ {t : Ticket} {old new : SeatState} where
-  one_posted : (woke : Bool) {h k : HandState} → Adds t.slot (exchange.Post woke ∷ []) old new
+  one_posted : (woke : Bool) {h k : HandState} → (IsWorn old → ⊥) → Adds t.slot (exchange.Post woke ∷ []) old new
       → k ≡ record h { tickets = h.tickets ++ (made_by (minted_by (exchange.Post woke ∷ [])) t ++ []) } → ArePosted (t ∷ []) old new h k
-  one_posted woke adds hand =
+  one_posted woke never adds hand =
       let act : SeatAct = record { ticket = t; exchanges = exchange.Post woke ∷ [] } in
-      record { posts = act ∷ []; are = record { left = []; each = all_one IsPost act (woke, refl); in_order = refl; all = inl refl }; made = acts_one act old new adds; hand = hand }
+      record {
+        posts = act ∷ [];
+        are = record { left = []; each = all_one IsPost act (woke, refl); in_order = refl; all = inl refl };
+        made = acts_one act old new adds;
+        hand = hand;
+        still = λ is. absurd (never is);
+      }
 
   -- a post that did not wake
-  pub posted_quiet : {h : HandState} → Adds t.slot (exchange.Post false ∷ []) old new → ArePosted (t ∷ []) old new h h
-  posted_quiet adds = one_posted false adds (rw append-nil)
+  pub posted_quiet : {h : HandState} → (answer.Quiet ≡ answer.Worn) ↔ IsWorn old → Adds t.slot (exchange.Post false ∷ []) old new → ArePosted (t ∷ []) old new h h
+  posted_quiet unless adds = one_posted false (λ is. cc (unless.1 is)) adds (rw append-nil)
 
   -- a post that woke
-  pub posted_woke : {h k : HandState} → Adds t.slot (exchange.Post true ∷ []) old new → k ≡ record h { tickets = h.tickets ++ t ∷ [] } → ArePosted (t ∷ []) old new h k
-  posted_woke adds kept = one_posted true adds kept
+  pub posted_woke : {h k : HandState} → (answer.Wake ≡ answer.Worn) ↔ IsWorn old → Adds t.slot (exchange.Post true ∷ []) old new
+      → k ≡ record h { tickets = h.tickets ++ t ∷ [] } → ArePosted (t ∷ []) old new h k
+  posted_woke unless adds kept = one_posted true (λ is. cc (unless.1 is)) adds kept
 
 -- a batch is for as many connections as it has reports, or fewer
 pub reported_le : (generations xs : List ℕ) → length (all_reported generations xs) ≤ length xs
@@ -247,17 +260,7 @@ pub swept_by : (limit : ℕ) (p r : PollerState) (due : Bool) {second : ℕ} →
 swept_by limit p r true due is = rw (is, ne_eqb p.second p.swept (past_later p.second limit p.swept (sym due)))
 swept_by limit p r false due is = rw (is, eq-eqb p.swept p.swept refl)
 
--- the listener was reported, or not
-pub flag_raised : (told flag : Bool) (batch : List ℕ) → (IsTrue told ↔ Contains batch 0) → IsTrue (flag || told) ↔ (IsTrue flag ⊎ Contains batch 0)
-flag_raised told true batch is = (λ up. inl up, λ any. refl)
-flag_raised told false batch is = (λ up. inr (is.0 up), by_either) where
-  by_either : IsTrue false ⊎ Contains batch 0 → IsTrue told
-  by_either (inl up) = absurd (cc)
-  by_either (inr has) = is.1 has
-
--- the flag after a delivery, unless the seat is worn
-pub flag_by : (r : Result Bool ServerFault) (flag : Bool) (batch : List ℕ) (seat : SeatState) → IfOk r (λ told. IsTrue told ↔ Contains batch 0)
-    → MatchResult r (λ _. IsWorn seat → ⊥) (λ fault. OnlyWorn fault seat)
-    → IsWorn seat ⊎ (IsTrue (flag || result_unwrap_or r false) ↔ (IsTrue flag ⊎ Contains batch 0))
-flag_by (Ok told) flag batch seat is unworn = inr (flag_raised told flag batch is)
-flag_by (Err fault) flag batch seat is worn = inl worn.1
+-- the flag that the listener's report raises is down
+pub flag_down : {reported : Type 0} (told flag : Bool) → IsTrue told ↔ reported → (flag || told) ≡ false → (flag ≡ false) × (reported → ⊥)
+flag_down told true is down = absurd (false≢true (sym down))
+flag_down told false is down = (refl, λ has. false≢true (sym down ∙ is.1 has))

@@ -2,10 +2,10 @@
 use Rattle.std.proofs.{Common.{◌≡◌, ◌≢◌, ◌⊎◌, ℕ, ◌+◌, ◌<◌, ◌≤◌, List, [], ◌∷◌, ◌++◌, length, drop, slice_get, slice_set, min, cond, Bool, true, refl, sym, ◌∙◌, arith, inl, inr, append_assoc, length-append, Option, Some, None, ◌==◌, Result, Ok, Err, IfErr, IsErrAnd, slice_index, ap, ◌↔◌, IsTrue, IsNone, false, Contains}, lemmas.{Bool.{cases_lt, false≢true}, List.{append-nil, length-set, get_or-set_other, get_or_past, Sums.sum_by-append}, Grind.get_or-set_at, Option.{none-some, same_Some}}}
 use Rattle.std.specs.Option.{ok_or}
 use Rattle.claims.{specs.{declared.answers.Posted.Posted, Calls.PostChange, Seats.{SeatState, TableId, Adds, account_at}, declared.view.{Account.Account, Exchange.{Exchange, TheVariants.{NotFree as WasNotFree}}}, Views.after_all}, proofs.Seats.{account_after, adds_both, adds_none}}
-use Rattle.dispatch.{specs.{Posts.{HoldsOnly, IsWorn}, declared.{shared.Own.Own, front.{Unaccepted.{Unaccepted, TheVariants.{Blocked, Starved}}, Unopened.Unopened, Route.Route, Waiting.{Waiting, TheVariants.{No, Brief, Long}}}}, Hands.{HandState, ticket_room}, Acts.{Act, AreMade, Made, Register, Adopt}, Told.{cause_of, Seen, Waited}, Splits.IsIn}, proofs.Holding.{holds_still, released_all, woke_behind_post, worn_still}}
+use Rattle.dispatch.{specs.{Posts.{HoldsOnly, IsWorn}, declared.{places.Berth.Berth, shared.Own.Own, front.{Unaccepted.{Unaccepted, TheVariants.{Blocked, Starved}}, Unopened.Unopened, Route.Route, Waiting.{Waiting, TheVariants.{No, Brief, Long}}}}, Hands.{HandState, ticket_room}, Acts.{Act, AreMade, Made, Register, Adopt}, Told.{cause_of, Seen, Waited}, Splits.IsIn}, proofs.Holding.{holds_still, released_all, woke_behind_post, worn_still}}
 use Rattle.ready.specs.declared.ticket.Ticket.{Ticket}
 use Rattle.token.specs.Names.{last_generation}
-use Rattle.rounds.{specs.{Acts.{SeatAct, opening, ActsMade, AreTries, InOrder, PostsMade, all_reported, ArePosted, Delivered, swept_after, sweep_of}, Openings.{times, slots_in, AreIn, AreOpened, OnlyTook, Between, LetGo, Started, Connected, AcceptDone, OneAccepted, OnlyAccepted, IsOpened, IsLost, IsSpent, AreLost, IsNext, SameQueues, Fate, next_in, Opened, NotFree, DropsFor, Placed, ActsOf, DropMade, TriedOnce, TriesMade, TriesNext, TryMade, lacks, lead_of}, Pollers.{PollerState, Counted, counted_up, HasOpenedAll}, declared.opening.Opening.Opening, Rounds.{AcceptEnded, FlagIsDown, HasLeft, IsOver, RoundInOrder, RoundKeeps, ListenerKept, ListensNoMore, ListensToOpen, Looked, OnlyAnswered, OnlyListens, RoundRefused, MayNotWait, MayWait, MayWaitBriefly, WaitedAsMay}}, proofs.Acts.{at_slot-append, acts_none, acts_one, acts_both, in_order, none_at, try_dropped, try_opened, tries_none, tries_both, posted_none, posts_still, no_sweep}}
+use Rattle.rounds.{specs.{Acts.{SeatAct, opening, ActsMade, AreTries, InOrder, PostsMade, all_reported, ArePosted, Delivered, swept_after, sweep_of}, Openings.{times, with_slot, AreIn, AreOpened, OnlyTook, SlotsCounted, Between, LetGo, Started, Connected, AcceptDone, OneAccepted, OnlyAccepted, IsOpened, IsLost, IsSpent, AreLost, IsNext, SameQueues, Fate, next_in, Opened, NotFree, DropsFor, ActsOf, DropMade, TriedOnce, TriesMade, TriesNext, TryMade, lacks, lead_of}, Pollers.{PollerState, Counted, counted_up, HasOpenedAll}, Rounds.{AcceptEnded, HasLeft, IsOver, RoundInOrder, RoundKeeps, ListenerKept, ListensNoMore, ListensToOpen, Looked, OnlyAnswered, OnlyListens, RoundRefused, MayNotWait, MayWait, MayWaitBriefly, WaitedAsMay}}, proofs.Acts.{at_slot-append, acts_none, acts_one, acts_both, in_order, none_at, try_dropped, try_opened, tries_none, tries_both, posted_none, posts_still, no_sweep}}
 use Rattle.relay_log.specs.declared.{cause.Cause.{Cause}, faults.ServerFault.{ServerFault, TheVariants.{Poll, Worn}}}
 use Rattle.claims.specs.declared.view.Exchange.TheVariants as exchange
 use Rattle.claims.specs.declared.answers.Posted.TheVariants as posted
@@ -27,12 +27,8 @@ counted_both most a b c m n first second = grind arith
 
 -- lists of slots
 
-times-append : (slot : ℕ) (xs ys : List ℕ) → times slot (xs ++ ys) ≡ times slot xs + times slot ys
+pub times-append : (slot : ℕ) (xs ys : List ℕ) → times slot (xs ++ ys) ≡ times slot xs + times slot ys
 times-append slot xs ys = sum_by-append (λ (s : ℕ). cond (s == slot) 1 0) xs ys
-
-times_first : (slot : ℕ) (xs : List ℕ) (x : ℕ) → slice_get xs 0 ≡ Some x → times slot xs ≡ times slot (x ∷ []) + times slot (drop 1 xs)
-times_first slot [] x is = absurd (none-some x is)
-times_first slot (y ∷ ys) x is = rw (← same_Some y x is) (times-append slot (y ∷ []) ys)
 
 opened-append : (xs ys : List Ticket) (a b c : List ℕ) → AreOpened a xs b → AreOpened b ys c → AreOpened a (xs ++ ys) c
 opened-append [] ys a b c same rest = rw same at rest
@@ -68,88 +64,67 @@ lost_both p h k [] ms none two = rw none two
 lost_both p h k (slot ∷ ls) ms (inl spent) two = inl (spent.0, lost_both p h k ls ms spent.1 two)
 lost_both p h k (slot ∷ ls) ms (inr found) two = inr (found.0 ++ k, rw found.1, lost_both p found.0 k ls ms found.2 two)
 
-module _ {S : Type 0} {made : Ticket → Made S} {opens : Ticket → S → S → Type 0} {s t u : S} {p q r : PollerState} {a b c : Own} where
-  -- connections, and then others
-  connected_both : {xs ys : List Ticket} {ls ms h k : List ℕ} → Connected (TriesMade made opens s t) xs ls h p q a b
-      → Connected (TriesMade made opens t u) ys ms k q r b c → Connected (TriesMade made opens s u) (xs ++ ys) (ls ++ ms) (h ++ k) p r a c
-  connected_both {xs} {ys} {ls} {ms} {h} {k} one two = record {
-    acts = record { acts = in_order (TryMade made opens) one.tries two.tries s t u one.acts.acts two.acts.acts };
-    next = in_order (TriesNext p.part) one.tries two.tries p.table q.table r.table one.next (rw one.part at two.next);
-    why = lost_both r h k ls ms (lost_still q r ys two.part two.table h ls one.why) two.why;
-    tries = one.tries ++ two.tries;
-    are = tries_both one.are two.are;
-    made = acts_both _ _ _ _ _ one.made two.made;
-    table = opened-append xs ys p.table q.table r.table one.table two.table;
-    counted = rw (length-append xs ys) (counted_both _ _ _ _ _ _ one.counted two.counted);
-    unused = rw (length-append ls ms) (counted_both _ _ _ _ _ _ one.unused two.unused);
-    batch = two.batch ∙ one.batch;
-    part = two.part ∙ one.part;
-    own = λ slot out. omega (arith, one.own slot out, two.own slot (λ is. out (rw one.part at is)), at_slot-append slot xs ys);
-    tickets = rw (two.tickets, one.tickets) (append_assoc a.hand.tickets xs ys);
-    ready = two.ready ∙ one.ready;
-    gave = two.gave ∙ one.gave;
-  }
-
-  pub accept_both : AcceptDone (TriesMade made opens s t) p q a b → AcceptDone (TriesMade made opens t u) q r b c
-      → AcceptDone (TriesMade made opens s u) p r a c
-  accept_both one two = record {
-    opened = one.opened ++ two.opened;
-    lost = one.lost ++ two.lost;
-    not_free = one.not_free ++ two.not_free;
-    connected = connected_both one.connected two.connected;
-    slots = λ slot. (
-        omega (arith, one.slots slot, two.slots slot, at_slot-append slot one.opened two.opened, times-append slot one.lost two.lost));
-  }
-
--- no try was made
-pub no_tries : {S : Type 0} {made : Ticket → Made S} {opens : Ticket → S → S → Type 0} {s : S} → TriesMade made opens s s []
-no_tries = record { acts = refl }
-
--- a try that was dropped
-abbrev pub dropped_try : Ticket → SeatAct
-dropped_try t = record { ticket = t; exchanges = [] }
+-- by these tries connections were opened, and then others
+connected_both : {us bs : List SeatAct} {p q r : PollerState} {a b c : Own} → Connected us p q a b → Connected bs q r b c → Connected (us ++ bs) p r a c
+connected_both {us} {bs} {p} {q} {r} {a} one two = record {
+  opened = one.opened ++ two.opened;
+  lost = one.lost ++ two.lost;
+  not_free = one.not_free ++ two.not_free;
+  are = tries_both one.are two.are;
+  made = acts_both _ _ _ _ _ one.made two.made;
+  next = in_order (TriesNext p.part) us bs p.table q.table r.table one.next (rw one.poller at two.next);
+  table = opened-append one.opened two.opened p.table q.table r.table one.table two.table;
+  counted = rw (length-append one.opened two.opened) (counted_both _ _ _ _ _ _ one.counted two.counted);
+  unused = rw (length-append one.lost two.lost) (counted_both _ _ _ _ _ _ one.unused two.unused);
+  why = lost_both r one.not_free two.not_free one.lost two.lost
+      (lost_still q r two.opened (ap (λ (s : PollerState). s.part) two.poller) two.table one.not_free one.lost one.why) two.why;
+  poller = rw (two.poller, one.poller);
+  own = λ slot out. omega (arith, one.own slot out, (rw one.poller at two.own) slot out, at_slot-append slot one.opened two.opened);
+  tickets = rw (two.tickets, one.tickets) (append_assoc a.hand.tickets one.opened two.opened);
+  ready = two.ready ∙ one.ready;
+  gave = two.gave ∙ one.gave;
+  slots = λ slot. omega (arith, one.slots slot, two.slots slot, at_slot-append slot one.opened two.opened, times-append slot one.lost two.lost);
+}
 
 -- what connections say of a poller is as it was, as after a change that opens nothing
 abbrev pub SamePoller : PollerState → PollerState → Type 0
-SamePoller p q = record { table : q.table ≡ p.table; opened : q.opened ≡ p.opened; lost : q.lost ≡ p.lost; batch : q.batch ≡ p.batch; part : q.part ≡ p.part }
+SamePoller p q = record { table : q.table ≡ p.table; opened : q.opened ≡ p.opened; lost : q.lost ≡ p.lost; poller : OnlyAccepted p q }
 
 pub still : (p : PollerState) → SamePoller p p
 still p = assumption
 
+-- nothing was opened by these tries
+pub none_opened : {p q : PollerState} {a b : Own} (tries : List SeatAct) (lost not_free : List ℕ) → AreTries [] not_free tries → ActsMade tries a.seat b.seat
+    → InOrder (TriesNext p.part) tries p.table p.table → q.table ≡ p.table → q.opened ≡ p.opened → Counted p.lost (length lost) q.lost
+    → AreLost q not_free lost → OnlyAccepted p q → b.hand.tickets ≡ a.hand.tickets → b.ready ≡ a.ready → b.free.history.put ≡ a.free.history.put
+    → SlotsCounted a b [] lost → Connected tries p q a b
+none_opened {a = a} tries lost not_free are made next table opened unused why poller tickets ready gave slots = record {
+  opened = [];
+  lost = lost;
+  not_free = not_free;
+  are = are;
+  made = made;
+  next = rw table next;
+  table = table;
+  counted = counted_same opened;
+  unused = unused;
+  why = why;
+  poller = poller;
+  own = λ slot out. refl;
+  tickets = tickets ∙ sym (append-nil a.hand.tickets);
+  ready = ready;
+  gave = gave;
+  slots = slots;
+}
+
 -- slots were taken, and nothing was opened
 pub accept_took : {acted : List SeatAct → Type 0} {p q : PollerState} {a b : Own} → acted [] → SamePoller p q → OnlyTook a b → AcceptDone acted p q a b
 accept_took {a = a} none same took = record {
-  opened = [];
-  lost = [];
-  not_free = [];
-  connected = record {
-    why = refl;
-    tries = [];
-    are = tries_none;
-    acts = none;
-    made = rw took.seat (acts_none a.seat);
-    table = same.table;
-    next = same.table;
-    counted = counted_same same.opened;
-    unused = counted_same same.lost;
-    batch = same.batch;
-    part = same.part;
-    own = λ slot out. refl;
-    tickets = took.tickets ∙ sym (append-nil a.hand.tickets);
-    ready = took.ready;
-    gave = took.gave;
-  };
-  slots = took.slots;
+  tries = [];
+  acts = none;
+  did = none_opened [] [] [] tries_none (rw took.seat (acts_none a.seat)) refl same.table same.opened (counted_same same.lost) refl same.poller
+      took.tickets took.ready took.gave took.slots;
 }
-
--- accepting leaves what connections are opened with, and the second
-pub opens_same : (p q : PollerState) → OnlyAccepted p q → (q.opening ≡ p.opening) × (q.second ≡ p.second)
-opens_same p q is = (ap (λ (s : PollerState). s.opening) is, ap (λ (s : PollerState). s.second) is)
-
--- what connections are opened with is the same
-pub accept_with : {S : Type 0} {made : Ticket → Made S} (opens : Opening → ℕ → Ticket → S → S → Type 0) {s t : S} {u v : Opening} {m n : ℕ} {p q : PollerState} {a b : Own}
-    → (v ≡ u) × (n ≡ m) → AcceptDone (TriesMade made (opens v n) s t) p q a b → AcceptDone (TriesMade made (opens u m) s t) p q a b
-accept_with opens same done = rw (← same.0, ← same.1) done
 
 -- nothing happened
 pub took_none : (a : Own) → OnlyTook a a
@@ -159,9 +134,23 @@ took_none a = search arith
 pub accept_none : {acted : List SeatAct → Type 0} {p q : PollerState} {a : Own} → acted [] → SamePoller p q → AcceptDone acted p q a a
 accept_none {a = a} none same = accept_took none same (took_none a)
 
--- a slot was taken for the next try
-pub accept_and_took : {S : Type 0} {made : Ticket → Made S} {opens : Ticket → S → S → Type 0} {s t : S} {p q : PollerState} {a b c : Own}
-    → AcceptDone (TriesMade made opens s t) p q a b → OnlyTook b c → AcceptDone (TriesMade made opens s t) p q a c
+module _ {C S T : Type 0} {moved : Berth C T → S → Type 0} {named : Ticket → S → Type 0} {made : Made S} {may_tell : C → Route → Type 0} {p : PollerState} where
+  -- no try was made
+  pub no_tries : {s : S} → TriesMade moved named made may_tell p s s []
+  no_tries = record { acts = refl }
+
+  pub accept_both : {s t u : S} {q r : PollerState} {a b c : Own} → AcceptDone (TriesMade moved named made may_tell p s t) p q a b
+      → AcceptDone (TriesMade moved named made may_tell q t u) q r b c → AcceptDone (TriesMade moved named made may_tell p s u) p r a c
+  accept_both one two = record {
+    tries = one.tries ++ two.tries;
+    acts = record { acts = in_order _ _ _ _ _ _ one.acts.acts (rw one.did.poller at two.acts.acts) };
+    did = connected_both one.did two.did;
+  }
+
+-- slots were taken for the next try
+pub accept_and_took : {C S T : Type 0} {moved : Berth C T → S → Type 0} {named : Ticket → S → Type 0} {made : Made S} {may_tell : C → Route → Type 0}
+    {s t : S} {p q : PollerState} {a b c : Own} → AcceptDone (TriesMade moved named made may_tell p s t) p q a b → OnlyTook b c
+    → AcceptDone (TriesMade moved named made may_tell p s t) p q a c
 accept_and_took {q = q} done took = accept_both done (accept_took no_tries (still q) took)
 
 -- where there are some, there is a first one
@@ -169,132 +158,65 @@ pub some_first : (xs : List ℕ) → 1 ≤ length xs → slice_get xs 0 ≡ None
 some_first [] some is = absurd (omega arith)
 some_first (x ∷ xs) some is = none-some x (sym is)
 
-slot_left : (s slot : ℕ) (a b : Own) (hand : HandState) → hand ≡ record a.hand { slots = drop 1 a.hand.slots } → slice_get a.hand.slots 0 ≡ Some slot
-    → b.free ≡ a.free → b.hand.slots ≡ hand.slots
-    → times s (slots_in b) + times s a.hand.slots ≡ times s (slots_in a) + (times s b.hand.slots + times s (slot ∷ []))
-slot_left s slot a b hand taken is free slots = rw (free, slots, taken) (omega (arith, times_first s a.hand.slots slot is))
+put_back : (xs : List ℕ) (x : ℕ) → slice_get xs 0 ≡ Some x → x ∷ drop 1 xs ≡ xs
+put_back [] x is = absurd (none-some x is)
+put_back (y ∷ ys) x is = rw (same_Some y x is)
 
--- one slot is no longer used
-pub lost_one : {acted : List SeatAct → Type 0} {p q : PollerState} {a b : Own} {slot : ℕ} (not_free : List ℕ) (tries : List SeatAct) → acted tries
-    → q ≡ record p { lost = counted_up p.lost 1 } → AreLost p not_free (slot ∷ []) → InOrder (TriesNext p.part) tries p.table p.table
-    → AreTries [] not_free tries → ActsMade tries a.seat b.seat → b.hand.tickets ≡ a.hand.tickets → b.ready ≡ a.ready → b.free ≡ a.free
-    → Connected acted [] (slot ∷ []) not_free p q a b
-lost_one {p = p} {a = a} not_free tries acts lost why next are made tickets ready free = rw lost (record {
-  next = next;
-  why = why;
-  tries = tries;
-  are = are;
-  made = made;
-  acts = acts;
-  table = refl;
-  counted = counted_same refl;
-  unused = counted_one _ p.lost _ refl;
-  batch = refl;
-  part = refl;
-  own = λ slot out. refl;
-  tickets = rw tickets (sym (append-nil a.hand.tickets));
-  ready = ready;
-  gave = rw free;
-})
+times_first : (s : ℕ) (xs : List ℕ) (x : ℕ) → slice_get xs 0 ≡ Some x → times s xs ≡ times s (x ∷ []) + times s (drop 1 xs)
+times_first s xs x is = sym (ap (times s) (put_back xs x is)) ∙ times-append s (x ∷ []) (drop 1 xs)
+
+-- a try that was dropped
+abbrev pub dropped_try : Ticket → SeatAct
+dropped_try t = record { ticket = t; exchanges = [] }
 
 -- what became of a slot that was taken in hand
-module _ {p q : PollerState} {a : Own} {hand : HandState} (taken : hand ≡ record a.hand { slots = drop 1 a.hand.slots }) where
-  -- that it was taken changes nothing that a connection says
-  from_hand : {one_acts acted : List SeatAct → Type 0} {ts : List Ticket} {ls h : List ℕ} {b : Own} → ((tries : List SeatAct) → one_acts tries → acted tries)
-      → Connected one_acts ts ls h p q (record a { hand = hand }) b → Connected acted ts ls h p q a b
-  from_hand joined one = record {
-    acts = joined one.tries one.acts;
-    why = one.why;
-    tries = one.tries;
-    are = one.are;
-    made = one.made;
-    next = one.next;
-    table = one.table;
-    counted = one.counted;
-    unused = one.unused;
-    batch = one.batch;
-    part = one.part;
-    own = one.own;
-    tickets = rw taken at one.tickets;
-    ready = one.ready;
-    gave = one.gave;
-  }
-
+module _ {p q : PollerState} {a : Own} {hand : HandState} {slot : ℕ} (taken : hand ≡ record a.hand { slots = drop 1 a.hand.slots }) (is : slice_get a.hand.slots 0 ≡ Some slot) where
   -- no connection can be opened in it any more
-  pub opened_never : {acted : List SeatAct → Type 0} {slot : ℕ} → acted [] → slice_get a.hand.slots 0 ≡ Some slot → IsSpent p slot
-      → q ≡ record p { lost = counted_up p.lost 1 } → AcceptDone acted p q a (record a { hand = hand })
-  opened_never {slot = slot} none is spent lost = record {
-    opened = [];
-    lost = slot ∷ [];
-    not_free = [];
-    connected = lost_one [] [] none lost (inl (spent, refl)) refl tries_none (acts_none a.seat) (rw taken) refl refl;
-    slots = λ s. omega (arith, slot_left s slot a (record a { hand = hand }) hand taken is refl refl);
+  pub opened_never : {acted : List SeatAct → Type 0} → acted [] → IsSpent p slot → q ≡ record p { lost = counted_up p.lost 1 } → OneAccepted acted p q a (record a { hand = hand })
+  opened_never none spent lost = record {
+    done = record {
+      tries = [];
+      acts = none;
+      did = rw lost (none_opened [] (slot ∷ []) [] tries_none (acts_none a.seat) refl refl refl (counted_one _ p.lost _ refl) (inl (spent, refl)) refl
+          (rw taken) refl refl (λ s. rw taken (omega (arith, times_first s a.hand.slots slot is))));
+    };
+    room = rw taken (omega arith);
   }
 
   -- its opening failed, and it is in hand again
-  pub opened_not : {acted : List SeatAct → Type 0} {t : Ticket} {kept : HandState} → acted (dropped_try t ∷ []) → slice_get a.hand.slots 0 ≡ Some t.slot
-      → kept ≡ record hand { slots = hand.slots ++ t.slot ∷ [] } → SamePoller p q → IsIn p.part t.slot → t.generation ≡ slice_index p.table t.slot + 1
-      → AcceptDone acted p q a (record a { hand = kept })
-  opened_not {t = t} acts is again same own next = record {
-    opened = [];
-    lost = [];
-    not_free = [];
-    connected = record {
-      why = refl;
-      tries = dropped_try t ∷ [];
-      are = try_dropped t;
-      acts = acts;
-      next = (p.table, record { own = own; next = next; entered = refl }, same.table);
-      made = acts_one (dropped_try t) a.seat a.seat (adds_none t.slot a.seat);
-      table = same.table;
-      counted = counted_same same.opened;
-      unused = counted_same same.lost;
-      batch = same.batch;
-      part = same.part;
-      own = λ slot out. refl;
-      tickets = rw (again, taken) (sym (append-nil a.hand.tickets));
-      ready = refl;
-      gave = refl;
+  pub opened_not : {acted : List SeatAct → Type 0} {kept : HandState} → acted (dropped_try (next_in p slot) ∷ []) → kept ≡ record hand { slots = hand.slots ++ slot ∷ [] }
+      → SamePoller p q → IsIn p.part slot → OneAccepted acted p q a (record a { hand = kept })
+  opened_not acts again same own =
+      let try = dropped_try (next_in p slot) in
+      record {
+        done = record {
+          tries = try ∷ [];
+          acts = acts;
+          did = none_opened (try ∷ []) [] [] (try_dropped (next_in p slot)) (acts_one try a.seat a.seat (adds_none slot a.seat))
+              (p.table, record { own = own; next = refl; entered = refl }, refl) same.table same.opened (counted_same same.lost) refl same.poller
+              (rw (again, taken)) refl refl (λ s. rw (again, taken) (omega (arith, times_first s a.hand.slots slot is, times-append s (drop 1 a.hand.slots) (slot ∷ []))));
+        };
+        room = rw (again, taken) (omega arith);
+      }
+
+  -- a connection was placed in it, or it is no longer used, unless the seat is worn
+  pub placed_there : {one_acts acted : List SeatAct → Type 0} {b : Own} → IsWorn a.seat ⊎ OneAccepted one_acts p q (with_slot slot (record a { hand = hand })) b
+      → ((tries : List SeatAct) → one_acts tries → acted tries) → IsWorn a.seat ⊎ OneAccepted acted p q a b
+  placed_there (inl is_worn) joined = inl is_worn
+  placed_there (inr once) joined = inr (record {
+    done = record {
+      tries = once.done.tries;
+      acts = joined once.done.tries once.done.acts;
+      did = rw (taken, put_back a.hand.slots slot is) at once.done.did;
     };
-    slots = λ s. rw (again, taken)
-        (omega (arith, times_first s a.hand.slots t.slot is, times-append s (drop 1 a.hand.slots) (t.slot ∷ [])));
-  }
-
-  -- a connection was placed in it, or it is no longer used
-  pub opened_there : {one_acts acted : List SeatAct → Type 0} {b : Own} {t : Ticket} → ((tries : List SeatAct) → one_acts tries → acted tries) → slice_get a.hand.slots 0 ≡ Some t.slot
-      → Connected one_acts (t ∷ []) [] [] p q (record a { hand = hand }) b ⊎ Connected one_acts [] (t.slot ∷ []) (t.slot ∷ []) p q (record a { hand = hand }) b
-      → b.free ≡ a.free → b.hand.slots ≡ hand.slots → AcceptDone acted p q a b
-  opened_there {b = b} {t = t} joined is (inl one) free slots = record {
-    opened = t ∷ [];
-    lost = [];
-    not_free = [];
-    connected = from_hand joined one;
-    slots = λ s. omega (arith, slot_left s t.slot a b hand taken is free slots);
-  }
-  opened_there {b = b} {t = t} joined is (inr none) free slots = record {
-    opened = [];
-    lost = t.slot ∷ [];
-    not_free = t.slot ∷ [];
-    connected = from_hand joined none;
-    slots = λ s. omega (arith, slot_left s t.slot a b hand taken is free slots);
-  }
-
-  pub placed_there : {s : PollerState} {told : Ticket → Type 0} {made : List Act → Type 0} {one_acts acted : List SeatAct → Type 0} {b : Own} {t : Ticket}
-      → ((tries : List SeatAct) → one_acts tries → acted tries) → slice_get a.hand.slots 0 ≡ Some t.slot → s ≡ p
-      → Placed told made one_acts t s q (record a { hand = hand }) b → IsWorn a.seat ⊎ OneAccepted acted p q a b
-  placed_there {s = s} {one_acts = one_acts} {acted = acted} {b = b} {t = t} joined is same placed = by placed.done where
-    there : Type 0
-    there = Connected one_acts (t ∷ []) [] [] s q (record a { hand = hand }) b ⊎ Connected one_acts [] (t.slot ∷ []) (t.slot ∷ []) s q (record a { hand = hand }) b
-
-    by : IsWorn a.seat ⊎ (there × (ticket_room hand ≤ ticket_room b.hand + 1)) → IsWorn a.seat ⊎ OneAccepted acted p q a b
-    by (inl worn) = inl worn
-    by (inr once) = inr (record { done = opened_there joined is (rw same at once.0) placed.free placed.slots; room = rw taken at once.1 })
+    room = rw taken at once.room;
+  })
 
 -- the acts of the one try for a connection, with those before its slot was adopted
 pub tried_once : {S : Type 0} (made : Ticket → Made S) {opens placed finds : Ticket → S → S → Type 0} (t : Ticket) (a b c : S)
     → (placed t b c → opens t a c) → (finds t b c → AreMade (made t) t.slot (Register ∷ Adopt ∷ []) a c)
-    → (tries : List SeatAct) → TriedOnce placed finds t b c tries → TriesMade made opens a c tries
-tried_once {S} made {opens} {placed} {finds} t a b c opened found tries tried = rw tried.once (record { acts = (c, record { acts = by tried.exchanges tried.acts }, refl) }) where
+    → {tries : List SeatAct} (tried : TriedOnce placed finds t b c tries) → TryMade made opens (record { ticket = t; exchanges = tried.exchanges }) a c
+tried_once {S} made {opens} {placed} {finds} t a b c opened found tried = record { acts = by tried.exchanges tried.acts } where
   by : (es : List Exchange) → ActsOf placed finds (λ t from to. ⊥) t es b c
       → ActsOf opens (λ t. AreMade (made t) t.slot (Register ∷ Adopt ∷ [])) (DropMade made) t es a c
   by [] none = absurd none
@@ -318,26 +240,16 @@ answered None old new had has answer is same = let worn = is.0 refl in rw same (
 answered (Some x) old new had has answer is same =
     rw same ((λ refused. absurd (cc refused), λ worn. absurd (false≢true (sym (is.1 worn)))), λ failed. cc failed, tt)
 
--- a worn seat is the same still: after a first part, after slots were taken, and after a second part
-pub worn_on : {a b c d : SeatState} → (IsWorn a → b ≡ a) → c ≡ b → (IsWorn c → d ≡ c) → IsWorn a → d ≡ a
-worn_on first took second worn = let same = took ∙ first worn in second (rw same worn) ∙ same
-
 -- the next try is not worth making
 pub ended_by : (p : PollerState) (own : Own) → (p.starved ≡ true) ⊎ (HasLeft p ⊎ IsWorn own.seat) → AcceptEnded p own
 ended_by p own why = grind arith
 
 -- what became of an accepted connection that was placed, with the acts that were made from there on
-fate_by : {slot : ℕ} {p q : PollerState} {told opened : Type 0} {dropped : Cause → Type 0} {found : Type 0} {made : List Act → Type 0} {a b : SeatState} → (told → opened)
-    → (found → made (Register ∷ Adopt ∷ []))
-    → (IsOpened p q × told) ⊎ (IsLost p q × Adds slot (exchange.NotFree ∷ []) a b × found) → Fate slot opened dropped made p q a b
-fate_by opens joined (inl done) = Opened done.0 (opens done.1)
-fate_by opens joined (inr lost) = NotFree lost.0 lost.1 (joined lost.2)
-
-pub placed_fate : {slot : ℕ} {p s q : PollerState} {told : Ticket → Type 0} {opened : Type 0} {dropped : Cause → Type 0} {after made : List Act → Type 0}
-    {acted : List SeatAct → Type 0} {a b : Own} {t : Ticket} → s ≡ p
-    → t ≡ next_in p slot → (told (next_in p slot) → opened) → (after (Adopt ∷ []) → made (Register ∷ Adopt ∷ [])) → Placed told after acted t s q a b
-    → Fate slot opened dropped made p q a.seat b.seat
-placed_fate same next opens joined placed = fate_by opens joined (rw (same, next) at placed.counted)
+pub fate_by : {slot : ℕ} {p q : PollerState} {told opened : Type 0} {dropped : Cause → Type 0} {found : Type 0} {made : List Act → Type 0} {a b : SeatState}
+    → (IsOpened p q × told) ⊎ (IsLost p q × Adds slot (exchange.NotFree ∷ []) a b × found) → (told → opened) → (found → made (Register ∷ Adopt ∷ []))
+    → Fate slot opened dropped made p q a b
+fate_by (inl done) opens joined = Opened done.0 (opens done.1)
+fate_by (inr lost) opens joined = NotFree lost.0 lost.1 (joined lost.2)
 
 -- a slot that has no next names
 pub no_names : (table : List ℕ) (slot : ℕ) → (slot ≤ 32767 → slot < length table → slice_index table slot ≡ last_generation)
@@ -351,9 +263,9 @@ passed_up (Err y) e P is p = rw is p
 
 -- a seat that is worn was so before exchanges without a post
 pub worn_before : (slot : ℕ) (es : List Exchange) (a b : SeatState) → Adds slot es a b → (after_all es (account_at a slot)).posted ≡ (account_at a slot).posted → IsWorn b → IsWorn a
-worn_before slot es a b adds none worn =
+worn_before slot es a b adds none =
     worn_still slot b a (record { table = sym adds.only.table; others = λ other ne. sym (adds.only.others other ne) })
-    (sym none ∙ sym (ap (λ (x : Account). x.posted) (account_after slot es a b adds))) worn
+    (sym none ∙ sym (ap (λ (x : Account). x.posted) (account_after slot es a b adds)))
 
 -- the note of an opening was posted by the slot's holder, who then let it go
 pub started_by : (t : Ticket) (noted : ℕ) (r : Posted) (a : Own) (first second : SeatState) (b : Own) → HoldsOnly t.slot a.seat
@@ -372,34 +284,39 @@ started_by t noted posted.Quiet a first second b only took change left =
     })
 
 -- a connection was opened in its slot, unless the seat is worn
-pub opened_once : {acted : List SeatAct → Type 0} {t : Ticket} {p q : PollerState} {a b : Own} {middle : SeatState} {found : ℕ} {X : Type 0}
+pub opened_once : {acted : List SeatAct → Type 0} {t : Ticket} {p q : PollerState} {a b : Own} {middle : SeatState} {found : ℕ}
     → ((noted : ℕ) → acted (record { ticket = t; exchanges = opening found noted } ∷ [])) → IsWorn middle ⊎ Started t (record a { seat = middle }) b
     → IsNext p t → Adds t.slot (exchange.Adopted found ∷ []) a.seat middle → SameQueues (record a { seat = middle }) b
     → q ≡ record p { table = slice_set p.table t.slot t.generation; opened = counted_up p.opened 1; episodes = q.episodes }
-    → IsWorn a.seat ⊎ ((Connected acted (t ∷ []) [] [] p q a b ⊎ X) × (ticket_room a.hand ≤ ticket_room b.hand + 1))
-opened_once acts (inl worn) next adopted queues is = inl (worn_before _ _ _ _ adopted refl worn)
+    → IsWorn a.seat ⊎ OneAccepted acted p q (with_slot t.slot a) b
+opened_once acts (inl is_worn) next adopted queues is = inl (worn_before _ _ _ _ adopted refl is_worn)
 opened_once {t = t} {p = p} {a = a} {found = found} acts (inr started) next adopted queues is =
     let try : SeatAct = record { ticket = t; exchanges = opening found started.noted } in
-    inr (
-      inl (rw is (record {
-        why = refl;
+    inr (rw is (record {
+      done = record {
         tries = try ∷ [];
-        are = try_opened t found started.noted;
         acts = acts started.noted;
-        made = acts_one try _ _ (adds_both _ _ _ _ _ _ adopted started.seat);
-        next = (_, record { own = next.own; next = next.generation; entered = (next.generation, refl) }, refl);
-        table = (next.generation, refl);
-        counted = counted_one _ p.opened _ refl;
-        unused = counted_same refl;
-        batch = refl;
-        part = refl;
-        own = λ slot out. none_at t slot (λ same. out (rw same next.own));
-        tickets = rw started.hand;
-        ready = queues.ready;
-        gave = rw queues.free;
-      })),
-      rw started.hand (omega (arith, length-append a.hand.tickets (t ∷ []))),
-    )
+        did = record {
+          opened = t ∷ [];
+          lost = [];
+          not_free = [];
+          are = try_opened t found started.noted;
+          made = acts_one try _ _ (adds_both _ _ _ _ _ _ adopted started.seat);
+          next = (_, record { own = next.own; next = next.generation; entered = (next.generation, refl) }, refl);
+          table = (next.generation, refl);
+          counted = counted_one _ p.opened _ refl;
+          unused = counted_same refl;
+          why = refl;
+          poller = refl;
+          own = λ slot out. none_at t slot (λ same. out (rw same next.own));
+          tickets = rw started.hand;
+          ready = queues.ready;
+          gave = rw queues.free;
+          slots = λ s. rw (queues.free, started.hand) (omega (arith, times-append s (t.slot ∷ []) a.hand.slots));
+        };
+      };
+      room = rw started.hand (omega (arith, length-append a.hand.tickets (t ∷ [])));
+    }))
 
 -- for who lets a slot go
 pub ruleset holding = (released_all)
@@ -428,54 +345,55 @@ module _ (may_refuse : Unopened → Type 0) (may_tell : Route → Type 0) (proxy
 
 -- A round: the reports were delivered, a sweep was made or none, and connections were opened
 
-pub round_of : {S : Type 0} {made : Made S} {names : Ticket → Made S} {opens : Ticket → S → S → Type 0} (from delivered_at timed_at : S) {to : S} (c : Own) {p q r v t : PollerState} {a b d e : Own}
-    → PostsMade made (all_reported q.table q.batch) from delivered_at → PostsMade made (sweep_of r v) delivered_at timed_at
-    → (IsWorn c.seat → e.seat ≡ c.seat) → (IsWorn d.seat → e.seat ≡ d.seat) → Looked p q → OnlyTook a b
-    → Delivered q.table q.batch b.seat c.seat b.hand c.hand → c.ready ≡ b.ready → c.free ≡ b.free → AreIn q.part (all_reported q.table q.batch) → r ≡ record q { accepting = r.accepting }
-    → ArePosted (sweep_of r v) c.seat d.seat c.hand d.hand → d.ready ≡ c.ready → d.free ≡ c.free → AreIn r.part (sweep_of r v) → v ≡ record r { second = v.second; swept = v.swept }
-    → AcceptDone (TriesMade names opens timed_at to) v t d e → t.swept ≡ v.swept → RoundInOrder made names opens p t a e from to
-round_of from delivered_at timed_at c {e = e} reports sweeps still_all still_then looked took delivered ready free own flag posted ready_then free_then own_then sweep accepted swept =
-    let done = accepted.connected in
-    record {
-      delivered = delivered_at;
-      timed = timed_at;
-      reports = rw (done.batch, sweep, flag) (rw looked at reports);
-      sweep = rw swept (rw (flag, looked) at sweeps);
-      tries = done.acts;
-      round = record {
-        reports = delivered.posts;
-        sweep = posted.posts;
-        tries = done.tries;
-        opened = accepted.opened;
-        lost = accepted.lost;
-        not_free = accepted.not_free;
-        why = done.why;
-        reported = rw (done.batch, sweep, flag) (rw looked at (posts_still {t = e.seat} delivered.are (λ worn. rw (still_all worn) worn)));
-        swept = rw swept (rw (flag, looked) at (posts_still {t = e.seat} posted.are (λ worn. rw (still_then worn) worn)));
-        tried = done.are;
-        made = rw (← took.seat) (acts_both _ _ _ _ _ delivered.made (acts_both _ _ _ _ _ posted.made done.made));
-        part = rw (done.part, sweep, flag, looked);
-        own_reports = rw (done.batch, sweep, flag) (rw looked at own);
-        own_sweep = rw swept (rw (flag, looked) at own_then);
-        own_openings = rw (sweep, flag, looked) at done.own;
-        tickets = rw (done.ready, ready_then, ready, done.tickets, posted.hand, delivered.hand, took.ready, took.tickets) (simp append_assoc);
-        next = rw (sweep, flag, looked) at done.next;
-        table = rw (sweep, flag, looked) at done.table;
-        counted = rw (sweep, flag, looked) at done.counted;
-        unused = rw (sweep, flag, looked) at done.unused;
-        gave = rw (done.gave, free_then, free) took.gave;
-        slots = λ slot. (let counted = rw (free_then, free, posted.hand, delivered.hand) at (accepted.slots slot) in omega (arith, took.slots slot));
-      };
-    }
+module _ {C S T : Type 0} {moved : Berth C T → S → Type 0} {named : Ticket → S → Type 0} {made : Made S} {may_tell : C → Route → Type 0} where
+  pub round_of : (from delivered_at timed_at : S) {to : S} (c : Own) {p q r v w t : PollerState} {a b d e : Own} → Looked p q → OnlyTook a b
+      → PostsMade made (all_reported q.table q.batch) from delivered_at → Delivered q.table q.batch b.seat c.seat b.hand c.hand → c.ready ≡ b.ready → c.free ≡ b.free
+      → AreIn q.part (all_reported q.table q.batch) → r ≡ record q { accepting = r.accepting }
+      → PostsMade made (sweep_of r v) delivered_at timed_at → ArePosted (sweep_of r v) c.seat d.seat c.hand d.hand → SameQueues c d
+      → AreIn r.part (sweep_of r v) → v ≡ record r { second = v.second; swept = v.swept }
+      → AcceptDone (TriesMade moved named made may_tell v timed_at to) v w d e → (IsWorn d.seat → IsWorn e.seat)
+      → t ≡ record w { seen = t.seen; over = t.over; episodes = t.episodes } → RoundInOrder moved named made may_tell p t a e from to
+  round_of from delivered_at timed_at c {e = e} looked took reports delivered ready free own flag sweeps posted queues own_then sweep accepted still_then end =
+      let done = accepted.did in
+      rw end (record {
+        delivered = delivered_at;
+        timed = timed_at;
+        reports = rw (done.poller, sweep, flag) (rw looked at reports);
+        sweep = rw done.poller (rw (flag, looked) at sweeps);
+        tries = record { acts = rw done.poller accepted.acts.acts };
+        round = record {
+          reports = delivered.posts;
+          sweep = posted.posts;
+          tries = accepted.tries;
+          opened = done.opened;
+          lost = done.lost;
+          not_free = done.not_free;
+          why = done.why;
+          reported = rw (done.poller, sweep, flag) (rw looked at (posts_still {t = e.seat} delivered.are (λ is. still_then (rw (posted.still is).0 is))));
+          swept = rw done.poller (rw (flag, looked) at (posts_still {t = e.seat} posted.are still_then));
+          tried = done.are;
+          made = rw (← took.seat) (acts_both _ _ _ _ _ delivered.made (acts_both _ _ _ _ _ posted.made done.made));
+          part = rw (done.poller, sweep, flag, looked);
+          own_reports = rw (done.poller, sweep, flag) (rw looked at own);
+          own_sweep = rw done.poller (rw (flag, looked) at own_then);
+          own_openings = rw (sweep, flag, looked) at done.own;
+          tickets = rw (done.ready, queues.ready, ready, done.tickets, posted.hand, delivered.hand, took.ready, took.tickets) (simp append_assoc);
+          next = rw (sweep, flag, looked) at done.next;
+          table = rw (sweep, flag, looked) at done.table;
+          counted = rw (sweep, flag, looked) at done.counted;
+          unused = rw (sweep, flag, looked) at done.unused;
+          gave = rw (done.gave, queues.free, free) took.gave;
+          slots = λ slot. (let counted = rw (queues.free, free, posted.hand, delivered.hand) at (done.slots slot) in omega (arith, took.slots slot));
+        };
+      })
 
--- nothing was reported, nothing was posted for time, and nothing was accepted
-pub round_ended : {S : Type 0} {made : Made S} {names : Ticket → Made S} {opens : Ticket → S → S → Type 0} {s : S} {p q : PollerState} {a b : Own} → Looked p q → q.batch ≡ [] → OnlyTook a b
-    → RoundInOrder made names opens p q a b s s
-round_ended {s = s} {q = q} {b = b} looked none took =
-    let unswept : sweep_of q q ≡ [] = no_sweep q q.swept refl in
-    let nothing : s ≡ s = refl in
-    round_of s s s b {v = q} (rw none nothing) (rw unswept nothing) (λ worn. refl) (λ worn. refl) looked took (rw none (posted_none b.seat b.hand)) refl refl (λ slot out. rw none) refl
-    (rw unswept (posted_none b.seat b.hand)) refl refl (λ slot out. rw unswept) refl (accept_none no_tries (still q)) refl
+  -- nothing was reported, nothing was posted for time, and nothing was accepted
+  pub round_ended : {s : S} {p q : PollerState} {a b : Own} → Looked p q → q.batch ≡ [] → OnlyTook a b → RoundInOrder moved named made may_tell p q a b s s
+  round_ended {s} {p} {q} {a} {b} looked none took =
+      let unswept : sweep_of q q ≡ [] = no_sweep q q.swept refl in
+      let nothing : s ≡ s = refl in
+      round_of s s s b {v = q} {w = q} {t = q} looked took (rw none nothing) (rw none (posted_none b.seat b.hand)) refl refl (λ slot out. rw none) refl
+      (rw unswept nothing) (rw unswept (posted_none b.seat b.hand)) (assumption) (λ slot out. rw unswept) refl (accept_none no_tries (still q)) (λ is. is) refl
 
 -- what answers made of the poller, one after the other
 pub answered_both : {gave : Unaccepted → Type 0} {p q r : PollerState} → OnlyAnswered gave p q → OnlyAnswered gave q r → OnlyAnswered gave p r
@@ -494,20 +412,11 @@ answered_none {gave} {p} {q} flag lack = record { flag = λ down. inl (sym flag 
   by (inl same) starved = inl (sym same ∙ starved)
   by (inr none) starved = absurd (false≢true (sym none ∙ starved))
 
--- the flag that the listener's report may have raised is down
-pub flag_down : (gave : Type 0) (reported : Type 0) (old mid : Bool) → (IsTrue mid ↔ (IsTrue old ⊎ reported)) → (mid ≡ false) ⊎ gave
-    → ((old ≡ false) × (reported → ⊥)) ⊎ gave
-flag_down gave reported old mid is (inr answered) = inr answered
-flag_down gave reported true mid is (inl down) = absurd (false≢true (sym down ∙ is.1 (inl refl)))
-flag_down gave reported false mid is (inl down) = inl (refl, λ was. false≢true (sym down ∙ is.1 (inr was)))
-
-pub flag_ended : (gave : Unaccepted → Type 0) (p q r v t : PollerState) {seat last : SeatState} → Looked p q → (IsWorn seat → last ≡ seat)
-    → IsWorn seat ⊎ (IsTrue r.accepting ↔ (IsTrue q.accepting ⊎ Contains q.batch 0)) → v.accepting ≡ r.accepting → t.batch ≡ q.batch
-    → (t.accepting ≡ false → (v.accepting ≡ false) ⊎ gave Blocked) → IsWorn last ⊎ FlagIsDown gave p t
-flag_ended gave p q r v t looked still (inl worn) same batch answered = inl (rw (still worn) worn)
-flag_ended gave p q r v t looked still (inr is) same batch answered =
-    let was : q.accepting ≡ p.accepting = ap (λ (x : PollerState). x.accepting) looked in
-    inr (λ down. rw batch (rw was at (flag_down (gave Blocked) (Contains q.batch 0) q.accepting r.accepting is (rw same at (answered down)))))
+-- the accept flag is down at the end
+pub flag_ended : {gave : Type 0} (p q r v t : PollerState) → Looked p q → (r.accepting ≡ false → (q.accepting ≡ false) × (Contains q.batch 0 → ⊥))
+    → v.accepting ≡ r.accepting → t.batch ≡ q.batch → (v.accepting ≡ false) ⊎ gave → ((p.accepting ≡ false) × (Contains t.batch 0 → ⊥)) ⊎ gave
+flag_ended p q r v t looked flag same batch (inl down) = inl (rw batch (rw looked at (flag (rw same at down))))
+flag_ended p q r v t looked flag same batch (inr gave) = inr gave
 
 -- why accepting ended stays the reason, since the slots are taken back only once all connections were opened
 pub ended_still : {p q : PollerState} {a b : Own} → AcceptEnded p a → OnlyListens (record p { over = q.over }) q

@@ -92,12 +92,14 @@ abbrev pub at_slot : ℕ → List Ticket → ℕ
 at_slot slot tickets = count_by (λ t. t.slot == slot) tickets
 
 -- For each of these connections, in order, one exchange posted a note at its slot; but for the last of them, if the
--- seat is worn. If the post answered Wake, the ticket is in hand. Nothing else of the seat or of the hand changed
+-- seat is worn. If the post answered Wake, the ticket is in hand. Nothing else of the seat or of the hand changed, and
+-- of a seat that was worn before nothing at all
 pub record ArePosted (tickets : List Ticket) (old new : SeatState) (had has : HandState) : Type 0 where
   pub posts : List SeatAct
   pub are : ArePosts tickets posts new
   pub made : ActsMade posts old new
   pub hand : has ≡ record had { tickets = had.tickets ++ due_of posts }
+  pub still : IsWorn old → (new ≡ old) × (has ≡ had)
 
 -- these steps were made, one after the other, and no others
 abbrev pub InOrder : {S X : Type 0} → (X → S → S → Type 0) → List X → S → S → Type 0

@@ -2,7 +2,7 @@
 -- what its thread owns. Part of the promises.
 use Rattle.std.specs.Prelude.{◌≡◌, ◌≢◌, ◌⊎◌, ◌↔◌, ℕ, ◌+◌, ◌<◌, ◌≤◌, true, false, List, [], ◌++◌, length, Contains, Result, Err}
 use Rattle.ready.specs.{declared.ticket.Ticket.Ticket, Steps.HeldOnce}
-use Rattle.dispatch.specs.{declared.{front.{Unaccepted.Unaccepted, Waiting.Waiting}, shared.Own.Own}, Acts.Made, Hands.{HasRoom, ticket_room}, Outgoing.tickets_out, Posts.{IsWorn, OnlyWorn}}
+use Rattle.dispatch.specs.{declared.{front.{Route.Route, Unaccepted.Unaccepted, Waiting.Waiting}, places.Berth.Berth, shared.Own.Own}, Acts.Made, Hands.{HasRoom, ticket_room}, Outgoing.tickets_out, Posts.{IsWorn, OnlyWorn}}
 use Rattle.rounds.specs.{Acts.{SeatAct, due_of, ActsMade, ArePosts, AreTries, InOrder, PostsMade, all_reported, ArePosted, is_due, sweep_of, swept_after}, Openings.{AreIn, AreLost, AreOpened, OnlyTook, SlotsCounted, TriesMade, TriesNext}, Pollers.{PollerState, HasOpenedAll, Counted, spare_room}, Episodes.AreLogged}
 use Rattle.relay_log.specs.declared.faults.ServerFault.{ServerFault}
 use Rattle.dispatch.specs.declared.front.Unaccepted.TheVariants as unaccepted
@@ -40,16 +40,15 @@ pub record RoundDone (old new : PollerState) (had has : Own) : Type 0 where
   pub slots : SlotsCounted had has opened lost
 
 -- A round with its acts, in order, and no others: for each report of a connection a post at its slot, also by a worn seat;
--- then such a post for each connection of the sweep; and then the acts of its tries. `names` is what is known of a connection's
--- acts
-pub record RoundInOrder {S : Type 0} (made : Made S) (names : Ticket → Made S) (opens : Ticket → S → S → Type 0)
-    (old new : PollerState) (had has : Own) (from to : S) : Type 0 where
+-- then such a post for each connection of the sweep; and then the acts of its tries
+pub record RoundInOrder {C S T : Type 0} (moved : Berth C T → S → Type 0) (named : Ticket → S → Type 0) (made : Made S)
+    (may_tell : C → Route → Type 0) (old new : PollerState) (had has : Own) (from to : S) : Type 0 where
   pub round : RoundDone old new had has
   pub delivered : S
   pub timed : S
   pub reports : PostsMade made (all_reported old.table new.batch) from delivered
   pub sweep : PostsMade made (sweep_of old new) delivered timed
-  pub tries : TriesMade names opens timed to round.tries
+  pub tries : TriesMade moved named made may_tell new timed to round.tries
 
 -- no free slot is in hand, and at one moment there was none in the queue
 pub record NoSlot (own : Own) : Type 0 where
@@ -181,7 +180,7 @@ pub record RoundEnded (result : Result (Unit {0}) ServerFault) (tells : ℕ → 
   pub second : tells new.second
   pub swept : new.swept ≡ swept_after limit old.second old.swept
   pub accepted : AcceptEnded new has
-  pub flag : IsWorn has.seat ⊎ FlagIsDown gave_none old new
+  pub flag : FlagIsDown gave_none old new
   pub starved : new.starved ≡ true → (old.starved ≡ true) ⊎ gave_none unaccepted.Starved
   pub closed : ListensToOpen new
   pub back : LooksForAll new has

@@ -1,11 +1,12 @@
 //! Opens an accepted connection.
 ghost use Rattle.std.specs.{Prelude.{◌≡◌, ◌+◌, ◌<◌, ◌≤◌, [], ◌∷◌, ◌++◌, drop, length, Err, Some, None, ◌⊎◌, IfOk, IfErr, OnOk, OnErr, OnSome, IfSome, IsNone, slice_get, slice_index}, Net.{Addr.ipv4_octets, Socket.{v4_ip, v4_port}}};
-ghost use Rattle.claims.specs.Seats.{HoldsNothing, OnlyAt};
+ghost use Rattle.claims.specs.Seats.{Adds, HoldsNothing, OnlyAt};
 ghost use Rattle.relay_core.specs.{Pairs.fresh, Proxy.proxy_line};
-ghost use Rattle.rounds.specs.{Openings.{lacks, lead_of, next_in, Between, DropCounted, DropLogged, DropsFor, Fate, IsFresh, IsNext, LeadGiven, LetGo, Naming, OneAccepted, OnlyOpened, OpeningLogged, Opens, OpensFresh, Placed, Putting, Registered, SameQueues, Started, TriedOnce, TriesMade, of_end}, Pollers.AreGenerations};
+ghost use Rattle.rounds.specs.{Openings.{lacks, lead_of, next_in, Between, DropCounted, DropLogged, DropsFor, Fate, IsFresh, IsLost, IsNext, IsOpened, LeadGiven, LetGo, Naming, OneAccepted, OnlyOpened, OpeningLogged, OpensFresh, Putting, Registered, SameQueues, Started, TriedOnce, TriesMade, of_end, with_slot}, Pollers.AreGenerations};
 ghost use Rattle.dispatch.specs.{Acts.{AreMade, placing}, Posts.{HoldsOnly, IsWorn}, Hands.ticket_room};
 ghost use Rattle.token.specs.Names.{last_generation};
 ghost use Rattle.dispatch.specs.Acts as act;
+ghost use Rattle.claims.specs.declared.view.Exchange.TheVariants as exchange;
 ghost use Rattle.token.specs.declared.side.Side.TheVariants as side;
 
 use crate::dropping::Dropped;
@@ -68,14 +69,12 @@ pub fn open<F: Front + Counting, A: Moves<F>, R: Wait + Logs>(
     ensures between { Between shared.now.claims own.new poller.new }
     ensures counted { IfSome (slice_get own.old.hand.slots 0) (λ slot. Fate slot
         (OpeningLogged (R.logged rt.now) F.counted (next_in poller.old slot)
-        × OpensFresh A.moved (Naming A.named A.made) (F.may_tell client) poller.old.opening poller.old.second
-        (next_in poller.old slot) acts.old acts.new)
+        × OpensFresh A.moved (Naming A.named A.made) (F.may_tell client) poller.old (next_in poller.old slot) acts.old acts.new)
         (DropCounted F.counted F.lacked slot)
         (λ made. AreMade (Naming A.named A.made (next_in poller.old slot)) slot made acts.old acts.new)
         poller.old poller.new own.old.seat own.new.seat) }
     ensures done { IsWorn own.old.seat
-        ⊎ OneAccepted (TriesMade (Naming A.named A.made)
-        (Opens A.moved (Naming A.named A.made) F.may_tell poller.old.opening poller.old.second) acts.old acts.new)
+        ⊎ OneAccepted (TriesMade A.moved A.named A.made F.may_tell poller.old acts.old acts.new)
         poller.old poller.new own.old own.new }
     ensures ready { own.new.ready ≡ own.old.ready }
     ensures poller { OnlyOpened poller.old poller.new }
@@ -151,11 +150,6 @@ fn next_names(table: &[u64], slot: usize) -> Option<Names>
     ensures client { IfSome result (λ names. names.client ≡ record {
       slot = slot;
       side = Side.Client;
-      generation = slice_index table.now slot + 1;
-    }) }
-    ensures target { IfSome result (λ names. names.target ≡ record {
-      slot = slot;
-      side = Side.Target;
       generation = slice_index table.now slot + 1;
     }) }
     ensures inside { OnSome result (slot < length table.now) }
@@ -334,11 +328,14 @@ fn place<F: Front + Counting, A: Moves<F>, R: Wait + Logs>(
     requires next { IsNext poller.old ticket }
     requires room { 1 ≤ ticket_room own.old.hand }
     ensures between { Between shared.now.claims own.new poller.new }
-    ensures placed { Placed (λ t. OpeningLogged (R.logged rt.now) F.counted t
-        × AreMade (Putting A.moved A.made berth.value) ticket.slot placing acts.old acts.new)
-        (λ made. AreMade A.made ticket.slot made acts.old acts.new)
+    ensures done { IsWorn own.old.seat ⊎ OneAccepted
         (TriedOnce (λ t. AreMade (Putting A.moved A.made berth.value) t.slot placing)
-        (λ t. AreMade A.made t.slot (act.Adopt ∷ [])) ticket acts.old acts.new) ticket poller.old poller.new own.old own.new }
+        (λ t. AreMade A.made t.slot (act.Adopt ∷ [])) ticket acts.old acts.new)
+        poller.old poller.new (with_slot ticket.slot own.old) own.new }
+    ensures counted { (IsOpened poller.old poller.new × (OpeningLogged (R.logged rt.now) F.counted ticket
+        × AreMade (Putting A.moved A.made berth.value) ticket.slot placing acts.old acts.new))
+        ⊎ (IsLost poller.old poller.new × Adds ticket.slot (exchange.NotFree ∷ []) own.old.seat own.new.seat
+        × AreMade A.made ticket.slot (act.Adopt ∷ []) acts.old acts.new) }
     ensures poller { OnlyOpened poller.old poller.new }
     ensures ready { own.new.ready ≡ own.old.ready }
 {
@@ -391,7 +388,6 @@ fn start<F: Front, A: Moves<F>, R: Wait>(
     ensures idle { HoldsNothing own.new.seat }
     ensures only { OnlyAt ticket.slot own.old.seat own.new.seat }
     ensures started { IsWorn own.old.seat ⊎ Started ticket own.old own.new }
-    ensures slots { own.new.hand.slots ≡ own.old.hand.slots }
     ensures queues { SameQueues own.old own.new }
 {
     acts.discard(&shared.claims, &mut own.seat, ticket.slot);

@@ -1,7 +1,7 @@
 //! A round of the poller.
 ghost use Rattle.std.specs.{Prelude.{◌≡◌, ◌⊎◌, ◌+◌, ◌-◌, ◌<◌, ◌≤◌, ◌↔◌, [], length, Err, IsNone, IsOk, IfErr, IsTrue, MatchResult, Contains, true, false}, IoError.error_kind, declared.io.ErrorKind.TheVariants.Interrupted};
 ghost use Rattle.ready.specs.Steps.{HeldOnce};
-ghost use Rattle.rounds.specs.{Acts.{Delivered, PostsMade, all_reported}, Episodes.{episodes_after, flag_after, starved_after}, Openings.{AreIn, Between, OnlyTook, AcceptDone, OneAccepted, OnlyAccepted, Naming, Opens, TriesMade}, Pollers.{HasOpenedAll, max_accepts, spare_room}, Rounds.{AcceptEnded, EndedEarly, HasLeft, IsFull, IsOver, ListensNoMore, ListensToOpen, Looked, LooksForAll, MayAccept, MayNotWait, MayWait, MayWaitBriefly, NoSlot, NoneToAccept, NotBegun, OnlyAnswered, OnlyListens, RoundEnded, RoundInOrder, RoundKeeps, RoundRefused, TookAll, WaitedAsMay, WaitsAsMay}};
+ghost use Rattle.rounds.specs.{Acts.{Delivered, PostsMade, all_reported}, Episodes.{episodes_after, flag_after, starved_after}, Openings.{AreIn, Between, OnlyTook, AcceptDone, OneAccepted, TriesMade}, Pollers.{HasOpenedAll, max_accepts, spare_room}, Rounds.{AcceptEnded, EndedEarly, HasLeft, IsFull, IsOver, ListensNoMore, ListensToOpen, Looked, LooksForAll, MayAccept, MayNotWait, MayWait, MayWaitBriefly, NoSlot, NoneToAccept, NotBegun, OnlyAnswered, OnlyListens, RoundEnded, RoundInOrder, RoundKeeps, RoundRefused, TookAll, WaitedAsMay, WaitsAsMay}};
 ghost use Rattle.dispatch.specs.{Hands.ticket_room, Posts.IsWorn, Told.{unaccepted_of, Waited}};
 
 use crate::delivering::deliver_by;
@@ -55,8 +55,7 @@ pub fn poller_round<F: Front, A: Moves<F>, C: Clock, R: Wait + Log>(
     ensures between { Between shared.now.claims own.new poller.new }
     ensures early { EndedEarly shared.now.claims.words own.old → IsOk result × NotBegun poller.old poller.new own.old own.new }
     ensures waits { EndedEarly shared.now.claims.words own.old ⊎ WaitedAsMay timing.now.limit poller.old poller.new own.old }
-    ensures made { RoundInOrder A.made (Naming A.named A.made)
-        (Opens A.moved (Naming A.named A.made) F.may_tell poller.new.opening poller.new.second) poller.old poller.new own.old own.new acts.old acts.new }
+    ensures made { RoundInOrder A.moved A.named A.made F.may_tell poller.old poller.new own.old own.new acts.old acts.new }
     ensures none { EndedEarly shared.now.claims.words own.old ⊎ (result ≡ Err ServerFault.Poll) → acts.new ≡ acts.old }
     ensures ended { EndedEarly shared.now.claims.words own.old ⊎ ((result ≡ Err ServerFault.Poll)
         ⊎ RoundEnded result (C.tells timing.now.clock.now) F.gave_none timing.now.limit poller.old poller.new own.new) }
@@ -190,8 +189,7 @@ fn deliver_batch<F: Front, A: Acts>(
     ensures poller { poller.new ≡ record poller.old { accepting = poller.new.accepting } }
     ensures made { PostsMade A.made (all_reported poller.old.table poller.old.batch) acts.old acts.new }
     ensures delivered { Delivered poller.old.table poller.old.batch own.old.seat own.new.seat own.old.hand own.new.hand }
-    ensures flag { IsWorn own.new.seat
-        ⊎ (IsTrue poller.new.accepting ↔ (IsTrue poller.old.accepting ⊎ Contains poller.old.batch 0)) }
+    ensures flag { poller.new.accepting ≡ false → (poller.old.accepting ≡ false) × (Contains poller.old.batch 0 → ⊥) }
     ensures own { AreIn poller.old.part (all_reported poller.old.table poller.old.batch) }
     ensures ready { own.new.ready ≡ own.old.ready }
     ensures free { own.new.free ≡ own.old.free }
@@ -204,7 +202,7 @@ fn deliver_batch<F: Front, A: Acts>(
         poller.batch(),
         &mut own.hand,
     );
-    poller.raise_accept_flag(listener.unwrap_or(false));
+    poller.raise_accept_flag(listener);
 }
 
 /// If a client waits for a slot, the poller is full from now on, until accept(2) answers that nobody waits. If all
@@ -257,14 +255,11 @@ fn accept<F: Front, A: Moves<F>, R: Wait + Log>(
     requires between { Between shared.now.claims own.old poller.old }
     requires room { max_accepts ≤ ticket_room own.old.hand }
     ensures between { Between shared.now.claims own.new poller.new }
-    ensures done { AcceptDone (TriesMade (Naming A.named A.made)
-        (Opens A.moved (Naming A.named A.made) F.may_tell poller.old.opening poller.old.second) acts.old acts.new)
+    ensures done { AcceptDone (TriesMade A.moved A.named A.made F.may_tell poller.old acts.old acts.new)
         poller.old poller.new own.old own.new }
     ensures ended { AcceptEnded poller.new own.new }
     ensures answered { OnlyAnswered F.gave_none poller.old poller.new }
-    ensures still { IsWorn own.old.seat → own.new.seat ≡ own.old.seat }
-    ensures ready { own.new.ready ≡ own.old.ready }
-    ensures poller { OnlyAccepted poller.old poller.new }
+    ensures still { IsWorn own.old.seat → IsWorn own.new.seat }
 {
     log_if_full(rt, shared, own, poller);
     poller.reset_tries();
@@ -302,15 +297,12 @@ fn accept_next<F: Front, A: Moves<F>, R: Wait + Log>(
     requires room { 1 ≤ ticket_room own.old.hand }
     requires may { MayAccept poller.old own.old }
     ensures between { Between shared.now.claims own.new poller.new }
-    ensures done { OneAccepted (TriesMade (Naming A.named A.made)
-        (Opens A.moved (Naming A.named A.made) F.may_tell poller.old.opening poller.old.second) acts.old acts.new)
+    ensures done { OneAccepted (TriesMade A.moved A.named A.made F.may_tell poller.old acts.old acts.new)
         poller.old poller.new own.old own.new }
-    ensures still { IsWorn own.old.seat → own.new.seat ≡ own.old.seat }
-    ensures ready { own.new.ready ≡ own.old.ready }
+    ensures still { IsWorn own.old.seat → IsWorn own.new.seat }
     ensures tries { result ≡ true → poller.new.tries ≡ poller.old.tries - 1 }
     ensures ended { result ≡ false → (poller.new.starved ≡ true) ⊎ (HasLeft poller.new ⊎ IsWorn own.new.seat) }
     ensures answered { OnlyAnswered F.gave_none poller.old poller.new }
-    ensures poller { OnlyAccepted poller.old poller.new }
 {
     if own.seat.is_worn() {
         return false;

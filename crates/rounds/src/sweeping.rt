@@ -2,7 +2,7 @@
 ghost use Rattle.std.specs.{Prelude.{◌≡◌, ◌<◌, ◌≤◌, [], if◌then◌else◌, length, IfSome}, List.cons_option};
 ghost use Rattle.claims.specs.Seats.{HoldsNothing};
 ghost use Rattle.rounds.specs.{Acts.{ArePosted, PostsMade, all_opened, is_due, opened_in, sweep_of}, Openings.{AreIn, Between, SameQueues}, Rounds.SweepMade};
-ghost use Rattle.dispatch.specs.{Hands.ticket_room, Posts.IsWorn};
+ghost use Rattle.dispatch.specs.Hands.{ticket_room};
 
 use crate::delivering::post_note;
 use crate::poller::Poller;
@@ -27,7 +27,6 @@ pub(crate) fn keep_time<F: Front, A: Acts, C: Clock>(
     ensures made { PostsMade A.made (sweep_of poller.old poller.new) acts.old acts.new }
     ensures told { C.tells timing.now.clock.now poller.new.second }
     ensures swept { SweepMade timing.now.limit poller.old poller.new own.old own.new }
-    ensures still { IsWorn own.old.seat → own.new.seat ≡ own.old.seat }
     ensures own { AreIn poller.old.part (sweep_of poller.old poller.new) }
     ensures queues { SameQueues own.old own.new }
 {
@@ -66,7 +65,6 @@ fn sweep<A: Acts>(
     requires room { length table.now ≤ ticket_room hand.old }
     ensures made { PostsMade A.made (if due then all_opened table.now else []) acts.old acts.new }
     ensures posted { ArePosted (if due then all_opened table.now else []) seat.old seat.new hand.old hand.new }
-    ensures still { IsWorn seat.old → seat.new ≡ seat.old }
     ensures idle { HoldsNothing seat.new }
 {
     if !due {

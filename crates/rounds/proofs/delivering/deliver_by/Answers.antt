@@ -19,14 +19,11 @@ loop-number-preserved g c =
     rw (take_more c.args.batch.now c.loop-number.number-index 0 c.loop-number-test.true, filter_map-append (reported c.args.table.now))
     (record {
       made = in_order _ _ _ _ _ _ c.loop-number.invariant.made (rw c.connection.ensures.value at c.post_note.ensures.made);
-      delivered = posted_both c.loop-number.invariant.delivered (rw c.connection.ensures.value at c.post_note.ensures.posted) c.post_note.ensures.still;
+      delivered = posted_both c.loop-number.invariant.delivered (rw c.connection.ensures.value at c.post_note.ensures.posted);
     })
 
 pub post_note-requires-clause-idle : goal.post_note-requires-clause-idle
 post_note-requires-clause-idle g c = holds_nothing_still c.loop-number.invariant.delivered c.requires.idle
-
-pub returns-then-is_worn-clause-idle : goal.returns-then-is_worn-clause-idle
-returns-then-is_worn-clause-idle g c = holds_nothing_still c.loop-number.invariant.delivered c.requires.idle
 
 pub returns-clause-idle : goal.returns-clause-idle
 returns-clause-idle g c = holds_nothing_still c.loop-number.invariant.delivered c.requires.idle

@@ -1,5 +1,5 @@
 use Rattle.std.proofs.Common.{◌∙◌, refl}
-use Rattle.rounds.proofs.Acts.{flag_by, own_reports}
+use Rattle.rounds.proofs.Acts.{flag_down, own_reports}
 use Rattle.rounds.proofs.round.deliver_batch.Goals as goal
 
 pub deliver_by-listener-requires : goal.deliver_by-listener-requires
@@ -23,7 +23,7 @@ returns g c =
       poller = rw raised;
       made = rw (c.table.ensures.table, c.batch.ensures.batch) at told.made;
       delivered = rw (c.table.ensures.table, c.batch.ensures.batch) at told.delivered;
-      flag = rw (raised, c.unwrap_or.ensures) (flag_by _ _ _ c.deliver_by-listener.new.seat (rw c.batch.ensures.batch at told.listener) told.worn);
+      flag = rw raised (flag_down _ _ (rw c.batch.ensures.batch at told.listener));
       own = own_reports _ _ c.args.poller.now.batch (rw c.table.ensures.table at c.table.ensures.own);
       ready = refl;
       free = refl;

@@ -1,6 +1,6 @@
-use Rattle.std.proofs.Common.{◌≡◌, ◌∙◌, refl, sym, inl, inr, arith}
-use Rattle.rounds.proofs.{Rounds.{accept_both, accept_took, accept_with, no_tries, between_still, between_took, room_same, still, took_none, worn_on, answered, Lasting, begun_not_early, ended_still, flag_ended, keeps, listens_still, looked_lasts, opens_same, unless, over_before, round_ended, round_of}, Acts.{few_tickets, capacity_kept, reported_le, few_sweep}}
-use Rattle.rounds.specs.{Openings.{Naming, Opens}, Rounds.Looked}
+use Rattle.std.proofs.Common.{refl, inl, inr, arith}
+use Rattle.rounds.proofs.{Rounds.{accept_and_took, between_still, between_took, room_same, took_none, answered, Lasting, begun_not_early, ended_still, flag_ended, keeps, listens_still, looked_lasts, unless, over_before, round_ended, round_of}, Acts.{few_tickets, capacity_kept, reported_le, few_sweep}}
+use Rattle.rounds.specs.Rounds.{Looked}
 use Rattle.rounds.proofs.round.poller_round.Goals as goal
 
 pub returns-then-not-begin : goal.returns-then-not-begin
@@ -82,32 +82,26 @@ returns g c =
     let told = c.log_counted.ensures.logged in
     let begun : Looked c.args.poller.now c.look.new.poller = rw (looked.poller, c.begin.ensures.poller) in
     let same : Lasting c.args.timing.now.limit c.args.own.now c.args.poller.now c.log_counted.new.self =
-    rw (told, accepted.poller, timed.poller, delivered.poller) (looked_lasts _ _ c.args.poller.now c.begin.ensures.poller looked.poller looked.listens looked.longest looked.waits) in
+    rw (told, accepted.done.did.poller, timed.poller, delivered.poller) (looked_lasts _ _ c.args.poller.now c.begin.ensures.poller looked.poller looked.listens looked.longest looked.waits) in
     let end = back.poller in
     let swept = rw (delivered.poller, looked.poller, c.begin.ensures.poller) at c.keep_time.ensures.swept.swept in
-    let opens_end : (c.accept.new.poller.opening ≡ c.take_back.new.poller.opening) × (c.accept.new.poller.second ≡ c.take_back.new.poller.second) = rw (end, told) (refl, refl) in
-    let opens = opens_same c.keep_time.new.poller c.accept.new.poller accepted.poller in
-    let tried = accept_with (Opens g.A.Moves.moved (Naming g.A.Moves.named g.A.Acts.made) g.F.Front.may_tell) (sym opens.0 ∙ opens_end.0, sym opens.1 ∙ opens_end.1) accepted.done in
-    let still_then = worn_on accepted.still back.took.seat (λ worn. refl) in
-    let still_all = worn_on timed.still refl still_then in
     let answer = answered c.unworn.result c.args.poller.now c.take_back.new.poller c.args.own.now c.take_back.new.own c.ok_or.result c.unworn.ensures c.ok_or.ensures.value in
     record {
       between = between_took accepted.between back.took (rw (end, told));
       early = begun_not_early _ _ (c.begin.ensures.room c.if-not-begin.false);
       waits = inr (rw end same.waits);
-      made = round_of _ c.deliver_batch.new.acts c.keep_time.new.acts c.deliver_batch.new.own (delivered.made) (timed.made) still_all still_then begun looked.took
-          c.deliver_batch.ensures.delivered delivered.ready delivered.free delivered.own delivered.poller
-          c.keep_time.ensures.swept.posted timed.queues.ready timed.queues.free timed.own timed.poller
-          (accept_both tried (accept_took no_tries (rw (end, told) (still c.accept.new.poller)) back.took)) (rw (end, told, accepted.poller));
+      made = round_of _ c.deliver_batch.new.acts c.keep_time.new.acts c.deliver_batch.new.own begun looked.took
+          delivered.made delivered.delivered delivered.ready delivered.free delivered.own delivered.poller
+          timed.made timed.swept.posted timed.queues timed.own timed.poller (accept_and_took accepted.done back.took)
+          (λ is. rw back.took.seat (accepted.still is)) (rw (end, told));
       ended = inr (inr (record {
         answer = answer.0;
-        read = rw (end, told, accepted.poller, timed.poller, delivered.poller) looked.batch;
-        second = rw (end, told, accepted.poller) c.keep_time.ensures.told;
-        swept = rw (end, told, accepted.poller) swept;
+        read = rw (end, told, accepted.done.did.poller, timed.poller, delivered.poller) looked.batch;
+        second = rw (end, told, accepted.done.did.poller) c.keep_time.ensures.told;
+        swept = rw (end, told, accepted.done.did.poller) swept;
         accepted = ended_still (rw told c.accept.ensures.ended) end back.unlimited;
-        flag = flag_ended g.F.Front.gave_none c.args.poller.now c.look.new.poller c.deliver_batch.new.poller c.keep_time.new.poller c.take_back.new.poller begun
-            still_all delivered.flag (rw timed.poller) (rw (end, told, accepted.poller, timed.poller, delivered.poller))
-            (λ down. accepted.answered.flag (rw (end, told) at down));
+        flag = λ down. flag_ended c.args.poller.now c.look.new.poller c.deliver_batch.new.poller c.keep_time.new.poller c.take_back.new.poller begun delivered.flag (rw timed.poller)
+            (rw (end, told, accepted.done.did.poller, timed.poller, delivered.poller)) (accepted.answered.flag (rw (end, told) at down));
         starved = λ starved. rw (timed.poller, delivered.poller, looked.poller, c.begin.ensures.poller) at (accepted.answered.starved (rw (end, told) at starved));
         closed = back.closed;
         back = back.all;
@@ -118,10 +112,10 @@ returns g c =
         most = rw end same.most;
         heavy = rw end same.heavy;
         longest = rw end same.longest;
-        swept = inr (rw (end, told, accepted.poller) swept);
+        swept = inr (rw (end, told, accepted.done.did.poller) swept);
         listens = listens_still c.args.poller.now same.listening end back.unlimited back.closed;
         over = λ over. over_before same.over (back.over over);
-        took = rw (back.took.ready, accepted.ready, timed.queues.ready, delivered.ready, looked.took.ready);
+        took = rw (back.took.ready, accepted.done.did.ready, timed.queues.ready, delivered.ready, looked.took.ready);
       };
       none = λ why. absurd (answer.1 (unless (begun_not_early _ _ (c.begin.ensures.room c.if-not-begin.false)) why));
       refused = answer.2;

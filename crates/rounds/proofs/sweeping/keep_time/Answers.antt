@@ -23,7 +23,6 @@ returns g c =
       poller = rw second;
       made = rw swept (rw c.table.ensures.table at c.sweep.ensures.made);
       told = rw second c.moment.ensures.told;
-      still = c.sweep.ensures.still;
       swept = record {
         posted = rw swept (rw c.table.ensures.table at c.sweep.ensures.posted);
         swept = rw (second, c.is_due-due.ensures);

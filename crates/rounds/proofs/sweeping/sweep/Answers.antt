@@ -1,9 +1,9 @@
-use Rattle.std.proofs.Common.{◌≡◌, length, arith, rules, refl, ◌∙◌}
+use Rattle.std.proofs.Common.{◌≡◌, length, arith, rules, refl}
 use Rattle.rounds.proofs.Acts.{in_order, posted_none, posted_both, few_tickets, capacity_kept, holds_nothing_still, below_more, few_below}
 use Rattle.rounds.proofs.sweeping.sweep.Goals as goal
 
 pub loop-slot-init : goal.loop-slot-init
-loop-slot-init g c = record { made = refl; posted = posted_none c.args.seat.now c.args.hand.now; still = λ worn. refl }
+loop-slot-init g c = record { made = refl; posted = posted_none c.args.seat.now c.args.hand.now }
 
 -- each slot takes at most one ticket in hand
 pub post_note-requires-clause-room : goal.post_note-requires-clause-room
@@ -12,8 +12,7 @@ post_note-requires-clause-room g c = omega (arith, few_tickets c.loop-slot.invar
 pub loop-slot-preserved : goal.loop-slot-preserved
 loop-slot-preserved g c = record {
   made = rw (below_more c.args.table.now c.loop-slot.slot) (in_order _ _ _ _ _ _ c.loop-slot.invariant.made (rw c.last_in.ensures.opened at c.post_note.ensures.made));
-  posted = rw (below_more c.args.table.now c.loop-slot.slot) (posted_both c.loop-slot.invariant.posted (rw c.last_in.ensures.opened at c.post_note.ensures.posted) c.post_note.ensures.still);
-  still = λ worn. (c.post_note.ensures.still (rw (c.loop-slot.invariant.still worn) worn)).0 ∙ c.loop-slot.invariant.still worn;
+  posted = rw (below_more c.args.table.now c.loop-slot.slot) (posted_both c.loop-slot.invariant.posted (rw c.last_in.ensures.opened at c.post_note.ensures.posted));
 }
 
 pub post_note-requires-clause-idle : goal.post_note-requires-clause-idle
