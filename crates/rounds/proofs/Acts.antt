@@ -4,7 +4,7 @@ use Rattle.claims.{specs.{declared.view.Account.Account, Views.{after_all, minte
 use Rattle.ready.specs.declared.ticket.Ticket.{Ticket}
 use Rattle.rounds.specs.{Acts.{SeatAct, exchanges_at, made_by, due_of, ActsMade, IsPost, ArePosts, opening, InOrder, IsTry, not_free_of, AreTries, at_slot, reported, all_reported, ArePosted, is_due, last_in, opened_in, opened_below, all_opened, sweep_of}, Pollers.{IsOwnTable, PollerState, AreGenerations}, Openings.AreIn}
 use Rattle.relay_core.specs.Idle.{is_past}
-use Rattle.dispatch.specs.{Hands.HandState, declared.split.Part.Part, Splits.IsIn, Posts.IsWorn}
+use Rattle.dispatch.specs.{Hands.{HandState, ticket_room}, declared.split.Part.Part, Splits.IsIn, Posts.IsWorn}
 use mathlib.Core.Logic.{dite}
 use native.Mathlib.Decide.{ℕ_discrete}
 use Rattle.claims.specs.declared.view.Exchange.TheVariants as exchange
@@ -193,11 +193,8 @@ reported_le generations (x ∷ xs) =
 
 module _ {xs : List Ticket} {old new : SeatState} {had has : HandState} (posted : ArePosted xs old new had has) where
   -- as many tickets came in as there were posts, or fewer
-  pub few_tickets : length has.tickets ≤ length had.tickets + length xs
-  few_tickets = rw (posted.hand, length-append had.tickets (due_of posted.posts)) (omega (arith, posts_le posted.are))
-
-  pub capacity_kept : has.capacity ≡ had.capacity
-  capacity_kept = rw posted.hand
+  pub room_left : ticket_room had ≤ ticket_room has + length xs
+  room_left = rw (posted.hand, length-append had.tickets (due_of posted.posts)) (omega (arith, posts_le posted.are))
 
   pub holds_nothing_still : HoldsNothing old → HoldsNothing new
   holds_nothing_still nothing = posts_hold_nothing posted.are.each posted.made nothing

@@ -1,11 +1,11 @@
 -- Connections that are opened one after the other, why one is closed unopened, and a round of its parts.
-use Rattle.std.proofs.{Common.{◌≡◌, ◌≢◌, ◌⊎◌, ℕ, ◌+◌, ◌<◌, ◌≤◌, List, [], ◌∷◌, ◌++◌, length, drop, slice_get, slice_set, min, cond, Bool, true, refl, sym, ◌∙◌, arith, inl, inr, append_assoc, length-append, Option, Some, None, ◌==◌, Result, Ok, Err, IfErr, IsErrAnd, slice_index, ap, ◌↔◌, IsTrue, IsNone, false, Contains}, lemmas.{Bool.{cases_lt, false≢true}, List.{append-nil, length-set, get_or-set_other, get_or_past, Sums.sum_by-append}, Grind.get_or-set_at, Option.{none-some, same_Some}}}
+use Rattle.std.proofs.{Common.{◌≡◌, ◌≢◌, ◌⊎◌, ℕ, ◌+◌, ◌<◌, ◌≤◌, List, [], ◌∷◌, ◌++◌, length, drop, slice_get, slice_set, min, cond, Bool, true, refl, sym, ◌∙◌, arith, inl, inr, append_assoc, length-append, Option, Some, None, ◌==◌, Result, Ok, Err, IfErr, IsErrAnd, slice_index, ap, ◌↔◌, IsTrue, IsNone, false, Contains, if◌then◌else◌}, lemmas.{Bool.false≢true, List.{append-nil, length-set, get_or-set_other, get_or_past, Sums.sum_by-append}, Grind.get_or-set_at, Option.{none-some, same_Some}}}
 use Rattle.std.specs.Option.{ok_or}
 use Rattle.claims.{specs.{declared.answers.Posted.Posted, Calls.PostChange, Seats.{SeatState, TableId, Adds, account_at}, declared.view.{Account.Account, Exchange.{Exchange, TheVariants.{NotFree as WasNotFree}}}, Views.after_all}, proofs.Seats.{account_after, adds_both, adds_none}}
-use Rattle.dispatch.{specs.{Posts.{HoldsOnly, IsWorn}, declared.{places.Berth.Berth, shared.Own.Own, front.{Unaccepted.{Unaccepted, TheVariants.{Blocked, Starved}}, Unopened.Unopened, Route.Route, Waiting.{Waiting, TheVariants.{No, Brief, Long}}}}, Hands.{HandState, ticket_room}, Acts.{Act, AreMade, Made, Register, Adopt}, Told.{cause_of, Seen, Waited}, Splits.IsIn}, proofs.Holding.{holds_still, released_all, woke_behind_post, worn_still}}
+use Rattle.dispatch.{specs.{Posts.{HoldsOnly, IsWorn}, declared.{places.Berth.Berth, shared.Own.Own, front.{Unaccepted.{Unaccepted, TheVariants.{Blocked, Starved}}, Unopened.Unopened, Route.Route, Waiting.{Waiting, TheVariants.{No, Brief, Long}}}}, Hands.{HandState, ticket_room}, Acts.{Act, AreMade, Made, Register, Adopt}, Told.{cause_of, Seen, Waited}, Splits.IsIn}, proofs.Holding.{holds_still, woke_behind_post, worn_still}}
 use Rattle.ready.specs.declared.ticket.Ticket.{Ticket}
 use Rattle.token.specs.Names.{last_generation}
-use Rattle.rounds.{specs.{Acts.{SeatAct, opening, ActsMade, AreTries, InOrder, PostsMade, all_reported, ArePosted, Delivered, swept_after, sweep_of}, Openings.{times, with_slot, AreIn, AreOpened, OnlyTook, SlotsCounted, Between, LetGo, Started, Connected, AcceptDone, OneAccepted, OnlyAccepted, IsOpened, IsLost, IsSpent, AreLost, IsNext, SameQueues, Fate, next_in, Opened, NotFree, DropsFor, ActsOf, DropMade, TriedOnce, TriesMade, TriesNext, TryMade, lacks, lead_of}, Pollers.{PollerState, Counted, counted_up, HasOpenedAll}, Rounds.{AcceptEnded, HasLeft, IsOver, RoundInOrder, RoundKeeps, ListenerKept, ListensNoMore, ListensToOpen, Looked, OnlyAnswered, OnlyListens, RoundRefused, MayNotWait, MayWait, MayWaitBriefly, WaitedAsMay}}, proofs.Acts.{at_slot-append, acts_none, acts_one, acts_both, in_order, none_at, try_dropped, try_opened, tries_none, tries_both, posted_none, posts_still, no_sweep}}
+use Rattle.rounds.{specs.{Acts.{SeatAct, opening, ActsMade, AreTries, InOrder, PostsMade, all_reported, ArePosted, Delivered, sweep_of}, Openings.{times, with_slot, AreIn, AreOpened, OnlyTook, SlotsCounted, Between, Started, Connected, AcceptDone, OneAccepted, OnlyAccepted, IsOpened, IsLost, IsSpent, AreLost, IsNext, SameQueues, Fate, next_in, Opened, NotFree, DropsFor, ActsOf, DropMade, TriedOnce, TriesMade, TriesNext, TryMade, lacks, lead_of}, Pollers.{PollerState, Counted, counted_up, HasOpenedAll}, Rounds.{AcceptEnded, HasLeft, RoundInOrder, ListenerKept, ListensNoMore, ListensToOpen, Looked, OnlyAnswered, OnlyListens, RoundRefused, WaitedAsMay, WaitsAsMay}}, proofs.Acts.{at_slot-append, acts_none, acts_one, acts_both, in_order, none_at, try_dropped, try_opened, tries_none, tries_both, posted_none, posts_still, no_sweep}}
 use Rattle.relay_log.specs.declared.{cause.Cause.{Cause}, faults.ServerFault.{ServerFault, TheVariants.{Poll, Worn}}}
 use Rattle.claims.specs.declared.view.Exchange.TheVariants as exchange
 use Rattle.claims.specs.declared.answers.Posted.TheVariants as posted
@@ -267,20 +267,20 @@ worn_before slot es a b adds none =
     worn_still slot b a (record { table = sym adds.only.table; others = λ other ne. sym (adds.only.others other ne) })
     (sym none ∙ sym (ap (λ (x : Account). x.posted) (account_after slot es a b adds)))
 
--- the note of an opening was posted by the slot's holder, who then let it go
-pub started_by : (t : Ticket) (noted : ℕ) (r : Posted) (a : Own) (first second : SeatState) (b : Own) → HoldsOnly t.slot a.seat
-    → Adds t.slot (exchange.Take noted ∷ []) a.seat first
-    → PostChange t.slot first r second → LetGo t (record a { seat = second }) b → IsWorn a.seat ⊎ Started t a b
-started_by t noted posted.Wake a first second b only took change left =
+-- The note of an opening was posted by the slot's holder, who then let it go. `woke`: its release answered Wake
+pub started_by : (t : Ticket) (noted : ℕ) (r : Posted) (woke : Bool) (a : Own) (first second : SeatState) (b : Own) → HoldsOnly t.slot a.seat
+    → Adds t.slot (exchange.Take noted ∷ []) a.seat first → PostChange t.slot first r second
+    → (woke ≡ false → (account_at second t.slot).known ≡ 0) → Adds t.slot (exchange.Release woke ∷ []) second b.seat
+    → b.hand ≡ record a.hand { tickets = a.hand.tickets ++ (if woke then t ∷ [] else []) } → IsWorn a.seat ⊎ Started t a b
+started_by t noted posted.Wake woke a first second b only took change quiet left hand =
     absurd (false≢true (sym change.1 ∙ (holds_still _ _ _ _ took only refl).here))
-started_by t noted posted.Worn a first second b only took change left = inl (worn_before _ _ _ _ took refl change.1)
-started_by t noted posted.Quiet a first second b only took change left =
-    let holder = holds_still _ _ _ _ took only refl in
-    let due = woke_behind_post t.slot first second left.woke change holder.here left.quiet in
+started_by t noted posted.Worn woke a first second b only took change quiet left hand = inl (worn_before _ _ _ _ took refl change.1)
+started_by t noted posted.Quiet woke a first second b only took change quiet left hand =
+    let due = woke_behind_post t.slot first second woke change (holds_still _ _ _ _ took only refl).here quiet in
     inr (record {
       noted = noted;
-      seat = adds_both _ _ _ _ _ _ took (adds_both _ _ (exchange.Release true ∷ []) _ _ _ change (rw due at left.seat));
-      hand = rw due at left.hand;
+      seat = adds_both _ _ _ _ _ _ took (adds_both _ _ (exchange.Release true ∷ []) _ _ _ change (rw due at left));
+      hand = rw due at hand;
     })
 
 -- a connection was opened in its slot, unless the seat is worn
@@ -317,9 +317,6 @@ opened_once {t = t} {p = p} {a = a} {found = found} acts (inr started) next adop
       };
       room = rw started.hand (omega (arith, length-append a.hand.tickets (t ∷ [])));
     }))
-
--- for who lets a slot go
-pub ruleset holding = (released_all)
 
 -- what holds between two steps still holds after one that the seat did not see, or that took slots
 pub between_still : {claims : TableId} {a b : Own} {p q : PollerState} → Between claims a p → b.seat ≡ a.seat → q.table ≡ p.table → Between claims b q
@@ -397,7 +394,7 @@ module _ {C S T : Type 0} {moved : Berth C T → S → Type 0} {named : Ticket �
 
 -- what answers made of the poller, one after the other
 pub answered_both : {gave : Unaccepted → Type 0} {p q r : PollerState} → OnlyAnswered gave p q → OnlyAnswered gave q r → OnlyAnswered gave p r
-answered_both {gave} {p} {q} {r} first then = record { flag = λ down. flag (then.flag down); starved = λ starved. lack (then.starved starved) } where
+answered_both {gave} {p} {q} {r} first more = record { flag = λ down. flag (more.flag down); starved = λ starved. lack (more.starved starved) } where
   flag : (q.accepting ≡ false) ⊎ gave Blocked → (p.accepting ≡ false) ⊎ gave Blocked
   flag (inl down) = first.flag down
   flag (inr gave) = inr gave
@@ -419,14 +416,11 @@ flag_ended p q r v t looked flag same batch (inl down) = inl (rw batch (rw looke
 flag_ended p q r v t looked flag same batch (inr gave) = inr gave
 
 -- why accepting ended stays the reason, since the slots are taken back only once all connections were opened
-pub ended_still : {p q : PollerState} {a b : Own} → AcceptEnded p a → OnlyListens (record p { over = q.over }) q
-    → ((HasOpenedAll p → ⊥) → (b ≡ a) × (q ≡ p)) → AcceptEnded q b
-ended_still {p} {q} {a} {b} ended is left = by_count (cases_lt p.opened p.most) where
-  by_count : (p.opened < p.most) ⊎ (p.most ≤ p.opened) → AcceptEnded q b
-  by_count (inl some) = let same = left (λ all. omega (arith, some, all)) in rw (same.1, same.0) ended
-  by_count (inr all) = inl (inr (inr (inr (rw is all))))
+pub ended_still : {p q : PollerState} {a b : Own} → AcceptEnded p a → ((b ≡ a) × (q ≡ p)) ⊎ HasOpenedAll q → AcceptEnded q b
+ended_still ended (inl same) = rw (same.1, same.0) ended
+ended_still ended (inr all) = inl (inr (inr (inr all)))
 
-kept : (p q : PollerState) → ListensNoMore p q → ListenerKept p q
+pub kept : (p q : PollerState) → ListensNoMore p q → ListenerKept p q
 kept p q listens = grind arith
 
 -- a wait leaves it to the look before it whether the front listens, and the longest wait as it was
@@ -438,52 +432,29 @@ pub longest_kept : (waiting : Waiting) (p q r : PollerState) → OnlyListens p q
 longest_kept waiting p q r same waited = ap (λ (s : Seen). s.longest) waited ∙ ap (λ (s : PollerState). s.seen.longest) same
 
 -- the poller waits only where it may, and for as long
-pub waits_if : (waiting : Waiting) (limit : ℕ) (p q r : PollerState) (a b : Own) → OnlyListens p q
-    → (waiting ≡ Long → MayWait limit q b × (b ≡ a)) → (waiting ≡ Brief → MayWaitBriefly limit q b)
-    → (waiting ≡ No → MayNotWait limit q b) → OnlyTook a b → Waited waiting q.seen r.seen → WaitedAsMay limit p r a
-waits_if Long limit p q r a b same may brief haste took waited = inl (ap (λ (s : Seen). s.waited) waited ∙ ap (λ (s : PollerState). s.seen.longest) same, rw (same, (may refl).1) at (may refl).0)
-waits_if Brief limit p q r a b same may brief haste took waited =
-    let left = rw same at (brief refl) in
+pub waits_if : (waiting : Waiting) (limit : ℕ) (p q r : PollerState) (a b : Own) → OnlyListens p q → WaitsAsMay waiting limit q b
+    → (waiting ≡ Long → b ≡ a) → OnlyTook a b → Waited waiting q.seen r.seen → WaitedAsMay limit p r a
+waits_if Long limit p q r a b same may still took waited = inl (ap (λ (s : Seen). s.waited) waited ∙ ap (λ (s : PollerState). s.seen.longest) same, rw (same, still refl) at (may.long refl))
+waits_if Brief limit p q r a b same may still took waited =
+    let left = rw same at (may.brief refl) in
     inr (inl (ap (λ (s : Seen). s.waited) waited, (left.0, sym took.tickets ∙ left.1, left.2)))
-waits_if No limit p q r a b same may brief haste took waited = inr (inr (ap (λ (s : Seen). s.waited) waited, b, took, rw same at (haste refl)))
+waits_if No limit p q r a b same may still took waited = inr (inr (ap (λ (s : Seen). s.waited) waited, b, took, rw same at (may.haste refl)))
 
--- what the steps of a round leave as it is, but that a front may listen no longer; the end of a round may change the
--- last two
-abbrev pub Lasting : ℕ → Own → PollerState → PollerState → Type 0
-Lasting limit had old new = record {
-  opening : new.opening ≡ old.opening;
-  most : new.most ≡ old.most;
-  heavy : new.heavy ≡ old.heavy;
-  waits : WaitedAsMay limit old new had;
-  longest : new.seen.longest ≡ old.seen.longest;
-  over : new.over ≡ old.over;
-  listening : ListensNoMore old new;
+-- what the steps of a round leave as it was after the look, but that the front may listen no longer
+abbrev pub Lasts : PollerState → PollerState → Type 0
+Lasts old new = new ≡ record new {
+  seen = record old.seen { listens = new.seen.listens };
+  batch = old.batch;
+  opening = old.opening;
+  heavy = old.heavy;
+  most = old.most;
 }
-
-pub looked_lasts : (limit : ℕ) (had : Own) (p : PollerState) {q r : PollerState} → q ≡ record p { batch = [] }
-    → Looked q r → ListensNoMore q r → r.seen.longest ≡ q.seen.longest → WaitedAsMay limit q r had → Lasting limit had p r
-looked_lasts limit had p {r = r} begun looked listens longest waits =
-    let waited : WaitedAsMay limit p r had = rw begun at waits in
-    search (looked, begun, waited, rw begun at longest, rw begun at listens)
 
 -- the hand had room for a round
 pub begun_not_early : {X : Type 0} (needed room : ℕ) → needed ≤ room → room < needed → X
 begun_not_early needed room enough few = absurd (omega arith)
 
--- what a round keeps that has come to its end, or was refused
-pub keeps : {limit : ℕ} {p q : PollerState} {a b : Own} → Lasting limit a p q → (q.swept ≡ p.swept) ⊎ (q.swept ≡ swept_after limit p.second p.swept)
-    → b.ready.history.taken ≡ a.ready.history.taken → RoundKeeps limit p q a b
-keeps {p = p} {q = q} {b = b} same swept took =
-    let over : q.over ≡ true → (p.over ≡ true) ⊎ IsOver q b = λ over. inl (sym same.over ∙ over) in
-    assumption (kept p q same.listening)
-
-pub over_before : {a b : Bool} {X : Type 0} → b ≡ a → (b ≡ true) ⊎ X → (a ≡ true) ⊎ X
-over_before same over = rw same at over
-
 -- the front listens as before, since it ends only once all connections were opened
-pub listens_still : (p : PollerState) {q r : PollerState} {a b : Own} → ListensNoMore p q → OnlyListens (record q { over = r.over }) r
-    → ((HasOpenedAll q → ⊥) → (b ≡ a) × (r ≡ q)) → ListensToOpen r → ListenerKept p r
-listens_still p {q} {r} same is left closed = by_count (cases_lt q.opened q.most) where
-  by_count : (q.opened < q.most) ⊎ (q.most ≤ q.opened) → ListenerKept p r
-  by_count (inl some) = kept p r (rw (left (λ all. omega (arith, some, all))).1 same)
-  by_count (inr all) = let all_then : HasOpenedAll r = rw is all in inr (inr all_then, closed all_then)
+pub listens_still : (p : PollerState) {q r : PollerState} {X : Type 0} → ListensNoMore p q → (X × (r ≡ q)) ⊎ HasOpenedAll r → ListensToOpen r → ListenerKept p r
+listens_still p {q} {r} same (inl left) closed = kept p r (rw left.1 same)
+listens_still p same (inr all) closed = inr (inr all, closed all)

@@ -1,10 +1,10 @@
 -- What accepting and opening connections does to what the poller's thread owns. Part of the promises.
 use Rattle.std.specs.{Prelude.{◌≡◌, ◌⊎◌, ℕ, ◌+◌, ◌<◌, ◌≤◌, ◌==◌, Bool, true, false, List, [], ◌∷◌, ◌++◌, length, drop, map, Option, Some, None, Result, Ok, Err, replicate, slice_index, slice_set}, List.count_by, declared.net.socket_addr.SocketAddrV4.SocketAddrV4, Net.{Addr.ipv4_octets, Socket.{v4_ip, v4_port}}}
-use Rattle.claims.specs.{declared.view.Exchange.Exchange, Seats.{SeatState, TableId, Adds, HoldsNothing, account_at}, Views.minted_by}
+use Rattle.claims.specs.{declared.view.Exchange.Exchange, Seats.{SeatState, TableId, Adds, HoldsNothing}}
 use Rattle.ready.specs.declared.ticket.Ticket.{Ticket}
 use Rattle.dispatch.specs.{declared.{shared.Own.Own, places.Berth.Berth, front.{Unopened.Unopened, Route.Route}, split.Part.Part}, Splits.IsIn, Hands.ticket_room, Told.Seen}
 use Rattle.token.specs.Names.{EndName, last_generation}
-use Rattle.rounds.specs.{Pollers.{PollerState, Counted, counted_up}, Acts.{SeatAct, due_of, made_by, opening, ActsMade, AreTries, InOrder, at_slot}, Episodes.{dropped_for, no_episodes, opened_after}, declared.opening.Opening.Opening}
+use Rattle.rounds.specs.{Pollers.{PollerState, Counted, counted_up}, Acts.{SeatAct, due_of, opening, ActsMade, AreTries, InOrder, at_slot}, Episodes.{dropped_for, no_episodes, opened_after}, declared.opening.Opening.Opening}
 use Rattle.log.specs.declared.level.Level.{Level}
 use Rattle.statistics.specs.declared.event.Event.{Event}
 use Rattle.relay_log.specs.{Messages.open_message, declared.cause.Cause.Cause}
@@ -77,13 +77,6 @@ pub record OnlyTook (had has : Own) : Type 0 where
   pub capacity : has.hand.capacity ≡ had.hand.capacity
   pub gave : has.free.history.put ≡ had.free.history.put
   pub slots : SlotsCounted had has [] []
-
--- the slot was released. If that answered Wake, as it does if the seat knew of a note, the ticket is in hand
-pub record LetGo (ticket : Ticket) (old new : Own) : Type 0 where
-  pub woke : Bool
-  pub quiet : woke ≡ false → (account_at old.seat ticket.slot).known ≡ 0
-  pub seat : Adds ticket.slot (exchange.Release woke ∷ []) old.seat new.seat
-  pub hand : new.hand ≡ record old.hand { tickets = old.hand.tickets ++ made_by (minted_by (exchange.Release woke ∷ [])) ticket }
 
 -- the rest of an opening, after its slot was adopted: its one ticket is in hand
 pub record Started (ticket : Ticket) (old new : Own) : Type 0 where

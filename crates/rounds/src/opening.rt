@@ -1,8 +1,8 @@
 //! Opens an accepted connection.
-ghost use Rattle.std.specs.{Prelude.{◌≡◌, ◌+◌, ◌<◌, ◌≤◌, [], ◌∷◌, ◌++◌, drop, length, Err, Some, None, ◌⊎◌, IfOk, IfErr, OnOk, OnErr, OnSome, IfSome, IsNone, slice_get, slice_index}, Net.{Addr.ipv4_octets, Socket.{v4_ip, v4_port}}};
+ghost use Rattle.std.specs.Prelude.{◌≡◌, ◌+◌, ◌<◌, ◌≤◌, [], ◌∷◌, ◌++◌, drop, length, Err, Some, None, ◌⊎◌, IfOk, IfErr, OnOk, OnErr, OnSome, IfSome, IsNone, slice_get, slice_index};
 ghost use Rattle.claims.specs.Seats.{Adds, HoldsNothing, OnlyAt};
 ghost use Rattle.relay_core.specs.{Pairs.fresh, Proxy.proxy_line};
-ghost use Rattle.rounds.specs.{Openings.{lacks, lead_of, next_in, Between, DropCounted, DropLogged, DropsFor, Fate, IsFresh, IsLost, IsNext, IsOpened, LeadGiven, LetGo, Naming, OneAccepted, OnlyOpened, OpeningLogged, OpensFresh, Putting, Registered, SameQueues, Started, TriedOnce, TriesMade, of_end, with_slot}, Pollers.AreGenerations};
+ghost use Rattle.rounds.specs.{Openings.{lacks, lead_of, next_in, Between, DropCounted, DropLogged, DropsFor, Fate, IsFresh, IsLost, IsNext, IsOpened, LeadGiven, Naming, OneAccepted, OnlyOpened, OpeningLogged, OpensFresh, Putting, Registered, SameQueues, Started, TriedOnce, TriesMade, of_end, with_slot}, Pollers.AreGenerations};
 ghost use Rattle.dispatch.specs.{Acts.{AreMade, placing}, Posts.{HoldsOnly, IsWorn}, Hands.ticket_room};
 ghost use Rattle.token.specs.Names.{last_generation};
 ghost use Rattle.dispatch.specs.Acts as act;
@@ -20,7 +20,7 @@ use relay_log::{
     Cause, ClientsAt, Gone, Known, Logs, Why, log_gone, log_open, log_peer, logs_gone,
 };
 use std::alloc::{AllocError, Global};
-use std::net::{SocketAddr, SocketAddrV4};
+use std::net::SocketAddr;
 use std::sync::Wait;
 use token::{Side, Token, next_gen};
 
@@ -181,37 +181,24 @@ fn connect<F: Front, A: Moves<F>, N: Log>(
     let second = poller.second;
     match reach(rt, alloc, acts, poller, &mut client, names) {
         Ok((pair, target)) => {
+            let (from, error) = (F::peer(&client), client.error());
             let berth = Berth {
                 pair,
                 second,
                 client,
                 target,
             };
-            boxed::<F, N>(rt, alloc, clients, berth)
+            match moved_to_heap(alloc, berth) {
+                Ok(boxed) => Ok(boxed),
+                Err(refused) => {
+                    let cause = Cause::from(refused);
+                    log_unopened(rt, clients, from, error, cause);
+                    Err(cause)
+                }
+            }
         }
         Err(cause) => {
             log_unopened(rt, clients, F::peer(&client), client.error(), cause);
-            Err(cause)
-        }
-    }
-}
-
-/// Moves a berth to the heap. A refusal closes both sockets.
-fn boxed<F: Front, N: Log>(
-    rt: &N,
-    alloc: Global,
-    clients: ClientsAt,
-    berth: Berth<F::Client, F::Target>,
-) -> Result<Box<Berth<F::Client, F::Target>>, Cause>
-    ensures same { IfOk result (λ boxed. boxed.value ≡ berth) }
-    ensures memory { IfErr result (λ cause. cause ≡ Cause.Memory) }
-{
-    let (from, error) = (F::peer(&berth.client), berth.client.error());
-    match moved_to_heap(alloc, berth) {
-        Ok(boxed) => Ok(boxed),
-        Err(refused) => {
-            let cause = Cause::from(refused);
-            log_unopened(rt, clients, from, error, cause);
             Err(cause)
         }
     }
@@ -271,21 +258,12 @@ fn lead(alloc: Global, proxy: bool, route: &Route) -> Result<Vec<u8>, Cause>
         return Ok(Vec::new(alloc));
     }
     match (route.client, route.accepted) {
-        (Some(client), Some(accepted)) => line(alloc, client, accepted),
+        (Some(client), Some(accepted)) => {
+            let (source, dest) = (client.ip().octets(), accepted.ip().octets());
+            Ok(proxy_line(alloc, source, client.port(), dest, accepted.port())?)
+        }
         _ => Err(Cause::Address),
     }
-}
-
-/// The PROXY line for this client, which was accepted on that address.
-fn line(alloc: Global, client: SocketAddrV4, accepted: SocketAddrV4) -> Result<Vec<u8>, Cause>
-    ensures line { IfOk result (λ line. line.items ≡ proxy_line (ipv4_octets (v4_ip client)) (v4_port client)
-        (ipv4_octets (v4_ip accepted)) (v4_port accepted)) }
-    ensures short { IfOk result (λ line. length line.items ≤ 107) }
-    ensures refused { IfErr result (λ cause. cause ≡ Cause.Memory) }
-{
-    let (source, dest) = (client.ip().octets(), accepted.ip().octets());
-    let line = proxy_line(alloc, source, client.port(), dest, accepted.port())?;
-    Ok(line)
 }
 
 /// Logs whose connection could not be opened, and why.
@@ -371,7 +349,8 @@ fn find_via<W: Settle>(rt: &impl Log, clients: ClientsAt, target: &W) -> Option<
     }
 }
 
-/// Discards a held slot's notes, puts its connection into place, posts the note that starts it, and releases the slot.
+/// Discards a held slot's notes, puts its connection into place, posts the note that starts it, and releases the slot. If
+/// that answers Wake, the ticket is in hand.
 fn start<F: Front, A: Moves<F>, R: Wait>(
     rt: &R,
     acts: &mut A,
@@ -395,22 +374,8 @@ fn start<F: Front, A: Moves<F>, R: Wait>(
     let _ = acts.put_in(rt, &shared.places, &own.seat, ticket.slot, berth);
     // A holder's own post never answers Wake: its release does. A worn seat's changes nothing.
     let _ = acts.post(&shared.claims, &mut own.seat, ticket.slot);
-    let_go(acts, shared, own, ticket);
-}
-
-/// Releases the held slot, and keeps the ticket in hand if notes wait.
-#[tactic(auto, using(crate::proofs::Rounds::holding))]
-fn let_go<F: Front, A: Acts>(acts: &mut A, shared: &Shared<F, A>, own: &mut Own, ticket: Ticket)
-    requires same { own.old.seat.table ≡ shared.now.claims }
-    requires inside { ticket.slot < shared.now.claims.words }
-    requires holder { HoldsOnly ticket.slot own.old.seat }
-    requires room { length own.old.hand.tickets < own.old.hand.capacity }
-    ensures made { A.made act.Release ticket.slot acts.old acts.new }
-    ensures idle { HoldsNothing own.new.seat }
-    ensures left { LetGo ticket own.old own.new }
-    ensures queues { SameQueues own.old own.new }
-{
-    if acts.release(&shared.claims, &mut own.seat, ticket.slot) == Released::Wake {
-        own.hand.keep_ticket(ticket);
+    match acts.release(&shared.claims, &mut own.seat, ticket.slot) {
+        Released::Wake => own.hand.keep_ticket(ticket),
+        Released::Quiet => {}
     }
 }

@@ -1,7 +1,7 @@
 //! A round of the poller.
 ghost use Rattle.std.specs.{Prelude.{◌≡◌, ◌⊎◌, ◌+◌, ◌-◌, ◌<◌, ◌≤◌, ◌↔◌, [], length, Err, IsNone, IsOk, IfErr, IsTrue, MatchResult, Contains, true, false}, IoError.error_kind, declared.io.ErrorKind.TheVariants.Interrupted};
 ghost use Rattle.ready.specs.Steps.{HeldOnce};
-ghost use Rattle.rounds.specs.{Acts.{Delivered, PostsMade, all_reported}, Episodes.{episodes_after, flag_after, starved_after}, Openings.{AreIn, Between, OnlyTook, AcceptDone, OneAccepted, TriesMade}, Pollers.{HasOpenedAll, max_accepts, spare_room}, Rounds.{AcceptEnded, EndedEarly, HasLeft, IsFull, IsOver, ListensNoMore, ListensToOpen, Looked, LooksForAll, MayAccept, MayNotWait, MayWait, MayWaitBriefly, NoSlot, NoneToAccept, NotBegun, OnlyAnswered, OnlyListens, RoundEnded, RoundInOrder, RoundKeeps, RoundRefused, TookAll, WaitedAsMay, WaitsAsMay}};
+ghost use Rattle.rounds.specs.{Acts.{Delivered, PostsMade, all_reported}, Episodes.{episodes_after, flag_after, starved_after}, Openings.{AreIn, Between, OnlyTook, AcceptDone, OneAccepted, TriesMade}, Pollers.{HasOpenedAll, max_accepts, spare_room}, Rounds.{AcceptEnded, EndedEarly, HasLeft, IsFull, IsOver, ListensNoMore, ListensToOpen, Looked, LooksForAll, MayAccept, NoSlot, NoneToAccept, NotBegun, OnlyAnswered, OnlyListens, RoundEnded, RoundInOrder, RoundKeeps, RoundRefused, TookAll, WaitedAsMay, WaitsAsMay}};
 ghost use Rattle.dispatch.specs.{Hands.ticket_room, Posts.IsWorn, Told.{unaccepted_of, Waited}};
 
 use crate::delivering::deliver_by;
@@ -62,7 +62,8 @@ pub fn poller_round<F: Front, A: Moves<F>, C: Clock, R: Wait + Log>(
     ensures keeps { RoundKeeps timing.now.limit poller.old poller.new own.old own.new }
     ensures refused { IfErr result (λ fault. RoundRefused fault poller.old poller.new own.old own.new) }
 {
-    if !begin(&shared.claims, &own.hand, poller) {
+    if !has_room(&shared.claims, &own.hand) {
+        poller.clear_batch();
         return Ok(());
     }
     if !look(rt, own, poller, timing.limit) {
@@ -83,13 +84,11 @@ fn unworn(seat: &ClaimSeat) -> Option<()>
     if seat.is_worn() { None } else { Some(()) }
 }
 
-/// Empties the batch. Returns whether the hand has room for a ticket of each slot and 512 more.
-fn begin<F: Front>(claims: &Claims, hand: &Hand, poller: &mut Poller<F>) -> bool
-    ensures poller { poller.new ≡ record poller.old { batch = [] } }
+/// Whether the hand has room for a ticket of each slot and 512 more.
+fn has_room(claims: &Claims, hand: &Hand) -> bool
     ensures early { result ≡ false → ticket_room hand.now < spare_room + claims.now.words }
     ensures room { result ≡ true → spare_room + claims.now.words ≤ ticket_room hand.now }
 {
-    poller.batch.clear();
     let slots = claims.slots();
     let room = hand.room();
     room >= SPARE_ROOM && room - SPARE_ROOM >= slots
@@ -110,7 +109,7 @@ fn look<F: Front, R: Wait + Log>(rt: &R, own: &mut Own, poller: &mut Poller<F>, 
 {
     listen_to_open(poller);
     let wait = may_wait(rt, own, poller, limit);
-    poll(rt, own, poller, limit, wait)
+    poll(rt, poller, wait)
 }
 
 /// Has the front stop listening if the poller has opened all that it may.
@@ -127,9 +126,8 @@ fn listen_to_open<F: Front>(poller: &mut Poller<F>)
 fn may_wait<F: Front, R: Wait>(rt: &R, own: &mut Own, poller: &Poller<F>, limit: u64) -> Waiting
     requires room { 1 ≤ ticket_room own.old.hand }
     ensures took { OnlyTook own.old own.new }
-    ensures reason { result ≡ Waiting.Long → MayWait limit poller.now own.new × (own.new ≡ own.old) }
-    ensures brief { result ≡ Waiting.Brief → MayWaitBriefly limit poller.now own.new }
-    ensures haste { result ≡ Waiting.No → MayNotWait limit poller.now own.new }
+    ensures reason { WaitsAsMay result limit poller.now own.new }
+    ensures still { result ≡ Waiting.Long → own.new ≡ own.old }
 {
     if is_due(poller, limit) || own.hand.tickets() > 0 {
         Waiting::No
@@ -143,14 +141,7 @@ fn may_wait<F: Front, R: Wait>(rt: &R, own: &mut Own, poller: &Poller<F>, limit:
 }
 
 /// Asks for reports. After a signal the batch is empty. Returns false if the wait failed.
-fn poll<F: Front, R: Log>(
-    rt: &R,
-    _own: &Own,
-    poller: &mut Poller<F>,
-    _limit: u64,
-    wait: Waiting,
-) -> bool
-    requires wait { WaitsAsMay wait _limit poller.old _own.now }
+fn poll<F: Front, R: Log>(rt: &R, poller: &mut Poller<F>, wait: Waiting) -> bool
     requires closed { ListensToOpen poller.old }
     ensures same { Looked poller.old poller.new }
     ensures waited { Waited wait poller.old.seen poller.new.seen }
@@ -217,7 +208,6 @@ fn log_if_full<F: Front, A, R: Wait + Log>(
     ensures took { OnlyTook own.old own.new }
     ensures poller { poller.new ≡ record poller.old { episodes = record poller.old.episodes { full = poller.new.episodes.full } } }
     ensures full { poller.new.episodes.full ≡ true → (poller.old.episodes.full ≡ true) ⊎ IsFull poller.new own.new }
-    ensures kept { poller.old.episodes.full ≡ true → poller.new.episodes.full ≡ true }
     ensures found { IsFull poller.new own.new → poller.new.episodes.full ≡ true }
 {
     if poller.episodes.full {
@@ -236,8 +226,7 @@ fn log_if_full<F: Front, A, R: Wait + Log>(
 fn is_full<F: Front, R: Wait>(rt: &R, own: &mut Own, poller: &Poller<F>) -> bool
     requires room { 1 ≤ ticket_room own.old.hand }
     ensures took { OnlyTook own.old own.new }
-    ensures full { result ≡ true → IsFull poller.now own.new }
-    ensures found { IsFull poller.now own.new → result ≡ true }
+    ensures full { IsTrue result ↔ IsFull poller.now own.new }
 {
     poller.batch().contains(&LISTENER) && !poller.has_opened_all() && !has_slot(rt, own)
 }
@@ -323,7 +312,6 @@ fn accept_next<F: Front, A: Moves<F>, R: Wait + Log>(
 fn has_slot<R: Wait>(rt: &R, own: &mut Own) -> bool
     requires room { 1 ≤ ticket_room own.old.hand }
     ensures took { OnlyTook own.old own.new }
-    ensures had { 1 ≤ length own.old.hand.slots → (result ≡ true) × (own.new ≡ own.old) }
     ensures slot { result ≡ true → 1 ≤ length own.new.hand.slots }
     ensures none { result ≡ false → NoSlot own.new × (own.new ≡ own.old) }
 {
@@ -402,7 +390,7 @@ fn take_back<F: Front, R: Wait>(rt: &R, own: &mut Own, poller: &mut Poller<F>)
     ensures took { OnlyTook own.old own.new }
     ensures poller { OnlyListens (record poller.old { over = poller.new.over }) poller.new }
     ensures closed { ListensToOpen poller.new }
-    ensures unlimited { (HasOpenedAll poller.old → ⊥) → (own.new ≡ own.old) × (poller.new ≡ poller.old) }
+    ensures left { ((own.new ≡ own.old) × (poller.new ≡ poller.old)) ⊎ HasOpenedAll poller.new }
     ensures over { poller.new.over ≡ true → (poller.old.over ≡ true) ⊎ IsOver poller.new own.new }
     ensures all { LooksForAll poller.new own.new }
 {

@@ -1,5 +1,5 @@
 use Rattle.std.proofs.Common.{◌≡◌, length, arith, rules, refl}
-use Rattle.rounds.proofs.Acts.{in_order, posted_none, posted_both, few_tickets, capacity_kept, holds_nothing_still, below_more, few_below}
+use Rattle.rounds.proofs.Acts.{in_order, posted_none, posted_both, room_left, holds_nothing_still, below_more, few_below}
 use Rattle.rounds.proofs.sweeping.sweep.Goals as goal
 
 pub loop-slot-init : goal.loop-slot-init
@@ -7,7 +7,7 @@ loop-slot-init g c = record { made = refl; posted = posted_none c.args.seat.now 
 
 -- each slot takes at most one ticket in hand
 pub post_note-requires-clause-room : goal.post_note-requires-clause-room
-post_note-requires-clause-room g c = omega (arith, few_tickets c.loop-slot.invariant.posted, capacity_kept c.loop-slot.invariant.posted, few_below c.args.table.now c.loop-slot.slot)
+post_note-requires-clause-room g c = omega (arith, room_left c.loop-slot.invariant.posted, few_below c.args.table.now c.loop-slot.slot)
 
 pub loop-slot-preserved : goal.loop-slot-preserved
 loop-slot-preserved g c = record {
