@@ -2,10 +2,10 @@
 use Rattle.std.proofs.{Common.{◌≡◌, ◌≢◌, ◌⊎◌, ℕ, ◌+◌, ◌<◌, ◌≤◌, List, [], ◌∷◌, ◌++◌, length, drop, slice_get, slice_set, min, cond, Bool, true, refl, sym, ◌∙◌, arith, inl, inr, append_assoc, length-append, Option, Some, None, ◌==◌, Result, Ok, Err, IfErr, IsErrAnd, slice_index, ap, ◌↔◌, IsTrue, IsNone, false, Contains, if◌then◌else◌}, lemmas.{Bool.false≢true, List.{append-nil, length-set, get_or-set_other, get_or_past, Sums.sum_by-append}, Grind.get_or-set_at, Option.{none-some, same_Some}}}
 use Rattle.std.specs.Option.{ok_or}
 use Rattle.claims.{specs.{declared.answers.Posted.Posted, Calls.PostChange, Seats.{SeatState, TableId, Adds, account_at}, declared.view.{Account.Account, Exchange.{Exchange, TheVariants.{NotFree as WasNotFree}}}, Views.after_all}, proofs.Seats.{account_after, adds_both, adds_none}}
-use Rattle.dispatch.{specs.{Posts.{HoldsOnly, IsWorn}, declared.{places.Berth.Berth, shared.Own.Own, front.{Unaccepted.{Unaccepted, TheVariants.{Blocked, Starved}}, Unopened.Unopened, Route.Route, Waiting.{Waiting, TheVariants.{No, Brief, Long}}}}, Hands.{HandState, ticket_room}, Acts.{Act, AreMade, Made, Register, Adopt}, Told.{cause_of, Seen, Waited}, Splits.IsIn}, proofs.Holding.{holds_still, woke_behind_post, worn_still}}
+use Rattle.dispatch.{specs.{Posts.{HoldsOnly, IsWorn}, declared.{places.Berth.Berth, shared.Own.Own, split.Part.Part, front.{Unaccepted.{Unaccepted, TheVariants.{Blocked, Starved}}, Unopened.Unopened, Route.Route, Waiting.{Waiting, TheVariants.{No, Brief, Long}}}}, Hands.{HandState, ticket_room}, Acts.{Act, AreMade, Made, Register, Adopt}, Told.{cause_of, Seen, Waited}, Splits.IsIn}, proofs.Holding.{holds_still, woke_behind_post, worn_still}}
 use Rattle.ready.specs.declared.ticket.Ticket.{Ticket}
 use Rattle.token.specs.Names.{last_generation}
-use Rattle.rounds.{specs.{Acts.{SeatAct, opening, ActsMade, AreTries, InOrder, PostsMade, all_reported, ArePosted, Delivered, sweep_of}, Openings.{times, with_slot, AreIn, AreOpened, OnlyTook, SlotsCounted, Between, Started, Connected, AcceptDone, OneAccepted, OnlyAccepted, IsOpened, IsLost, IsSpent, AreLost, IsNext, SameQueues, Fate, next_in, Opened, NotFree, DropsFor, ActsOf, DropMade, TriedOnce, TriesMade, TriesNext, TryMade, lacks, lead_of}, Pollers.{PollerState, Counted, counted_up, HasOpenedAll}, Rounds.{AcceptEnded, HasLeft, RoundInOrder, ListenerKept, ListensNoMore, ListensToOpen, Looked, OnlyAnswered, OnlyListens, RoundRefused, WaitedAsMay, WaitsAsMay}}, proofs.Acts.{at_slot-append, acts_none, acts_one, acts_both, in_order, none_at, try_dropped, try_opened, tries_none, tries_both, posted_none, posts_still, no_sweep}}
+use Rattle.rounds.{specs.{Acts.{SeatAct, opening, ActsMade, AreTries, InOrder, all_reported, ArePosted, sweep_of}, Openings.{times, with_slot, AreOpened, OnlyTook, SlotsCounted, Between, Started, Connected, AcceptDone, OneAccepted, OnlyAccepted, IsOpened, IsLost, IsSpent, AreLost, IsNext, SameQueues, Fate, next_in, Opened, NotFree, DropsFor, ActsOf, DropMade, TriedOnce, TriesMade, TriesNext, TryMade, lacks, lead_of}, Pollers.{PollerState, Counted, counted_up, HasOpenedAll}, Rounds.{AcceptEnded, AllPosted, HasLeft, RoundInOrder, ListenerKept, ListensNoMore, ListensToOpen, Looked, OnlyAnswered, OnlyListens, RoundRefused, WaitedAsMay, WaitsAsMay}}, proofs.Acts.{at_slot-append, acts_none, acts_one, acts_both, in_order, none_at, try_dropped, try_opened, tries_none, tries_both, holds_nothing_still, posted_none, posts_still, no_sweep}}
 use Rattle.relay_log.specs.declared.{cause.Cause.{Cause}, faults.ServerFault.{ServerFault, TheVariants.{Poll, Worn}}}
 use Rattle.claims.specs.declared.view.Exchange.TheVariants as exchange
 use Rattle.claims.specs.declared.answers.Posted.TheVariants as posted
@@ -90,9 +90,6 @@ connected_both {us} {bs} {p} {q} {r} {a} one two = record {
 abbrev pub SamePoller : PollerState → PollerState → Type 0
 SamePoller p q = record { table : q.table ≡ p.table; opened : q.opened ≡ p.opened; lost : q.lost ≡ p.lost; poller : OnlyAccepted p q }
 
-pub still : (p : PollerState) → SamePoller p p
-still p = assumption
-
 -- nothing was opened by these tries
 pub none_opened : {p q : PollerState} {a b : Own} (tries : List SeatAct) (lost not_free : List ℕ) → AreTries [] not_free tries → ActsMade tries a.seat b.seat
     → InOrder (TriesNext p.part) tries p.table p.table → q.table ≡ p.table → q.opened ≡ p.opened → Counted p.lost (length lost) q.lost
@@ -151,7 +148,7 @@ module _ {C S T : Type 0} {moved : Berth C T → S → Type 0} {named : Ticket �
 pub accept_and_took : {C S T : Type 0} {moved : Berth C T → S → Type 0} {named : Ticket → S → Type 0} {made : Made S} {may_tell : C → Route → Type 0}
     {s t : S} {p q : PollerState} {a b c : Own} → AcceptDone (TriesMade moved named made may_tell p s t) p q a b → OnlyTook b c
     → AcceptDone (TriesMade moved named made may_tell p s t) p q a c
-accept_and_took {q = q} done took = accept_both done (accept_took no_tries (still q) took)
+accept_and_took done took = accept_both done (accept_took no_tries (assumption) took)
 
 -- where there are some, there is a first one
 pub some_first : (xs : List ℕ) → 1 ≤ length xs → slice_get xs 0 ≡ None → ⊥
@@ -164,10 +161,6 @@ put_back (y ∷ ys) x is = rw (same_Some y x is)
 
 times_first : (s : ℕ) (xs : List ℕ) (x : ℕ) → slice_get xs 0 ≡ Some x → times s xs ≡ times s (x ∷ []) + times s (drop 1 xs)
 times_first s xs x is = sym (ap (times s) (put_back xs x is)) ∙ times-append s (x ∷ []) (drop 1 xs)
-
--- a try that was dropped
-abbrev pub dropped_try : Ticket → SeatAct
-dropped_try t = record { ticket = t; exchanges = [] }
 
 -- what became of a slot that was taken in hand
 module _ {p q : PollerState} {a : Own} {hand : HandState} {slot : ℕ} (taken : hand ≡ record a.hand { slots = drop 1 a.hand.slots }) (is : slice_get a.hand.slots 0 ≡ Some slot) where
@@ -184,10 +177,10 @@ module _ {p q : PollerState} {a : Own} {hand : HandState} {slot : ℕ} (taken : 
   }
 
   -- its opening failed, and it is in hand again
-  pub opened_not : {acted : List SeatAct → Type 0} {kept : HandState} → acted (dropped_try (next_in p slot) ∷ []) → kept ≡ record hand { slots = hand.slots ++ slot ∷ [] }
+  pub opened_not : {acted : List SeatAct → Type 0} {kept : HandState} → acted (record { ticket = next_in p slot; exchanges = [] } ∷ []) → kept ≡ record hand { slots = hand.slots ++ slot ∷ [] }
       → SamePoller p q → IsIn p.part slot → OneAccepted acted p q a (record a { hand = kept })
   opened_not acts again same own =
-      let try = dropped_try (next_in p slot) in
+      let try : SeatAct = record { ticket = next_in p slot; exchanges = [] } in
       record {
         done = record {
           tries = try ∷ [];
@@ -228,7 +221,7 @@ room_same took = rw (took.capacity, took.tickets)
 
 -- what a look at a seat says
 pub not_worn : (b : Bool) (seat : SeatState) → IsTrue b ↔ IsWorn seat → b ≡ false → IsWorn seat → ⊥
-not_worn b seat is unset worn = false≢true (sym unset ∙ is.1 worn)
+not_worn b seat is unset is_worn = false≢true (sym unset ∙ is.1 is_worn)
 
 pub unless : {A B : Type 0} → (A → ⊥) → A ⊎ B → B
 unless never (inl a) = absurd (never a)
@@ -236,9 +229,9 @@ unless never (inr b) = b
 
 pub answered : (free : Option (Unit {0})) (old new : PollerState) (had has : Own) (answer : Result (Unit {0}) ServerFault) → IsNone free ↔ IsWorn has.seat → answer ≡ ok_or free Worn
     → ((answer ≡ Err Worn) ↔ IsWorn has.seat) × (answer ≢ Err Poll) × IfErr answer (λ fault. RoundRefused fault old new had has)
-answered None old new had has answer is same = let worn = is.0 refl in rw same ((λ refused. worn, λ refused. refl), λ failed. cc failed, inr (refl, worn))
+answered None old new had has answer is same = let is_worn = is.0 refl in rw same ((λ refused. is_worn, λ refused. refl), λ failed. cc failed, inr (refl, is_worn))
 answered (Some x) old new had has answer is same =
-    rw same ((λ refused. absurd (cc refused), λ worn. absurd (false≢true (sym (is.1 worn)))), λ failed. cc failed, tt)
+    rw same ((λ refused. absurd (cc refused), λ is_worn. absurd (false≢true (sym (is.1 is_worn)))), λ failed. cc failed, tt)
 
 -- the next try is not worth making
 pub ended_by : (p : PollerState) (own : Own) → (p.starved ≡ true) ⊎ (HasLeft p ⊎ IsWorn own.seat) → AcceptEnded p own
@@ -322,6 +315,10 @@ opened_once {t = t} {p = p} {a = a} {found = found} acts (inr started) next adop
 pub between_still : {claims : TableId} {a b : Own} {p q : PollerState} → Between claims a p → b.seat ≡ a.seat → q.table ≡ p.table → Between claims b q
 between_still between seat table = record { same = rw seat between.same; idle = rw seat between.idle; sized = rw table between.sized }
 
+pub between_posted : {claims : TableId} {a b : Own} {p q : PollerState} {xs : List Ticket} → Between claims a p → ArePosted xs a.seat b.seat a.hand b.hand → q.table ≡ p.table
+    → Between claims b q
+between_posted between posted table = record { same = posted.made.table ∙ between.same; idle = holds_nothing_still posted between.idle; sized = rw table between.sized }
+
 pub between_took : {claims : TableId} {a b : Own} {p q : PollerState} → Between claims a p → OnlyTook a b → q.table ≡ p.table → Between claims b q
 between_took between took table = between_still between took.seat table
 
@@ -340,57 +337,58 @@ module _ (may_refuse : Unopened → Type 0) (may_tell : Route → Type 0) (proxy
   pub memory_drops : (route : Route) (lead : List ℕ) (c : Cause) → may_tell route → lead_of proxy route ≡ Some lead → c ≡ cause.Memory → DropsFor may_refuse may_tell proxy c
   memory_drops route lead c told same is = rw is (lead, (route, told, same))
 
--- A round: the reports were delivered, a sweep was made or none, and connections were opened
+-- nothing was posted
+none_posted : {S : Type 0} {made : Made S} {part : Part} {tickets : List Ticket} {a : Own} {s : S} → tickets ≡ [] → AllPosted made part tickets a a s s
+none_posted {a = a} none = rw none (record { made = refl; posted = posted_none a.seat a.hand; own = λ slot out. refl; queues = assumption })
 
+-- A round: the reports were delivered, a sweep was made or none, and connections were opened
 module _ {C S T : Type 0} {moved : Berth C T → S → Type 0} {named : Ticket → S → Type 0} {made : Made S} {may_tell : C → Route → Type 0} where
-  pub round_of : (from delivered_at timed_at : S) {to : S} (c : Own) {p q r v w t : PollerState} {a b d e : Own} → Looked p q → OnlyTook a b
-      → PostsMade made (all_reported q.table q.batch) from delivered_at → Delivered q.table q.batch b.seat c.seat b.hand c.hand → c.ready ≡ b.ready → c.free ≡ b.free
-      → AreIn q.part (all_reported q.table q.batch) → r ≡ record q { accepting = r.accepting }
-      → PostsMade made (sweep_of r v) delivered_at timed_at → ArePosted (sweep_of r v) c.seat d.seat c.hand d.hand → SameQueues c d
-      → AreIn r.part (sweep_of r v) → v ≡ record r { second = v.second; swept = v.swept }
+  pub round_of : {from delivered_at timed_at to : S} {p q r v w t : PollerState} {a b c d e : Own} → Looked p q → OnlyTook a b
+      → AllPosted made q.part (all_reported q.table q.batch) b c from delivered_at → r ≡ record q { accepting = r.accepting }
+      → AllPosted made r.part (sweep_of r v) c d delivered_at timed_at → v ≡ record r { second = v.second; swept = v.swept }
       → AcceptDone (TriesMade moved named made may_tell v timed_at to) v w d e → (IsWorn d.seat → IsWorn e.seat)
       → t ≡ record w { seen = t.seen; over = t.over; episodes = t.episodes } → RoundInOrder moved named made may_tell p t a e from to
-  round_of from delivered_at timed_at c {e = e} looked took reports delivered ready free own flag sweeps posted queues own_then sweep accepted still_then end =
+  round_of {delivered_at = delivered_at} {timed_at = timed_at} {c = c} {e = e} looked took reports flag sweeps sweep accepted still_then end =
       let done = accepted.did in
+      let still_all : IsWorn c.seat → IsWorn e.seat = λ is. still_then (rw (sweeps.posted.still is).0 is) in
       rw end (record {
         delivered = delivered_at;
         timed = timed_at;
-        reports = rw (done.poller, sweep, flag) (rw looked at reports);
-        sweep = rw done.poller (rw (flag, looked) at sweeps);
+        reports = rw (done.poller, sweep, flag) (rw looked at reports.made);
+        sweep = rw done.poller (rw (flag, looked) at sweeps.made);
         tries = record { acts = rw done.poller accepted.acts.acts };
         round = record {
-          reports = delivered.posts;
-          sweep = posted.posts;
+          reports = reports.posted.posts;
+          sweep = sweeps.posted.posts;
           tries = accepted.tries;
           opened = done.opened;
           lost = done.lost;
           not_free = done.not_free;
           why = done.why;
-          reported = rw (done.poller, sweep, flag) (rw looked at (posts_still {t = e.seat} delivered.are (λ is. still_then (rw (posted.still is).0 is))));
-          swept = rw done.poller (rw (flag, looked) at (posts_still {t = e.seat} posted.are still_then));
+          reported = rw (done.poller, sweep, flag) (rw looked at (posts_still {t = e.seat} reports.posted.are still_all));
+          swept = rw done.poller (rw (flag, looked) at (posts_still {t = e.seat} sweeps.posted.are still_then));
           tried = done.are;
-          made = rw (← took.seat) (acts_both _ _ _ _ _ delivered.made (acts_both _ _ _ _ _ posted.made done.made));
+          made = rw (← took.seat) (acts_both _ _ _ _ _ reports.posted.made (acts_both _ _ _ _ _ sweeps.posted.made done.made));
           part = rw (done.poller, sweep, flag, looked);
-          own_reports = rw (done.poller, sweep, flag) (rw looked at own);
-          own_sweep = rw done.poller (rw (flag, looked) at own_then);
+          own_reports = rw (done.poller, sweep, flag) (rw looked at reports.own);
+          own_sweep = rw done.poller (rw (flag, looked) at sweeps.own);
           own_openings = rw (sweep, flag, looked) at done.own;
-          tickets = rw (done.ready, queues.ready, ready, done.tickets, posted.hand, delivered.hand, took.ready, took.tickets) (simp append_assoc);
+          tickets = rw (done.ready, sweeps.queues.ready, reports.queues.ready, done.tickets, sweeps.posted.hand, reports.posted.hand, took.ready, took.tickets)
+              (simp append_assoc);
           next = rw (sweep, flag, looked) at done.next;
           table = rw (sweep, flag, looked) at done.table;
           counted = rw (sweep, flag, looked) at done.counted;
           unused = rw (sweep, flag, looked) at done.unused;
-          gave = rw (done.gave, queues.free, free) took.gave;
-          slots = λ slot. (let counted = rw (queues.free, free, posted.hand, delivered.hand) at (done.slots slot) in omega (arith, took.slots slot));
+          gave = rw (done.gave, sweeps.queues.free, reports.queues.free) took.gave;
+          slots = λ slot. (
+              let counted = rw (sweeps.queues.free, reports.queues.free, sweeps.posted.hand, reports.posted.hand) at (done.slots slot) in omega (arith, took.slots slot));
         };
       })
 
   -- nothing was reported, nothing was posted for time, and nothing was accepted
   pub round_ended : {s : S} {p q : PollerState} {a b : Own} → Looked p q → q.batch ≡ [] → OnlyTook a b → RoundInOrder moved named made may_tell p q a b s s
-  round_ended {s} {p} {q} {a} {b} looked none took =
-      let unswept : sweep_of q q ≡ [] = no_sweep q q.swept refl in
-      let nothing : s ≡ s = refl in
-      round_of s s s b {v = q} {w = q} {t = q} looked took (rw none nothing) (rw none (posted_none b.seat b.hand)) refl refl (λ slot out. rw none) refl
-      (rw unswept nothing) (rw unswept (posted_none b.seat b.hand)) (assumption) (λ slot out. rw unswept) refl (accept_none no_tries (still q)) (λ is. is) refl
+  round_ended {q = q} looked none took = round_of {r = q} {v = q} {w = q} {t = q} looked took (none_posted (rw none)) refl (none_posted (no_sweep q q.swept refl)) refl
+      (accept_none no_tries assumption) (λ is. is) refl
 
 -- what answers made of the poller, one after the other
 pub answered_both : {gave : Unaccepted → Type 0} {p q r : PollerState} → OnlyAnswered gave p q → OnlyAnswered gave q r → OnlyAnswered gave p r

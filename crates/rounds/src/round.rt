@@ -1,7 +1,7 @@
 //! A round of the poller.
 ghost use Rattle.std.specs.{Prelude.{◌≡◌, ◌⊎◌, ◌+◌, ◌-◌, ◌<◌, ◌≤◌, ◌↔◌, [], length, Err, IsNone, IsOk, IfErr, IsTrue, MatchResult, Contains, true, false}, IoError.error_kind, declared.io.ErrorKind.TheVariants.Interrupted};
 ghost use Rattle.ready.specs.Steps.{HeldOnce};
-ghost use Rattle.rounds.specs.{Acts.{Delivered, PostsMade, all_reported}, Episodes.{episodes_after, flag_after, starved_after}, Openings.{AreIn, Between, OnlyTook, AcceptDone, OneAccepted, TriesMade}, Pollers.{HasOpenedAll, max_accepts, spare_room}, Rounds.{AcceptEnded, EndedEarly, HasLeft, IsFull, IsOver, ListensNoMore, ListensToOpen, Looked, LooksForAll, MayAccept, NoSlot, NoneToAccept, NotBegun, OnlyAnswered, OnlyListens, RoundEnded, RoundInOrder, RoundKeeps, RoundRefused, TookAll, WaitedAsMay, WaitsAsMay}};
+ghost use Rattle.rounds.specs.{Acts.{all_reported}, Episodes.{episodes_after, flag_after, starved_after}, Openings.{Between, OnlyTook, AcceptDone, OneAccepted, TriesMade}, Pollers.{HasOpenedAll, max_accepts, spare_room}, Rounds.{AcceptEnded, AllPosted, EndedEarly, HasLeft, IsFull, IsOver, ListensNoMore, ListensToOpen, Looked, LooksForAll, MayAccept, NoSlot, NoneToAccept, NotBegun, OnlyAnswered, OnlyListens, RoundEnded, RoundInOrder, RoundKeeps, RoundRefused, TookAll, WaitedAsMay, WaitsAsMay}};
 ghost use Rattle.dispatch.specs.{Hands.ticket_room, Posts.IsWorn, Told.{unaccepted_of, Waited}};
 
 use crate::delivering::deliver_by;
@@ -178,12 +178,9 @@ fn deliver_batch<F: Front, A: Acts>(
     requires room { length poller.old.batch ≤ ticket_room own.old.hand }
     ensures between { Between shared.now.claims own.new poller.new }
     ensures poller { poller.new ≡ record poller.old { accepting = poller.new.accepting } }
-    ensures made { PostsMade A.made (all_reported poller.old.table poller.old.batch) acts.old acts.new }
-    ensures delivered { Delivered poller.old.table poller.old.batch own.old.seat own.new.seat own.old.hand own.new.hand }
+    ensures posts { AllPosted A.made poller.old.part (all_reported poller.old.table poller.old.batch)
+        own.old own.new acts.old acts.new }
     ensures flag { poller.new.accepting ≡ false → (poller.old.accepting ≡ false) × (Contains poller.old.batch 0 → ⊥) }
-    ensures own { AreIn poller.old.part (all_reported poller.old.table poller.old.batch) }
-    ensures ready { own.new.ready ≡ own.old.ready }
-    ensures free { own.new.free ≡ own.old.free }
 {
     let listener = deliver_by(
         acts,
@@ -321,9 +318,7 @@ fn has_slot<R: Wait>(rt: &R, own: &mut Own) -> bool
 fn take_one<R: Wait>(rt: &R, own: &mut Own) -> bool
     requires room { length own.old.hand.slots < own.old.hand.capacity }
     ensures took { OnlyTook own.old own.new }
-    ensures slot { result ≡ true → 1 ≤ length own.new.hand.slots }
-    ensures queue { result ≡ false → HeldOnce 0 own.new.free.history }
-    ensures none { result ≡ false → own.new ≡ own.old }
+    ensures none { result ≡ false → HeldOnce 0 own.new.free.history × (own.new ≡ own.old) }
     ensures more { result ≡ true → length own.new.hand.slots ≡ length own.old.hand.slots + 1 }
 {
     match own.free.try_take(rt) {

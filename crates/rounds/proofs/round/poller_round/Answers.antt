@@ -44,30 +44,15 @@ returns-then-not-look g c =
 pub keep_time-requires-clause-room : goal.keep_time-requires-clause-room
 keep_time-requires-clause-room g c =
     let room = c.has_room.ensures.room c.if-not-has_room.false in
-    omega (
-      arith,
-      room,
-      room_same c.look.ensures.took,
-      room_left c.deliver_batch.ensures.delivered,
-      reported_le c.look.new.poller.table c.look.new.poller.batch,
-      c.look.ensures.few,
-      c.deliver_batch.ensures.between.sized,
-    )
+    omega (arith, room_same c.look.ensures.took, room_left c.deliver_batch.ensures.posts.posted, reported_le c.look.new.poller.table c.look.new.poller.batch)
 
 pub accept-requires-clause-room : goal.accept-requires-clause-room
 accept-requires-clause-room g c =
     let room = c.has_room.ensures.room c.if-not-has_room.false in
-    omega (
-      arith,
-      room,
-      room_same c.look.ensures.took,
-      room_left c.deliver_batch.ensures.delivered,
-      reported_le c.look.new.poller.table c.look.new.poller.batch,
-      c.look.ensures.few,
-      c.deliver_batch.ensures.between.sized,
-      room_left c.keep_time.ensures.swept.posted,
-      few_sweep c.deliver_batch.new.poller c.keep_time.new.poller,
-    )
+    let delivered = room_left c.deliver_batch.ensures.posts.posted in
+    let swept = room_left c.keep_time.ensures.posts.posted in
+    let few = few_sweep c.deliver_batch.new.poller c.keep_time.new.poller in
+    omega (arith, room_same c.look.ensures.took, reported_le c.look.new.poller.table c.look.new.poller.batch)
 
 pub returns : goal.returns
 returns g c =
@@ -79,15 +64,13 @@ returns g c =
     let back = c.take_back.ensures in
     let end = back.poller in
     let last : Lasts c.look.new.poller c.take_back.new.poller = rw (end, told, accepted.done.did.poller, timed.poller, delivered.poller) in
-    let swept = rw (delivered.poller, looked.poller) at timed.swept.swept in
+    let swept = rw (delivered.poller, looked.poller) at timed.swept in
     let answer = answered c.unworn.result c.args.poller.now c.take_back.new.poller c.args.own.now c.take_back.new.own c.ok_or.result c.unworn.ensures c.ok_or.ensures.value in
     record {
       between = between_took accepted.between back.took (rw (end, told));
       early = begun_not_early _ _ (c.has_room.ensures.room c.if-not-has_room.false);
       waits = inr (rw last looked.waits);
-      made = round_of _ c.deliver_batch.new.acts c.keep_time.new.acts c.deliver_batch.new.own looked.poller looked.took
-          delivered.made delivered.delivered delivered.ready delivered.free delivered.own delivered.poller
-          timed.made timed.swept.posted timed.queues timed.own timed.poller (accept_and_took accepted.done back.took)
+      made = round_of looked.poller looked.took delivered.posts delivered.poller timed.posts timed.poller (accept_and_took accepted.done back.took)
           (λ is. rw back.took.seat (accepted.still is)) (rw (end, told));
       ended = inr (inr (record {
         answer = answer.0;
@@ -110,7 +93,7 @@ returns g c =
         swept = inr (rw (end, told, accepted.done.did.poller) swept);
         listens = listens_still c.args.poller.now (rw (told, accepted.done.did.poller, timed.poller, delivered.poller) looked.listens) back.left back.closed;
         over = rw (told, accepted.done.did.poller, timed.poller, delivered.poller, looked.poller) at back.over;
-        took = rw (back.took.ready, accepted.done.did.ready, timed.queues.ready, delivered.ready, looked.took.ready);
+        took = rw (back.took.ready, accepted.done.did.ready, timed.posts.queues.ready, delivered.posts.queues.ready, looked.took.ready);
       };
       none = λ why. absurd (answer.1 (unless (begun_not_early _ _ (c.has_room.ensures.room c.if-not-has_room.false)) why));
       refused = answer.2;

@@ -24,9 +24,6 @@ returns-then-not-due-clause-posted g c = rw c.if-not-due.true (posted_none c.arg
 pub returns-clause-posted : goal.returns-clause-posted
 returns-clause-posted g c = rw c.if-not-due.false (search rules)
 
-pub returns-clause-idle : goal.returns-clause-idle
-returns-clause-idle g c = holds_nothing_still c.loop-slot.invariant.posted c.requires.idle
-
 pub returns-then-not-due-clause-made : goal.returns-then-not-due-clause-made
 returns-then-not-due-clause-made g c = rw c.if-not-due.true refl
 
