@@ -1,8 +1,8 @@
 -- Acts, one after the other, and the posts of a round, in a poller's own slots alone.
-use Rattle.std.{proofs.{Common.{add-one, ◌≡◌, ℕ, zero, suc, ◌+◌, ◌≤◌, Bool, true, false, cond, List, [], ◌∷◌, ◌++◌, length, length-append, refl, sym, ◌∙◌, arith, inl, inr, append_assoc, ◌≢◌, ◌⊎◌, ◌↔◌, IsTrue, slice_index, replicate, slice_set, ◌==◌, ◌||◌, if◌then◌else◌, Option, Some, None, nat_lt}, lemmas.{Bool.{eq-eqb, ne_eqb, false≢true, Decides.nat_tests}, List.{append-nil, map-append, length-map, length-replicate, get_or-replicate, get_or_past, get_or-set_other, Elements.{All-append}, Sums.sum_by-append}}}, specs.List.{All, cons_option}}
+use Rattle.std.{proofs.{Common.{◌≡◌, ℕ, zero, suc, ◌+◌, ◌≤◌, Bool, true, false, cond, List, [], ◌∷◌, ◌++◌, length, length-append, refl, sym, ◌∙◌, arith, inl, inr, append_assoc, ◌≢◌, ◌⊎◌, ◌↔◌, IsTrue, slice_index, replicate, slice_set, ◌==◌, ◌||◌, if◌then◌else◌, Option, Some, None}, lemmas.{Bool.{eq-eqb, ne_eqb, false≢true, Decides.nat_tests}, List.{append-nil, map-append, map-id, length-map, length-replicate, get_or-replicate, get_or_past, get_or-set_other, Elements.{All-append, filter_map-append}, FromFn.{length-range_with_len, map-range_with_len_more}, Sums.sum_by-append}}}, specs.List.{All, cons_option, filter_map, range_with_len}}
 use Rattle.claims.{specs.{declared.view.Account.Account, Views.{after_all, minted_by}, Seats.{SeatState, trace_at, account_at, HoldsNothing, Adds}}, proofs.Seats.after_both}
 use Rattle.ready.specs.declared.ticket.Ticket.{Ticket}
-use Rattle.rounds.specs.{Acts.{SeatAct, exchanges_at, made_by, due_of, ActsMade, IsPost, ArePosts, opening, InOrder, IsTry, not_free_of, AreTries, at_slot, reported, all_reported, ArePosted, is_due, last_in, opened_in, opened_below, all_opened, sweep_of}, Pollers.{IsOwnTable, PollerState, AreGenerations}, Openings.AreIn}
+use Rattle.rounds.specs.{Acts.{SeatAct, exchanges_at, made_by, due_of, ActsMade, IsPost, ArePosts, opening, InOrder, IsTry, not_free_of, AreTries, at_slot, reported, all_reported, ArePosted, is_due, last_in, opened_below, all_opened, sweep_of}, Pollers.{IsOwnTable, PollerState, AreGenerations}, Openings.AreIn}
 use Rattle.relay_core.specs.Idle.{is_past}
 use Rattle.dispatch.specs.{Hands.{HandState, ticket_room}, declared.split.Part.Part, Splits.IsIn, Posts.IsWorn}
 use mathlib.Core.Logic.{dite}
@@ -184,12 +184,11 @@ module _ {t : Ticket} {old new : SeatState} where
       → k ≡ record h { tickets = h.tickets ++ t ∷ [] } → ArePosted (t ∷ []) old new h k
   posted_woke unless adds kept = one_posted true (λ is. cc (unless.1 is)) adds kept
 
--- a batch is for as many connections as it has reports, or fewer
-pub reported_le : (generations xs : List ℕ) → length (all_reported generations xs) ≤ length xs
-reported_le generations [] = omega arith
-reported_le generations (x ∷ xs) =
-    let rest = reported_le generations xs in
-    elim (reported generations x) as (λ o. length (cons_option o (all_reported generations xs)) ≤ suc (length xs)) [ Some t ↦ omega arith | None ↦ omega arith ]
+-- as many connections as there are items, or fewer
+pub filter_le : {X : Type 0} (f : X → Option Ticket) (xs : List X) → length (filter_map f xs) ≤ length xs
+filter_le f [] = omega arith
+filter_le f (x ∷ xs) =
+    let rest = filter_le f xs in elim (f x) as (λ o. length (cons_option o (filter_map f xs)) ≤ suc (length xs)) [ Some t ↦ omega arith | None ↦ omega arith ]
 
 module _ {xs : List Ticket} {old new : SeatState} {had has : HandState} (posted : ArePosted xs old new had has) where
   -- as many tickets came in as there were posts, or fewer
@@ -199,47 +198,41 @@ module _ {xs : List Ticket} {old new : SeatState} {had has : HandState} (posted 
   pub holds_nothing_still : HoldsNothing old → HoldsNothing new
   holds_nothing_still nothing = posts_hold_nothing posted.are.each posted.made nothing
 
--- a report is for a connection that the table has
+-- connections of which none is in another's slot
+filter_own : {X : Type 0} (part : Part) (f : X → Option Ticket) (xs : List X) → ((x : X) (t : Ticket) → f x ≡ Some t → (IsIn part t.slot → ⊥) → ⊥) → AreIn part (filter_map f xs)
+filter_own part f [] own slot out = refl
+filter_own part f (x ∷ xs) own slot out = by_first (filter_own part f xs own slot out) (f x) refl where
+  by_first : at_slot slot (filter_map f xs) ≡ 0 → (o : Option Ticket) → f x ≡ o → at_slot slot (cons_option o (filter_map f xs)) ≡ 0
+  by_first rest None is = rest
+  by_first rest (Some t) is = omega (arith, none_at t slot (λ same. own x t is (λ inside. out (rw same inside))), at_slot-append slot (t ∷ []) (filter_map f xs))
+
+-- a report is for a connection that the table has, and a sweep too
 reported_has : (table : List ℕ) (number : ℕ) (t : Ticket) → reported table number ≡ Some t → 1 ≤ slice_index table t.slot
 reported_has table number t is = grind arith
 
-pub own_reports : (part : Part) (table batch : List ℕ) → IsOwnTable part table → AreIn part (all_reported table batch)
-own_reports part table [] own slot out = refl
-own_reports part table (number ∷ batch) own slot out = by_end (own_reports part table batch own slot out) (reported table number) refl where
-  by_end : at_slot slot (all_reported table batch) ≡ 0 → (o : Option Ticket) → reported table number ≡ o → at_slot slot (cons_option o (all_reported table batch)) ≡ 0
-  by_end rest None is = rest
-  by_end rest (Some t) is =
-      let none = own slot out in
-      let apart : slot ≢ t.slot = λ same. (let has = rw (← same) at (reported_has table number t is) in absurd (omega arith)) in
-      omega (arith, none_at t slot apart, at_slot-append slot (t ∷ []) (all_reported table batch))
+last_has : (table : List ℕ) (slot : ℕ) (t : Ticket) → last_in table slot ≡ Some t → 1 ≤ slice_index table t.slot
+last_has table slot t is = grind arith
 
-few_in : (table : List ℕ) (slot : ℕ) → length (opened_in table slot) ≤ 1
-few_in table slot = grind arith
+-- the table has connections in its poller's own slots alone
+pub own_reports : (part : Part) (table batch : List ℕ) → IsOwnTable part table → AreIn part (all_reported table batch)
+own_reports part table batch own = filter_own part (reported table) batch (λ number t is out. omega (arith, own t.slot out, reported_has table number t is))
+
+own_below : (part : Part) (table : List ℕ) (slots : ℕ) → IsOwnTable part table → AreIn part (opened_below table slots)
+own_below part table slots own = filter_own part (last_in table) (range_with_len 0 slots) (λ slot t is out. omega (arith, own t.slot out, last_has table slot t is))
 
 -- as many as there are slots, or fewer
 pub few_below : (table : List ℕ) (slots : ℕ) → length (opened_below table slots) ≤ slots
-few_below table zero = omega arith
-few_below table (suc slots) = simp length-append (omega (arith, few_below table slots, few_in table slots))
+few_below table slots = omega (arith, filter_le (last_in table) (range_with_len 0 slots), length-range_with_len 0 slots)
 
 -- one slot more
-pub below_more : (table : List ℕ) (slot : ℕ) → opened_below table (slot + 1) ≡ opened_below table slot ++ opened_in table slot
-below_more table slot = rw add-one
-
-none_in : (table : List ℕ) (part : Part) (slot at : ℕ) → IsOwnTable part table → (IsIn part slot → ⊥) → at_slot slot (opened_in table at) ≡ 0
-none_in table part slot at own out = dite (ℕ_discrete slot at) (λ same. rw (rw same at (own slot out)))
-    (λ other.
-    elim (nat_lt 0 (slice_index table at)) as (λ (b : Bool). at_slot slot (if b then last_in table at ∷ [] else []) ≡ 0)
-    [ true ↦ none_at (last_in table at) slot other | false ↦ refl ])
-
--- a poller opened connections in its own slots alone
-pub below_own : (part : Part) (table : List ℕ) (slots : ℕ) → IsOwnTable part table → AreIn part (opened_below table slots)
-below_own part table zero own slot out = refl
-below_own part table (suc slots) own slot out =
-    omega (arith, below_own part table slots own slot out, none_in table part slot slots own out, at_slot-append slot (opened_below table slots) (opened_in table slots))
+pub below_more : (table : List ℕ) (slot : ℕ) → opened_below table (slot + 1) ≡ opened_below table slot ++ filter_map (last_in table) (slot ∷ [])
+below_more table slot =
+    let more : range_with_len 0 (slot + 1) ≡ range_with_len 0 slot ++ slot ∷ [] = simp map-id at (map-range_with_len_more (λ (x : ℕ). x) 0 slot slot (omega arith)) in
+    rw more (filter_map-append (last_in table) (range_with_len 0 slot) (slot ∷ []))
 
 -- what a round posts for time
-pub own_sweep : (part : Part) (old new : PollerState) → AreIn part (all_opened old.table) → AreIn part (sweep_of old new)
-own_sweep part old new own slot out = grind (arith, own slot out)
+pub own_sweep : (part : Part) (old new : PollerState) → IsOwnTable part old.table → AreIn part (sweep_of old new)
+own_sweep part old new own slot out = grind (arith, own_below part old.table (length old.table) own slot out)
 
 pub few_sweep : (old new : PollerState) → length (sweep_of old new) ≤ length old.table
 few_sweep old new = grind (arith, few_below old.table (length old.table))

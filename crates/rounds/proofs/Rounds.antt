@@ -5,7 +5,7 @@ use Rattle.claims.{specs.{declared.answers.Posted.Posted, Calls.PostChange, Seat
 use Rattle.dispatch.{specs.{Posts.{HoldsOnly, IsWorn}, declared.{places.Berth.Berth, shared.Own.Own, split.Part.Part, front.{Unaccepted.{Unaccepted, TheVariants.{Blocked, Starved}}, Unopened.Unopened, Route.Route, Waiting.{Waiting, TheVariants.{No, Brief, Long}}}}, Hands.{HandState, ticket_room}, Acts.{Act, AreMade, Made, Register, Adopt}, Told.{cause_of, Seen, Waited}, Splits.IsIn}, proofs.Holding.{holds_still, woke_behind_post, worn_still}}
 use Rattle.ready.specs.declared.ticket.Ticket.{Ticket}
 use Rattle.token.specs.Names.{last_generation}
-use Rattle.rounds.{specs.{Acts.{SeatAct, opening, ActsMade, AreTries, InOrder, all_reported, ArePosted, sweep_of}, Openings.{times, with_slot, AreOpened, OnlyTook, SlotsCounted, Between, Started, Connected, AcceptDone, OneAccepted, OnlyAccepted, IsOpened, IsLost, IsSpent, AreLost, IsNext, SameQueues, Fate, next_in, Opened, NotFree, DropsFor, ActsOf, DropMade, TriedOnce, TriesMade, TriesNext, TryMade, lacks, lead_of}, Pollers.{PollerState, Counted, counted_up, HasOpenedAll}, Rounds.{AcceptEnded, AllPosted, HasLeft, RoundInOrder, ListenerKept, ListensNoMore, ListensToOpen, Looked, OnlyAnswered, OnlyListens, RoundRefused, WaitedAsMay, WaitsAsMay}}, proofs.Acts.{at_slot-append, acts_none, acts_one, acts_both, in_order, none_at, try_dropped, try_opened, tries_none, tries_both, holds_nothing_still, posted_none, posts_still, no_sweep}}
+use Rattle.rounds.{specs.{Acts.{SeatAct, opening, ActsMade, AreTries, InOrder, all_reported, ArePosted, sweep_of}, Openings.{times, with_slot, AreOpened, OnlyTook, SlotsCounted, Between, Started, Connected, AcceptDone, OneAccepted, OnlyAccepted, IsOpened, IsLost, IsSpent, AreLost, IsNext, SameQueues, Fate, next_in, Opened, NotFree, DropsFor, ActsOf, DropMade, TriedOnce, TriesMade, TriesNext, TryMade, lacks, lead_of}, Pollers.{PollerState, Counted, counted_up, HasOpenedAll}, Rounds.{AcceptEnded, AllPosted, RoundInOrder, ListenerKept, ListensNoMore, ListensToOpen, Looked, OnlyAnswered, OnlyListens, RoundRefused, WaitedAsMay, WaitsAsMay}}, proofs.Acts.{at_slot-append, acts_none, acts_one, acts_both, in_order, none_at, try_dropped, try_opened, tries_none, tries_both, holds_nothing_still, posted_none, posts_still, no_sweep}}
 use Rattle.relay_log.specs.declared.{cause.Cause.{Cause}, faults.ServerFault.{ServerFault, TheVariants.{Poll, Worn}}}
 use Rattle.claims.specs.declared.view.Exchange.TheVariants as exchange
 use Rattle.claims.specs.declared.answers.Posted.TheVariants as posted
@@ -233,10 +233,6 @@ answered None old new had has answer is same = let is_worn = is.0 refl in rw sam
 answered (Some x) old new had has answer is same =
     rw same ((λ refused. absurd (cc refused), λ is_worn. absurd (false≢true (sym (is.1 is_worn)))), λ failed. cc failed, tt)
 
--- the next try is not worth making
-pub ended_by : (p : PollerState) (own : Own) → (p.starved ≡ true) ⊎ (HasLeft p ⊎ IsWorn own.seat) → AcceptEnded p own
-ended_by p own why = grind arith
-
 -- what became of an accepted connection that was placed, with the acts that were made from there on
 pub fate_by : {slot : ℕ} {p q : PollerState} {told opened : Type 0} {dropped : Cause → Type 0} {found : Type 0} {made : List Act → Type 0} {a b : SeatState}
     → (IsOpened p q × told) ⊎ (IsLost p q × Adds slot (exchange.NotFree ∷ []) a b × found) → (told → opened) → (found → made (Register ∷ Adopt ∷ []))
@@ -245,9 +241,8 @@ fate_by (inl done) opens joined = Opened done.0 (opens done.1)
 fate_by (inr lost) opens joined = NotFree lost.0 lost.1 (joined lost.2)
 
 -- a slot that has no next names
-pub no_names : (table : List ℕ) (slot : ℕ) → (slot ≤ 32767 → slot < length table → slice_index table slot ≡ last_generation)
-    → (length table ≤ slot) ⊎ ((32768 ≤ slot) ⊎ (last_generation ≤ slice_index table slot))
-no_names table slot last = grind arith
+pub no_names : (p : PollerState) (slot : ℕ) → (slot ≤ 32767 → slot < length p.table → slice_index p.table slot ≡ last_generation) → IsSpent p slot
+no_names p slot last = inr (grind arith)
 
 -- a call refuses what a call of its own refused, and no more is said where it does
 pub passed_up : {T E : Type 0} (r : Result T E) (e : E) (P : E → Type 0) → IsErrAnd r (λ y. y ≡ e) → P e → IfErr r P
@@ -311,16 +306,13 @@ opened_once {t = t} {p = p} {a = a} {found = found} acts (inr started) next adop
       room = rw started.hand (omega (arith, length-append a.hand.tickets (t ∷ [])));
     }))
 
--- what holds between two steps still holds after one that the seat did not see, or that took slots
+-- what holds between two steps still holds after one that the seat did not see, or that posted
 pub between_still : {claims : TableId} {a b : Own} {p q : PollerState} → Between claims a p → b.seat ≡ a.seat → q.table ≡ p.table → Between claims b q
 between_still between seat table = record { same = rw seat between.same; idle = rw seat between.idle; sized = rw table between.sized }
 
 pub between_posted : {claims : TableId} {a b : Own} {p q : PollerState} {xs : List Ticket} → Between claims a p → ArePosted xs a.seat b.seat a.hand b.hand → q.table ≡ p.table
     → Between claims b q
 between_posted between posted table = record { same = posted.made.table ∙ between.same; idle = holds_nothing_still posted between.idle; sized = rw table between.sized }
-
-pub between_took : {claims : TableId} {a b : Own} {p q : PollerState} → Between claims a p → OnlyTook a b → q.table ≡ p.table → Between claims b q
-between_took between took table = between_still between took.seat table
 
 -- why a connection is closed unopened: by what the front answered, by what the lead lacked, or for want of memory
 module _ (may_refuse : Unopened → Type 0) (may_tell : Route → Type 0) (proxy : Bool) where
@@ -420,14 +412,6 @@ ended_still ended (inr all) = inl (inr (inr (inr all)))
 
 pub kept : (p q : PollerState) → ListensNoMore p q → ListenerKept p q
 kept p q listens = grind arith
-
--- a wait leaves it to the look before it whether the front listens, and the longest wait as it was
-pub listens_after : (waiting : Waiting) (p q r : PollerState) → ListensNoMore p q → Waited waiting q.seen r.seen → ListensNoMore p r
-listens_after waiting p q r listens waited = rw (ap (λ (s : Seen). s.listens) waited) listens
-
-pub longest_kept : (waiting : Waiting) (p q r : PollerState) → OnlyListens p q → Waited waiting q.seen r.seen
-    → r.seen.longest ≡ p.seen.longest
-longest_kept waiting p q r same waited = ap (λ (s : Seen). s.longest) waited ∙ ap (λ (s : PollerState). s.seen.longest) same
 
 -- the poller waits only where it may, and for as long
 pub waits_if : (waiting : Waiting) (limit : ℕ) (p q r : PollerState) (a b : Own) → OnlyListens p q → WaitsAsMay waiting limit q b

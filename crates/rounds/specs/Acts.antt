@@ -1,5 +1,5 @@
 -- What a thread's seat did, act by act, and what a round posts, also by its acts. Part of the promises.
-use Rattle.std.specs.{Prelude.{◌≡◌, ◌⊎◌, ℕ, zero, suc, ◌==◌, nat_lt, Bool, true, false, if◌then◌else◌, List, [], ◌∷◌, ◌++◌, length, map, Option, Some, None, slice_index}, List.{All, filter_map, count_by}}
+use Rattle.std.specs.{Prelude.{◌≡◌, ◌⊎◌, ℕ, zero, suc, ◌==◌, nat_lt, Bool, true, false, if◌then◌else◌, List, [], ◌∷◌, ◌++◌, length, map, Option, Some, None, slice_index}, List.{All, filter_map, count_by, range_with_len}}
 use Rattle.claims.specs.{declared.view.Exchange.{Exchange, TheVariants.{Post, Take, Release, Adopted, NotFree}}, Views.minted_by, Seats.{SeatState, trace_at}}
 use Rattle.ready.specs.declared.ticket.Ticket.{Ticket}
 use Rattle.token.specs.{declared.name.Name.{Name, TheVariants.{End}}, Numbers.name_of}
@@ -114,18 +114,14 @@ PostsMade made tickets from to = InOrder (λ (t : Ticket). made PostAct t.slot) 
 abbrev pub Delivered : List ℕ → List ℕ → SeatState → SeatState → HandState → HandState → Type 0
 Delivered generations batch old new had has = ArePosted (all_reported generations batch) old new had has
 
--- the last connection that was opened in a slot
-abbrev pub last_in : List ℕ → ℕ → Ticket
-last_in table slot = record { slot = slot; generation = slice_index table slot }
-
--- the last connection of a slot, if one was opened
-abbrev pub opened_in : List ℕ → ℕ → List Ticket
-opened_in table slot = if nat_lt 0 (slice_index table slot) then last_in table slot ∷ [] else []
+-- the last connection that was opened in a slot, if one was
+abbrev pub last_in : List ℕ → ℕ → Option Ticket
+last_in table slot =
+    if nat_lt 0 (slice_index table slot) then Some (record { slot = slot; generation = slice_index table slot }) else None
 
 -- the last connections of the first this many slots, in rising order
 abbrev pub opened_below : List ℕ → ℕ → List Ticket
-opened_below table zero = []
-opened_below table (suc slots) = opened_below table slots ++ opened_in table slots
+opened_below table slots = filter_map (last_in table) (range_with_len 0 slots)
 
 abbrev pub all_opened : List ℕ → List Ticket
 all_opened table = opened_below table (length table)

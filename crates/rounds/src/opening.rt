@@ -147,11 +147,8 @@ fn prepare<F: Front, A: Moves<F>, N: Log>(
 /// is the last.
 fn next_names(table: &[u64], slot: usize) -> Option<Names>
     requires { AreGenerations table.now }
-    ensures client { IfSome result (λ names. names.client ≡ record {
-      slot = slot;
-      side = Side.Client;
-      generation = slice_index table.now slot + 1;
-    }) }
+    ensures client { IfSome result (λ names. names.client
+        ≡ record { slot = slot; side = Side.Client; generation = slice_index table.now slot + 1 }) }
     ensures inside { OnSome result (slot < length table.now) }
     ensures none { IsNone result → slot ≤ 32767 → slot < length table.now → slice_index table.now slot ≡ last_generation }
 {

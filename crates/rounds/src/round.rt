@@ -1,7 +1,7 @@
 //! A round of the poller.
 ghost use Rattle.std.specs.{Prelude.{◌≡◌, ◌⊎◌, ◌+◌, ◌-◌, ◌<◌, ◌≤◌, ◌↔◌, [], length, Err, IsNone, IsOk, IfErr, IsTrue, MatchResult, Contains, true, false}, IoError.error_kind, declared.io.ErrorKind.TheVariants.Interrupted};
 ghost use Rattle.ready.specs.Steps.{HeldOnce};
-ghost use Rattle.rounds.specs.{Acts.{all_reported}, Episodes.{episodes_after, flag_after, starved_after}, Openings.{Between, OnlyTook, AcceptDone, OneAccepted, TriesMade}, Pollers.{HasOpenedAll, max_accepts, spare_room}, Rounds.{AcceptEnded, AllPosted, EndedEarly, HasLeft, IsFull, IsOver, ListensNoMore, ListensToOpen, Looked, LooksForAll, MayAccept, NoSlot, NoneToAccept, NotBegun, OnlyAnswered, OnlyListens, RoundEnded, RoundInOrder, RoundKeeps, RoundRefused, TookAll, WaitedAsMay, WaitsAsMay}};
+ghost use Rattle.rounds.specs.{Acts.{all_reported}, Episodes.{episodes_after, flag_after, starved_after}, Openings.{Between, OnlyTook, AcceptDone, OneAccepted, TriesMade}, Pollers.{HasOpenedAll, max_accepts, spare_room}, Rounds.{AcceptEnded, AllPosted, EndedEarly, IsFull, IsOver, ListensNoMore, ListensToOpen, Looked, LooksForAll, MayAccept, NoSlot, NoneToAccept, NotBegun, OnlyAnswered, OnlyListens, RoundEnded, RoundInOrder, RoundKeeps, RoundRefused, TookAll, WaitedAsMay, WaitsAsMay}};
 ghost use Rattle.dispatch.specs.{Hands.ticket_room, Posts.IsWorn, Told.{unaccepted_of, Waited}};
 
 use crate::delivering::deliver_by;
@@ -287,7 +287,7 @@ fn accept_next<F: Front, A: Moves<F>, R: Wait + Log>(
         poller.old poller.new own.old own.new }
     ensures still { IsWorn own.old.seat → IsWorn own.new.seat }
     ensures tries { result ≡ true → poller.new.tries ≡ poller.old.tries - 1 }
-    ensures ended { result ≡ false → (poller.new.starved ≡ true) ⊎ (HasLeft poller.new ⊎ IsWorn own.new.seat) }
+    ensures ended { result ≡ false → AcceptEnded poller.new own.new }
     ensures answered { OnlyAnswered F.gave_none poller.old poller.new }
 {
     if own.seat.is_worn() {

@@ -1,7 +1,7 @@
 //! A round's sweep, and its second.
-ghost use Rattle.std.specs.{Prelude.{◌≡◌, ◌<◌, ◌≤◌, [], if◌then◌else◌, length, IfSome}, List.cons_option};
+ghost use Rattle.std.specs.Prelude.{◌≡◌, ◌<◌, ◌≤◌, [], if◌then◌else◌, length, IfSome};
 ghost use Rattle.claims.specs.Seats.{HoldsNothing};
-ghost use Rattle.rounds.specs.{Acts.{ArePosted, PostsMade, all_opened, is_due, opened_in, sweep_of, swept_after}, Openings.Between, Rounds.AllPosted};
+ghost use Rattle.rounds.specs.{Acts.{ArePosted, PostsMade, all_opened, is_due, last_in, sweep_of, swept_after}, Openings.Between, Rounds.AllPosted};
 ghost use Rattle.dispatch.specs.Hands.{ticket_room};
 
 use crate::delivering::post_note;
@@ -75,7 +75,7 @@ fn sweep<A: Acts>(
 /// The last connection that was opened in a slot, if one was.
 fn last_in(table: &[u64], slot: usize) -> Option<Ticket>
     requires { slot < length table.now }
-    ensures opened { cons_option result [] ≡ opened_in table.now slot }
+    ensures opened { result ≡ last_in table.now slot }
     ensures inside { IfSome result (λ ticket. ticket.slot < length table.now) }
 {
     let generation = table[slot];

@@ -1,12 +1,12 @@
 use Rattle.std.proofs.{Common.{take, arith}, lemmas.List.{length-take, take_more, Elements.filter_map-append}}
 use Rattle.rounds.specs.Acts.{reported}
-use Rattle.rounds.proofs.Acts.{room_left, in_order, posted_both, holds_nothing_still, reported_le}
+use Rattle.rounds.proofs.Acts.{room_left, in_order, posted_both, holds_nothing_still, filter_le}
 use Rattle.rounds.proofs.delivering.deliver_by.Goals as goal
 
 pub post_note-requires-clause-room : goal.post_note-requires-clause-room
 post_note-requires-clause-room g c =
     let before = take c.loop-number.number-index c.args.batch.now in
-    omega (arith, room_left c.loop-number.invariant.delivered, reported_le c.args.table.now before, length-take c.loop-number.number-index c.args.batch.now)
+    omega (arith, room_left c.loop-number.invariant.delivered, filter_le (reported c.args.table.now) before, length-take c.loop-number.number-index c.args.batch.now)
 
 pub loop-number-preserved : goal.loop-number-preserved
 loop-number-preserved g c =

@@ -12,12 +12,12 @@ returns-then-not-has-clause-done g c =
 pub returns-in_default-next_names : goal.returns-in_default-next_names
 returns-in_default-next_names g c =
     let first = sym c.take_slot.ensures.value ∙ c.in-Some.is in
-    let spent = no_names c.args.poller.now.table c.in-Some.slot (rw c.table.ensures.table at (c.in_default-next_names.ensures.none refl)) in
+    let spent = no_names c.args.poller.now c.in-Some.slot (rw c.table.ensures.table at (c.in_default-next_names.ensures.none refl)) in
     let lost = c.count_lost-in_default-next_names.ensures in
     record {
       between = between_still c.requires.between refl (rw lost);
-      counted = rw (first, lost) (Spent (refl, refl, refl) (inr spent) refl);
-      done = inr (opened_never c.take_slot.ensures.left first no_tries (inr spent) lost);
+      counted = rw (first, lost) (Spent (refl, refl, refl) spent refl);
+      done = inr (opened_never c.take_slot.ensures.left first no_tries spent lost);
       ready = refl;
       poller = rw lost;
     }

@@ -1,12 +1,12 @@
 use Rattle.std.proofs.Common.{inl, inr, refl, arith}
-use Rattle.rounds.proofs.Rounds.{accept_and_took, accept_both, accept_took, no_tries, answered_both, answered_none, between_took, ended_by, room_same}
+use Rattle.rounds.proofs.Rounds.{accept_and_took, accept_both, accept_took, no_tries, answered_both, answered_none, between_still, room_same}
 use Rattle.rounds.proofs.round.accept.Goals as goal
 
 pub loop-try-init : goal.loop-try-init
 loop-try-init g c =
     let full = c.log_if_full.ensures in
     record {
-      between = between_took c.requires.between full.took (rw (c.reset_tries.ensures, full.poller));
+      between = between_still c.requires.between full.took.seat (rw (c.reset_tries.ensures, full.poller));
       room = omega (arith, room_same full.took);
       tries = rw c.reset_tries.ensures;
       done = accept_took no_tries (rw (c.reset_tries.ensures, full.poller) assumption) full.took;
@@ -20,7 +20,7 @@ accept_next-requires g c =
     let same = room_same c.may_accept.ensures.took in
     let more = c.loop-try-test.true in
     record {
-      between = between_took c.loop-try.invariant.between c.may_accept.ensures.took refl;
+      between = between_still c.loop-try.invariant.between c.may_accept.ensures.took.seat refl;
       room = omega arith;
       may = c.may_accept.ensures.may c.if-not-may_accept.false;
     }
@@ -30,7 +30,7 @@ returns-then-not-may_accept g c =
     let before = c.loop-try.invariant in
     let took = c.may_accept.ensures.took in
     record {
-      between = between_took before.between took refl;
+      between = between_still before.between took.seat refl;
       done = accept_and_took before.done took;
       ended = inl (inr (c.may_accept.ensures.ended c.if-not-may_accept.true));
       still = rw took.seat before.still;
@@ -45,7 +45,7 @@ returns-then-not-accept_next g c =
     record {
       between = tried.between;
       done = accept_both (accept_and_took before.done took) tried.done.done;
-      ended = ended_by c.accept_next.new.poller _ (tried.ended c.if-not-accept_next.true);
+      ended = tried.ended c.if-not-accept_next.true;
       still = λ is. tried.still (rw took.seat (before.still is));
       answered = answered_both before.answered tried.answered;
     }

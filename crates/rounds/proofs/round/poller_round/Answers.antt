@@ -1,5 +1,6 @@
 use Rattle.std.proofs.Common.{refl, inl, inr, arith}
-use Rattle.rounds.proofs.{Rounds.{accept_and_took, between_still, between_took, room_same, took_none, answered, Lasts, begun_not_early, ended_still, flag_ended, kept, listens_still, unless, round_ended, round_of}, Acts.{room_left, reported_le, few_sweep}}
+use Rattle.rounds.proofs.{Rounds.{accept_and_took, between_still, room_same, took_none, answered, Lasts, begun_not_early, ended_still, flag_ended, kept, listens_still, unless, round_ended, round_of}, Acts.{filter_le, room_left, few_sweep}}
+use Rattle.rounds.specs.Acts.{reported}
 use Rattle.rounds.proofs.round.poller_round.Goals as goal
 
 pub returns-then-not-has_room : goal.returns-then-not-has_room
@@ -22,7 +23,7 @@ returns-then-not-look g c =
     let looked = c.look.ensures in
     let failed = looked.failed c.if-not-look.true in
     record {
-      between = between_took {p = c.args.poller.now} c.requires.between looked.took (rw looked.poller);
+      between = between_still {p = c.args.poller.now} c.requires.between looked.took.seat (rw looked.poller);
       early = begun_not_early _ _ (c.has_room.ensures.room c.if-not-has_room.false);
       waits = inr looked.waits;
       made = round_ended looked.poller failed.1 looked.took;
@@ -44,7 +45,7 @@ returns-then-not-look g c =
 pub keep_time-requires-clause-room : goal.keep_time-requires-clause-room
 keep_time-requires-clause-room g c =
     let room = c.has_room.ensures.room c.if-not-has_room.false in
-    omega (arith, room_same c.look.ensures.took, room_left c.deliver_batch.ensures.posts.posted, reported_le c.look.new.poller.table c.look.new.poller.batch)
+    omega (arith, room_same c.look.ensures.took, room_left c.deliver_batch.ensures.posts.posted, filter_le (reported c.look.new.poller.table) c.look.new.poller.batch)
 
 pub accept-requires-clause-room : goal.accept-requires-clause-room
 accept-requires-clause-room g c =
@@ -52,7 +53,7 @@ accept-requires-clause-room g c =
     let delivered = room_left c.deliver_batch.ensures.posts.posted in
     let swept = room_left c.keep_time.ensures.posts.posted in
     let few = few_sweep c.deliver_batch.new.poller c.keep_time.new.poller in
-    omega (arith, room_same c.look.ensures.took, reported_le c.look.new.poller.table c.look.new.poller.batch)
+    omega (arith, room_same c.look.ensures.took, filter_le (reported c.look.new.poller.table) c.look.new.poller.batch)
 
 pub returns : goal.returns
 returns g c =
@@ -67,7 +68,7 @@ returns g c =
     let swept = rw (delivered.poller, looked.poller) at timed.swept in
     let answer = answered c.unworn.result c.args.poller.now c.take_back.new.poller c.args.own.now c.take_back.new.own c.ok_or.result c.unworn.ensures c.ok_or.ensures.value in
     record {
-      between = between_took accepted.between back.took (rw (end, told));
+      between = between_still accepted.between back.took.seat (rw (end, told));
       early = begun_not_early _ _ (c.has_room.ensures.room c.if-not-has_room.false);
       waits = inr (rw last looked.waits);
       made = round_of looked.poller looked.took delivered.posts delivered.poller timed.posts timed.poller (accept_and_took accepted.done back.took)
@@ -101,10 +102,9 @@ returns g c =
 
 pub deliver_batch-requires : goal.deliver_batch-requires
 deliver_batch-requires g c =
-    let most = c.look.ensures.few in
     let room = c.has_room.ensures.room c.if-not-has_room.false in
     let same = room_same c.look.ensures.took in
     record {
-      between = between_took {p = c.args.poller.now} c.requires.between c.look.ensures.took (rw c.look.ensures.poller);
+      between = between_still {p = c.args.poller.now} c.requires.between c.look.ensures.took.seat (rw c.look.ensures.poller);
       room = omega arith;
     }

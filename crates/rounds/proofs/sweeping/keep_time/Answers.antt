@@ -1,5 +1,4 @@
-use Rattle.std.proofs.Common.{length}
-use Rattle.rounds.proofs.{Acts.{below_own, own_sweep, swept_by}, Rounds.between_posted}
+use Rattle.rounds.proofs.{Acts.{own_sweep, swept_by}, Rounds.between_posted}
 use Rattle.rounds.proofs.sweeping.keep_time.Goals as goal
 
 pub sweep-requires : goal.sweep-requires
@@ -20,7 +19,7 @@ returns g c =
       posts = record {
         made = rw swept (rw c.table.ensures.table at c.sweep.ensures.made);
         posted = rw swept (rw c.table.ensures.table at c.sweep.ensures.posted);
-        own = own_sweep c.args.poller.now.part c.args.poller.now c.set_second.new.self (below_own _ _ (length c.args.poller.now.table) (rw c.table.ensures.table at c.table.ensures.own));
+        own = own_sweep c.args.poller.now.part c.args.poller.now c.set_second.new.self (rw c.table.ensures.table at c.table.ensures.own);
         queues = assumption;
       };
       told = rw second c.moment.ensures.told;
