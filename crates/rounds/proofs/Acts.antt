@@ -1,8 +1,8 @@
 -- Acts, one after the other, and the posts of a round, in a poller's own slots alone.
-use Rattle.std.{proofs.{Common.{◌≡◌, ℕ, zero, suc, ◌+◌, ◌≤◌, Bool, true, false, cond, List, [], ◌∷◌, ◌++◌, length, length-append, refl, sym, ◌∙◌, arith, inl, inr, append_assoc, ◌≢◌, ◌⊎◌, ◌↔◌, IsTrue, slice_index, replicate, slice_set, ◌==◌, ◌||◌, if◌then◌else◌, Option, Some, None}, lemmas.{Bool.{eq-eqb, ne_eqb, false≢true, Decides.nat_tests}, List.{append-nil, map-append, map-id, length-map, length-replicate, get_or-replicate, get_or_past, get_or-set_other, Elements.{All-append, filter_map-append}, FromFn.{length-range_with_len, map-range_with_len_more}, Sums.sum_by-append}}}, specs.List.{All, cons_option, filter_map, range_with_len}}
+use Rattle.std.{proofs.{Common.{◌≡◌, ℕ, zero, suc, ◌+◌, ◌≤◌, Bool, true, false, cond, List, [], ◌∷◌, ◌++◌, length, length-append, refl, sym, ◌∙◌, arith, inl, inr, append_assoc, ◌≢◌, ◌⊎◌, ◌↔◌, IsTrue, slice_index, replicate, slice_set, ◌==◌, ◌||◌, if◌then◌else◌, Option, Some, None}, lemmas.{Grind.flat_map-append, Bool.{eq-eqb, ne_eqb, false≢true, Decides.nat_tests}, List.{append-nil, map-append, map-id, length-map, length-replicate, get_or-replicate, get_or_past, get_or-set_other, Elements.{All-append, filter_map-append}, FromFn.{length-range_with_len, map-range_with_len_more}, Sums.sum_by-append}}}, specs.List.{All, cons_option, filter_map, range_with_len}}
 use Rattle.claims.{specs.{declared.view.Account.Account, Views.{after_all, minted_by}, Seats.{SeatState, trace_at, account_at, HoldsNothing, Adds}}, proofs.Seats.after_both}
 use Rattle.ready.specs.declared.ticket.Ticket.{Ticket}
-use Rattle.rounds.specs.{Acts.{SeatAct, exchanges_at, made_by, due_of, ActsMade, IsPost, ArePosts, opening, InOrder, IsTry, not_free_of, AreTries, at_slot, reported, all_reported, ArePosted, is_due, last_in, opened_below, all_opened, sweep_of}, Pollers.{IsOwnTable, PollerState, AreGenerations}, Openings.AreIn}
+use Rattle.rounds.specs.{Acts.{SeatAct, exchanges_at, made_by, due_of, ActsMade, IsPost, ArePosts, opening, InOrder, IsTry, AreTries, at_slot, reported, all_reported, ArePosted, is_due, last_in, opened_below, all_opened, sweep_of}, Pollers.{IsOwnTable, PollerState, AreGenerations}, Openings.AreIn}
 use Rattle.relay_core.specs.Idle.{is_past}
 use Rattle.dispatch.specs.{Hands.{HandState, ticket_room}, declared.split.Part.Part, Splits.IsIn, Posts.IsWorn}
 use mathlib.Core.Logic.{dite}
@@ -13,13 +13,8 @@ use Rattle.claims.specs.declared.answers.Posted.TheVariants as answer
 pub at_slot-append : (slot : ℕ) (xs ys : List Ticket) → at_slot slot (xs ++ ys) ≡ at_slot slot xs + at_slot slot ys
 at_slot-append slot xs ys = sum_by-append (λ (t : Ticket). cond (t.slot == slot) 1 0) xs ys
 
-exchanges-append : (slot : ℕ) (xs ys : List SeatAct) → exchanges_at slot (xs ++ ys) ≡ exchanges_at slot xs ++ exchanges_at slot ys
-exchanges-append slot [] ys = refl
-exchanges-append slot (x ∷ xs) ys = rw (exchanges-append slot xs ys, append_assoc)
-
 pub due-append : (xs ys : List SeatAct) → due_of (xs ++ ys) ≡ due_of xs ++ due_of ys
-due-append [] ys = refl
-due-append (x ∷ xs) ys = rw (due-append xs ys, append_assoc)
+due-append xs ys = flat_map-append _ xs ys
 
 pub acts_none : (s : SeatState) → ActsMade [] s s
 acts_none s = record { table = refl; traces = λ slot. sym (append-nil (trace_at s slot)) }
@@ -27,7 +22,7 @@ acts_none s = record { table = refl; traces = λ slot. sym (append-nil (trace_at
 pub acts_both : (xs ys : List SeatAct) (a b c : SeatState) → ActsMade xs a b → ActsMade ys b c → ActsMade (xs ++ ys) a c
 acts_both xs ys a b c one two = record {
   table = two.table ∙ one.table;
-  traces = λ slot. rw (two.traces slot, one.traces slot, exchanges-append slot xs ys, append_assoc);
+  traces = λ slot. rw (two.traces slot, one.traces slot, flat_map-append, append_assoc);
 }
 
 -- at the slot of an act's ticket, and at the others
@@ -91,15 +86,11 @@ posts_still {s = s} {t = t} one still = record { left = one.left; each = one.eac
 posts_le : {xs : List Ticket} {acts : List SeatAct} {s : SeatState} → ArePosts xs acts s → length (due_of acts) ≤ length xs
 posts_le {acts = acts} posts = rw (← posts.in_order, length-append, length-map) (omega (arith, due_le acts))
 
-not_free-append : (xs ys : List SeatAct) → not_free_of (xs ++ ys) ≡ not_free_of xs ++ not_free_of ys
-not_free-append [] ys = refl
-not_free-append (x ∷ xs) ys = rw (not_free-append xs ys, append_assoc)
-
 pub tries_both : {xs ys : List Ticket} {h k : List ℕ} {us bs : List SeatAct} → AreTries xs h us → AreTries ys k bs → AreTries (xs ++ ys) (h ++ k) (us ++ bs)
 tries_both {us = us} {bs = bs} one two = record {
   each = All-append IsTry us bs one.each two.each;
-  made = rw (due-append us bs, one.made, two.made);
-  found = rw (not_free-append us bs, one.found, two.found);
+  made = rw (flat_map-append, one.made, two.made);
+  found = rw (flat_map-append, one.found, two.found);
 }
 
 pub tries_none : AreTries [] [] []

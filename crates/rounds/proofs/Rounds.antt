@@ -2,7 +2,7 @@
 use Rattle.std.proofs.{Common.{◌≡◌, ◌≢◌, ◌⊎◌, ℕ, ◌+◌, ◌<◌, ◌≤◌, List, [], ◌∷◌, ◌++◌, length, drop, slice_get, slice_set, min, cond, Bool, true, refl, sym, ◌∙◌, arith, inl, inr, append_assoc, length-append, Option, Some, None, ◌==◌, Result, Ok, Err, IfErr, IsErrAnd, slice_index, ap, ◌↔◌, IsTrue, IsNone, false, Contains, if◌then◌else◌}, lemmas.{Bool.false≢true, List.{append-nil, length-set, get_or-set_other, get_or_past, Sums.sum_by-append}, Grind.get_or-set_at, Option.{none-some, same_Some}}}
 use Rattle.std.specs.Option.{ok_or}
 use Rattle.claims.{specs.{declared.answers.Posted.Posted, Calls.PostChange, Seats.{SeatState, TableId, Adds, account_at}, declared.view.{Account.Account, Exchange.{Exchange, TheVariants.{NotFree as WasNotFree}}}, Views.after_all}, proofs.Seats.{account_after, adds_both, adds_none}}
-use Rattle.dispatch.{specs.{Posts.{HoldsOnly, IsWorn}, declared.{places.Berth.Berth, shared.Own.Own, split.Part.Part, front.{Unaccepted.{Unaccepted, TheVariants.{Blocked, Starved}}, Unopened.Unopened, Route.Route, Waiting.{Waiting, TheVariants.{No, Brief, Long}}}}, Hands.{HandState, ticket_room}, Acts.{Act, AreMade, Made, Register, Adopt}, Told.{cause_of, Seen, Waited}, Splits.IsIn}, proofs.Holding.{holds_still, woke_behind_post, worn_still}}
+use Rattle.dispatch.{specs.{Posts.{HoldsOnly, IsWorn}, declared.{places.Berth.Berth, shared.Own.Own, split.Part.Part, front.{Unaccepted.Unaccepted, Unopened.Unopened, Route.Route, Waiting.{Waiting, TheVariants.{No, Brief, Long}}}}, Hands.{HandState, ticket_room}, Acts.{Act, AreMade, Made, Register, Adopt}, Told.{cause_of, Seen, Waited}, Splits.IsIn}, proofs.Holding.{holds_still, woke_behind_post, worn_still}}
 use Rattle.ready.specs.declared.ticket.Ticket.{Ticket}
 use Rattle.token.specs.Names.{last_generation}
 use Rattle.rounds.{specs.{Acts.{SeatAct, opening, ActsMade, AreTries, InOrder, all_reported, ArePosted, sweep_of}, Openings.{times, with_slot, AreOpened, OnlyTook, SlotsCounted, Between, Started, Connected, AcceptDone, OneAccepted, OnlyAccepted, IsOpened, IsLost, IsSpent, AreLost, IsNext, SameQueues, Fate, next_in, Opened, NotFree, DropsFor, ActsOf, DropMade, TriedOnce, TriesMade, TriesNext, TryMade, lacks, lead_of}, Pollers.{PollerState, Counted, counted_up, HasOpenedAll}, Rounds.{AcceptEnded, AllPosted, RoundInOrder, ListenerKept, ListensNoMore, ListensToOpen, Looked, OnlyAnswered, OnlyListens, RoundRefused, WaitedAsMay, WaitsAsMay}}, proofs.Acts.{at_slot-append, acts_none, acts_one, acts_both, in_order, none_at, try_dropped, try_opened, tries_none, tries_both, holds_nothing_still, posted_none, posts_still, no_sweep}}
@@ -382,22 +382,17 @@ module _ {C S T : Type 0} {moved : Berth C T → S → Type 0} {named : Ticket �
   round_ended {q = q} looked none took = round_of {r = q} {v = q} {w = q} {t = q} looked took (none_posted (rw none)) refl (none_posted (no_sweep q q.swept refl)) refl
       (accept_none no_tries assumption) (λ is. is) refl
 
+or_more : {A B X : Type 0} → A ⊎ X → (A → B ⊎ X) → B ⊎ X
+or_more (inl a) more = more a
+or_more (inr x) more = inr x
+
 -- what answers made of the poller, one after the other
 pub answered_both : {gave : Unaccepted → Type 0} {p q r : PollerState} → OnlyAnswered gave p q → OnlyAnswered gave q r → OnlyAnswered gave p r
-answered_both {gave} {p} {q} {r} first more = record { flag = λ down. flag (more.flag down); starved = λ starved. lack (more.starved starved) } where
-  flag : (q.accepting ≡ false) ⊎ gave Blocked → (p.accepting ≡ false) ⊎ gave Blocked
-  flag (inl down) = first.flag down
-  flag (inr gave) = inr gave
-
-  lack : (q.starved ≡ true) ⊎ gave Starved → (p.starved ≡ true) ⊎ gave Starved
-  lack (inl starved) = first.starved starved
-  lack (inr gave) = inr gave
+answered_both first second = record { flag = λ down. or_more (second.flag down) first.flag; starved = λ lack. or_more (second.starved lack) first.starved }
 
 pub answered_none : {gave : Unaccepted → Type 0} {p q : PollerState} → q.accepting ≡ p.accepting → (q.starved ≡ p.starved) ⊎ (q.starved ≡ false) → OnlyAnswered gave p q
-answered_none {gave} {p} {q} flag lack = record { flag = λ down. inl (sym flag ∙ down); starved = λ starved. by lack starved } where
-  by : (q.starved ≡ p.starved) ⊎ (q.starved ≡ false) → q.starved ≡ true → (p.starved ≡ true) ⊎ gave Starved
-  by (inl same) starved = inl (sym same ∙ starved)
-  by (inr none) starved = absurd (false≢true (sym none ∙ starved))
+answered_none flag (inl same) = record { flag = λ down. inl (sym flag ∙ down); starved = λ lack. inl (sym same ∙ lack) }
+answered_none flag (inr none) = record { flag = λ down. inl (sym flag ∙ down); starved = λ lack. absurd (false≢true (sym none ∙ lack)) }
 
 -- the accept flag is down at the end
 pub flag_ended : {gave : Type 0} (p q r v t : PollerState) → Looked p q → (r.accepting ≡ false → (q.accepting ≡ false) × (Contains q.batch 0 → ⊥))

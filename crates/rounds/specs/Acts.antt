@@ -1,5 +1,5 @@
 -- What a thread's seat did, act by act, and what a round posts, also by its acts. Part of the promises.
-use Rattle.std.specs.{Prelude.{◌≡◌, ◌⊎◌, ℕ, zero, suc, ◌==◌, nat_lt, Bool, true, false, if◌then◌else◌, List, [], ◌∷◌, ◌++◌, length, map, Option, Some, None, slice_index}, List.{All, filter_map, count_by, range_with_len}}
+use Rattle.std.specs.{Prelude.{◌≡◌, ◌⊎◌, ℕ, zero, suc, ◌==◌, nat_lt, Bool, true, false, if◌then◌else◌, List, [], ◌∷◌, ◌++◌, length, map, Option, Some, None, slice_index}, List.{All, filter_map, flat_map, count_by, range_with_len}}
 use Rattle.claims.specs.{declared.view.Exchange.{Exchange, TheVariants.{Post, Take, Release, Adopted, NotFree}}, Views.minted_by, Seats.{SeatState, trace_at}}
 use Rattle.ready.specs.declared.ticket.Ticket.{Ticket}
 use Rattle.token.specs.{declared.name.Name.{Name, TheVariants.{End}}, Numbers.name_of}
@@ -17,8 +17,7 @@ tickets_of acts = map (λ (act : SeatAct). act.ticket) acts
 
 -- the exchanges of acts at this slot, in order
 abbrev pub exchanges_at : ℕ → List SeatAct → List Exchange
-exchanges_at slot [] = []
-exchanges_at slot (act ∷ acts) = (if act.ticket.slot == slot then act.exchanges else []) ++ exchanges_at slot acts
+exchanges_at slot acts = flat_map (λ (act : SeatAct). if act.ticket.slot == slot then act.exchanges else []) acts
 
 -- the ticket once, or nothing if it was made 0 times
 abbrev pub made_by : ℕ → Ticket → List Ticket
@@ -27,8 +26,7 @@ made_by (suc n) ticket = ticket ∷ []
 
 -- the tickets that acts made, in order
 abbrev pub due_of : List SeatAct → List Ticket
-due_of [] = []
-due_of (act ∷ acts) = made_by (minted_by act.exchanges) act.ticket ++ due_of acts
+due_of acts = flat_map (λ (act : SeatAct). made_by (minted_by act.exchanges) act.ticket) acts
 
 -- this seat made these acts, in order, and nothing else
 pub record ActsMade (acts : List SeatAct) (old new : SeatState) : Type 0 where
@@ -63,8 +61,7 @@ found_not_free exchanges slot = []
 
 -- the slots that acts found not to be free, in order
 abbrev pub not_free_of : List SeatAct → List ℕ
-not_free_of [] = []
-not_free_of (act ∷ acts) = found_not_free act.exchanges act.ticket.slot ++ not_free_of acts
+not_free_of acts = flat_map (λ (act : SeatAct). found_not_free act.exchanges act.ticket.slot) acts
 
 -- by these acts these connections were opened, and these slots were found not to be free
 pub record AreTries (opened : List Ticket) (not_free : List ℕ) (tries : List SeatAct) : Type 0 where
