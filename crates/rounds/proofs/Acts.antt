@@ -72,11 +72,11 @@ posts_both {us = us} {bs = bs} one none two = record {
   all = two.all;
 }
 
--- the seat is worn, and others come to nothing
+-- others come to nothing, since the seat posts no more
 posts_worn : {xs : List Ticket} (ys : List Ticket) {us : List SeatAct} {s : SeatState} → ArePosts xs us s → IsWorn s → ArePosts (xs ++ ys) us s
 posts_worn ys one is = record { left = one.left ++ ys; each = one.each; in_order = rw (← append_assoc, one.in_order); all = inr is }
 
--- a later seat, which is worn if the first is
+-- said of a later seat
 pub posts_still : {xs : List Ticket} {us : List SeatAct} {s t : SeatState} → ArePosts xs us s → (IsWorn s → IsWorn t) → ArePosts xs us t
 posts_still {s = s} {t = t} one still = record { left = one.left; each = one.each; in_order = one.in_order; all = by one.all } where
   by : (one.left ≡ []) ⊎ IsWorn s → (one.left ≡ []) ⊎ IsWorn t
@@ -123,7 +123,7 @@ pub in_order : {X S : Type 0} (step : X → S → S → Type 0) (xs ys : List X)
 in_order step [] ys a b c same more = rw same at more
 in_order step (x ∷ xs) ys a b c (between, first, rest) more = (between, first, in_order step xs ys between b c rest more)
 
--- nothing was posted, since no connection is left, or the seat is worn
+-- nothing was posted, since there was nothing to post, or the seat posts no more
 posted_nothing : {xs : List Ticket} {s : SeatState} {h : HandState} → (xs ≡ []) ⊎ IsWorn s → ArePosted xs s s h h
 posted_nothing {xs} {s} why =
     record { posts = []; are = record { left = xs; each = all_none IsPost; in_order = refl; all = why }; made = acts_none s; hand = rw append-nil; still = λ is. (refl, refl) }

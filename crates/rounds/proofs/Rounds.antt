@@ -115,21 +115,23 @@ none_opened {a = a} tries lost not_free are made next table opened unused why po
 }
 
 -- slots were taken, and nothing was opened
+took_only : {p q : PollerState} {a b : Own} → SamePoller p q → OnlyTook a b → Connected [] p q a b
+took_only {a = a} same took = none_opened [] [] [] tries_none (rw took.seat (acts_none a.seat)) refl same.table same.opened (counted_same same.lost) refl same.poller
+    took.tickets took.ready took.gave took.slots
+
 pub accept_took : {acted : List SeatAct → Type 0} {p q : PollerState} {a b : Own} → acted [] → SamePoller p q → OnlyTook a b → AcceptDone acted p q a b
-accept_took {a = a} none same took = record {
-  tries = [];
-  acts = none;
-  did = none_opened [] [] [] tries_none (rw took.seat (acts_none a.seat)) refl same.table same.opened (counted_same same.lost) refl same.poller
-      took.tickets took.ready took.gave took.slots;
-}
+accept_took none same took = record { tries = []; acts = none; did = took_only same took }
 
 -- nothing happened
 pub took_none : (a : Own) → OnlyTook a a
 took_none a = search arith
 
 -- nothing was opened, and nothing was taken
-pub accept_none : {acted : List SeatAct → Type 0} {p q : PollerState} {a : Own} → acted [] → SamePoller p q → AcceptDone acted p q a a
-accept_none {a = a} none same = accept_took none same (took_none a)
+pub accept_none : {acted : List SeatAct → Type 0} {p q : PollerState} {a : Own} → acted [] → SamePoller p q → OneAccepted acted p q a a
+accept_none {a = a} none same = record { tries = []; acts = none; did = took_only same (took_none a); room = omega arith }
+
+pub done_of : {acted : List SeatAct → Type 0} {p q : PollerState} {a b : Own} → OneAccepted acted p q a b → AcceptDone acted p q a b
+done_of once = record { tries = once.tries; acts = once.acts; did = once.did }
 
 module _ {C S T : Type 0} {moved : Berth C T → S → Type 0} {named : Ticket → S → Type 0} {made : Made S} {may_tell : C → Route → Type 0} {p : PollerState} where
   -- no try was made
@@ -142,6 +144,16 @@ module _ {C S T : Type 0} {moved : Berth C T → S → Type 0} {named : Ticket �
     tries = one.tries ++ two.tries;
     acts = record { acts = in_order _ _ _ _ _ _ one.acts.acts (rw one.did.poller at two.acts.acts) };
     did = connected_both one.did two.did;
+  }
+
+  -- one try, after a change that opens nothing
+  pub once_after : {s t : S} {q r : PollerState} {a b : Own} → OneAccepted (TriesMade moved named made may_tell q s t) q r a b → SamePoller p q
+      → OneAccepted (TriesMade moved named made may_tell p s t) p r a b
+  once_after {a = a} once same = record {
+    tries = once.tries;
+    acts = record { acts = rw same.poller at once.acts.acts };
+    did = connected_both (took_only same (took_none a)) once.did;
+    room = once.room;
   }
 
 -- slots were taken for the next try
@@ -167,12 +179,10 @@ module _ {p q : PollerState} {a : Own} {hand : HandState} {slot : ℕ} (taken : 
   -- no connection can be opened in it any more
   pub opened_never : {acted : List SeatAct → Type 0} → acted [] → IsSpent p slot → q ≡ record p { lost = counted_up p.lost 1 } → OneAccepted acted p q a (record a { hand = hand })
   opened_never none spent lost = record {
-    done = record {
-      tries = [];
-      acts = none;
-      did = rw lost (none_opened [] (slot ∷ []) [] tries_none (acts_none a.seat) refl refl refl (counted_one _ p.lost _ refl) (inl (spent, refl)) refl
-          (rw taken) refl refl (λ s. rw taken (omega (arith, times_first s a.hand.slots slot is))));
-    };
+    tries = [];
+    acts = none;
+    did = rw lost (none_opened [] (slot ∷ []) [] tries_none (acts_none a.seat) refl refl refl (counted_one _ p.lost _ refl) (inl (spent, refl)) refl
+        (rw taken) refl refl (λ s. rw taken (omega (arith, times_first s a.hand.slots slot is))));
     room = rw taken (omega arith);
   }
 
@@ -182,26 +192,22 @@ module _ {p q : PollerState} {a : Own} {hand : HandState} {slot : ℕ} (taken : 
   opened_not acts again same own =
       let try : SeatAct = record { ticket = next_in p slot; exchanges = [] } in
       record {
-        done = record {
-          tries = try ∷ [];
-          acts = acts;
-          did = none_opened (try ∷ []) [] [] (try_dropped (next_in p slot)) (acts_one try a.seat a.seat (adds_none slot a.seat))
-              (p.table, record { own = own; next = refl; entered = refl }, refl) same.table same.opened (counted_same same.lost) refl same.poller
-              (rw (again, taken)) refl refl (λ s. rw (again, taken) (omega (arith, times_first s a.hand.slots slot is, times-append s (drop 1 a.hand.slots) (slot ∷ []))));
-        };
+        tries = try ∷ [];
+        acts = acts;
+        did = none_opened (try ∷ []) [] [] (try_dropped (next_in p slot)) (acts_one try a.seat a.seat (adds_none slot a.seat))
+            (p.table, record { own = own; next = refl; entered = refl }, refl) same.table same.opened (counted_same same.lost) refl same.poller
+            (rw (again, taken)) refl refl (λ s. rw (again, taken) (omega (arith, times_first s a.hand.slots slot is, times-append s (drop 1 a.hand.slots) (slot ∷ []))));
         room = rw (again, taken) (omega arith);
       }
 
-  -- a connection was placed in it, or it is no longer used, unless the seat is worn
+  -- a connection was placed in it, or it is no longer used
   pub placed_there : {one_acts acted : List SeatAct → Type 0} {b : Own} → IsWorn a.seat ⊎ OneAccepted one_acts p q (with_slot slot (record a { hand = hand })) b
       → ((tries : List SeatAct) → one_acts tries → acted tries) → IsWorn a.seat ⊎ OneAccepted acted p q a b
   placed_there (inl is_worn) joined = inl is_worn
   placed_there (inr once) joined = inr (record {
-    done = record {
-      tries = once.done.tries;
-      acts = joined once.done.tries once.done.acts;
-      did = rw (taken, put_back a.hand.slots slot is) at once.done.did;
-    };
+    tries = once.tries;
+    acts = joined once.tries once.acts;
+    did = rw (taken, put_back a.hand.slots slot is) at once.did;
     room = rw taken at once.room;
   })
 
@@ -249,7 +255,7 @@ pub passed_up : {T E : Type 0} (r : Result T E) (e : E) (P : E → Type 0) → I
 passed_up (Ok x) e P is p = tt
 passed_up (Err y) e P is p = rw is p
 
--- a seat that is worn was so before exchanges without a post
+-- who can post no more could not before exchanges without a post
 pub worn_before : (slot : ℕ) (es : List Exchange) (a b : SeatState) → Adds slot es a b → (after_all es (account_at a slot)).posted ≡ (account_at a slot).posted → IsWorn b → IsWorn a
 worn_before slot es a b adds none =
     worn_still slot b a (record { table = sym adds.only.table; others = λ other ne. sym (adds.only.others other ne) })
@@ -271,7 +277,7 @@ started_by t noted posted.Quiet woke a first second b only took change quiet lef
       hand = rw due at hand;
     })
 
--- a connection was opened in its slot, unless the seat is worn
+-- a connection was opened in its slot, unless its note could not be posted
 pub opened_once : {acted : List SeatAct → Type 0} {t : Ticket} {p q : PollerState} {a b : Own} {middle : SeatState} {found : ℕ}
     → ((noted : ℕ) → acted (record { ticket = t; exchanges = opening found noted } ∷ [])) → IsWorn middle ⊎ Started t (record a { seat = middle }) b
     → IsNext p t → Adds t.slot (exchange.Adopted found ∷ []) a.seat middle → SameQueues (record a { seat = middle }) b
@@ -281,27 +287,25 @@ opened_once acts (inl is_worn) next adopted queues is = inl (worn_before _ _ _ _
 opened_once {t = t} {p = p} {a = a} {found = found} acts (inr started) next adopted queues is =
     let try : SeatAct = record { ticket = t; exchanges = opening found started.noted } in
     inr (rw is (record {
-      done = record {
-        tries = try ∷ [];
-        acts = acts started.noted;
-        did = record {
-          opened = t ∷ [];
-          lost = [];
-          not_free = [];
-          are = try_opened t found started.noted;
-          made = acts_one try _ _ (adds_both _ _ _ _ _ _ adopted started.seat);
-          next = (_, record { own = next.own; next = next.generation; entered = (next.generation, refl) }, refl);
-          table = (next.generation, refl);
-          counted = counted_one _ p.opened _ refl;
-          unused = counted_same refl;
-          why = refl;
-          poller = refl;
-          own = λ slot out. none_at t slot (λ same. out (rw same next.own));
-          tickets = rw started.hand;
-          ready = queues.ready;
-          gave = rw queues.free;
-          slots = λ s. rw (queues.free, started.hand) (omega (arith, times-append s (t.slot ∷ []) a.hand.slots));
-        };
+      tries = try ∷ [];
+      acts = acts started.noted;
+      did = record {
+        opened = t ∷ [];
+        lost = [];
+        not_free = [];
+        are = try_opened t found started.noted;
+        made = acts_one try _ _ (adds_both _ _ _ _ _ _ adopted started.seat);
+        next = (_, record { own = next.own; next = next.generation; entered = (next.generation, refl) }, refl);
+        table = (next.generation, refl);
+        counted = counted_one _ p.opened _ refl;
+        unused = counted_same refl;
+        why = refl;
+        poller = refl;
+        own = λ slot out. none_at t slot (λ same. out (rw same next.own));
+        tickets = rw started.hand;
+        ready = queues.ready;
+        gave = rw queues.free;
+        slots = λ s. rw (queues.free, started.hand) (omega (arith, times-append s (t.slot ∷ []) a.hand.slots));
       };
       room = rw started.hand (omega (arith, length-append a.hand.tickets (t ∷ [])));
     }))
@@ -380,7 +384,7 @@ module _ {C S T : Type 0} {moved : Berth C T → S → Type 0} {named : Ticket �
   -- nothing was reported, nothing was posted for time, and nothing was accepted
   pub round_ended : {s : S} {p q : PollerState} {a b : Own} → Looked p q → q.batch ≡ [] → OnlyTook a b → RoundInOrder moved named made may_tell p q a b s s
   round_ended {q = q} looked none took = round_of {r = q} {v = q} {w = q} {t = q} looked took (none_posted (rw none)) refl (none_posted (no_sweep q q.swept refl)) refl
-      (accept_none no_tries assumption) (λ is. is) refl
+      (done_of (accept_none no_tries assumption)) (λ is. is) refl
 
 or_more : {A B X : Type 0} → A ⊎ X → (A → B ⊎ X) → B ⊎ X
 or_more (inl a) more = more a

@@ -90,7 +90,7 @@ at_slot slot tickets = count_by (λ t. t.slot == slot) tickets
 
 -- For each of these connections, in order, one exchange posted a note at its slot; but for the last of them, if the
 -- seat is worn. If the post answered Wake, the ticket is in hand. Nothing else of the seat or of the hand changed, and
--- of a seat that was worn before nothing at all
+-- nothing at all if the seat could post no more before
 pub record ArePosted (tickets : List Ticket) (old new : SeatState) (had has : HandState) : Type 0 where
   pub posts : List SeatAct
   pub are : ArePosts tickets posts new

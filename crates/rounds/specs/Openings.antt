@@ -178,10 +178,9 @@ LeadGiven may_tell proxy lead = (route : Route) × may_tell route × (lead_of pr
 
 -- A connection as it is opened: it has made no call yet, its rings have the poller's size, its lead is one that may be
 -- given, and it counts from the round's second
-pub record IsFresh {C T : Type 0} (may_tell : Route → Type 0) (opening : Opening) (second : ℕ) (ticket : Ticket)
-    (berth : Berth C T) : Type 0 where
-  pub pair : berth.pair ≡ fresh ticket.slot ticket.generation opening.ring second berth.pair.up.lead
-  pub lead : LeadGiven may_tell opening.proxy (Some berth.pair.up.lead)
+pub record IsFresh {C T : Type 0} (tells : Route → Type 0) (opening : Opening) (second : ℕ) (t : Ticket) (berth : Berth C T) : Type 0 where
+  pub pair : berth.pair ≡ fresh t.slot t.generation opening.ring second berth.pair.up.lead
+  pub lead : LeadGiven tells opening.proxy (Some berth.pair.up.lead)
   pub since : berth.second ≡ second
 
 -- what is known of acts, of which PutIn put this connection into its place
@@ -283,7 +282,9 @@ pub record AcceptDone (acted : List SeatAct → Type 0) (old new : PollerState) 
 
 -- one try of accept(2), which leaves at most one ticket more in hand
 pub record OneAccepted (acted : List SeatAct → Type 0) (old new : PollerState) (had has : Own) : Type 0 where
-  pub done : AcceptDone acted old new had has
+  pub tries : List SeatAct
+  pub acts : acted tries
+  pub did : Connected tries old new had has
   pub room : ticket_room had.hand ≤ ticket_room has.hand + 1
 
 -- before the oldest slot in hand was taken to be opened

@@ -41,14 +41,12 @@ returns-in-NotFree g c =
         sized = rw c.count_lost.ensures c.requires.between.sized;
       };
       done = inr (record {
-        done = record {
-          tries = try ∷ [];
-          acts = record { exchanges = exchange.NotFree ∷ []; once = refl; acts = found };
-          did = rw c.count_lost.ensures (none_opened (try ∷ []) (c.args.ticket.slot ∷ []) (c.args.ticket.slot ∷ []) (try_held c.args.ticket) (acts_one try _ _ change)
-              (c.args.poller.now.table, record { own = c.requires.next.own; next = c.requires.next.generation; entered = refl }, refl) refl refl
-              (counted_one _ c.args.poller.now.lost _ refl) (inr ([], refl, refl)) refl refl refl refl
-              (λ s. omega (arith, times-append s (c.args.ticket.slot ∷ []) c.args.own.now.hand.slots)));
-        };
+        tries = try ∷ [];
+        acts = record { exchanges = exchange.NotFree ∷ []; once = refl; acts = found };
+        did = rw c.count_lost.ensures (none_opened (try ∷ []) (c.args.ticket.slot ∷ []) (c.args.ticket.slot ∷ []) (try_held c.args.ticket) (acts_one try _ _ change)
+            (c.args.poller.now.table, record { own = c.requires.next.own; next = c.requires.next.generation; entered = refl }, refl) refl refl
+            (counted_one _ c.args.poller.now.lost _ refl) (inr ([], refl, refl)) refl refl refl refl
+            (λ s. omega (arith, times-append s (c.args.ticket.slot ∷ []) c.args.own.now.hand.slots)));
         room = omega arith;
       });
       counted = inr (rw c.count_lost.ensures (refl, refl, refl), change, found);

@@ -1,5 +1,5 @@
 use Rattle.std.proofs.Common.{inl, inr, refl, arith}
-use Rattle.rounds.proofs.Rounds.{accept_and_took, accept_both, accept_took, no_tries, answered_both, answered_none, between_still, room_same}
+use Rattle.rounds.proofs.Rounds.{accept_and_took, accept_both, accept_took, done_of, no_tries, answered_both, answered_none, between_still, room_same}
 use Rattle.rounds.proofs.round.accept.Goals as goal
 
 pub loop-try-init : goal.loop-try-init
@@ -44,7 +44,7 @@ returns-then-not-accept_next g c =
     let tried = c.accept_next.ensures in
     record {
       between = tried.between;
-      done = accept_both (accept_and_took before.done took) tried.done.done;
+      done = accept_both (accept_and_took before.done took) (done_of tried.done);
       ended = tried.ended c.if-not-accept_next.true;
       still = λ is. tried.still (rw took.seat (before.still is));
       answered = answered_both before.answered tried.answered;
@@ -59,7 +59,7 @@ loop-try-preserved g c =
       between = tried.between;
       room = omega (arith, room_same took, tried.done.room, before.room);
       tries = omega (arith, tried.tries c.if-not-accept_next.false, before.tries, c.loop-try-test.true);
-      done = accept_both (accept_and_took before.done took) tried.done.done;
+      done = accept_both (accept_and_took before.done took) (done_of tried.done);
       still = λ is. tried.still (rw took.seat (before.still is));
       answered = answered_both before.answered tried.answered;
     }
