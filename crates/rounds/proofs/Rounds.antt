@@ -114,13 +114,16 @@ none_opened {a = a} tries lost not_free are made next table opened unused why po
   slots = slots;
 }
 
+pub room_same : {a b : Own} → OnlyTook a b → ticket_room b.hand ≡ ticket_room a.hand
+room_same took = rw (took.capacity, took.tickets)
+
 -- slots were taken, and nothing was opened
 took_only : {p q : PollerState} {a b : Own} → SamePoller p q → OnlyTook a b → Connected [] p q a b
 took_only {a = a} same took = none_opened [] [] [] tries_none (rw took.seat (acts_none a.seat)) refl same.table same.opened (counted_same same.lost) refl same.poller
     took.tickets took.ready took.gave took.slots
 
-pub accept_took : {acted : List SeatAct → Type 0} {p q : PollerState} {a b : Own} → acted [] → SamePoller p q → OnlyTook a b → AcceptDone acted p q a b
-accept_took none same took = record { tries = []; acts = none; did = took_only same took }
+pub accept_took : {acted : List SeatAct → Type 0} {p q : PollerState} {a b : Own} → acted [] → SamePoller p q → OnlyTook a b → OneAccepted acted p q a b
+accept_took none same took = record { tries = []; acts = none; did = took_only same took; room = omega (arith, room_same took) }
 
 -- nothing happened
 pub took_none : (a : Own) → OnlyTook a a
@@ -128,7 +131,7 @@ took_none a = search arith
 
 -- nothing was opened, and nothing was taken
 pub accept_none : {acted : List SeatAct → Type 0} {p q : PollerState} {a : Own} → acted [] → SamePoller p q → OneAccepted acted p q a a
-accept_none {a = a} none same = record { tries = []; acts = none; did = took_only same (took_none a); room = omega arith }
+accept_none {a = a} none same = accept_took none same (took_none a)
 
 pub done_of : {acted : List SeatAct → Type 0} {p q : PollerState} {a b : Own} → OneAccepted acted p q a b → AcceptDone acted p q a b
 done_of once = record { tries = once.tries; acts = once.acts; did = once.did }
@@ -139,7 +142,7 @@ module _ {C S T : Type 0} {moved : Berth C T → S → Type 0} {named : Ticket �
   no_tries = record { acts = refl }
 
   pub accept_both : {s t u : S} {q r : PollerState} {a b c : Own} → AcceptDone (TriesMade moved named made may_tell p s t) p q a b
-      → AcceptDone (TriesMade moved named made may_tell q t u) q r b c → AcceptDone (TriesMade moved named made may_tell p s u) p r a c
+      → OneAccepted (TriesMade moved named made may_tell q t u) q r b c → AcceptDone (TriesMade moved named made may_tell p s u) p r a c
   accept_both one two = record {
     tries = one.tries ++ two.tries;
     acts = record { acts = in_order _ _ _ _ _ _ one.acts.acts (rw one.did.poller at two.acts.acts) };
@@ -221,9 +224,6 @@ tried_once {S} made {opens} {placed} {finds} t a b c opened found tried = record
   by [] none = absurd none
   by (WasNotFree ∷ rest) acts = found acts
   by _ acts = opened acts
-
-pub room_same : {a b : Own} → OnlyTook a b → ticket_room b.hand ≡ ticket_room a.hand
-room_same took = rw (took.capacity, took.tickets)
 
 -- what a look at a seat says
 pub not_worn : (b : Bool) (seat : SeatState) → IsTrue b ↔ IsWorn seat → b ≡ false → IsWorn seat → ⊥

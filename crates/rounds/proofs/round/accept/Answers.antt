@@ -9,7 +9,7 @@ loop-try-init g c =
       between = between_still c.requires.between full.took.seat (rw (c.reset_tries.ensures, full.poller));
       room = omega (arith, room_same full.took);
       tries = rw c.reset_tries.ensures;
-      done = accept_took no_tries (rw (c.reset_tries.ensures, full.poller) assumption) full.took;
+      done = done_of (accept_took no_tries (rw (c.reset_tries.ensures, full.poller) assumption) full.took);
       still = rw full.took.seat (λ is. is);
       answered = answered_none (rw (c.reset_tries.ensures, full.poller)) (inl (rw (c.reset_tries.ensures, full.poller)));
     }
@@ -44,7 +44,7 @@ returns-then-not-accept_next g c =
     let tried = c.accept_next.ensures in
     record {
       between = tried.between;
-      done = accept_both (accept_and_took before.done took) (done_of tried.done);
+      done = accept_both (accept_and_took before.done took) tried.done;
       ended = tried.ended c.if-not-accept_next.true;
       still = λ is. tried.still (rw took.seat (before.still is));
       answered = answered_both before.answered tried.answered;
@@ -59,7 +59,7 @@ loop-try-preserved g c =
       between = tried.between;
       room = omega (arith, room_same took, tried.done.room, before.room);
       tries = omega (arith, tried.tries c.if-not-accept_next.false, before.tries, c.loop-try-test.true);
-      done = accept_both (accept_and_took before.done took) (done_of tried.done);
+      done = accept_both (accept_and_took before.done took) tried.done;
       still = λ is. tried.still (rw took.seat (before.still is));
       answered = answered_both before.answered tried.answered;
     }
