@@ -1,6 +1,6 @@
 -- Connections that are opened one after the other, why one is closed unopened, and a round of its parts.
-use Rattle.std.proofs.{Common.{◌≡◌, ◌≢◌, ◌⊎◌, ℕ, ◌+◌, ◌<◌, ◌≤◌, List, [], ◌∷◌, ◌++◌, length, drop, slice_get, slice_set, min, cond, Bool, true, refl, sym, ◌∙◌, arith, inl, inr, append_assoc, length-append, Option, Some, None, ◌==◌, Result, Ok, Err, IfErr, IsErrAnd, slice_index, ap, ◌↔◌, IsTrue, IsNone, false, Contains, if◌then◌else◌}, lemmas.{Bool.false≢true, List.{append-nil, length-set, get_or-set_other, get_or_past, Sums.sum_by-append}, Grind.get_or-set_at, Option.{none-some, same_Some}}}
-use Rattle.std.specs.Option.{ok_or}
+use Rattle.std.proofs.{Common.{◌≡◌, ◌≢◌, ◌⊎◌, ℕ, ◌+◌, ◌<◌, ◌≤◌, List, [], ◌∷◌, ◌++◌, length, drop, slice_get, slice_set, min, cond, Bool, true, refl, sym, ◌∙◌, arith, inl, inr, append_assoc, length-append, Option, Some, None, ◌==◌, Result, Ok, Err, IfErr, IsErrAnd, slice_index, ap, ◌↔◌, IsTrue, not, false, Contains, if◌then◌else◌}, lemmas.{Bool.false≢true, List.{append-nil, length-set, get_or-set_other, get_or_past, Sums.sum_by-append}, Grind.get_or-set_at, Option.{none-some, same_Some}}}
+use Rattle.std.specs.{Option.ok_or, Bool.then_some}
 use Rattle.claims.{specs.{declared.answers.Posted.Posted, Calls.PostChange, Seats.{SeatState, TableId, Adds, account_at}, declared.view.{Account.Account, Exchange.{Exchange, TheVariants.{NotFree as WasNotFree}}}, Views.after_all}, proofs.Seats.{account_after, adds_both, adds_none}}
 use Rattle.dispatch.{specs.{Posts.{HoldsOnly, IsWorn}, declared.{places.Berth.Berth, shared.Own.Own, split.Part.Part, front.{Unaccepted.Unaccepted, Unopened.Unopened, Route.Route, Waiting.{Waiting, TheVariants.{No, Brief, Long}}}}, Hands.{HandState, ticket_room}, Acts.{Act, AreMade, Made, Register, Adopt}, Told.{cause_of, Seen, Waited}, Splits.IsIn}, proofs.Holding.{holds_still, woke_behind_post, worn_still}}
 use Rattle.ready.specs.declared.ticket.Ticket.{Ticket}
@@ -233,11 +233,11 @@ pub unless : {A B : Type 0} → (A → ⊥) → A ⊎ B → B
 unless never (inl a) = absurd (never a)
 unless never (inr b) = b
 
-pub answered : (free : Option (Unit {0})) (old new : PollerState) (had has : Own) (answer : Result (Unit {0}) ServerFault) → IsNone free ↔ IsWorn has.seat → answer ≡ ok_or free Worn
+pub answered : (is_worn : Bool) (old new : PollerState) (had has : Own) (answer : Result (Unit {0}) ServerFault) → IsTrue is_worn ↔ IsWorn has.seat → answer ≡ ok_or (then_some (not is_worn) tt) Worn
     → ((answer ≡ Err Worn) ↔ IsWorn has.seat) × (answer ≢ Err Poll) × IfErr answer (λ fault. RoundRefused fault old new had has)
-answered None old new had has answer is same = let is_worn = is.0 refl in rw same ((λ refused. is_worn, λ refused. refl), λ failed. cc failed, inr (refl, is_worn))
-answered (Some x) old new had has answer is same =
-    rw same ((λ refused. absurd (cc refused), λ is_worn. absurd (false≢true (sym (is.1 is_worn)))), λ failed. cc failed, tt)
+answered true old new had has answer is same = let is_worn = is.0 refl in rw same ((λ refused. is_worn, λ refused. refl), λ failed. cc failed, inr (refl, is_worn))
+answered false old new had has answer is same =
+    rw same ((λ refused. absurd (cc refused), λ is_worn. absurd (false≢true (is.1 is_worn))), λ failed. cc failed, tt)
 
 -- what became of an accepted connection that was placed, with the acts that were made from there on
 pub fate_by : {slot : ℕ} {p q : PollerState} {told opened : Type 0} {dropped : Cause → Type 0} {found : Type 0} {made : List Act → Type 0} {a b : SeatState}

@@ -1,5 +1,5 @@
 //! A round of the poller.
-ghost use Rattle.std.specs.{Prelude.{◌≡◌, ◌⊎◌, ◌+◌, ◌-◌, ◌<◌, ◌≤◌, ◌↔◌, [], length, Err, IsNone, IsOk, IfErr, IsTrue, MatchResult, Contains, true, false}, IoError.error_kind, declared.io.ErrorKind.TheVariants.Interrupted};
+ghost use Rattle.std.specs.{Prelude.{◌≡◌, ◌⊎◌, ◌+◌, ◌-◌, ◌<◌, ◌≤◌, ◌↔◌, [], length, Err, IsOk, IfErr, IsTrue, MatchResult, Contains, true, false}, IoError.error_kind, declared.io.ErrorKind.TheVariants.Interrupted};
 ghost use Rattle.ready.specs.Steps.{HeldOnce};
 ghost use Rattle.rounds.specs.{Acts.{all_reported}, Episodes.{episodes_after, flag_after, starved_after}, Openings.{Between, OnlyTook, AcceptDone, OneAccepted, TriesMade}, Pollers.{HasOpenedAll, max_accepts, spare_room}, Rounds.{AcceptEnded, AllPosted, EndedEarly, IsFull, IsOver, ListensNoMore, ListensToOpen, Looked, LooksForAll, MayAccept, NoSlot, NoneToAccept, NotBegun, OnlyAnswered, OnlyListens, RoundEnded, RoundInOrder, RoundKeeps, RoundRefused, TookAll, WaitedAsMay, WaitsAsMay}};
 ghost use Rattle.dispatch.specs.{Hands.ticket_room, Posts.IsWorn, Told.{unaccepted_of, Waited}};
@@ -9,7 +9,7 @@ use crate::limits::SPARE_ROOM;
 use crate::opening::open;
 use crate::poller::Poller;
 use crate::sweeping::{is_due, keep_time};
-use claims::{ClaimSeat, Claims};
+use claims::Claims;
 use dispatch::{
     Acts, Clock, Front, Hand, LISTENER, MAX_ACCEPTS, MAX_BATCH, Moves, Own, Shared, Timing,
     Unaccepted, Waiting, unaccepted_of,
@@ -74,14 +74,8 @@ pub fn poller_round<F: Front, A: Moves<F>, C: Clock, R: Wait + Log>(
     accept(rt, alloc, acts, shared, own, poller);
     poller.log_counted(rt);
     take_back(rt, own, poller);
-    unworn(&own.seat).ok_or(ServerFault::Worn)
-}
-
-/// None if the seat has posted 2^56 times.
-fn unworn(seat: &ClaimSeat) -> Option<()>
-    ensures { IsNone result ↔ IsWorn seat.now }
-{
-    if seat.is_worn() { None } else { Some(()) }
+    let is_worn = own.seat.is_worn();
+    (!is_worn).then_some(()).ok_or(ServerFault::Worn)
 }
 
 /// Whether the hand has room for a ticket of each slot and 512 more.
