@@ -1,25 +1,20 @@
 -- Acts, one after the other, and the posts of a round, in a poller's own slots alone.
-use Rattle.std.{proofs.{Common.{add-one, ◌≡◌, ℕ, zero, suc, ◌+◌, ◌≤◌, Bool, true, false, cond, List, [], ◌∷◌, ◌++◌, length, length-append, refl, sym, ◌∙◌, arith, inl, inr, append_assoc, ◌≢◌, ◌⊎◌, ◌↔◌, IsTrue, slice_index, replicate, slice_set, ◌==◌, ◌||◌, if◌then◌else◌, Option, Some, None, nat_lt, Contains, Result, Ok, Err, IfOk, MatchResult}, lemmas.{Bool.{eq-eqb, ne_eqb, Decides.nat_tests}, List.{append-nil, map-append, length-map, length-replicate, get_or-replicate, get_or_past, get_or-set_other, Elements.{All-append}, Sums.sum_by-append}}}, specs.{List.{All, cons_option}, Result.result_unwrap_or}}
+use Rattle.std.{proofs.{Common.{◌≡◌, ℕ, zero, suc, ◌+◌, ◌≤◌, Bool, true, false, cond, List, [], ◌∷◌, ◌++◌, length, length-append, refl, sym, ◌∙◌, arith, inl, inr, append_assoc, ◌≢◌, ◌⊎◌, ◌↔◌, IsTrue, slice_index, replicate, slice_set, ◌==◌, ◌||◌, if◌then◌else◌, Option, Some, None}, lemmas.{Grind.flat_map-append, Bool.{eq-eqb, ne_eqb, false≢true, Decides.nat_tests}, List.{append-nil, map-append, map-id, length-map, length-replicate, get_or-replicate, get_or_past, get_or-set_other, Elements.{All-append, filter_map-append}, FromFn.{length-range_with_len, map-range_with_len_more}, Sums.sum_by-append}}}, specs.List.{All, cons_option, filter_map, range_with_len}}
 use Rattle.claims.{specs.{declared.view.Account.Account, Views.{after_all, minted_by}, Seats.{SeatState, trace_at, account_at, HoldsNothing, Adds}}, proofs.Seats.after_both}
 use Rattle.ready.specs.declared.ticket.Ticket.{Ticket}
-use Rattle.rounds.specs.{Acts.{SeatAct, exchanges_at, made_by, due_of, ActsMade, IsPost, ArePosts, opening, InOrder, IsTry, not_free_of, AreTries, at_slot, reported, all_reported, ArePosted, is_due, last_in, opened_in, opened_below, all_opened, sweep_of}, Pollers.{IsOwnTable, PollerState, AreGenerations}, Openings.AreIn}
+use Rattle.rounds.specs.{Acts.{SeatAct, exchanges_at, made_by, due_of, ActsMade, IsPost, ArePosts, opening, InOrder, IsTry, AreTries, at_slot, reported, all_reported, ArePosted, is_due, last_in, opened_below, all_opened, sweep_of}, Pollers.{IsOwnTable, PollerState, AreGenerations}, Openings.AreIn}
 use Rattle.relay_core.specs.Idle.{is_past}
-use Rattle.relay_log.specs.declared.faults.ServerFault.{ServerFault}
-use Rattle.dispatch.specs.{Hands.HandState, declared.split.Part.Part, Splits.IsIn, Posts.{IsWorn, OnlyWorn}}
+use Rattle.dispatch.specs.{Hands.{HandState, ticket_room}, declared.split.Part.Part, Splits.IsIn, Posts.IsWorn}
 use mathlib.Core.Logic.{dite}
 use native.Mathlib.Decide.{ℕ_discrete}
 use Rattle.claims.specs.declared.view.Exchange.TheVariants as exchange
+use Rattle.claims.specs.declared.answers.Posted.TheVariants as answer
 
 pub at_slot-append : (slot : ℕ) (xs ys : List Ticket) → at_slot slot (xs ++ ys) ≡ at_slot slot xs + at_slot slot ys
 at_slot-append slot xs ys = sum_by-append (λ (t : Ticket). cond (t.slot == slot) 1 0) xs ys
 
-exchanges-append : (slot : ℕ) (xs ys : List SeatAct) → exchanges_at slot (xs ++ ys) ≡ exchanges_at slot xs ++ exchanges_at slot ys
-exchanges-append slot [] ys = refl
-exchanges-append slot (x ∷ xs) ys = rw (exchanges-append slot xs ys, append_assoc)
-
 pub due-append : (xs ys : List SeatAct) → due_of (xs ++ ys) ≡ due_of xs ++ due_of ys
-due-append [] ys = refl
-due-append (x ∷ xs) ys = rw (due-append xs ys, append_assoc)
+due-append xs ys = flat_map-append _ xs ys
 
 pub acts_none : (s : SeatState) → ActsMade [] s s
 acts_none s = record { table = refl; traces = λ slot. sym (append-nil (trace_at s slot)) }
@@ -27,7 +22,7 @@ acts_none s = record { table = refl; traces = λ slot. sym (append-nil (trace_at
 pub acts_both : (xs ys : List SeatAct) (a b c : SeatState) → ActsMade xs a b → ActsMade ys b c → ActsMade (xs ++ ys) a c
 acts_both xs ys a b c one two = record {
   table = two.table ∙ one.table;
-  traces = λ slot. rw (two.traces slot, one.traces slot, exchanges-append slot xs ys, append_assoc);
+  traces = λ slot. rw (two.traces slot, one.traces slot, flat_map-append, append_assoc);
 }
 
 -- at the slot of an act's ticket, and at the others
@@ -77,29 +72,25 @@ posts_both {us = us} {bs = bs} one none two = record {
   all = two.all;
 }
 
--- the seat is worn, and others come to nothing
+-- others come to nothing, since the seat posts no more
 posts_worn : {xs : List Ticket} (ys : List Ticket) {us : List SeatAct} {s : SeatState} → ArePosts xs us s → IsWorn s → ArePosts (xs ++ ys) us s
-posts_worn ys one worn = record { left = one.left ++ ys; each = one.each; in_order = rw (← append_assoc, one.in_order); all = inr worn }
+posts_worn ys one is = record { left = one.left ++ ys; each = one.each; in_order = rw (← append_assoc, one.in_order); all = inr is }
 
--- the seat is worn still
+-- said of a later seat
 pub posts_still : {xs : List Ticket} {us : List SeatAct} {s t : SeatState} → ArePosts xs us s → (IsWorn s → IsWorn t) → ArePosts xs us t
 posts_still {s = s} {t = t} one still = record { left = one.left; each = one.each; in_order = one.in_order; all = by one.all } where
   by : (one.left ≡ []) ⊎ IsWorn s → (one.left ≡ []) ⊎ IsWorn t
   by (inl none) = inl none
-  by (inr worn) = inr (still worn)
+  by (inr is) = inr (still is)
 
 posts_le : {xs : List Ticket} {acts : List SeatAct} {s : SeatState} → ArePosts xs acts s → length (due_of acts) ≤ length xs
 posts_le {acts = acts} posts = rw (← posts.in_order, length-append, length-map) (omega (arith, due_le acts))
 
-not_free-append : (xs ys : List SeatAct) → not_free_of (xs ++ ys) ≡ not_free_of xs ++ not_free_of ys
-not_free-append [] ys = refl
-not_free-append (x ∷ xs) ys = rw (not_free-append xs ys, append_assoc)
-
 pub tries_both : {xs ys : List Ticket} {h k : List ℕ} {us bs : List SeatAct} → AreTries xs h us → AreTries ys k bs → AreTries (xs ++ ys) (h ++ k) (us ++ bs)
 tries_both {us = us} {bs = bs} one two = record {
   each = All-append IsTry us bs one.each two.each;
-  made = rw (due-append us bs, one.made, two.made);
-  found = rw (not_free-append us bs, one.found, two.found);
+  made = rw (flat_map-append, one.made, two.made);
+  found = rw (flat_map-append, one.found, two.found);
 }
 
 pub tries_none : AreTries [] [] []
@@ -132,104 +123,107 @@ pub in_order : {X S : Type 0} (step : X → S → S → Type 0) (xs ys : List X)
 in_order step [] ys a b c same more = rw same at more
 in_order step (x ∷ xs) ys a b c (between, first, rest) more = (between, first, in_order step xs ys between b c rest more)
 
--- nothing was posted
+-- nothing was posted, since there was nothing to post, or the seat posts no more
+posted_nothing : {xs : List Ticket} {s : SeatState} {h : HandState} → (xs ≡ []) ⊎ IsWorn s → ArePosted xs s s h h
+posted_nothing {xs} {s} why =
+    record { posts = []; are = record { left = xs; each = all_none IsPost; in_order = refl; all = why }; made = acts_none s; hand = rw append-nil; still = λ is. (refl, refl) }
+
 pub posted_none : (s : SeatState) (h : HandState) → ArePosted [] s s h h
-posted_none s h = record { posts = []; are = record { left = []; each = all_none IsPost; in_order = refl; all = inl refl }; made = acts_none s; hand = rw append-nil }
+posted_none s h = posted_nothing (inl refl)
 
--- a worn seat posted nothing
 pub posted_not : (xs : List Ticket) (s : SeatState) (h : HandState) → IsWorn s → ArePosted xs s s h h
-posted_not xs s h worn = record { posts = []; are = record { left = xs; each = all_none IsPost; in_order = refl; all = inr worn }; made = acts_none s; hand = rw append-nil }
+posted_not xs s h is = posted_nothing (inr is)
 
--- connections, and then others, for which a worn seat does nothing
-pub posted_both : {xs ys : List Ticket} {a b c : SeatState} {h k l : HandState} → ArePosted xs a b h k → ArePosted ys b c k l
-    → (IsWorn b → (c ≡ b) × (l ≡ k)) → ArePosted (xs ++ ys) a c h l
-posted_both {xs} {ys} {a} {b} {c} {h} {k} {l} one two still = by one.are.all where
+-- connections, and then others
+pub posted_both : {xs ys : List Ticket} {a b c : SeatState} {h k l : HandState} → ArePosted xs a b h k → ArePosted ys b c k l → ArePosted (xs ++ ys) a c h l
+posted_both {xs} {ys} {a} {b} {c} {h} {k} {l} one two = by one.are.all where
+  still : IsWorn a → (c ≡ a) × (l ≡ h)
+  still is = let same = one.still is in let more = two.still (rw same.0 is) in (more.0 ∙ same.0, more.1 ∙ same.1)
+
   by : (one.are.left ≡ []) ⊎ IsWorn b → ArePosted (xs ++ ys) a c h l
   by (inl none) = record {
     posts = one.posts ++ two.posts;
     are = posts_both one.are none two.are;
     made = acts_both _ _ _ _ _ one.made two.made;
     hand = rw (two.hand, one.hand, due-append one.posts two.posts, append_assoc);
+    still = still;
   }
-  by (inr worn) = rw ((still worn).0, (still worn).1) (record { posts = one.posts; are = posts_worn ys one.are worn; made = one.made; hand = one.hand })
+  by (inr is) = rw ((two.still is).0, (two.still is).1) (record { posts = one.posts; are = posts_worn ys one.are is; made = one.made; hand = one.hand; still = one.still })
 
 pub none_at : (t : Ticket) (slot : ℕ) → slot ≢ t.slot → at_slot slot (t ∷ []) ≡ 0
 none_at t slot other = rw (ne_eqb t.slot slot (λ e. other (sym e)))
 
 module _ {t : Ticket} {old new : SeatState} where
-  one_posted : (woke : Bool) {h k : HandState} → Adds t.slot (exchange.Post woke ∷ []) old new
+  one_posted : (woke : Bool) {h k : HandState} → (IsWorn old → ⊥) → Adds t.slot (exchange.Post woke ∷ []) old new
       → k ≡ record h { tickets = h.tickets ++ (made_by (minted_by (exchange.Post woke ∷ [])) t ++ []) } → ArePosted (t ∷ []) old new h k
-  one_posted woke adds hand =
+  one_posted woke never adds hand =
       let act : SeatAct = record { ticket = t; exchanges = exchange.Post woke ∷ [] } in
-      record { posts = act ∷ []; are = record { left = []; each = all_one IsPost act (woke, refl); in_order = refl; all = inl refl }; made = acts_one act old new adds; hand = hand }
+      record {
+        posts = act ∷ [];
+        are = record { left = []; each = all_one IsPost act (woke, refl); in_order = refl; all = inl refl };
+        made = acts_one act old new adds;
+        hand = hand;
+        still = λ is. absurd (never is);
+      }
 
   -- a post that did not wake
-  pub posted_quiet : {h : HandState} → Adds t.slot (exchange.Post false ∷ []) old new → ArePosted (t ∷ []) old new h h
-  posted_quiet adds = one_posted false adds (rw append-nil)
+  pub posted_quiet : {h : HandState} → (answer.Quiet ≡ answer.Worn) ↔ IsWorn old → Adds t.slot (exchange.Post false ∷ []) old new → ArePosted (t ∷ []) old new h h
+  posted_quiet unless adds = one_posted false (λ is. cc (unless.1 is)) adds (rw append-nil)
 
   -- a post that woke
-  pub posted_woke : {h k : HandState} → Adds t.slot (exchange.Post true ∷ []) old new → k ≡ record h { tickets = h.tickets ++ t ∷ [] } → ArePosted (t ∷ []) old new h k
-  posted_woke adds kept = one_posted true adds kept
+  pub posted_woke : {h k : HandState} → (answer.Wake ≡ answer.Worn) ↔ IsWorn old → Adds t.slot (exchange.Post true ∷ []) old new
+      → k ≡ record h { tickets = h.tickets ++ t ∷ [] } → ArePosted (t ∷ []) old new h k
+  posted_woke unless adds kept = one_posted true (λ is. cc (unless.1 is)) adds kept
 
--- a batch is for as many connections as it has reports, or fewer
-pub reported_le : (generations xs : List ℕ) → length (all_reported generations xs) ≤ length xs
-reported_le generations [] = omega arith
-reported_le generations (x ∷ xs) =
-    let rest = reported_le generations xs in
-    elim (reported generations x) as (λ o. length (cons_option o (all_reported generations xs)) ≤ suc (length xs)) [ Some t ↦ omega arith | None ↦ omega arith ]
+-- as many connections as there are items, or fewer
+pub filter_le : {X : Type 0} (f : X → Option Ticket) (xs : List X) → length (filter_map f xs) ≤ length xs
+filter_le f [] = omega arith
+filter_le f (x ∷ xs) =
+    let rest = filter_le f xs in elim (f x) as (λ o. length (cons_option o (filter_map f xs)) ≤ suc (length xs)) [ Some t ↦ omega arith | None ↦ omega arith ]
 
 module _ {xs : List Ticket} {old new : SeatState} {had has : HandState} (posted : ArePosted xs old new had has) where
   -- as many tickets came in as there were posts, or fewer
-  pub few_tickets : length has.tickets ≤ length had.tickets + length xs
-  few_tickets = rw (posted.hand, length-append had.tickets (due_of posted.posts)) (omega (arith, posts_le posted.are))
-
-  pub capacity_kept : has.capacity ≡ had.capacity
-  capacity_kept = rw posted.hand
+  pub room_left : ticket_room had ≤ ticket_room has + length xs
+  room_left = rw (posted.hand, length-append had.tickets (due_of posted.posts)) (omega (arith, posts_le posted.are))
 
   pub holds_nothing_still : HoldsNothing old → HoldsNothing new
   holds_nothing_still nothing = posts_hold_nothing posted.are.each posted.made nothing
 
--- a report is for a connection that the table has
+-- connections of which none is in another's slot
+filter_own : {X : Type 0} (part : Part) (f : X → Option Ticket) (xs : List X) → ((x : X) (t : Ticket) → f x ≡ Some t → (IsIn part t.slot → ⊥) → ⊥) → AreIn part (filter_map f xs)
+filter_own part f [] own slot out = refl
+filter_own part f (x ∷ xs) own slot out = by_first (filter_own part f xs own slot out) (f x) refl where
+  by_first : at_slot slot (filter_map f xs) ≡ 0 → (o : Option Ticket) → f x ≡ o → at_slot slot (cons_option o (filter_map f xs)) ≡ 0
+  by_first rest None is = rest
+  by_first rest (Some t) is = omega (arith, none_at t slot (λ same. own x t is (λ inside. out (rw same inside))), at_slot-append slot (t ∷ []) (filter_map f xs))
+
+-- a report is for a connection that the table has, and a sweep too
 reported_has : (table : List ℕ) (number : ℕ) (t : Ticket) → reported table number ≡ Some t → 1 ≤ slice_index table t.slot
 reported_has table number t is = grind arith
 
-pub own_reports : (part : Part) (table batch : List ℕ) → IsOwnTable part table → AreIn part (all_reported table batch)
-own_reports part table [] own slot out = refl
-own_reports part table (number ∷ batch) own slot out = by_end (own_reports part table batch own slot out) (reported table number) refl where
-  by_end : at_slot slot (all_reported table batch) ≡ 0 → (o : Option Ticket) → reported table number ≡ o → at_slot slot (cons_option o (all_reported table batch)) ≡ 0
-  by_end rest None is = rest
-  by_end rest (Some t) is =
-      let none = own slot out in
-      let apart : slot ≢ t.slot = λ same. (let has = rw (← same) at (reported_has table number t is) in absurd (omega arith)) in
-      omega (arith, none_at t slot apart, at_slot-append slot (t ∷ []) (all_reported table batch))
+last_has : (table : List ℕ) (slot : ℕ) (t : Ticket) → last_in table slot ≡ Some t → 1 ≤ slice_index table t.slot
+last_has table slot t is = grind arith
 
-few_in : (table : List ℕ) (slot : ℕ) → length (opened_in table slot) ≤ 1
-few_in table slot = grind arith
+-- the table has connections in its poller's own slots alone
+pub own_reports : (part : Part) (table batch : List ℕ) → IsOwnTable part table → AreIn part (all_reported table batch)
+own_reports part table batch own = filter_own part (reported table) batch (λ number t is out. omega (arith, own t.slot out, reported_has table number t is))
+
+own_below : (part : Part) (table : List ℕ) (slots : ℕ) → IsOwnTable part table → AreIn part (opened_below table slots)
+own_below part table slots own = filter_own part (last_in table) (range_with_len 0 slots) (λ slot t is out. omega (arith, own t.slot out, last_has table slot t is))
 
 -- as many as there are slots, or fewer
 pub few_below : (table : List ℕ) (slots : ℕ) → length (opened_below table slots) ≤ slots
-few_below table zero = omega arith
-few_below table (suc slots) = simp length-append (omega (arith, few_below table slots, few_in table slots))
+few_below table slots = omega (arith, filter_le (last_in table) (range_with_len 0 slots), length-range_with_len 0 slots)
 
 -- one slot more
-pub below_more : (table : List ℕ) (slot : ℕ) → opened_below table (slot + 1) ≡ opened_below table slot ++ opened_in table slot
-below_more table slot = rw add-one
-
-none_in : (table : List ℕ) (part : Part) (slot at : ℕ) → IsOwnTable part table → (IsIn part slot → ⊥) → at_slot slot (opened_in table at) ≡ 0
-none_in table part slot at own out = dite (ℕ_discrete slot at) (λ same. rw (rw same at (own slot out)))
-    (λ other.
-    elim (nat_lt 0 (slice_index table at)) as (λ (b : Bool). at_slot slot (if b then last_in table at ∷ [] else []) ≡ 0)
-    [ true ↦ none_at (last_in table at) slot other | false ↦ refl ])
-
--- a poller opened connections in its own slots alone
-pub below_own : (part : Part) (table : List ℕ) (slots : ℕ) → IsOwnTable part table → AreIn part (opened_below table slots)
-below_own part table zero own slot out = refl
-below_own part table (suc slots) own slot out =
-    omega (arith, below_own part table slots own slot out, none_in table part slot slots own out, at_slot-append slot (opened_below table slots) (opened_in table slots))
+pub below_more : (table : List ℕ) (slot : ℕ) → opened_below table (slot + 1) ≡ opened_below table slot ++ filter_map (last_in table) (slot ∷ [])
+below_more table slot =
+    let more : range_with_len 0 (slot + 1) ≡ range_with_len 0 slot ++ slot ∷ [] = simp map-id at (map-range_with_len_more (λ (x : ℕ). x) 0 slot slot (omega arith)) in
+    rw more (filter_map-append (last_in table) (range_with_len 0 slot) (slot ∷ []))
 
 -- what a round posts for time
-pub own_sweep : (part : Part) (old new : PollerState) → AreIn part (all_opened old.table) → AreIn part (sweep_of old new)
-own_sweep part old new own slot out = grind (arith, own slot out)
+pub own_sweep : (part : Part) (old new : PollerState) → IsOwnTable part old.table → AreIn part (sweep_of old new)
+own_sweep part old new own slot out = grind (arith, own_below part old.table (length old.table) own slot out)
 
 pub few_sweep : (old new : PollerState) → length (sweep_of old new) ≤ length old.table
 few_sweep old new = grind (arith, few_below old.table (length old.table))
@@ -247,17 +241,7 @@ pub swept_by : (limit : ℕ) (p r : PollerState) (due : Bool) {second : ℕ} →
 swept_by limit p r true due is = rw (is, ne_eqb p.second p.swept (past_later p.second limit p.swept (sym due)))
 swept_by limit p r false due is = rw (is, eq-eqb p.swept p.swept refl)
 
--- the listener was reported, or not
-pub flag_raised : (told flag : Bool) (batch : List ℕ) → (IsTrue told ↔ Contains batch 0) → IsTrue (flag || told) ↔ (IsTrue flag ⊎ Contains batch 0)
-flag_raised told true batch is = (λ up. inl up, λ any. refl)
-flag_raised told false batch is = (λ up. inr (is.0 up), by_either) where
-  by_either : IsTrue false ⊎ Contains batch 0 → IsTrue told
-  by_either (inl up) = absurd (cc)
-  by_either (inr has) = is.1 has
-
--- the flag after a delivery, unless the seat is worn
-pub flag_by : (r : Result Bool ServerFault) (flag : Bool) (batch : List ℕ) (seat : SeatState) → IfOk r (λ told. IsTrue told ↔ Contains batch 0)
-    → MatchResult r (λ _. IsWorn seat → ⊥) (λ fault. OnlyWorn fault seat)
-    → IsWorn seat ⊎ (IsTrue (flag || result_unwrap_or r false) ↔ (IsTrue flag ⊎ Contains batch 0))
-flag_by (Ok told) flag batch seat is unworn = inr (flag_raised told flag batch is)
-flag_by (Err fault) flag batch seat is worn = inl worn.1
+-- the flag that the listener's report raises is down
+pub flag_down : {reported : Type 0} (told flag : Bool) → IsTrue told ↔ reported → (flag || told) ≡ false → (flag ≡ false) × (reported → ⊥)
+flag_down told true is down = absurd (false≢true (sym down))
+flag_down told false is down = (refl, λ has. false≢true (sym down ∙ is.1 has))

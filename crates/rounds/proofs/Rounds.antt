@@ -1,11 +1,11 @@
 -- Connections that are opened one after the other, why one is closed unopened, and a round of its parts.
-use Rattle.std.proofs.{Common.{◌≡◌, ◌≢◌, ◌⊎◌, ℕ, ◌+◌, ◌<◌, ◌≤◌, List, [], ◌∷◌, ◌++◌, length, drop, slice_get, slice_set, min, cond, Bool, true, refl, sym, ◌∙◌, arith, inl, inr, append_assoc, length-append, Option, Some, None, ◌==◌, Result, Ok, Err, IfErr, IsErrAnd, slice_index, ap, ◌↔◌, IsTrue, IsNone, false, Contains}, lemmas.{Bool.{cases_lt, false≢true}, List.{append-nil, length-set, get_or-set_other, get_or_past, Sums.sum_by-append}, Grind.get_or-set_at, Option.{none-some, same_Some}}}
-use Rattle.std.specs.Option.{ok_or}
+use Rattle.std.proofs.{Common.{◌≡◌, ◌≢◌, ◌⊎◌, ℕ, ◌+◌, ◌<◌, ◌≤◌, List, [], ◌∷◌, ◌++◌, length, drop, slice_get, slice_set, min, cond, Bool, true, refl, sym, ◌∙◌, arith, inl, inr, append_assoc, length-append, Option, Some, None, ◌==◌, Result, Ok, Err, IfErr, IsErrAnd, slice_index, ap, ◌↔◌, IsTrue, not, false, Contains, if◌then◌else◌}, lemmas.{Bool.false≢true, List.{append-nil, length-set, get_or-set_other, get_or_past, Sums.sum_by-append}, Grind.get_or-set_at, Option.{none-some, same_Some}}}
+use Rattle.std.specs.{Option.ok_or, Bool.then_some}
 use Rattle.claims.{specs.{declared.answers.Posted.Posted, Calls.PostChange, Seats.{SeatState, TableId, Adds, account_at}, declared.view.{Account.Account, Exchange.{Exchange, TheVariants.{NotFree as WasNotFree}}}, Views.after_all}, proofs.Seats.{account_after, adds_both, adds_none}}
-use Rattle.dispatch.{specs.{Posts.{HoldsOnly, IsWorn}, declared.{shared.Own.Own, front.{Unaccepted.{Unaccepted, TheVariants.{Blocked, Starved}}, Unopened.Unopened, Route.Route, Waiting.{Waiting, TheVariants.{No, Brief, Long}}}}, Hands.{HandState, ticket_room}, Acts.{Act, AreMade, Made, Register, Adopt}, Told.{cause_of, Seen, Waited}, Splits.IsIn}, proofs.Holding.{holds_still, released_all, woke_behind_post, worn_still}}
+use Rattle.dispatch.{specs.{Posts.{HoldsOnly, IsWorn}, declared.{places.Berth.Berth, shared.Own.Own, split.Part.Part, front.{Unaccepted.Unaccepted, Unopened.Unopened, Route.Route, Waiting.{Waiting, TheVariants.{No, Brief, Long}}}}, Hands.{HandState, ticket_room}, Acts.{Act, AreMade, Made, Register, Adopt}, Told.{cause_of, Seen, Waited}, Splits.IsIn}, proofs.Holding.{holds_still, woke_behind_post, worn_still}}
 use Rattle.ready.specs.declared.ticket.Ticket.{Ticket}
 use Rattle.token.specs.Names.{last_generation}
-use Rattle.rounds.{specs.{Acts.{SeatAct, opening, ActsMade, AreTries, InOrder, PostsMade, all_reported, ArePosted, Delivered, swept_after, sweep_of}, Openings.{times, slots_in, AreIn, AreOpened, OnlyTook, Between, LetGo, Started, Connected, AcceptDone, OneAccepted, OnlyAccepted, IsOpened, IsLost, IsSpent, AreLost, IsNext, SameQueues, Fate, next_in, Opened, NotFree, DropsFor, Placed, ActsOf, DropMade, TriedOnce, TriesMade, TriesNext, TryMade, lacks, lead_of}, Pollers.{PollerState, Counted, counted_up, HasOpenedAll}, declared.opening.Opening.Opening, Rounds.{AcceptEnded, FlagIsDown, HasLeft, IsOver, RoundInOrder, RoundKeeps, ListenerKept, ListensNoMore, ListensToOpen, Looked, OnlyAnswered, OnlyListens, RoundRefused, MayNotWait, MayWait, MayWaitBriefly, WaitedAsMay}}, proofs.Acts.{at_slot-append, acts_none, acts_one, acts_both, in_order, none_at, try_dropped, try_opened, tries_none, tries_both, posted_none, posts_still, no_sweep}}
+use Rattle.rounds.{specs.{Acts.{SeatAct, opening, ActsMade, AreTries, InOrder, all_reported, ArePosted, sweep_of}, Openings.{times, with_slot, AreOpened, OnlyTook, SlotsCounted, Between, Started, Connected, AcceptDone, OneAccepted, OnlyAccepted, IsOpened, IsLost, IsSpent, AreLost, IsNext, SameQueues, Fate, next_in, Opened, NotFree, DropsFor, ActsOf, DropMade, TriedOnce, TriesMade, TriesNext, TryMade, lacks, lead_of}, Pollers.{PollerState, Counted, counted_up, HasOpenedAll}, Rounds.{AcceptEnded, AllPosted, RoundInOrder, ListenerKept, ListensNoMore, ListensToOpen, Looked, OnlyAnswered, OnlyListens, RoundRefused, WaitedAsMay, WaitsAsMay}}, proofs.Acts.{at_slot-append, acts_none, acts_one, acts_both, in_order, none_at, try_dropped, try_opened, tries_none, tries_both, holds_nothing_still, posted_none, posts_still, no_sweep}}
 use Rattle.relay_log.specs.declared.{cause.Cause.{Cause}, faults.ServerFault.{ServerFault, TheVariants.{Poll, Worn}}}
 use Rattle.claims.specs.declared.view.Exchange.TheVariants as exchange
 use Rattle.claims.specs.declared.answers.Posted.TheVariants as posted
@@ -27,12 +27,8 @@ counted_both most a b c m n first second = grind arith
 
 -- lists of slots
 
-times-append : (slot : ℕ) (xs ys : List ℕ) → times slot (xs ++ ys) ≡ times slot xs + times slot ys
+pub times-append : (slot : ℕ) (xs ys : List ℕ) → times slot (xs ++ ys) ≡ times slot xs + times slot ys
 times-append slot xs ys = sum_by-append (λ (s : ℕ). cond (s == slot) 1 0) xs ys
-
-times_first : (slot : ℕ) (xs : List ℕ) (x : ℕ) → slice_get xs 0 ≡ Some x → times slot xs ≡ times slot (x ∷ []) + times slot (drop 1 xs)
-times_first slot [] x is = absurd (none-some x is)
-times_first slot (y ∷ ys) x is = rw (← same_Some y x is) (times-append slot (y ∷ []) ys)
 
 opened-append : (xs ys : List Ticket) (a b c : List ℕ) → AreOpened a xs b → AreOpened b ys c → AreOpened a (xs ++ ys) c
 opened-append [] ys a b c same rest = rw same at rest
@@ -68,348 +64,259 @@ lost_both p h k [] ms none two = rw none two
 lost_both p h k (slot ∷ ls) ms (inl spent) two = inl (spent.0, lost_both p h k ls ms spent.1 two)
 lost_both p h k (slot ∷ ls) ms (inr found) two = inr (found.0 ++ k, rw found.1, lost_both p found.0 k ls ms found.2 two)
 
-module _ {S : Type 0} {made : Ticket → Made S} {opens : Ticket → S → S → Type 0} {s t u : S} {p q r : PollerState} {a b c : Own} where
-  -- connections, and then others
-  connected_both : {xs ys : List Ticket} {ls ms h k : List ℕ} → Connected (TriesMade made opens s t) xs ls h p q a b
-      → Connected (TriesMade made opens t u) ys ms k q r b c → Connected (TriesMade made opens s u) (xs ++ ys) (ls ++ ms) (h ++ k) p r a c
-  connected_both {xs} {ys} {ls} {ms} {h} {k} one two = record {
-    acts = record { acts = in_order (TryMade made opens) one.tries two.tries s t u one.acts.acts two.acts.acts };
-    next = in_order (TriesNext p.part) one.tries two.tries p.table q.table r.table one.next (rw one.part at two.next);
-    why = lost_both r h k ls ms (lost_still q r ys two.part two.table h ls one.why) two.why;
-    tries = one.tries ++ two.tries;
-    are = tries_both one.are two.are;
-    made = acts_both _ _ _ _ _ one.made two.made;
-    table = opened-append xs ys p.table q.table r.table one.table two.table;
-    counted = rw (length-append xs ys) (counted_both _ _ _ _ _ _ one.counted two.counted);
-    unused = rw (length-append ls ms) (counted_both _ _ _ _ _ _ one.unused two.unused);
-    batch = two.batch ∙ one.batch;
-    part = two.part ∙ one.part;
-    own = λ slot out. omega (arith, one.own slot out, two.own slot (λ is. out (rw one.part at is)), at_slot-append slot xs ys);
-    tickets = rw (two.tickets, one.tickets) (append_assoc a.hand.tickets xs ys);
-    ready = two.ready ∙ one.ready;
-    gave = two.gave ∙ one.gave;
-  }
-
-  pub accept_both : AcceptDone (TriesMade made opens s t) p q a b → AcceptDone (TriesMade made opens t u) q r b c
-      → AcceptDone (TriesMade made opens s u) p r a c
-  accept_both one two = record {
-    opened = one.opened ++ two.opened;
-    lost = one.lost ++ two.lost;
-    not_free = one.not_free ++ two.not_free;
-    connected = connected_both one.connected two.connected;
-    slots = λ slot. (
-        omega (arith, one.slots slot, two.slots slot, at_slot-append slot one.opened two.opened, times-append slot one.lost two.lost));
-  }
-
--- no try was made
-pub no_tries : {S : Type 0} {made : Ticket → Made S} {opens : Ticket → S → S → Type 0} {s : S} → TriesMade made opens s s []
-no_tries = record { acts = refl }
-
--- a try that was dropped
-abbrev pub dropped_try : Ticket → SeatAct
-dropped_try t = record { ticket = t; exchanges = [] }
+-- by these tries connections were opened, and then others
+connected_both : {us bs : List SeatAct} {p q r : PollerState} {a b c : Own} → Connected us p q a b → Connected bs q r b c → Connected (us ++ bs) p r a c
+connected_both {us} {bs} {p} {q} {r} {a} one two = record {
+  opened = one.opened ++ two.opened;
+  lost = one.lost ++ two.lost;
+  not_free = one.not_free ++ two.not_free;
+  are = tries_both one.are two.are;
+  made = acts_both _ _ _ _ _ one.made two.made;
+  next = in_order (TriesNext p.part) us bs p.table q.table r.table one.next (rw one.poller at two.next);
+  table = opened-append one.opened two.opened p.table q.table r.table one.table two.table;
+  counted = rw (length-append one.opened two.opened) (counted_both _ _ _ _ _ _ one.counted two.counted);
+  unused = rw (length-append one.lost two.lost) (counted_both _ _ _ _ _ _ one.unused two.unused);
+  why = lost_both r one.not_free two.not_free one.lost two.lost
+      (lost_still q r two.opened (ap (λ (s : PollerState). s.part) two.poller) two.table one.not_free one.lost one.why) two.why;
+  poller = rw (two.poller, one.poller);
+  own = λ slot out. omega (arith, one.own slot out, (rw one.poller at two.own) slot out, at_slot-append slot one.opened two.opened);
+  tickets = rw (two.tickets, one.tickets) (append_assoc a.hand.tickets one.opened two.opened);
+  ready = two.ready ∙ one.ready;
+  gave = two.gave ∙ one.gave;
+  slots = λ slot. omega (arith, one.slots slot, two.slots slot, at_slot-append slot one.opened two.opened, times-append slot one.lost two.lost);
+}
 
 -- what connections say of a poller is as it was, as after a change that opens nothing
 abbrev pub SamePoller : PollerState → PollerState → Type 0
-SamePoller p q = record { table : q.table ≡ p.table; opened : q.opened ≡ p.opened; lost : q.lost ≡ p.lost; batch : q.batch ≡ p.batch; part : q.part ≡ p.part }
+SamePoller p q = record { table : q.table ≡ p.table; opened : q.opened ≡ p.opened; lost : q.lost ≡ p.lost; poller : OnlyAccepted p q }
 
-pub still : (p : PollerState) → SamePoller p p
-still p = assumption
-
--- slots were taken, and nothing was opened
-pub accept_took : {acted : List SeatAct → Type 0} {p q : PollerState} {a b : Own} → acted [] → SamePoller p q → OnlyTook a b → AcceptDone acted p q a b
-accept_took {a = a} none same took = record {
+-- nothing was opened by these tries
+pub none_opened : {p q : PollerState} {a b : Own} (tries : List SeatAct) (lost not_free : List ℕ) → AreTries [] not_free tries → ActsMade tries a.seat b.seat
+    → InOrder (TriesNext p.part) tries p.table p.table → q.table ≡ p.table → q.opened ≡ p.opened → Counted p.lost (length lost) q.lost
+    → AreLost q not_free lost → OnlyAccepted p q → b.hand.tickets ≡ a.hand.tickets → b.ready ≡ a.ready → b.free.history.put ≡ a.free.history.put
+    → SlotsCounted a b [] lost → Connected tries p q a b
+none_opened {a = a} tries lost not_free are made next table opened unused why poller tickets ready gave slots = record {
   opened = [];
-  lost = [];
-  not_free = [];
-  connected = record {
-    why = refl;
-    tries = [];
-    are = tries_none;
-    acts = none;
-    made = rw took.seat (acts_none a.seat);
-    table = same.table;
-    next = same.table;
-    counted = counted_same same.opened;
-    unused = counted_same same.lost;
-    batch = same.batch;
-    part = same.part;
-    own = λ slot out. refl;
-    tickets = took.tickets ∙ sym (append-nil a.hand.tickets);
-    ready = took.ready;
-    gave = took.gave;
-  };
-  slots = took.slots;
+  lost = lost;
+  not_free = not_free;
+  are = are;
+  made = made;
+  next = rw table next;
+  table = table;
+  counted = counted_same opened;
+  unused = unused;
+  why = why;
+  poller = poller;
+  own = λ slot out. refl;
+  tickets = tickets ∙ sym (append-nil a.hand.tickets);
+  ready = ready;
+  gave = gave;
+  slots = slots;
 }
 
--- accepting leaves what connections are opened with, and the second
-pub opens_same : (p q : PollerState) → OnlyAccepted p q → (q.opening ≡ p.opening) × (q.second ≡ p.second)
-opens_same p q is = (ap (λ (s : PollerState). s.opening) is, ap (λ (s : PollerState). s.second) is)
+pub room_same : {a b : Own} → OnlyTook a b → ticket_room b.hand ≡ ticket_room a.hand
+room_same took = rw (took.capacity, took.tickets)
 
--- what connections are opened with is the same
-pub accept_with : {S : Type 0} {made : Ticket → Made S} (opens : Opening → ℕ → Ticket → S → S → Type 0) {s t : S} {u v : Opening} {m n : ℕ} {p q : PollerState} {a b : Own}
-    → (v ≡ u) × (n ≡ m) → AcceptDone (TriesMade made (opens v n) s t) p q a b → AcceptDone (TriesMade made (opens u m) s t) p q a b
-accept_with opens same done = rw (← same.0, ← same.1) done
+-- slots were taken, and nothing was opened
+took_only : {p q : PollerState} {a b : Own} → SamePoller p q → OnlyTook a b → Connected [] p q a b
+took_only {a = a} same took = none_opened [] [] [] tries_none (rw took.seat (acts_none a.seat)) refl same.table same.opened (counted_same same.lost) refl same.poller
+    took.tickets took.ready took.gave took.slots
+
+pub accept_took : {acted : List SeatAct → Type 0} {p q : PollerState} {a b : Own} → acted [] → SamePoller p q → OnlyTook a b → OneAccepted acted p q a b
+accept_took none same took = record { tries = []; acts = none; did = took_only same took; room = omega (arith, room_same took) }
 
 -- nothing happened
 pub took_none : (a : Own) → OnlyTook a a
 took_none a = search arith
 
 -- nothing was opened, and nothing was taken
-pub accept_none : {acted : List SeatAct → Type 0} {p q : PollerState} {a : Own} → acted [] → SamePoller p q → AcceptDone acted p q a a
+pub accept_none : {acted : List SeatAct → Type 0} {p q : PollerState} {a : Own} → acted [] → SamePoller p q → OneAccepted acted p q a a
 accept_none {a = a} none same = accept_took none same (took_none a)
 
--- a slot was taken for the next try
-pub accept_and_took : {S : Type 0} {made : Ticket → Made S} {opens : Ticket → S → S → Type 0} {s t : S} {p q : PollerState} {a b c : Own}
-    → AcceptDone (TriesMade made opens s t) p q a b → OnlyTook b c → AcceptDone (TriesMade made opens s t) p q a c
-accept_and_took {q = q} done took = accept_both done (accept_took no_tries (still q) took)
+pub done_of : {acted : List SeatAct → Type 0} {p q : PollerState} {a b : Own} → OneAccepted acted p q a b → AcceptDone acted p q a b
+done_of once = record { tries = once.tries; acts = once.acts; did = once.did }
+
+module _ {C S T : Type 0} {moved : Berth C T → S → Type 0} {named : Ticket → S → Type 0} {made : Made S} {may_tell : C → Route → Type 0} {p : PollerState} where
+  -- no try was made
+  pub no_tries : {s : S} → TriesMade moved named made may_tell p s s []
+  no_tries = record { acts = refl }
+
+  pub accept_both : {s t u : S} {q r : PollerState} {a b c : Own} → AcceptDone (TriesMade moved named made may_tell p s t) p q a b
+      → OneAccepted (TriesMade moved named made may_tell q t u) q r b c → AcceptDone (TriesMade moved named made may_tell p s u) p r a c
+  accept_both one two = record {
+    tries = one.tries ++ two.tries;
+    acts = record { acts = in_order _ _ _ _ _ _ one.acts.acts (rw one.did.poller at two.acts.acts) };
+    did = connected_both one.did two.did;
+  }
+
+  -- one try, after a change that opens nothing
+  pub once_after : {s t : S} {q r : PollerState} {a b : Own} → OneAccepted (TriesMade moved named made may_tell q s t) q r a b → SamePoller p q
+      → OneAccepted (TriesMade moved named made may_tell p s t) p r a b
+  once_after {a = a} once same = record {
+    tries = once.tries;
+    acts = record { acts = rw same.poller at once.acts.acts };
+    did = connected_both (took_only same (took_none a)) once.did;
+    room = once.room;
+  }
+
+-- slots were taken for the next try
+pub accept_and_took : {C S T : Type 0} {moved : Berth C T → S → Type 0} {named : Ticket → S → Type 0} {made : Made S} {may_tell : C → Route → Type 0}
+    {s t : S} {p q : PollerState} {a b c : Own} → AcceptDone (TriesMade moved named made may_tell p s t) p q a b → OnlyTook b c
+    → AcceptDone (TriesMade moved named made may_tell p s t) p q a c
+accept_and_took done took = accept_both done (accept_took no_tries (assumption) took)
 
 -- where there are some, there is a first one
 pub some_first : (xs : List ℕ) → 1 ≤ length xs → slice_get xs 0 ≡ None → ⊥
 some_first [] some is = absurd (omega arith)
 some_first (x ∷ xs) some is = none-some x (sym is)
 
-slot_left : (s slot : ℕ) (a b : Own) (hand : HandState) → hand ≡ record a.hand { slots = drop 1 a.hand.slots } → slice_get a.hand.slots 0 ≡ Some slot
-    → b.free ≡ a.free → b.hand.slots ≡ hand.slots
-    → times s (slots_in b) + times s a.hand.slots ≡ times s (slots_in a) + (times s b.hand.slots + times s (slot ∷ []))
-slot_left s slot a b hand taken is free slots = rw (free, slots, taken) (omega (arith, times_first s a.hand.slots slot is))
+put_back : (xs : List ℕ) (x : ℕ) → slice_get xs 0 ≡ Some x → x ∷ drop 1 xs ≡ xs
+put_back [] x is = absurd (none-some x is)
+put_back (y ∷ ys) x is = rw (same_Some y x is)
 
--- one slot is no longer used
-pub lost_one : {acted : List SeatAct → Type 0} {p q : PollerState} {a b : Own} {slot : ℕ} (not_free : List ℕ) (tries : List SeatAct) → acted tries
-    → q ≡ record p { lost = counted_up p.lost 1 } → AreLost p not_free (slot ∷ []) → InOrder (TriesNext p.part) tries p.table p.table
-    → AreTries [] not_free tries → ActsMade tries a.seat b.seat → b.hand.tickets ≡ a.hand.tickets → b.ready ≡ a.ready → b.free ≡ a.free
-    → Connected acted [] (slot ∷ []) not_free p q a b
-lost_one {p = p} {a = a} not_free tries acts lost why next are made tickets ready free = rw lost (record {
-  next = next;
-  why = why;
-  tries = tries;
-  are = are;
-  made = made;
-  acts = acts;
-  table = refl;
-  counted = counted_same refl;
-  unused = counted_one _ p.lost _ refl;
-  batch = refl;
-  part = refl;
-  own = λ slot out. refl;
-  tickets = rw tickets (sym (append-nil a.hand.tickets));
-  ready = ready;
-  gave = rw free;
-})
+times_first : (s : ℕ) (xs : List ℕ) (x : ℕ) → slice_get xs 0 ≡ Some x → times s xs ≡ times s (x ∷ []) + times s (drop 1 xs)
+times_first s xs x is = sym (ap (times s) (put_back xs x is)) ∙ times-append s (x ∷ []) (drop 1 xs)
 
 -- what became of a slot that was taken in hand
-module _ {p q : PollerState} {a : Own} {hand : HandState} (taken : hand ≡ record a.hand { slots = drop 1 a.hand.slots }) where
-  -- that it was taken changes nothing that a connection says
-  from_hand : {one_acts acted : List SeatAct → Type 0} {ts : List Ticket} {ls h : List ℕ} {b : Own} → ((tries : List SeatAct) → one_acts tries → acted tries)
-      → Connected one_acts ts ls h p q (record a { hand = hand }) b → Connected acted ts ls h p q a b
-  from_hand joined one = record {
-    acts = joined one.tries one.acts;
-    why = one.why;
-    tries = one.tries;
-    are = one.are;
-    made = one.made;
-    next = one.next;
-    table = one.table;
-    counted = one.counted;
-    unused = one.unused;
-    batch = one.batch;
-    part = one.part;
-    own = one.own;
-    tickets = rw taken at one.tickets;
-    ready = one.ready;
-    gave = one.gave;
-  }
-
+module _ {p q : PollerState} {a : Own} {hand : HandState} {slot : ℕ} (taken : hand ≡ record a.hand { slots = drop 1 a.hand.slots }) (is : slice_get a.hand.slots 0 ≡ Some slot) where
   -- no connection can be opened in it any more
-  pub opened_never : {acted : List SeatAct → Type 0} {slot : ℕ} → acted [] → slice_get a.hand.slots 0 ≡ Some slot → IsSpent p slot
-      → q ≡ record p { lost = counted_up p.lost 1 } → AcceptDone acted p q a (record a { hand = hand })
-  opened_never {slot = slot} none is spent lost = record {
-    opened = [];
-    lost = slot ∷ [];
-    not_free = [];
-    connected = lost_one [] [] none lost (inl (spent, refl)) refl tries_none (acts_none a.seat) (rw taken) refl refl;
-    slots = λ s. omega (arith, slot_left s slot a (record a { hand = hand }) hand taken is refl refl);
+  pub opened_never : {acted : List SeatAct → Type 0} → acted [] → IsSpent p slot → q ≡ record p { lost = counted_up p.lost 1 } → OneAccepted acted p q a (record a { hand = hand })
+  opened_never none spent lost = record {
+    tries = [];
+    acts = none;
+    did = rw lost (none_opened [] (slot ∷ []) [] tries_none (acts_none a.seat) refl refl refl (counted_one _ p.lost _ refl) (inl (spent, refl)) refl
+        (rw taken) refl refl (λ s. rw taken (omega (arith, times_first s a.hand.slots slot is))));
+    room = rw taken (omega arith);
   }
 
   -- its opening failed, and it is in hand again
-  pub opened_not : {acted : List SeatAct → Type 0} {t : Ticket} {kept : HandState} → acted (dropped_try t ∷ []) → slice_get a.hand.slots 0 ≡ Some t.slot
-      → kept ≡ record hand { slots = hand.slots ++ t.slot ∷ [] } → SamePoller p q → IsIn p.part t.slot → t.generation ≡ slice_index p.table t.slot + 1
-      → AcceptDone acted p q a (record a { hand = kept })
-  opened_not {t = t} acts is again same own next = record {
-    opened = [];
-    lost = [];
-    not_free = [];
-    connected = record {
-      why = refl;
-      tries = dropped_try t ∷ [];
-      are = try_dropped t;
-      acts = acts;
-      next = (p.table, record { own = own; next = next; entered = refl }, same.table);
-      made = acts_one (dropped_try t) a.seat a.seat (adds_none t.slot a.seat);
-      table = same.table;
-      counted = counted_same same.opened;
-      unused = counted_same same.lost;
-      batch = same.batch;
-      part = same.part;
-      own = λ slot out. refl;
-      tickets = rw (again, taken) (sym (append-nil a.hand.tickets));
-      ready = refl;
-      gave = refl;
-    };
-    slots = λ s. rw (again, taken)
-        (omega (arith, times_first s a.hand.slots t.slot is, times-append s (drop 1 a.hand.slots) (t.slot ∷ [])));
-  }
+  pub opened_not : {acted : List SeatAct → Type 0} {kept : HandState} → acted (record { ticket = next_in p slot; exchanges = [] } ∷ []) → kept ≡ record hand { slots = hand.slots ++ slot ∷ [] }
+      → SamePoller p q → IsIn p.part slot → OneAccepted acted p q a (record a { hand = kept })
+  opened_not acts again same own =
+      let try : SeatAct = record { ticket = next_in p slot; exchanges = [] } in
+      record {
+        tries = try ∷ [];
+        acts = acts;
+        did = none_opened (try ∷ []) [] [] (try_dropped (next_in p slot)) (acts_one try a.seat a.seat (adds_none slot a.seat))
+            (p.table, record { own = own; next = refl; entered = refl }, refl) same.table same.opened (counted_same same.lost) refl same.poller
+            (rw (again, taken)) refl refl (λ s. rw (again, taken) (omega (arith, times_first s a.hand.slots slot is, times-append s (drop 1 a.hand.slots) (slot ∷ []))));
+        room = rw (again, taken) (omega arith);
+      }
 
   -- a connection was placed in it, or it is no longer used
-  pub opened_there : {one_acts acted : List SeatAct → Type 0} {b : Own} {t : Ticket} → ((tries : List SeatAct) → one_acts tries → acted tries) → slice_get a.hand.slots 0 ≡ Some t.slot
-      → Connected one_acts (t ∷ []) [] [] p q (record a { hand = hand }) b ⊎ Connected one_acts [] (t.slot ∷ []) (t.slot ∷ []) p q (record a { hand = hand }) b
-      → b.free ≡ a.free → b.hand.slots ≡ hand.slots → AcceptDone acted p q a b
-  opened_there {b = b} {t = t} joined is (inl one) free slots = record {
-    opened = t ∷ [];
-    lost = [];
-    not_free = [];
-    connected = from_hand joined one;
-    slots = λ s. omega (arith, slot_left s t.slot a b hand taken is free slots);
-  }
-  opened_there {b = b} {t = t} joined is (inr none) free slots = record {
-    opened = [];
-    lost = t.slot ∷ [];
-    not_free = t.slot ∷ [];
-    connected = from_hand joined none;
-    slots = λ s. omega (arith, slot_left s t.slot a b hand taken is free slots);
-  }
-
-  pub placed_there : {s : PollerState} {told : Ticket → Type 0} {made : List Act → Type 0} {one_acts acted : List SeatAct → Type 0} {b : Own} {t : Ticket}
-      → ((tries : List SeatAct) → one_acts tries → acted tries) → slice_get a.hand.slots 0 ≡ Some t.slot → s ≡ p
-      → Placed told made one_acts t s q (record a { hand = hand }) b → IsWorn a.seat ⊎ OneAccepted acted p q a b
-  placed_there {s = s} {one_acts = one_acts} {acted = acted} {b = b} {t = t} joined is same placed = by placed.done where
-    there : Type 0
-    there = Connected one_acts (t ∷ []) [] [] s q (record a { hand = hand }) b ⊎ Connected one_acts [] (t.slot ∷ []) (t.slot ∷ []) s q (record a { hand = hand }) b
-
-    by : IsWorn a.seat ⊎ (there × (ticket_room hand ≤ ticket_room b.hand + 1)) → IsWorn a.seat ⊎ OneAccepted acted p q a b
-    by (inl worn) = inl worn
-    by (inr once) = inr (record { done = opened_there joined is (rw same at once.0) placed.free placed.slots; room = rw taken at once.1 })
+  pub placed_there : {one_acts acted : List SeatAct → Type 0} {b : Own} → IsWorn a.seat ⊎ OneAccepted one_acts p q (with_slot slot (record a { hand = hand })) b
+      → ((tries : List SeatAct) → one_acts tries → acted tries) → IsWorn a.seat ⊎ OneAccepted acted p q a b
+  placed_there (inl is_worn) joined = inl is_worn
+  placed_there (inr once) joined = inr (record {
+    tries = once.tries;
+    acts = joined once.tries once.acts;
+    did = rw (taken, put_back a.hand.slots slot is) at once.did;
+    room = rw taken at once.room;
+  })
 
 -- the acts of the one try for a connection, with those before its slot was adopted
 pub tried_once : {S : Type 0} (made : Ticket → Made S) {opens placed finds : Ticket → S → S → Type 0} (t : Ticket) (a b c : S)
     → (placed t b c → opens t a c) → (finds t b c → AreMade (made t) t.slot (Register ∷ Adopt ∷ []) a c)
-    → (tries : List SeatAct) → TriedOnce placed finds t b c tries → TriesMade made opens a c tries
-tried_once {S} made {opens} {placed} {finds} t a b c opened found tries tried = rw tried.once (record { acts = (c, record { acts = by tried.exchanges tried.acts }, refl) }) where
+    → {tries : List SeatAct} (tried : TriedOnce placed finds t b c tries) → TryMade made opens (record { ticket = t; exchanges = tried.exchanges }) a c
+tried_once {S} made {opens} {placed} {finds} t a b c opened found tried = record { acts = by tried.exchanges tried.acts } where
   by : (es : List Exchange) → ActsOf placed finds (λ t from to. ⊥) t es b c
       → ActsOf opens (λ t. AreMade (made t) t.slot (Register ∷ Adopt ∷ [])) (DropMade made) t es a c
   by [] none = absurd none
   by (WasNotFree ∷ rest) acts = found acts
   by _ acts = opened acts
 
-pub room_same : {a b : Own} → OnlyTook a b → ticket_room b.hand ≡ ticket_room a.hand
-room_same took = rw (took.capacity, took.tickets)
-
 -- what a look at a seat says
 pub not_worn : (b : Bool) (seat : SeatState) → IsTrue b ↔ IsWorn seat → b ≡ false → IsWorn seat → ⊥
-not_worn b seat is unset worn = false≢true (sym unset ∙ is.1 worn)
+not_worn b seat is unset is_worn = false≢true (sym unset ∙ is.1 is_worn)
 
 pub unless : {A B : Type 0} → (A → ⊥) → A ⊎ B → B
 unless never (inl a) = absurd (never a)
 unless never (inr b) = b
 
-pub answered : (free : Option (Unit {0})) (old new : PollerState) (had has : Own) (answer : Result (Unit {0}) ServerFault) → IsNone free ↔ IsWorn has.seat → answer ≡ ok_or free Worn
+pub answered : (is_worn : Bool) (old new : PollerState) (had has : Own) (answer : Result (Unit {0}) ServerFault) → IsTrue is_worn ↔ IsWorn has.seat → answer ≡ ok_or (then_some (not is_worn) tt) Worn
     → ((answer ≡ Err Worn) ↔ IsWorn has.seat) × (answer ≢ Err Poll) × IfErr answer (λ fault. RoundRefused fault old new had has)
-answered None old new had has answer is same = let worn = is.0 refl in rw same ((λ refused. worn, λ refused. refl), λ failed. cc failed, inr (refl, worn))
-answered (Some x) old new had has answer is same =
-    rw same ((λ refused. absurd (cc refused), λ worn. absurd (false≢true (sym (is.1 worn)))), λ failed. cc failed, tt)
-
--- a worn seat is the same still: after a first part, after slots were taken, and after a second part
-pub worn_on : {a b c d : SeatState} → (IsWorn a → b ≡ a) → c ≡ b → (IsWorn c → d ≡ c) → IsWorn a → d ≡ a
-worn_on first took second worn = let same = took ∙ first worn in second (rw same worn) ∙ same
-
--- the next try is not worth making
-pub ended_by : (p : PollerState) (own : Own) → (p.starved ≡ true) ⊎ (HasLeft p ⊎ IsWorn own.seat) → AcceptEnded p own
-ended_by p own why = grind arith
+answered true old new had has answer is same = let is_worn = is.0 refl in rw same ((λ refused. is_worn, λ refused. refl), λ failed. cc failed, inr (refl, is_worn))
+answered false old new had has answer is same =
+    rw same ((λ refused. absurd (cc refused), λ is_worn. absurd (false≢true (is.1 is_worn))), λ failed. cc failed, tt)
 
 -- what became of an accepted connection that was placed, with the acts that were made from there on
-fate_by : {slot : ℕ} {p q : PollerState} {told opened : Type 0} {dropped : Cause → Type 0} {found : Type 0} {made : List Act → Type 0} {a b : SeatState} → (told → opened)
-    → (found → made (Register ∷ Adopt ∷ []))
-    → (IsOpened p q × told) ⊎ (IsLost p q × Adds slot (exchange.NotFree ∷ []) a b × found) → Fate slot opened dropped made p q a b
-fate_by opens joined (inl done) = Opened done.0 (opens done.1)
-fate_by opens joined (inr lost) = NotFree lost.0 lost.1 (joined lost.2)
-
-pub placed_fate : {slot : ℕ} {p s q : PollerState} {told : Ticket → Type 0} {opened : Type 0} {dropped : Cause → Type 0} {after made : List Act → Type 0}
-    {acted : List SeatAct → Type 0} {a b : Own} {t : Ticket} → s ≡ p
-    → t ≡ next_in p slot → (told (next_in p slot) → opened) → (after (Adopt ∷ []) → made (Register ∷ Adopt ∷ [])) → Placed told after acted t s q a b
-    → Fate slot opened dropped made p q a.seat b.seat
-placed_fate same next opens joined placed = fate_by opens joined (rw (same, next) at placed.counted)
+pub fate_by : {slot : ℕ} {p q : PollerState} {told opened : Type 0} {dropped : Cause → Type 0} {found : Type 0} {made : List Act → Type 0} {a b : SeatState}
+    → (IsOpened p q × told) ⊎ (IsLost p q × Adds slot (exchange.NotFree ∷ []) a b × found) → (told → opened) → (found → made (Register ∷ Adopt ∷ []))
+    → Fate slot opened dropped made p q a b
+fate_by (inl done) opens joined = Opened done.0 (opens done.1)
+fate_by (inr lost) opens joined = NotFree lost.0 lost.1 (joined lost.2)
 
 -- a slot that has no next names
-pub no_names : (table : List ℕ) (slot : ℕ) → (slot ≤ 32767 → slot < length table → slice_index table slot ≡ last_generation)
-    → (length table ≤ slot) ⊎ ((32768 ≤ slot) ⊎ (last_generation ≤ slice_index table slot))
-no_names table slot last = grind arith
+pub no_names : (p : PollerState) (slot : ℕ) → (slot ≤ 32767 → slot < length p.table → slice_index p.table slot ≡ last_generation) → IsSpent p slot
+no_names p slot last = inr (grind arith)
 
 -- a call refuses what a call of its own refused, and no more is said where it does
 pub passed_up : {T E : Type 0} (r : Result T E) (e : E) (P : E → Type 0) → IsErrAnd r (λ y. y ≡ e) → P e → IfErr r P
 passed_up (Ok x) e P is p = tt
 passed_up (Err y) e P is p = rw is p
 
--- a seat that is worn was so before exchanges without a post
+-- who can post no more could not before exchanges without a post
 pub worn_before : (slot : ℕ) (es : List Exchange) (a b : SeatState) → Adds slot es a b → (after_all es (account_at a slot)).posted ≡ (account_at a slot).posted → IsWorn b → IsWorn a
-worn_before slot es a b adds none worn =
+worn_before slot es a b adds none =
     worn_still slot b a (record { table = sym adds.only.table; others = λ other ne. sym (adds.only.others other ne) })
-    (sym none ∙ sym (ap (λ (x : Account). x.posted) (account_after slot es a b adds))) worn
+    (sym none ∙ sym (ap (λ (x : Account). x.posted) (account_after slot es a b adds)))
 
--- the note of an opening was posted by the slot's holder, who then let it go
-pub started_by : (t : Ticket) (noted : ℕ) (r : Posted) (a : Own) (first second : SeatState) (b : Own) → HoldsOnly t.slot a.seat
-    → Adds t.slot (exchange.Take noted ∷ []) a.seat first
-    → PostChange t.slot first r second → LetGo t (record a { seat = second }) b → IsWorn a.seat ⊎ Started t a b
-started_by t noted posted.Wake a first second b only took change left =
+-- The note of an opening was posted by the slot's holder, who then let it go. `woke`: its release answered Wake
+pub started_by : (t : Ticket) (noted : ℕ) (r : Posted) (woke : Bool) (a : Own) (first second : SeatState) (b : Own) → HoldsOnly t.slot a.seat
+    → Adds t.slot (exchange.Take noted ∷ []) a.seat first → PostChange t.slot first r second
+    → (woke ≡ false → (account_at second t.slot).known ≡ 0) → Adds t.slot (exchange.Release woke ∷ []) second b.seat
+    → b.hand ≡ record a.hand { tickets = a.hand.tickets ++ (if woke then t ∷ [] else []) } → IsWorn a.seat ⊎ Started t a b
+started_by t noted posted.Wake woke a first second b only took change quiet left hand =
     absurd (false≢true (sym change.1 ∙ (holds_still _ _ _ _ took only refl).here))
-started_by t noted posted.Worn a first second b only took change left = inl (worn_before _ _ _ _ took refl change.1)
-started_by t noted posted.Quiet a first second b only took change left =
-    let holder = holds_still _ _ _ _ took only refl in
-    let due = woke_behind_post t.slot first second left.woke change holder.here left.quiet in
+started_by t noted posted.Worn woke a first second b only took change quiet left hand = inl (worn_before _ _ _ _ took refl change.1)
+started_by t noted posted.Quiet woke a first second b only took change quiet left hand =
+    let due = woke_behind_post t.slot first second woke change (holds_still _ _ _ _ took only refl).here quiet in
     inr (record {
       noted = noted;
-      seat = adds_both _ _ _ _ _ _ took (adds_both _ _ (exchange.Release true ∷ []) _ _ _ change (rw due at left.seat));
-      hand = rw due at left.hand;
+      seat = adds_both _ _ _ _ _ _ took (adds_both _ _ (exchange.Release true ∷ []) _ _ _ change (rw due at left));
+      hand = rw due at hand;
     })
 
--- a connection was opened in its slot, unless the seat is worn
-pub opened_once : {acted : List SeatAct → Type 0} {t : Ticket} {p q : PollerState} {a b : Own} {middle : SeatState} {found : ℕ} {X : Type 0}
+-- a connection was opened in its slot, unless its note could not be posted
+pub opened_once : {acted : List SeatAct → Type 0} {t : Ticket} {p q : PollerState} {a b : Own} {middle : SeatState} {found : ℕ}
     → ((noted : ℕ) → acted (record { ticket = t; exchanges = opening found noted } ∷ [])) → IsWorn middle ⊎ Started t (record a { seat = middle }) b
     → IsNext p t → Adds t.slot (exchange.Adopted found ∷ []) a.seat middle → SameQueues (record a { seat = middle }) b
     → q ≡ record p { table = slice_set p.table t.slot t.generation; opened = counted_up p.opened 1; episodes = q.episodes }
-    → IsWorn a.seat ⊎ ((Connected acted (t ∷ []) [] [] p q a b ⊎ X) × (ticket_room a.hand ≤ ticket_room b.hand + 1))
-opened_once acts (inl worn) next adopted queues is = inl (worn_before _ _ _ _ adopted refl worn)
+    → IsWorn a.seat ⊎ OneAccepted acted p q (with_slot t.slot a) b
+opened_once acts (inl is_worn) next adopted queues is = inl (worn_before _ _ _ _ adopted refl is_worn)
 opened_once {t = t} {p = p} {a = a} {found = found} acts (inr started) next adopted queues is =
     let try : SeatAct = record { ticket = t; exchanges = opening found started.noted } in
-    inr (
-      inl (rw is (record {
-        why = refl;
-        tries = try ∷ [];
+    inr (rw is (record {
+      tries = try ∷ [];
+      acts = acts started.noted;
+      did = record {
+        opened = t ∷ [];
+        lost = [];
+        not_free = [];
         are = try_opened t found started.noted;
-        acts = acts started.noted;
         made = acts_one try _ _ (adds_both _ _ _ _ _ _ adopted started.seat);
         next = (_, record { own = next.own; next = next.generation; entered = (next.generation, refl) }, refl);
         table = (next.generation, refl);
         counted = counted_one _ p.opened _ refl;
         unused = counted_same refl;
-        batch = refl;
-        part = refl;
+        why = refl;
+        poller = refl;
         own = λ slot out. none_at t slot (λ same. out (rw same next.own));
         tickets = rw started.hand;
         ready = queues.ready;
         gave = rw queues.free;
-      })),
-      rw started.hand (omega (arith, length-append a.hand.tickets (t ∷ []))),
-    )
+        slots = λ s. rw (queues.free, started.hand) (omega (arith, times-append s (t.slot ∷ []) a.hand.slots));
+      };
+      room = rw started.hand (omega (arith, length-append a.hand.tickets (t ∷ [])));
+    }))
 
--- for who lets a slot go
-pub ruleset holding = (released_all)
-
--- what holds between two steps still holds after one that the seat did not see, or that took slots
+-- what holds between two steps still holds after one that the seat did not see, or that posted
 pub between_still : {claims : TableId} {a b : Own} {p q : PollerState} → Between claims a p → b.seat ≡ a.seat → q.table ≡ p.table → Between claims b q
 between_still between seat table = record { same = rw seat between.same; idle = rw seat between.idle; sized = rw table between.sized }
 
-pub between_took : {claims : TableId} {a b : Own} {p q : PollerState} → Between claims a p → OnlyTook a b → q.table ≡ p.table → Between claims b q
-between_took between took table = between_still between took.seat table
+pub between_posted : {claims : TableId} {a b : Own} {p q : PollerState} {xs : List Ticket} → Between claims a p → ArePosted xs a.seat b.seat a.hand b.hand → q.table ≡ p.table
+    → Between claims b q
+between_posted between posted table = record { same = posted.made.table ∙ between.same; idle = holds_nothing_still posted between.idle; sized = rw table between.sized }
 
 -- why a connection is closed unopened: by what the front answered, by what the lead lacked, or for want of memory
 module _ (may_refuse : Unopened → Type 0) (may_tell : Route → Type 0) (proxy : Bool) where
@@ -426,155 +333,109 @@ module _ (may_refuse : Unopened → Type 0) (may_tell : Route → Type 0) (proxy
   pub memory_drops : (route : Route) (lead : List ℕ) (c : Cause) → may_tell route → lead_of proxy route ≡ Some lead → c ≡ cause.Memory → DropsFor may_refuse may_tell proxy c
   memory_drops route lead c told same is = rw is (lead, (route, told, same))
 
+-- nothing was posted
+none_posted : {S : Type 0} {made : Made S} {part : Part} {tickets : List Ticket} {a : Own} {s : S} → tickets ≡ [] → AllPosted made part tickets a a s s
+none_posted {a = a} none = rw none (record { made = refl; posted = posted_none a.seat a.hand; own = λ slot out. refl; queues = assumption })
+
 -- A round: the reports were delivered, a sweep was made or none, and connections were opened
+module _ {C S T : Type 0} {moved : Berth C T → S → Type 0} {named : Ticket → S → Type 0} {made : Made S} {may_tell : C → Route → Type 0} where
+  pub round_of : {from delivered_at timed_at to : S} {p q r v w t : PollerState} {a b c d e : Own} → Looked p q → OnlyTook a b
+      → AllPosted made q.part (all_reported q.table q.batch) b c from delivered_at → r ≡ record q { accepting = r.accepting }
+      → AllPosted made r.part (sweep_of r v) c d delivered_at timed_at → v ≡ record r { second = v.second; swept = v.swept }
+      → AcceptDone (TriesMade moved named made may_tell v timed_at to) v w d e → (IsWorn d.seat → IsWorn e.seat)
+      → t ≡ record w { seen = t.seen; over = t.over; episodes = t.episodes } → RoundInOrder moved named made may_tell p t a e from to
+  round_of {delivered_at = delivered_at} {timed_at = timed_at} {c = c} {e = e} looked took reports flag sweeps sweep accepted still_then end =
+      let done = accepted.did in
+      let still_all : IsWorn c.seat → IsWorn e.seat = λ is. still_then (rw (sweeps.posted.still is).0 is) in
+      rw end (record {
+        delivered = delivered_at;
+        timed = timed_at;
+        reports = rw (done.poller, sweep, flag) (rw looked at reports.made);
+        sweep = rw done.poller (rw (flag, looked) at sweeps.made);
+        tries = record { acts = rw done.poller accepted.acts.acts };
+        round = record {
+          reports = reports.posted.posts;
+          sweep = sweeps.posted.posts;
+          tries = accepted.tries;
+          opened = done.opened;
+          lost = done.lost;
+          not_free = done.not_free;
+          why = done.why;
+          reported = rw (done.poller, sweep, flag) (rw looked at (posts_still {t = e.seat} reports.posted.are still_all));
+          swept = rw done.poller (rw (flag, looked) at (posts_still {t = e.seat} sweeps.posted.are still_then));
+          tried = done.are;
+          made = rw (← took.seat) (acts_both _ _ _ _ _ reports.posted.made (acts_both _ _ _ _ _ sweeps.posted.made done.made));
+          part = rw (done.poller, sweep, flag, looked);
+          own_reports = rw (done.poller, sweep, flag) (rw looked at reports.own);
+          own_sweep = rw done.poller (rw (flag, looked) at sweeps.own);
+          own_openings = rw (sweep, flag, looked) at done.own;
+          tickets = rw (done.ready, sweeps.queues.ready, reports.queues.ready, done.tickets, sweeps.posted.hand, reports.posted.hand, took.ready, took.tickets)
+              (simp append_assoc);
+          next = rw (sweep, flag, looked) at done.next;
+          table = rw (sweep, flag, looked) at done.table;
+          counted = rw (sweep, flag, looked) at done.counted;
+          unused = rw (sweep, flag, looked) at done.unused;
+          gave = rw (done.gave, sweeps.queues.free, reports.queues.free) took.gave;
+          slots = λ slot. (
+              let counted = rw (sweeps.queues.free, reports.queues.free, sweeps.posted.hand, reports.posted.hand) at (done.slots slot) in omega (arith, took.slots slot));
+        };
+      })
 
-pub round_of : {S : Type 0} {made : Made S} {names : Ticket → Made S} {opens : Ticket → S → S → Type 0} (from delivered_at timed_at : S) {to : S} (c : Own) {p q r v t : PollerState} {a b d e : Own}
-    → PostsMade made (all_reported q.table q.batch) from delivered_at → PostsMade made (sweep_of r v) delivered_at timed_at
-    → (IsWorn c.seat → e.seat ≡ c.seat) → (IsWorn d.seat → e.seat ≡ d.seat) → Looked p q → OnlyTook a b
-    → Delivered q.table q.batch b.seat c.seat b.hand c.hand → c.ready ≡ b.ready → c.free ≡ b.free → AreIn q.part (all_reported q.table q.batch) → r ≡ record q { accepting = r.accepting }
-    → ArePosted (sweep_of r v) c.seat d.seat c.hand d.hand → d.ready ≡ c.ready → d.free ≡ c.free → AreIn r.part (sweep_of r v) → v ≡ record r { second = v.second; swept = v.swept }
-    → AcceptDone (TriesMade names opens timed_at to) v t d e → t.swept ≡ v.swept → RoundInOrder made names opens p t a e from to
-round_of from delivered_at timed_at c {e = e} reports sweeps still_all still_then looked took delivered ready free own flag posted ready_then free_then own_then sweep accepted swept =
-    let done = accepted.connected in
-    record {
-      delivered = delivered_at;
-      timed = timed_at;
-      reports = rw (done.batch, sweep, flag) (rw looked at reports);
-      sweep = rw swept (rw (flag, looked) at sweeps);
-      tries = done.acts;
-      round = record {
-        reports = delivered.posts;
-        sweep = posted.posts;
-        tries = done.tries;
-        opened = accepted.opened;
-        lost = accepted.lost;
-        not_free = accepted.not_free;
-        why = done.why;
-        reported = rw (done.batch, sweep, flag) (rw looked at (posts_still {t = e.seat} delivered.are (λ worn. rw (still_all worn) worn)));
-        swept = rw swept (rw (flag, looked) at (posts_still {t = e.seat} posted.are (λ worn. rw (still_then worn) worn)));
-        tried = done.are;
-        made = rw (← took.seat) (acts_both _ _ _ _ _ delivered.made (acts_both _ _ _ _ _ posted.made done.made));
-        part = rw (done.part, sweep, flag, looked);
-        own_reports = rw (done.batch, sweep, flag) (rw looked at own);
-        own_sweep = rw swept (rw (flag, looked) at own_then);
-        own_openings = rw (sweep, flag, looked) at done.own;
-        tickets = rw (done.ready, ready_then, ready, done.tickets, posted.hand, delivered.hand, took.ready, took.tickets) (simp append_assoc);
-        next = rw (sweep, flag, looked) at done.next;
-        table = rw (sweep, flag, looked) at done.table;
-        counted = rw (sweep, flag, looked) at done.counted;
-        unused = rw (sweep, flag, looked) at done.unused;
-        gave = rw (done.gave, free_then, free) took.gave;
-        slots = λ slot. (let counted = rw (free_then, free, posted.hand, delivered.hand) at (accepted.slots slot) in omega (arith, took.slots slot));
-      };
-    }
+  -- nothing was reported, nothing was posted for time, and nothing was accepted
+  pub round_ended : {s : S} {p q : PollerState} {a b : Own} → Looked p q → q.batch ≡ [] → OnlyTook a b → RoundInOrder moved named made may_tell p q a b s s
+  round_ended {q = q} looked none took = round_of {r = q} {v = q} {w = q} {t = q} looked took (none_posted (rw none)) refl (none_posted (no_sweep q q.swept refl)) refl
+      (done_of (accept_none no_tries assumption)) (λ is. is) refl
 
--- nothing was reported, nothing was posted for time, and nothing was accepted
-pub round_ended : {S : Type 0} {made : Made S} {names : Ticket → Made S} {opens : Ticket → S → S → Type 0} {s : S} {p q : PollerState} {a b : Own} → Looked p q → q.batch ≡ [] → OnlyTook a b
-    → RoundInOrder made names opens p q a b s s
-round_ended {s = s} {q = q} {b = b} looked none took =
-    let unswept : sweep_of q q ≡ [] = no_sweep q q.swept refl in
-    let nothing : s ≡ s = refl in
-    round_of s s s b {v = q} (rw none nothing) (rw unswept nothing) (λ worn. refl) (λ worn. refl) looked took (rw none (posted_none b.seat b.hand)) refl refl (λ slot out. rw none) refl
-    (rw unswept (posted_none b.seat b.hand)) refl refl (λ slot out. rw unswept) refl (accept_none no_tries (still q)) refl
+or_more : {A B X : Type 0} → A ⊎ X → (A → B ⊎ X) → B ⊎ X
+or_more (inl a) more = more a
+or_more (inr x) more = inr x
 
 -- what answers made of the poller, one after the other
 pub answered_both : {gave : Unaccepted → Type 0} {p q r : PollerState} → OnlyAnswered gave p q → OnlyAnswered gave q r → OnlyAnswered gave p r
-answered_both {gave} {p} {q} {r} first then = record { flag = λ down. flag (then.flag down); starved = λ starved. lack (then.starved starved) } where
-  flag : (q.accepting ≡ false) ⊎ gave Blocked → (p.accepting ≡ false) ⊎ gave Blocked
-  flag (inl down) = first.flag down
-  flag (inr gave) = inr gave
-
-  lack : (q.starved ≡ true) ⊎ gave Starved → (p.starved ≡ true) ⊎ gave Starved
-  lack (inl starved) = first.starved starved
-  lack (inr gave) = inr gave
+answered_both first second = record { flag = λ down. or_more (second.flag down) first.flag; starved = λ lack. or_more (second.starved lack) first.starved }
 
 pub answered_none : {gave : Unaccepted → Type 0} {p q : PollerState} → q.accepting ≡ p.accepting → (q.starved ≡ p.starved) ⊎ (q.starved ≡ false) → OnlyAnswered gave p q
-answered_none {gave} {p} {q} flag lack = record { flag = λ down. inl (sym flag ∙ down); starved = λ starved. by lack starved } where
-  by : (q.starved ≡ p.starved) ⊎ (q.starved ≡ false) → q.starved ≡ true → (p.starved ≡ true) ⊎ gave Starved
-  by (inl same) starved = inl (sym same ∙ starved)
-  by (inr none) starved = absurd (false≢true (sym none ∙ starved))
+answered_none flag (inl same) = record { flag = λ down. inl (sym flag ∙ down); starved = λ lack. inl (sym same ∙ lack) }
+answered_none flag (inr none) = record { flag = λ down. inl (sym flag ∙ down); starved = λ lack. absurd (false≢true (sym none ∙ lack)) }
 
--- the flag that the listener's report may have raised is down
-pub flag_down : (gave : Type 0) (reported : Type 0) (old mid : Bool) → (IsTrue mid ↔ (IsTrue old ⊎ reported)) → (mid ≡ false) ⊎ gave
-    → ((old ≡ false) × (reported → ⊥)) ⊎ gave
-flag_down gave reported old mid is (inr answered) = inr answered
-flag_down gave reported true mid is (inl down) = absurd (false≢true (sym down ∙ is.1 (inl refl)))
-flag_down gave reported false mid is (inl down) = inl (refl, λ was. false≢true (sym down ∙ is.1 (inr was)))
-
-pub flag_ended : (gave : Unaccepted → Type 0) (p q r v t : PollerState) {seat last : SeatState} → Looked p q → (IsWorn seat → last ≡ seat)
-    → IsWorn seat ⊎ (IsTrue r.accepting ↔ (IsTrue q.accepting ⊎ Contains q.batch 0)) → v.accepting ≡ r.accepting → t.batch ≡ q.batch
-    → (t.accepting ≡ false → (v.accepting ≡ false) ⊎ gave Blocked) → IsWorn last ⊎ FlagIsDown gave p t
-flag_ended gave p q r v t looked still (inl worn) same batch answered = inl (rw (still worn) worn)
-flag_ended gave p q r v t looked still (inr is) same batch answered =
-    let was : q.accepting ≡ p.accepting = ap (λ (x : PollerState). x.accepting) looked in
-    inr (λ down. rw batch (rw was at (flag_down (gave Blocked) (Contains q.batch 0) q.accepting r.accepting is (rw same at (answered down)))))
+-- the accept flag is down at the end
+pub flag_ended : {gave : Type 0} (p q r v t : PollerState) → Looked p q → (r.accepting ≡ false → (q.accepting ≡ false) × (Contains q.batch 0 → ⊥))
+    → v.accepting ≡ r.accepting → t.batch ≡ q.batch → (v.accepting ≡ false) ⊎ gave → ((p.accepting ≡ false) × (Contains t.batch 0 → ⊥)) ⊎ gave
+flag_ended p q r v t looked flag same batch (inl down) = inl (rw batch (rw looked at (flag (rw same at down))))
+flag_ended p q r v t looked flag same batch (inr gave) = inr gave
 
 -- why accepting ended stays the reason, since the slots are taken back only once all connections were opened
-pub ended_still : {p q : PollerState} {a b : Own} → AcceptEnded p a → OnlyListens (record p { over = q.over }) q
-    → ((HasOpenedAll p → ⊥) → (b ≡ a) × (q ≡ p)) → AcceptEnded q b
-ended_still {p} {q} {a} {b} ended is left = by_count (cases_lt p.opened p.most) where
-  by_count : (p.opened < p.most) ⊎ (p.most ≤ p.opened) → AcceptEnded q b
-  by_count (inl some) = let same = left (λ all. omega (arith, some, all)) in rw (same.1, same.0) ended
-  by_count (inr all) = inl (inr (inr (inr (rw is all))))
+pub ended_still : {p q : PollerState} {a b : Own} → AcceptEnded p a → ((b ≡ a) × (q ≡ p)) ⊎ HasOpenedAll q → AcceptEnded q b
+ended_still ended (inl same) = rw (same.1, same.0) ended
+ended_still ended (inr all) = inl (inr (inr (inr all)))
 
-kept : (p q : PollerState) → ListensNoMore p q → ListenerKept p q
+pub kept : (p q : PollerState) → ListensNoMore p q → ListenerKept p q
 kept p q listens = grind arith
 
--- a wait leaves it to the look before it whether the front listens, and the longest wait as it was
-pub listens_after : (waiting : Waiting) (p q r : PollerState) → ListensNoMore p q → Waited waiting q.seen r.seen → ListensNoMore p r
-listens_after waiting p q r listens waited = rw (ap (λ (s : Seen). s.listens) waited) listens
-
-pub longest_kept : (waiting : Waiting) (p q r : PollerState) → OnlyListens p q → Waited waiting q.seen r.seen
-    → r.seen.longest ≡ p.seen.longest
-longest_kept waiting p q r same waited = ap (λ (s : Seen). s.longest) waited ∙ ap (λ (s : PollerState). s.seen.longest) same
-
 -- the poller waits only where it may, and for as long
-pub waits_if : (waiting : Waiting) (limit : ℕ) (p q r : PollerState) (a b : Own) → OnlyListens p q
-    → (waiting ≡ Long → MayWait limit q b × (b ≡ a)) → (waiting ≡ Brief → MayWaitBriefly limit q b)
-    → (waiting ≡ No → MayNotWait limit q b) → OnlyTook a b → Waited waiting q.seen r.seen → WaitedAsMay limit p r a
-waits_if Long limit p q r a b same may brief haste took waited = inl (ap (λ (s : Seen). s.waited) waited ∙ ap (λ (s : PollerState). s.seen.longest) same, rw (same, (may refl).1) at (may refl).0)
-waits_if Brief limit p q r a b same may brief haste took waited =
-    let left = rw same at (brief refl) in
+pub waits_if : (waiting : Waiting) (limit : ℕ) (p q r : PollerState) (a b : Own) → OnlyListens p q → WaitsAsMay waiting limit q b
+    → (waiting ≡ Long → b ≡ a) → OnlyTook a b → Waited waiting q.seen r.seen → WaitedAsMay limit p r a
+waits_if Long limit p q r a b same may still took waited = inl (ap (λ (s : Seen). s.waited) waited ∙ ap (λ (s : PollerState). s.seen.longest) same, rw (same, still refl) at (may.long refl))
+waits_if Brief limit p q r a b same may still took waited =
+    let left = rw same at (may.brief refl) in
     inr (inl (ap (λ (s : Seen). s.waited) waited, (left.0, sym took.tickets ∙ left.1, left.2)))
-waits_if No limit p q r a b same may brief haste took waited = inr (inr (ap (λ (s : Seen). s.waited) waited, b, took, rw same at (haste refl)))
+waits_if No limit p q r a b same may still took waited = inr (inr (ap (λ (s : Seen). s.waited) waited, b, took, rw same at (may.haste refl)))
 
--- what the steps of a round leave as it is, but that a front may listen no longer; the end of a round may change the
--- last two
-abbrev pub Lasting : ℕ → Own → PollerState → PollerState → Type 0
-Lasting limit had old new = record {
-  opening : new.opening ≡ old.opening;
-  most : new.most ≡ old.most;
-  heavy : new.heavy ≡ old.heavy;
-  waits : WaitedAsMay limit old new had;
-  longest : new.seen.longest ≡ old.seen.longest;
-  over : new.over ≡ old.over;
-  listening : ListensNoMore old new;
+-- what the steps of a round leave as it was after the look, but that the front may listen no longer
+abbrev pub Lasts : PollerState → PollerState → Type 0
+Lasts old new = new ≡ record new {
+  seen = record old.seen { listens = new.seen.listens };
+  batch = old.batch;
+  opening = old.opening;
+  heavy = old.heavy;
+  most = old.most;
 }
-
-pub looked_lasts : (limit : ℕ) (had : Own) (p : PollerState) {q r : PollerState} → q ≡ record p { batch = [] }
-    → Looked q r → ListensNoMore q r → r.seen.longest ≡ q.seen.longest → WaitedAsMay limit q r had → Lasting limit had p r
-looked_lasts limit had p {r = r} begun looked listens longest waits =
-    let waited : WaitedAsMay limit p r had = rw begun at waits in
-    search (looked, begun, waited, rw begun at longest, rw begun at listens)
 
 -- the hand had room for a round
 pub begun_not_early : {X : Type 0} (needed room : ℕ) → needed ≤ room → room < needed → X
 begun_not_early needed room enough few = absurd (omega arith)
 
--- what a round keeps that has come to its end, or was refused
-pub keeps : {limit : ℕ} {p q : PollerState} {a b : Own} → Lasting limit a p q → (q.swept ≡ p.swept) ⊎ (q.swept ≡ swept_after limit p.second p.swept)
-    → b.ready.history.taken ≡ a.ready.history.taken → RoundKeeps limit p q a b
-keeps {p = p} {q = q} {b = b} same swept took =
-    let over : q.over ≡ true → (p.over ≡ true) ⊎ IsOver q b = λ over. inl (sym same.over ∙ over) in
-    assumption (kept p q same.listening)
-
-pub over_before : {a b : Bool} {X : Type 0} → b ≡ a → (b ≡ true) ⊎ X → (a ≡ true) ⊎ X
-over_before same over = rw same at over
-
 -- the front listens as before, since it ends only once all connections were opened
-pub listens_still : (p : PollerState) {q r : PollerState} {a b : Own} → ListensNoMore p q → OnlyListens (record q { over = r.over }) r
-    → ((HasOpenedAll q → ⊥) → (b ≡ a) × (r ≡ q)) → ListensToOpen r → ListenerKept p r
-listens_still p {q} {r} same is left closed = by_count (cases_lt q.opened q.most) where
-  by_count : (q.opened < q.most) ⊎ (q.most ≤ q.opened) → ListenerKept p r
-  by_count (inl some) = kept p r (rw (left (λ all. omega (arith, some, all))).1 same)
-  by_count (inr all) = let all_then : HasOpenedAll r = rw is all in inr (inr all_then, closed all_then)
+pub listens_still : (p : PollerState) {q r : PollerState} {X : Type 0} → ListensNoMore p q → (X × (r ≡ q)) ⊎ HasOpenedAll r → ListensToOpen r → ListenerKept p r
+listens_still p {q} {r} same (inl left) closed = kept p r (rw left.1 same)
+listens_still p same (inr all) closed = inr (inr all, closed all)

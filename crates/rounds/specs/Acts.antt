@@ -1,5 +1,5 @@
 -- What a thread's seat did, act by act, and what a round posts, also by its acts. Part of the promises.
-use Rattle.std.specs.{Prelude.{◌≡◌, ◌⊎◌, ℕ, zero, suc, ◌==◌, nat_lt, Bool, true, false, if◌then◌else◌, List, [], ◌∷◌, ◌++◌, length, map, Option, Some, None, slice_index}, List.{All, filter_map, count_by}}
+use Rattle.std.specs.{Prelude.{◌≡◌, ◌⊎◌, ℕ, zero, suc, ◌==◌, nat_lt, Bool, true, false, if◌then◌else◌, List, [], ◌∷◌, ◌++◌, length, map, Option, Some, None, slice_index}, List.{All, filter_map, flat_map, count_by, range_with_len}}
 use Rattle.claims.specs.{declared.view.Exchange.{Exchange, TheVariants.{Post, Take, Release, Adopted, NotFree}}, Views.minted_by, Seats.{SeatState, trace_at}}
 use Rattle.ready.specs.declared.ticket.Ticket.{Ticket}
 use Rattle.token.specs.{declared.name.Name.{Name, TheVariants.{End}}, Numbers.name_of}
@@ -17,8 +17,7 @@ tickets_of acts = map (λ (act : SeatAct). act.ticket) acts
 
 -- the exchanges of acts at this slot, in order
 abbrev pub exchanges_at : ℕ → List SeatAct → List Exchange
-exchanges_at slot [] = []
-exchanges_at slot (act ∷ acts) = (if act.ticket.slot == slot then act.exchanges else []) ++ exchanges_at slot acts
+exchanges_at slot acts = flat_map (λ (act : SeatAct). if act.ticket.slot == slot then act.exchanges else []) acts
 
 -- the ticket once, or nothing if it was made 0 times
 abbrev pub made_by : ℕ → Ticket → List Ticket
@@ -27,8 +26,7 @@ made_by (suc n) ticket = ticket ∷ []
 
 -- the tickets that acts made, in order
 abbrev pub due_of : List SeatAct → List Ticket
-due_of [] = []
-due_of (act ∷ acts) = made_by (minted_by act.exchanges) act.ticket ++ due_of acts
+due_of acts = flat_map (λ (act : SeatAct). made_by (minted_by act.exchanges) act.ticket) acts
 
 -- this seat made these acts, in order, and nothing else
 pub record ActsMade (acts : List SeatAct) (old new : SeatState) : Type 0 where
@@ -63,8 +61,7 @@ found_not_free exchanges slot = []
 
 -- the slots that acts found not to be free, in order
 abbrev pub not_free_of : List SeatAct → List ℕ
-not_free_of [] = []
-not_free_of (act ∷ acts) = found_not_free act.exchanges act.ticket.slot ++ not_free_of acts
+not_free_of acts = flat_map (λ (act : SeatAct). found_not_free act.exchanges act.ticket.slot) acts
 
 -- by these acts these connections were opened, and these slots were found not to be free
 pub record AreTries (opened : List Ticket) (not_free : List ℕ) (tries : List SeatAct) : Type 0 where
@@ -92,12 +89,14 @@ abbrev pub at_slot : ℕ → List Ticket → ℕ
 at_slot slot tickets = count_by (λ t. t.slot == slot) tickets
 
 -- For each of these connections, in order, one exchange posted a note at its slot; but for the last of them, if the
--- seat is worn. If the post answered Wake, the ticket is in hand. Nothing else of the seat or of the hand changed
+-- seat is worn. If the post answered Wake, the ticket is in hand. Nothing else of the seat or of the hand changed, and
+-- nothing at all if the seat could post no more before
 pub record ArePosted (tickets : List Ticket) (old new : SeatState) (had has : HandState) : Type 0 where
   pub posts : List SeatAct
   pub are : ArePosts tickets posts new
   pub made : ActsMade posts old new
   pub hand : has ≡ record had { tickets = had.tickets ++ due_of posts }
+  pub still : IsWorn old → (new ≡ old) × (has ≡ had)
 
 -- these steps were made, one after the other, and no others
 abbrev pub InOrder : {S X : Type 0} → (X → S → S → Type 0) → List X → S → S → Type 0
@@ -112,18 +111,14 @@ PostsMade made tickets from to = InOrder (λ (t : Ticket). made PostAct t.slot) 
 abbrev pub Delivered : List ℕ → List ℕ → SeatState → SeatState → HandState → HandState → Type 0
 Delivered generations batch old new had has = ArePosted (all_reported generations batch) old new had has
 
--- the last connection that was opened in a slot
-abbrev pub last_in : List ℕ → ℕ → Ticket
-last_in table slot = record { slot = slot; generation = slice_index table slot }
-
--- the last connection of a slot, if one was opened
-abbrev pub opened_in : List ℕ → ℕ → List Ticket
-opened_in table slot = if nat_lt 0 (slice_index table slot) then last_in table slot ∷ [] else []
+-- the last connection that was opened in a slot, if one was
+abbrev pub last_in : List ℕ → ℕ → Option Ticket
+last_in table slot =
+    if nat_lt 0 (slice_index table slot) then Some (record { slot = slot; generation = slice_index table slot }) else None
 
 -- the last connections of the first this many slots, in rising order
 abbrev pub opened_below : List ℕ → ℕ → List Ticket
-opened_below table zero = []
-opened_below table (suc slots) = opened_below table slots ++ opened_in table slots
+opened_below table slots = filter_map (last_in table) (range_with_len 0 slots)
 
 abbrev pub all_opened : List ℕ → List Ticket
 all_opened table = opened_below table (length table)

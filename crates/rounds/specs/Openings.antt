@@ -1,10 +1,10 @@
 -- What accepting and opening connections does to what the poller's thread owns. Part of the promises.
 use Rattle.std.specs.{Prelude.{◌≡◌, ◌⊎◌, ℕ, ◌+◌, ◌<◌, ◌≤◌, ◌==◌, Bool, true, false, List, [], ◌∷◌, ◌++◌, length, drop, map, Option, Some, None, Result, Ok, Err, replicate, slice_index, slice_set}, List.count_by, declared.net.socket_addr.SocketAddrV4.SocketAddrV4, Net.{Addr.ipv4_octets, Socket.{v4_ip, v4_port}}}
-use Rattle.claims.specs.{declared.view.Exchange.Exchange, Seats.{SeatState, TableId, Adds, HoldsNothing, account_at}, Views.minted_by}
+use Rattle.claims.specs.{declared.view.Exchange.Exchange, Seats.{SeatState, TableId, Adds, HoldsNothing}}
 use Rattle.ready.specs.declared.ticket.Ticket.{Ticket}
-use Rattle.dispatch.specs.{declared.{shared.Own.Own, places.Berth.Berth, front.{Unopened.Unopened, Route.Route}, split.Part.Part}, Splits.IsIn, Hands.ticket_room, Posts.IsWorn, Told.Seen}
+use Rattle.dispatch.specs.{declared.{shared.Own.Own, places.Berth.Berth, front.{Unopened.Unopened, Route.Route}, split.Part.Part}, Splits.IsIn, Hands.ticket_room, Told.Seen}
 use Rattle.token.specs.Names.{EndName, last_generation}
-use Rattle.rounds.specs.{Pollers.{PollerState, Counted, counted_up}, Acts.{SeatAct, due_of, made_by, opening, ActsMade, AreTries, InOrder, at_slot}, Episodes.{dropped_for, no_episodes, opened_after}, declared.opening.Opening.Opening}
+use Rattle.rounds.specs.{Pollers.{PollerState, Counted, counted_up}, Acts.{SeatAct, due_of, opening, ActsMade, AreTries, InOrder, at_slot}, Episodes.{dropped_for, no_episodes, opened_after}, declared.opening.Opening.Opening}
 use Rattle.log.specs.declared.level.Level.{Level}
 use Rattle.statistics.specs.declared.event.Event.{Event}
 use Rattle.relay_log.specs.{Messages.open_message, declared.cause.Cause.Cause}
@@ -78,13 +78,6 @@ pub record OnlyTook (had has : Own) : Type 0 where
   pub gave : has.free.history.put ≡ had.free.history.put
   pub slots : SlotsCounted had has [] []
 
--- the slot was released. If that answered Wake, as it does if the seat knew of a note, the ticket is in hand
-pub record LetGo (ticket : Ticket) (old new : Own) : Type 0 where
-  pub woke : Bool
-  pub quiet : woke ≡ false → (account_at old.seat ticket.slot).known ≡ 0
-  pub seat : Adds ticket.slot (exchange.Release woke ∷ []) old.seat new.seat
-  pub hand : new.hand ≡ record old.hand { tickets = old.hand.tickets ++ made_by (minted_by (exchange.Release woke ∷ [])) ticket }
-
 -- the rest of an opening, after its slot was adopted: its one ticket is in hand
 pub record Started (ticket : Ticket) (old new : Own) : Type 0 where
   pub noted : ℕ
@@ -108,26 +101,39 @@ pub record TriesNext (part : Part) (try : SeatAct) (old new : List ℕ) : Type 0
   pub next : try.ticket.generation ≡ slice_index old try.ticket.slot + 1
   pub entered : AreOpened old (due_of (try ∷ [])) new
 
--- The `opened` connections were opened in the poller's own slots, each with its slot's next generation, one note and
--- one ticket, which is in hand after the others. The `lost` slots are no longer used. The seat did nothing else. `acted`
--- is what is known of the acts of tries
-pub record Connected (acted : List SeatAct → Type 0) (opened : List Ticket) (lost not_free : List ℕ) (old new : PollerState)
-    (had has : Own) : Type 0 where
+-- accepting changes at most this of what the poller keeps
+abbrev pub OnlyAccepted : PollerState → PollerState → Type 0
+OnlyAccepted old new = new ≡ record old {
+  table = new.table;
+  accepting = new.accepting;
+  starved = new.starved;
+  left = new.left;
+  tries = new.tries;
+  opened = new.opened;
+  lost = new.lost;
+  episodes = new.episodes;
+}
+
+-- By these tries the `opened` connections were opened in the poller's own slots, each with its slot's next generation,
+-- one note and one ticket, which is in hand after the others. The `lost` slots are no longer used. Each slot that was
+-- taken was opened, or is in hand, or is no longer used. The seat did nothing else
+pub record Connected (tries : List SeatAct) (old new : PollerState) (had has : Own) : Type 0 where
+  pub opened : List Ticket
+  pub lost : List ℕ
+  pub not_free : List ℕ
+  pub are : AreTries opened not_free tries
+  pub made : ActsMade tries had.seat has.seat
+  pub next : InOrder (TriesNext old.part) tries old.table new.table
   pub table : AreOpened old.table opened new.table
   pub counted : Counted old.opened (length opened) new.opened
   pub unused : Counted old.lost (length lost) new.lost
   pub why : AreLost new not_free lost
-  pub tries : List SeatAct
-  pub are : AreTries opened not_free tries
-  pub made : ActsMade tries had.seat has.seat
-  pub acts : acted tries
-  pub next : InOrder (TriesNext old.part) tries old.table new.table
-  pub batch : new.batch ≡ old.batch
-  pub part : new.part ≡ old.part
+  pub poller : OnlyAccepted old new
   pub own : AreIn old.part opened
   pub tickets : has.hand.tickets ≡ had.hand.tickets ++ opened
   pub ready : has.ready ≡ had.ready
   pub gave : has.free.history.put ≡ had.free.history.put
+  pub slots : SlotsCounted had has opened lost
 
 -- What became of an accepted connection, as it counts: it was opened, or closed unopened, or its slot is no longer used
 abbrev pub IsOpened : PollerState → PollerState → Type 0
@@ -172,10 +178,9 @@ LeadGiven may_tell proxy lead = (route : Route) × may_tell route × (lead_of pr
 
 -- A connection as it is opened: it has made no call yet, its rings have the poller's size, its lead is one that may be
 -- given, and it counts from the round's second
-pub record IsFresh {C T : Type 0} (may_tell : Route → Type 0) (opening : Opening) (second : ℕ) (ticket : Ticket)
-    (berth : Berth C T) : Type 0 where
-  pub pair : berth.pair ≡ fresh ticket.slot ticket.generation opening.ring second berth.pair.up.lead
-  pub lead : LeadGiven may_tell opening.proxy (Some berth.pair.up.lead)
+pub record IsFresh {C T : Type 0} (tells : Route → Type 0) (opening : Opening) (second : ℕ) (t : Ticket) (berth : Berth C T) : Type 0 where
+  pub pair : berth.pair ≡ fresh t.slot t.generation opening.ring second berth.pair.up.lead
+  pub lead : LeadGiven tells opening.proxy (Some berth.pair.up.lead)
   pub since : berth.second ≡ second
 
 -- what is known of acts, of which PutIn put this connection into its place
@@ -193,16 +198,10 @@ Naming named made ticket act.Register slot from to = made act.Register slot from
 Naming named made ticket act slot from to = made act slot from to
 
 -- the acts of an opening, which put a fresh connection into its place
-abbrev pub OpensFresh : {S C T : Type 0} → (Berth C T → S → Type 0) → (Ticket → act.Made S) → (Route → Type 0) → Opening → ℕ → Ticket
+abbrev pub OpensFresh : {S C T : Type 0} → (Berth C T → S → Type 0) → (Ticket → act.Made S) → (Route → Type 0) → PollerState → Ticket
     → S → S → Type 0
-OpensFresh moved made may_tell opening second ticket from to = (berth : Berth _ _) × IsFresh may_tell opening second ticket berth
+OpensFresh moved made may_tell p ticket from to = (berth : Berth _ _) × IsFresh may_tell p.opening p.second ticket berth
     × act.AreMade (Putting moved (made ticket) berth) ticket.slot act.open_slot from to
-
--- they were made for some client
-abbrev pub Opens : {C S T : Type 0} → (Berth C T → S → Type 0) → (Ticket → act.Made S) → (C → Route → Type 0) → Opening → ℕ → Ticket
-    → S → S → Type 0
-Opens {C} moved made may_tell opening second ticket from to =
-    (client : C) × OpensFresh moved made (may_tell client) opening second ticket from to
 
 -- the acts of a try with these exchanges: it opened its connection, or found its slot not to be free, or dropped it
 abbrev pub ActsOf : {S : Type 0} → (opens finds drops : Ticket → S → S → Type 0) → Ticket → List Exchange → S → S → Type 0
@@ -224,10 +223,11 @@ pub record TryMade {S : Type 0} (made : Ticket → act.Made S) (opens : Ticket �
   pub acts : ActsOf opens (λ t. act.AreMade (made t) t.slot (act.Register ∷ act.Adopt ∷ [])) (DropMade made)
       try.ticket try.exchanges from to
 
--- the acts of these tries, in order, and no others
-pub record TriesMade {S : Type 0} (made : Ticket → act.Made S) (opens : Ticket → S → S → Type 0) (from to : S)
-    (tries : List SeatAct) : Type 0 where
-  pub acts : InOrder (TryMade made opens) tries from to
+-- the acts of a poller's tries, in order, and no others: an opening was made for some client
+pub record TriesMade {C S T : Type 0} (moved : Berth C T → S → Type 0) (named : Ticket → S → Type 0) (made : act.Made S)
+    (may_tell : C → Route → Type 0) (p : PollerState) (from to : S) (tries : List SeatAct) : Type 0 where
+  pub acts : InOrder (TryMade (Naming named made) (λ t from to.
+      (client : C) × OpensFresh moved (Naming named made) (may_tell client) p t from to)) tries from to
 
 -- Why an accepted connection is closed unopened: the front refused to open it; or the front opened it, but an address
 -- for the line is missing, or memory ran out
@@ -274,43 +274,22 @@ pub record TriedOnce {S : Type 0} (opens finds : Ticket → S → S → Type 0) 
   pub once : tries ≡ record { ticket = t; exchanges = exchanges } ∷ []
   pub acts : ActsOf opens finds (λ t from to. ⊥) t exchanges from to
 
--- placing a connection: it was opened in its slot, or the slot was found not free and is no longer used. A seat that is
--- worn posts no note for it
-pub record Placed (placed : Ticket → Type 0) (made : List act.Act → Type 0) (acted : List SeatAct → Type 0) (t : Ticket)
-    (old new : PollerState) (had has : Own) : Type 0 where
-  pub done : IsWorn had.seat ⊎ (
-      (Connected acted (t ∷ []) [] [] old new had has ⊎ Connected acted [] (t.slot ∷ []) (t.slot ∷ []) old new had has)
-      × (ticket_room had.hand ≤ ticket_room has.hand + 1))
-  pub counted : (IsOpened old new × placed t)
-      ⊎ (IsLost old new × Adds t.slot (exchange.NotFree ∷ []) had.seat has.seat × made (act.Adopt ∷ []))
-  pub free : has.free ≡ had.free
-  pub slots : has.hand.slots ≡ had.hand.slots
-
--- what accepting did: each slot that was taken was opened, or is in hand, or is no longer used
+-- what accepting did, by tries of whose acts this is known
 pub record AcceptDone (acted : List SeatAct → Type 0) (old new : PollerState) (had has : Own) : Type 0 where
-  pub opened : List Ticket
-  pub lost : List ℕ
-  pub not_free : List ℕ
-  pub connected : Connected acted opened lost not_free old new had has
-  pub slots : SlotsCounted had has opened lost
+  pub tries : List SeatAct
+  pub acts : acted tries
+  pub did : Connected tries old new had has
 
 -- one try of accept(2), which leaves at most one ticket more in hand
 pub record OneAccepted (acted : List SeatAct → Type 0) (old new : PollerState) (had has : Own) : Type 0 where
-  pub done : AcceptDone acted old new had has
+  pub tries : List SeatAct
+  pub acts : acted tries
+  pub did : Connected tries old new had has
   pub room : ticket_room had.hand ≤ ticket_room has.hand + 1
 
--- accepting changes at most this of what the poller keeps
-abbrev pub OnlyAccepted : PollerState → PollerState → Type 0
-OnlyAccepted old new = new ≡ record old {
-  table = new.table;
-  accepting = new.accepting;
-  starved = new.starved;
-  left = new.left;
-  tries = new.tries;
-  opened = new.opened;
-  lost = new.lost;
-  episodes = new.episodes;
-}
+-- before the oldest slot in hand was taken to be opened
+abbrev pub with_slot : ℕ → Own → Own
+with_slot slot own = record own { hand = record own.hand { slots = slot ∷ own.hand.slots } }
 
 -- opening a connection, or failing to, changes at most this
 abbrev pub OnlyOpened : PollerState → PollerState → Type 0

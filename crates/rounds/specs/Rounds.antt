@@ -2,8 +2,8 @@
 -- what its thread owns. Part of the promises.
 use Rattle.std.specs.Prelude.{◌≡◌, ◌≢◌, ◌⊎◌, ◌↔◌, ℕ, ◌+◌, ◌<◌, ◌≤◌, true, false, List, [], ◌++◌, length, Contains, Result, Err}
 use Rattle.ready.specs.{declared.ticket.Ticket.Ticket, Steps.HeldOnce}
-use Rattle.dispatch.specs.{declared.{front.{Unaccepted.Unaccepted, Waiting.Waiting}, shared.Own.Own}, Acts.Made, Hands.{HasRoom, ticket_room}, Outgoing.tickets_out, Posts.{IsWorn, OnlyWorn}}
-use Rattle.rounds.specs.{Acts.{SeatAct, due_of, ActsMade, ArePosts, AreTries, InOrder, PostsMade, all_reported, ArePosted, is_due, sweep_of, swept_after}, Openings.{AreIn, AreLost, AreOpened, OnlyTook, SlotsCounted, TriesMade, TriesNext}, Pollers.{PollerState, HasOpenedAll, Counted, spare_room}, Episodes.AreLogged}
+use Rattle.dispatch.specs.{declared.{front.{Route.Route, Unaccepted.Unaccepted, Waiting.Waiting}, places.Berth.Berth, shared.Own.Own, split.Part.Part}, Acts.Made, Hands.{HasRoom, ticket_room}, Outgoing.tickets_out, Posts.{IsWorn, OnlyWorn}}
+use Rattle.rounds.specs.{Acts.{SeatAct, due_of, ActsMade, ArePosts, AreTries, InOrder, PostsMade, all_reported, ArePosted, is_due, sweep_of, swept_after}, Openings.{AreIn, AreLost, AreOpened, OnlyTook, SameQueues, SlotsCounted, TriesMade, TriesNext}, Pollers.{PollerState, HasOpenedAll, Counted, spare_room}, Episodes.AreLogged}
 use Rattle.relay_log.specs.declared.faults.ServerFault.{ServerFault}
 use Rattle.dispatch.specs.declared.front.Unaccepted.TheVariants as unaccepted
 use Rattle.dispatch.specs.declared.front.Waiting.TheVariants as waiting
@@ -40,16 +40,22 @@ pub record RoundDone (old new : PollerState) (had has : Own) : Type 0 where
   pub slots : SlotsCounted had has opened lost
 
 -- A round with its acts, in order, and no others: for each report of a connection a post at its slot, also by a worn seat;
--- then such a post for each connection of the sweep; and then the acts of its tries. `names` is what is known of a connection's
--- acts
-pub record RoundInOrder {S : Type 0} (made : Made S) (names : Ticket → Made S) (opens : Ticket → S → S → Type 0)
-    (old new : PollerState) (had has : Own) (from to : S) : Type 0 where
+-- then such a post for each connection of the sweep; and then the acts of its tries
+pub record RoundInOrder {C S T : Type 0} (moved : Berth C T → S → Type 0) (named : Ticket → S → Type 0) (made : Made S)
+    (may_tell : C → Route → Type 0) (old new : PollerState) (had has : Own) (from to : S) : Type 0 where
   pub round : RoundDone old new had has
   pub delivered : S
   pub timed : S
   pub reports : PostsMade made (all_reported old.table new.batch) from delivered
   pub sweep : PostsMade made (sweep_of old new) delivered timed
-  pub tries : TriesMade names opens timed to round.tries
+  pub tries : TriesMade moved named made may_tell new timed to round.tries
+
+-- For these connections, all of a poller's own slots, a note was posted, and an act made. The queues are as they were
+pub record AllPosted {S : Type 0} (acts : Made S) (part : Part) (tickets : List Ticket) (had has : Own) (from to : S) : Type 0 where
+  pub made : PostsMade acts tickets from to
+  pub posted : ArePosted tickets had.seat has.seat had.hand has.hand
+  pub own : AreIn part tickets
+  pub queues : SameQueues had has
 
 -- no free slot is in hand, and at one moment there was none in the queue
 pub record NoSlot (own : Own) : Type 0 where
@@ -166,11 +172,6 @@ TookAll slots own = HeldOnce 0 own.free.history ⊎ ((slots ≤ length own.hand.
 abbrev pub LooksForAll : PollerState → Own → Type 0
 LooksForAll p own = HasOpenedAll p → TookAll p.part.slots own × (IsBack p own → p.over ≡ true)
 
--- a sweep was made if one was due
-pub record SweepMade (limit : ℕ) (old new : PollerState) (had has : Own) : Type 0 where
-  pub posted : ArePosted (sweep_of old new) had.seat has.seat had.hand has.hand
-  pub swept : new.swept ≡ swept_after limit old.second old.swept
-
 -- A round that began, and whose poll did not fail: it is refused exactly if the seat is worn then. It delivered what its
 -- front reported, at a second that the clock may show. A sweep was made if one was due, accepting ended for a reason, the
 -- accept flag is down and accept(2) starved only by an answer or as before, and no drop is left to be logged at this second
@@ -181,7 +182,7 @@ pub record RoundEnded (result : Result (Unit {0}) ServerFault) (tells : ℕ → 
   pub second : tells new.second
   pub swept : new.swept ≡ swept_after limit old.second old.swept
   pub accepted : AcceptEnded new has
-  pub flag : IsWorn has.seat ⊎ FlagIsDown gave_none old new
+  pub flag : FlagIsDown gave_none old new
   pub starved : new.starved ≡ true → (old.starved ≡ true) ⊎ gave_none unaccepted.Starved
   pub closed : ListensToOpen new
   pub back : LooksForAll new has

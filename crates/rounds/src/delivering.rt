@@ -2,13 +2,13 @@
 ghost use Rattle.std.specs.{Prelude.{◌≡◌, ◌-◌, ◌<◌, ◌≤◌, ◌↔◌, [], length, IsTrue, IfOk, IfSome, MatchResult, Contains}, List.cons_option};
 ghost use Rattle.claims.specs.Seats.{HoldsNothing};
 ghost use Rattle.dispatch.specs.{Hands.ticket_room, Posts.{IsWorn, OnlyWorn}};
-ghost use Rattle.rounds.specs.Acts.{all_reported, connection, reported, ArePosted, Delivered, PostsMade};
+ghost use Rattle.rounds.specs.Acts.{all_reported, reported, ArePosted, Delivered, PostsMade};
 
 use claims::{ClaimSeat, Claims, Posted};
 use dispatch::{Acts, Hand, LISTENER};
 use ready::Ticket;
 use relay_log::ServerFault;
-use token::{Name, Token, unpack};
+use token::{Name, unpack};
 
 /// Posts a note for each report of a batch, and adds a ticket to the hand for each post that answers Wake. Returns
 /// whether the listener was reported.
@@ -35,7 +35,11 @@ pub fn deliver(
     ensures worn { MatchResult result (λ _. IsWorn seat.new → ⊥) (λ fault. OnlyWorn fault seat.new) }
     ensures idle { HoldsNothing seat.new }
 {
-    deliver_by(&mut (), claims, seat, table, batch, hand)
+    let listener = deliver_by(&mut (), claims, seat, table, batch, hand);
+    if seat.is_worn() {
+        return Err(ServerFault::Worn);
+    }
+    Ok(listener)
 }
 
 /// [`deliver`] by any acts: a post for each note, also of a worn seat.
@@ -46,28 +50,23 @@ pub(crate) fn deliver_by<A: Acts>(
     table: &[u64],
     batch: &[u64],
     hand: &mut Hand,
-) -> Result<bool, ServerFault>
+) -> bool
     requires same { seat.old.table ≡ claims.now }
     requires idle { HoldsNothing seat.old }
     requires sized { length table.now ≡ claims.now.words }
     requires room { length batch.now ≤ ticket_room hand.old }
     ensures made { PostsMade A.made (all_reported table.now batch.now) acts.old acts.new }
     ensures delivered { Delivered table.now batch.now seat.old seat.new hand.old hand.new }
-    ensures listener { IfOk result (λ reported. IsTrue reported ↔ Contains batch.now 0) }
-    ensures worn { MatchResult result (λ _. IsWorn seat.new → ⊥) (λ fault. OnlyWorn fault seat.new) }
+    ensures listener { IsTrue result ↔ Contains batch.now 0 }
     ensures idle { HoldsNothing seat.new }
 {
     for number in batch {
         post_note(acts, claims, seat, connection(table, *number), hand);
     }
-    if seat.is_worn() {
-        return Err(ServerFault::Worn);
-    }
-    Ok(batch.contains(&LISTENER))
+    batch.contains(&LISTENER)
 }
 
-/// Posts a note at the ticket's slot, and adds the ticket to the hand if the post answers Wake. None does nothing, and
-/// the post of a worn seat changes nothing.
+/// Posts a note at the ticket's slot, and adds the ticket to the hand if the post answers Wake. None does nothing.
 #[tactic(auto, using(crate::proofs::Acts::posted_none, crate::proofs::Acts::posted_not, crate::proofs::Acts::posted_quiet, crate::proofs::Acts::posted_woke))]
 pub(crate) fn post_note<A: Acts>(
     acts: &mut A,
@@ -82,7 +81,6 @@ pub(crate) fn post_note<A: Acts>(
     requires room { length hand.old.tickets < hand.old.capacity }
     ensures made { PostsMade A.made (cons_option ticket []) acts.old acts.new }
     ensures posted { ArePosted (cons_option ticket []) seat.old seat.new hand.old hand.new }
-    ensures still { IsWorn seat.old → (seat.new ≡ seat.old) × (hand.new ≡ hand.old) }
 {
     let Some(ticket) = ticket else {
         return;
@@ -98,16 +96,9 @@ fn connection(table: &[u64], number: u64) -> Option<Ticket>
     ensures value { result ≡ reported table.now number }
     ensures inside { IfSome result (λ ticket. ticket.slot < length table.now) }
 {
-    match unpack(number)? {
-        Name::End(end) => connection_of(table, end),
-        Name::Listener | Name::Waker => None,
-    }
-}
-
-fn connection_of(table: &[u64], end: Token) -> Option<Ticket>
-    ensures value { result ≡ connection table.now (Some (Name.End end)) }
-    ensures inside { IfSome result (λ ticket. ticket.slot < length table.now) }
-{
+    let Name::End(end) = unpack(number)? else {
+        return None;
+    };
     let slot = end.slot();
     let generation = *table.get(slot)?;
     if generation == end.generation() {

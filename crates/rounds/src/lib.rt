@@ -9,7 +9,7 @@
 //!
 //! # Inside
 //!
-//! - `WaitsAsMay` says when a round waits for reports, and for how long (`poll`: `wait`, `waited`). A wait is a fault
+//! - `WaitsAsMay` says when a round waits for reports, and for how long (`may_wait`; `poll`: `waited`). A wait is a fault
 //!   exactly if it gave an error other than a signal (`polled`). The batch is delivered (`deliver_batch`).
 //! - Each error of accept(2) has its class, and only the answer that no client waits lowers the accept flag
 //!   (`unaccepted_of`, `not_accepted`: `flag`). A lack lasts until that answer or a connection (`starved_after`).

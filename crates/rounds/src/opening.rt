@@ -1,11 +1,12 @@
 //! Opens an accepted connection.
-ghost use Rattle.std.specs.{Prelude.{◌≡◌, ◌+◌, ◌<◌, ◌≤◌, [], ◌∷◌, ◌++◌, drop, length, Err, Some, None, ◌⊎◌, IfOk, IfErr, OnOk, OnErr, OnSome, IfSome, IsNone, slice_get, slice_index}, Net.{Addr.ipv4_octets, Socket.{v4_ip, v4_port}}};
-ghost use Rattle.claims.specs.Seats.{HoldsNothing, OnlyAt};
+ghost use Rattle.std.specs.Prelude.{◌≡◌, ◌+◌, ◌<◌, ◌≤◌, [], ◌∷◌, ◌++◌, drop, length, Err, Some, None, ◌⊎◌, IfOk, IfErr, OnOk, OnErr, OnSome, IfSome, IsNone, slice_get, slice_index};
+ghost use Rattle.claims.specs.Seats.{Adds, HoldsNothing, OnlyAt};
 ghost use Rattle.relay_core.specs.{Pairs.fresh, Proxy.proxy_line};
-ghost use Rattle.rounds.specs.{Openings.{lacks, lead_of, next_in, Between, DropCounted, DropLogged, DropsFor, Fate, IsFresh, IsNext, LeadGiven, LetGo, Naming, OneAccepted, OnlyOpened, OpeningLogged, Opens, OpensFresh, Placed, Putting, Registered, SameQueues, Started, TriedOnce, TriesMade, of_end}, Pollers.AreGenerations};
+ghost use Rattle.rounds.specs.{Openings.{lacks, lead_of, next_in, Between, DropCounted, DropLogged, DropsFor, Fate, IsFresh, IsLost, IsNext, IsOpened, LeadGiven, Naming, OneAccepted, OnlyOpened, OpeningLogged, OpensFresh, Putting, Registered, SameQueues, Started, TriedOnce, TriesMade, of_end, with_slot}, Pollers.AreGenerations};
 ghost use Rattle.dispatch.specs.{Acts.{AreMade, placing}, Posts.{HoldsOnly, IsWorn}, Hands.ticket_room};
 ghost use Rattle.token.specs.Names.{last_generation};
 ghost use Rattle.dispatch.specs.Acts as act;
+ghost use Rattle.claims.specs.declared.view.Exchange.TheVariants as exchange;
 ghost use Rattle.token.specs.declared.side.Side.TheVariants as side;
 
 use crate::dropping::Dropped;
@@ -19,7 +20,7 @@ use relay_log::{
     Cause, ClientsAt, Gone, Known, Logs, Why, log_gone, log_open, log_peer, logs_gone,
 };
 use std::alloc::{AllocError, Global};
-use std::net::{SocketAddr, SocketAddrV4};
+use std::net::SocketAddr;
 use std::sync::Wait;
 use token::{Side, Token, next_gen};
 
@@ -68,14 +69,12 @@ pub fn open<F: Front + Counting, A: Moves<F>, R: Wait + Logs>(
     ensures between { Between shared.now.claims own.new poller.new }
     ensures counted { IfSome (slice_get own.old.hand.slots 0) (λ slot. Fate slot
         (OpeningLogged (R.logged rt.now) F.counted (next_in poller.old slot)
-        × OpensFresh A.moved (Naming A.named A.made) (F.may_tell client) poller.old.opening poller.old.second
-        (next_in poller.old slot) acts.old acts.new)
+        × OpensFresh A.moved (Naming A.named A.made) (F.may_tell client) poller.old (next_in poller.old slot) acts.old acts.new)
         (DropCounted F.counted F.lacked slot)
         (λ made. AreMade (Naming A.named A.made (next_in poller.old slot)) slot made acts.old acts.new)
         poller.old poller.new own.old.seat own.new.seat) }
     ensures done { IsWorn own.old.seat
-        ⊎ OneAccepted (TriesMade (Naming A.named A.made)
-        (Opens A.moved (Naming A.named A.made) F.may_tell poller.old.opening poller.old.second) acts.old acts.new)
+        ⊎ OneAccepted (TriesMade A.moved A.named A.made F.may_tell poller.old acts.old acts.new)
         poller.old poller.new own.old own.new }
     ensures ready { own.new.ready ≡ own.old.ready }
     ensures poller { OnlyOpened poller.old poller.new }
@@ -148,16 +147,8 @@ fn prepare<F: Front, A: Moves<F>, N: Log>(
 /// is the last.
 fn next_names(table: &[u64], slot: usize) -> Option<Names>
     requires { AreGenerations table.now }
-    ensures client { IfSome result (λ names. names.client ≡ record {
-      slot = slot;
-      side = Side.Client;
-      generation = slice_index table.now slot + 1;
-    }) }
-    ensures target { IfSome result (λ names. names.target ≡ record {
-      slot = slot;
-      side = Side.Target;
-      generation = slice_index table.now slot + 1;
-    }) }
+    ensures client { IfSome result (λ names. names.client
+        ≡ record { slot = slot; side = Side.Client; generation = slice_index table.now slot + 1 }) }
     ensures inside { OnSome result (slot < length table.now) }
     ensures none { IsNone result → slot ≤ 32767 → slot < length table.now → slice_index table.now slot ≡ last_generation }
 {
@@ -187,37 +178,24 @@ fn connect<F: Front, A: Moves<F>, N: Log>(
     let second = poller.second;
     match reach(rt, alloc, acts, poller, &mut client, names) {
         Ok((pair, target)) => {
+            let (from, error) = (F::peer(&client), client.error());
             let berth = Berth {
                 pair,
                 second,
                 client,
                 target,
             };
-            boxed::<F, N>(rt, alloc, clients, berth)
+            match moved_to_heap(alloc, berth) {
+                Ok(boxed) => Ok(boxed),
+                Err(refused) => {
+                    let cause = Cause::from(refused);
+                    log_unopened(rt, clients, from, error, cause);
+                    Err(cause)
+                }
+            }
         }
         Err(cause) => {
             log_unopened(rt, clients, F::peer(&client), client.error(), cause);
-            Err(cause)
-        }
-    }
-}
-
-/// Moves a berth to the heap. A refusal closes both sockets.
-fn boxed<F: Front, N: Log>(
-    rt: &N,
-    alloc: Global,
-    clients: ClientsAt,
-    berth: Berth<F::Client, F::Target>,
-) -> Result<Box<Berth<F::Client, F::Target>>, Cause>
-    ensures same { IfOk result (λ boxed. boxed.value ≡ berth) }
-    ensures memory { IfErr result (λ cause. cause ≡ Cause.Memory) }
-{
-    let (from, error) = (F::peer(&berth.client), berth.client.error());
-    match moved_to_heap(alloc, berth) {
-        Ok(boxed) => Ok(boxed),
-        Err(refused) => {
-            let cause = Cause::from(refused);
-            log_unopened(rt, clients, from, error, cause);
             Err(cause)
         }
     }
@@ -277,21 +255,12 @@ fn lead(alloc: Global, proxy: bool, route: &Route) -> Result<Vec<u8>, Cause>
         return Ok(Vec::new(alloc));
     }
     match (route.client, route.accepted) {
-        (Some(client), Some(accepted)) => line(alloc, client, accepted),
+        (Some(client), Some(accepted)) => {
+            let (source, dest) = (client.ip().octets(), accepted.ip().octets());
+            Ok(proxy_line(alloc, source, client.port(), dest, accepted.port())?)
+        }
         _ => Err(Cause::Address),
     }
-}
-
-/// The PROXY line for this client, which was accepted on that address.
-fn line(alloc: Global, client: SocketAddrV4, accepted: SocketAddrV4) -> Result<Vec<u8>, Cause>
-    ensures line { IfOk result (λ line. line.items ≡ proxy_line (ipv4_octets (v4_ip client)) (v4_port client)
-        (ipv4_octets (v4_ip accepted)) (v4_port accepted)) }
-    ensures short { IfOk result (λ line. length line.items ≤ 107) }
-    ensures refused { IfErr result (λ cause. cause ≡ Cause.Memory) }
-{
-    let (source, dest) = (client.ip().octets(), accepted.ip().octets());
-    let line = proxy_line(alloc, source, client.port(), dest, accepted.port())?;
-    Ok(line)
 }
 
 /// Logs whose connection could not be opened, and why.
@@ -334,11 +303,14 @@ fn place<F: Front + Counting, A: Moves<F>, R: Wait + Logs>(
     requires next { IsNext poller.old ticket }
     requires room { 1 ≤ ticket_room own.old.hand }
     ensures between { Between shared.now.claims own.new poller.new }
-    ensures placed { Placed (λ t. OpeningLogged (R.logged rt.now) F.counted t
-        × AreMade (Putting A.moved A.made berth.value) ticket.slot placing acts.old acts.new)
-        (λ made. AreMade A.made ticket.slot made acts.old acts.new)
+    ensures done { IsWorn own.old.seat ⊎ OneAccepted
         (TriedOnce (λ t. AreMade (Putting A.moved A.made berth.value) t.slot placing)
-        (λ t. AreMade A.made t.slot (act.Adopt ∷ [])) ticket acts.old acts.new) ticket poller.old poller.new own.old own.new }
+        (λ t. AreMade A.made t.slot (act.Adopt ∷ [])) ticket acts.old acts.new)
+        poller.old poller.new (with_slot ticket.slot own.old) own.new }
+    ensures counted { (IsOpened poller.old poller.new × (OpeningLogged (R.logged rt.now) F.counted ticket
+        × AreMade (Putting A.moved A.made berth.value) ticket.slot placing acts.old acts.new))
+        ⊎ (IsLost poller.old poller.new × Adds ticket.slot (exchange.NotFree ∷ []) own.old.seat own.new.seat
+        × AreMade A.made ticket.slot (act.Adopt ∷ []) acts.old acts.new) }
     ensures poller { OnlyOpened poller.old poller.new }
     ensures ready { own.new.ready ≡ own.old.ready }
 {
@@ -374,7 +346,8 @@ fn find_via<W: Settle>(rt: &impl Log, clients: ClientsAt, target: &W) -> Option<
     }
 }
 
-/// Discards a held slot's notes, puts its connection into place, posts the note that starts it, and releases the slot.
+/// Discards a held slot's notes, puts its connection into place, posts the note that starts it, and releases the slot. If
+/// that answers Wake, the ticket is in hand.
 fn start<F: Front, A: Moves<F>, R: Wait>(
     rt: &R,
     acts: &mut A,
@@ -391,7 +364,6 @@ fn start<F: Front, A: Moves<F>, R: Wait>(
     ensures idle { HoldsNothing own.new.seat }
     ensures only { OnlyAt ticket.slot own.old.seat own.new.seat }
     ensures started { IsWorn own.old.seat ⊎ Started ticket own.old own.new }
-    ensures slots { own.new.hand.slots ≡ own.old.hand.slots }
     ensures queues { SameQueues own.old own.new }
 {
     acts.discard(&shared.claims, &mut own.seat, ticket.slot);
@@ -399,22 +371,8 @@ fn start<F: Front, A: Moves<F>, R: Wait>(
     let _ = acts.put_in(rt, &shared.places, &own.seat, ticket.slot, berth);
     // A holder's own post never answers Wake: its release does. A worn seat's changes nothing.
     let _ = acts.post(&shared.claims, &mut own.seat, ticket.slot);
-    let_go(acts, shared, own, ticket);
-}
-
-/// Releases the held slot, and keeps the ticket in hand if notes wait.
-#[tactic(auto, using(crate::proofs::Rounds::holding))]
-fn let_go<F: Front, A: Acts>(acts: &mut A, shared: &Shared<F, A>, own: &mut Own, ticket: Ticket)
-    requires same { own.old.seat.table ≡ shared.now.claims }
-    requires inside { ticket.slot < shared.now.claims.words }
-    requires holder { HoldsOnly ticket.slot own.old.seat }
-    requires room { length own.old.hand.tickets < own.old.hand.capacity }
-    ensures made { A.made act.Release ticket.slot acts.old acts.new }
-    ensures idle { HoldsNothing own.new.seat }
-    ensures left { LetGo ticket own.old own.new }
-    ensures queues { SameQueues own.old own.new }
-{
-    if acts.release(&shared.claims, &mut own.seat, ticket.slot) == Released::Wake {
-        own.hand.keep_ticket(ticket);
+    match acts.release(&shared.claims, &mut own.seat, ticket.slot) {
+        Released::Wake => own.hand.keep_ticket(ticket),
+        Released::Quiet => {}
     }
 }

@@ -1,5 +1,5 @@
 //! What a poller keeps between its rounds.
-ghost use Rattle.std.specs.{Prelude.{◌≡◌, ◌||◌, if◌then◌else◌, ◌-◌, ◌<◌, ◌≤◌, ◌↔◌, length, IfOk, IfErr, OnOk, OnErr, IsTrue, slice_set, true, false}, IoError.error_kind};
+ghost use Rattle.std.specs.{Prelude.{◌≡◌, ◌||◌, if◌then◌else◌, ◌-◌, ◌<◌, ◌≤◌, ◌↔◌, [], length, IfOk, IfErr, OnOk, OnErr, IsTrue, slice_set, true, false}, IoError.error_kind};
 ghost use Rattle.token.specs.Names.{last_generation};
 ghost use Rattle.dispatch.specs.{Splits.IsIn, Told.unaccepted_of};
 ghost use Rattle.rounds.specs.{Episodes.{all_logged_at, opened_after, AreLogged}, Openings.{fresh_poller, DropLogged}, Pollers.{AreGenerations, IsOwnTable, HasOpenedAll, counted_up, max_accepts}};
@@ -175,6 +175,12 @@ impl<F: Front> Poller<F> {
         ensures few { length result.now ≤ MAX_BATCH }
     {
         self.batch.as_slice()
+    }
+
+    pub(crate) fn clear_batch(&mut self)
+        ensures { self.new ≡ record self.old { batch = [] } }
+    {
+        self.batch.clear();
     }
 
     /// Raises the accept flag if the listener was reported.

@@ -1,7 +1,7 @@
 //! A round of the poller.
-ghost use Rattle.std.specs.{Prelude.{◌≡◌, ◌⊎◌, ◌+◌, ◌-◌, ◌<◌, ◌≤◌, ◌↔◌, [], length, Err, IsNone, IsOk, IfErr, IsTrue, MatchResult, Contains, true, false}, IoError.error_kind, declared.io.ErrorKind.TheVariants.Interrupted};
+ghost use Rattle.std.specs.{Prelude.{◌≡◌, ◌⊎◌, ◌+◌, ◌-◌, ◌<◌, ◌≤◌, ◌↔◌, [], length, Err, IsOk, IfErr, IsTrue, MatchResult, Contains, true, false}, IoError.error_kind, declared.io.ErrorKind.TheVariants.Interrupted};
 ghost use Rattle.ready.specs.Steps.{HeldOnce};
-ghost use Rattle.rounds.specs.{Acts.{Delivered, PostsMade, all_reported}, Episodes.{episodes_after, flag_after, starved_after}, Openings.{AreIn, Between, OnlyTook, AcceptDone, OneAccepted, OnlyAccepted, Naming, Opens, TriesMade}, Pollers.{HasOpenedAll, max_accepts, spare_room}, Rounds.{AcceptEnded, EndedEarly, HasLeft, IsFull, IsOver, ListensNoMore, ListensToOpen, Looked, LooksForAll, MayAccept, MayNotWait, MayWait, MayWaitBriefly, NoSlot, NoneToAccept, NotBegun, OnlyAnswered, OnlyListens, RoundEnded, RoundInOrder, RoundKeeps, RoundRefused, TookAll, WaitedAsMay, WaitsAsMay}};
+ghost use Rattle.rounds.specs.{Acts.{all_reported}, Episodes.{episodes_after, flag_after, starved_after}, Openings.{Between, OnlyTook, AcceptDone, OneAccepted, TriesMade}, Pollers.{HasOpenedAll, max_accepts, spare_room}, Rounds.{AcceptEnded, AllPosted, EndedEarly, IsFull, IsOver, ListensNoMore, ListensToOpen, Looked, LooksForAll, MayAccept, NoSlot, NoneToAccept, NotBegun, OnlyAnswered, OnlyListens, RoundEnded, RoundInOrder, RoundKeeps, RoundRefused, TookAll, WaitedAsMay, WaitsAsMay}};
 ghost use Rattle.dispatch.specs.{Hands.ticket_room, Posts.IsWorn, Told.{unaccepted_of, Waited}};
 
 use crate::delivering::deliver_by;
@@ -9,7 +9,7 @@ use crate::limits::SPARE_ROOM;
 use crate::opening::open;
 use crate::poller::Poller;
 use crate::sweeping::{is_due, keep_time};
-use claims::{ClaimSeat, Claims};
+use claims::Claims;
 use dispatch::{
     Acts, Clock, Front, Hand, LISTENER, MAX_ACCEPTS, MAX_BATCH, Moves, Own, Shared, Timing,
     Unaccepted, Waiting, unaccepted_of,
@@ -55,15 +55,15 @@ pub fn poller_round<F: Front, A: Moves<F>, C: Clock, R: Wait + Log>(
     ensures between { Between shared.now.claims own.new poller.new }
     ensures early { EndedEarly shared.now.claims.words own.old → IsOk result × NotBegun poller.old poller.new own.old own.new }
     ensures waits { EndedEarly shared.now.claims.words own.old ⊎ WaitedAsMay timing.now.limit poller.old poller.new own.old }
-    ensures made { RoundInOrder A.made (Naming A.named A.made)
-        (Opens A.moved (Naming A.named A.made) F.may_tell poller.new.opening poller.new.second) poller.old poller.new own.old own.new acts.old acts.new }
+    ensures made { RoundInOrder A.moved A.named A.made F.may_tell poller.old poller.new own.old own.new acts.old acts.new }
     ensures none { EndedEarly shared.now.claims.words own.old ⊎ (result ≡ Err ServerFault.Poll) → acts.new ≡ acts.old }
     ensures ended { EndedEarly shared.now.claims.words own.old ⊎ ((result ≡ Err ServerFault.Poll)
         ⊎ RoundEnded result (C.tells timing.now.clock.now) F.gave_none timing.now.limit poller.old poller.new own.new) }
     ensures keeps { RoundKeeps timing.now.limit poller.old poller.new own.old own.new }
     ensures refused { IfErr result (λ fault. RoundRefused fault poller.old poller.new own.old own.new) }
 {
-    if !begin(&shared.claims, &own.hand, poller) {
+    if !has_room(&shared.claims, &own.hand) {
+        poller.clear_batch();
         return Ok(());
     }
     if !look(rt, own, poller, timing.limit) {
@@ -74,23 +74,15 @@ pub fn poller_round<F: Front, A: Moves<F>, C: Clock, R: Wait + Log>(
     accept(rt, alloc, acts, shared, own, poller);
     poller.log_counted(rt);
     take_back(rt, own, poller);
-    unworn(&own.seat).ok_or(ServerFault::Worn)
+    let is_worn = own.seat.is_worn();
+    (!is_worn).then_some(()).ok_or(ServerFault::Worn)
 }
 
-/// None if the seat has posted 2^56 times.
-fn unworn(seat: &ClaimSeat) -> Option<()>
-    ensures { IsNone result ↔ IsWorn seat.now }
-{
-    if seat.is_worn() { None } else { Some(()) }
-}
-
-/// Empties the batch. Returns whether the hand has room for a ticket of each slot and 512 more.
-fn begin<F: Front>(claims: &Claims, hand: &Hand, poller: &mut Poller<F>) -> bool
-    ensures poller { poller.new ≡ record poller.old { batch = [] } }
+/// Whether the hand has room for a ticket of each slot and 512 more.
+fn has_room(claims: &Claims, hand: &Hand) -> bool
     ensures early { result ≡ false → ticket_room hand.now < spare_room + claims.now.words }
     ensures room { result ≡ true → spare_room + claims.now.words ≤ ticket_room hand.now }
 {
-    poller.batch.clear();
     let slots = claims.slots();
     let room = hand.room();
     room >= SPARE_ROOM && room - SPARE_ROOM >= slots
@@ -111,7 +103,7 @@ fn look<F: Front, R: Wait + Log>(rt: &R, own: &mut Own, poller: &mut Poller<F>, 
 {
     listen_to_open(poller);
     let wait = may_wait(rt, own, poller, limit);
-    poll(rt, own, poller, limit, wait)
+    poll(rt, poller, wait)
 }
 
 /// Has the front stop listening if the poller has opened all that it may.
@@ -128,9 +120,8 @@ fn listen_to_open<F: Front>(poller: &mut Poller<F>)
 fn may_wait<F: Front, R: Wait>(rt: &R, own: &mut Own, poller: &Poller<F>, limit: u64) -> Waiting
     requires room { 1 ≤ ticket_room own.old.hand }
     ensures took { OnlyTook own.old own.new }
-    ensures reason { result ≡ Waiting.Long → MayWait limit poller.now own.new × (own.new ≡ own.old) }
-    ensures brief { result ≡ Waiting.Brief → MayWaitBriefly limit poller.now own.new }
-    ensures haste { result ≡ Waiting.No → MayNotWait limit poller.now own.new }
+    ensures reason { WaitsAsMay result limit poller.now own.new }
+    ensures still { result ≡ Waiting.Long → own.new ≡ own.old }
 {
     if is_due(poller, limit) || own.hand.tickets() > 0 {
         Waiting::No
@@ -144,14 +135,7 @@ fn may_wait<F: Front, R: Wait>(rt: &R, own: &mut Own, poller: &Poller<F>, limit:
 }
 
 /// Asks for reports. After a signal the batch is empty. Returns false if the wait failed.
-fn poll<F: Front, R: Log>(
-    rt: &R,
-    _own: &Own,
-    poller: &mut Poller<F>,
-    _limit: u64,
-    wait: Waiting,
-) -> bool
-    requires wait { WaitsAsMay wait _limit poller.old _own.now }
+fn poll<F: Front, R: Log>(rt: &R, poller: &mut Poller<F>, wait: Waiting) -> bool
     requires closed { ListensToOpen poller.old }
     ensures same { Looked poller.old poller.new }
     ensures waited { Waited wait poller.old.seen poller.new.seen }
@@ -188,13 +172,9 @@ fn deliver_batch<F: Front, A: Acts>(
     requires room { length poller.old.batch ≤ ticket_room own.old.hand }
     ensures between { Between shared.now.claims own.new poller.new }
     ensures poller { poller.new ≡ record poller.old { accepting = poller.new.accepting } }
-    ensures made { PostsMade A.made (all_reported poller.old.table poller.old.batch) acts.old acts.new }
-    ensures delivered { Delivered poller.old.table poller.old.batch own.old.seat own.new.seat own.old.hand own.new.hand }
-    ensures flag { IsWorn own.new.seat
-        ⊎ (IsTrue poller.new.accepting ↔ (IsTrue poller.old.accepting ⊎ Contains poller.old.batch 0)) }
-    ensures own { AreIn poller.old.part (all_reported poller.old.table poller.old.batch) }
-    ensures ready { own.new.ready ≡ own.old.ready }
-    ensures free { own.new.free ≡ own.old.free }
+    ensures posts { AllPosted A.made poller.old.part (all_reported poller.old.table poller.old.batch)
+        own.old own.new acts.old acts.new }
+    ensures flag { poller.new.accepting ≡ false → (poller.old.accepting ≡ false) × (Contains poller.old.batch 0 → ⊥) }
 {
     let listener = deliver_by(
         acts,
@@ -204,7 +184,7 @@ fn deliver_batch<F: Front, A: Acts>(
         poller.batch(),
         &mut own.hand,
     );
-    poller.raise_accept_flag(listener.unwrap_or(false));
+    poller.raise_accept_flag(listener);
 }
 
 /// If a client waits for a slot, the poller is full from now on, until accept(2) answers that nobody waits. If all
@@ -219,7 +199,6 @@ fn log_if_full<F: Front, A, R: Wait + Log>(
     ensures took { OnlyTook own.old own.new }
     ensures poller { poller.new ≡ record poller.old { episodes = record poller.old.episodes { full = poller.new.episodes.full } } }
     ensures full { poller.new.episodes.full ≡ true → (poller.old.episodes.full ≡ true) ⊎ IsFull poller.new own.new }
-    ensures kept { poller.old.episodes.full ≡ true → poller.new.episodes.full ≡ true }
     ensures found { IsFull poller.new own.new → poller.new.episodes.full ≡ true }
 {
     if poller.episodes.full {
@@ -238,8 +217,7 @@ fn log_if_full<F: Front, A, R: Wait + Log>(
 fn is_full<F: Front, R: Wait>(rt: &R, own: &mut Own, poller: &Poller<F>) -> bool
     requires room { 1 ≤ ticket_room own.old.hand }
     ensures took { OnlyTook own.old own.new }
-    ensures full { result ≡ true → IsFull poller.now own.new }
-    ensures found { IsFull poller.now own.new → result ≡ true }
+    ensures full { IsTrue result ↔ IsFull poller.now own.new }
 {
     poller.batch().contains(&LISTENER) && !poller.has_opened_all() && !has_slot(rt, own)
 }
@@ -257,14 +235,11 @@ fn accept<F: Front, A: Moves<F>, R: Wait + Log>(
     requires between { Between shared.now.claims own.old poller.old }
     requires room { max_accepts ≤ ticket_room own.old.hand }
     ensures between { Between shared.now.claims own.new poller.new }
-    ensures done { AcceptDone (TriesMade (Naming A.named A.made)
-        (Opens A.moved (Naming A.named A.made) F.may_tell poller.old.opening poller.old.second) acts.old acts.new)
+    ensures done { AcceptDone (TriesMade A.moved A.named A.made F.may_tell poller.old acts.old acts.new)
         poller.old poller.new own.old own.new }
     ensures ended { AcceptEnded poller.new own.new }
     ensures answered { OnlyAnswered F.gave_none poller.old poller.new }
-    ensures still { IsWorn own.old.seat → own.new.seat ≡ own.old.seat }
-    ensures ready { own.new.ready ≡ own.old.ready }
-    ensures poller { OnlyAccepted poller.old poller.new }
+    ensures still { IsWorn own.old.seat → IsWorn own.new.seat }
 {
     log_if_full(rt, shared, own, poller);
     poller.reset_tries();
@@ -302,15 +277,12 @@ fn accept_next<F: Front, A: Moves<F>, R: Wait + Log>(
     requires room { 1 ≤ ticket_room own.old.hand }
     requires may { MayAccept poller.old own.old }
     ensures between { Between shared.now.claims own.new poller.new }
-    ensures done { OneAccepted (TriesMade (Naming A.named A.made)
-        (Opens A.moved (Naming A.named A.made) F.may_tell poller.old.opening poller.old.second) acts.old acts.new)
+    ensures done { OneAccepted (TriesMade A.moved A.named A.made F.may_tell poller.old acts.old acts.new)
         poller.old poller.new own.old own.new }
-    ensures still { IsWorn own.old.seat → own.new.seat ≡ own.old.seat }
-    ensures ready { own.new.ready ≡ own.old.ready }
+    ensures still { IsWorn own.old.seat → IsWorn own.new.seat }
     ensures tries { result ≡ true → poller.new.tries ≡ poller.old.tries - 1 }
-    ensures ended { result ≡ false → (poller.new.starved ≡ true) ⊎ (HasLeft poller.new ⊎ IsWorn own.new.seat) }
+    ensures ended { result ≡ false → AcceptEnded poller.new own.new }
     ensures answered { OnlyAnswered F.gave_none poller.old poller.new }
-    ensures poller { OnlyAccepted poller.old poller.new }
 {
     if own.seat.is_worn() {
         return false;
@@ -331,7 +303,6 @@ fn accept_next<F: Front, A: Moves<F>, R: Wait + Log>(
 fn has_slot<R: Wait>(rt: &R, own: &mut Own) -> bool
     requires room { 1 ≤ ticket_room own.old.hand }
     ensures took { OnlyTook own.old own.new }
-    ensures had { 1 ≤ length own.old.hand.slots → (result ≡ true) × (own.new ≡ own.old) }
     ensures slot { result ≡ true → 1 ≤ length own.new.hand.slots }
     ensures none { result ≡ false → NoSlot own.new × (own.new ≡ own.old) }
 {
@@ -341,9 +312,7 @@ fn has_slot<R: Wait>(rt: &R, own: &mut Own) -> bool
 fn take_one<R: Wait>(rt: &R, own: &mut Own) -> bool
     requires room { length own.old.hand.slots < own.old.hand.capacity }
     ensures took { OnlyTook own.old own.new }
-    ensures slot { result ≡ true → 1 ≤ length own.new.hand.slots }
-    ensures queue { result ≡ false → HeldOnce 0 own.new.free.history }
-    ensures none { result ≡ false → own.new ≡ own.old }
+    ensures none { result ≡ false → HeldOnce 0 own.new.free.history × (own.new ≡ own.old) }
     ensures more { result ≡ true → length own.new.hand.slots ≡ length own.old.hand.slots + 1 }
 {
     match own.free.try_take(rt) {
@@ -410,7 +379,7 @@ fn take_back<F: Front, R: Wait>(rt: &R, own: &mut Own, poller: &mut Poller<F>)
     ensures took { OnlyTook own.old own.new }
     ensures poller { OnlyListens (record poller.old { over = poller.new.over }) poller.new }
     ensures closed { ListensToOpen poller.new }
-    ensures unlimited { (HasOpenedAll poller.old → ⊥) → (own.new ≡ own.old) × (poller.new ≡ poller.old) }
+    ensures left { ((own.new ≡ own.old) × (poller.new ≡ poller.old)) ⊎ HasOpenedAll poller.new }
     ensures over { poller.new.over ≡ true → (poller.old.over ≡ true) ⊎ IsOver poller.new own.new }
     ensures all { LooksForAll poller.new own.new }
 {

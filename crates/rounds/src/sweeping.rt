@@ -1,8 +1,8 @@
 //! A round's sweep, and its second.
-ghost use Rattle.std.specs.{Prelude.{◌≡◌, ◌<◌, ◌≤◌, [], if◌then◌else◌, length, IfSome}, List.cons_option};
+ghost use Rattle.std.specs.Prelude.{◌≡◌, ◌<◌, ◌≤◌, [], if◌then◌else◌, length, IfSome};
 ghost use Rattle.claims.specs.Seats.{HoldsNothing};
-ghost use Rattle.rounds.specs.{Acts.{ArePosted, PostsMade, all_opened, is_due, opened_in, sweep_of}, Openings.{AreIn, Between, SameQueues}, Rounds.SweepMade};
-ghost use Rattle.dispatch.specs.{Hands.ticket_room, Posts.IsWorn};
+ghost use Rattle.rounds.specs.{Acts.{ArePosted, PostsMade, all_opened, is_due, last_in, sweep_of, swept_after}, Openings.Between, Rounds.AllPosted};
+ghost use Rattle.dispatch.specs.Hands.{ticket_room};
 
 use crate::delivering::post_note;
 use crate::poller::Poller;
@@ -24,12 +24,9 @@ pub(crate) fn keep_time<F: Front, A: Acts, C: Clock>(
     requires room { length poller.old.table ≤ ticket_room own.old.hand }
     ensures between { Between shared.now.claims own.new poller.new }
     ensures poller { poller.new ≡ record poller.old { second = poller.new.second; swept = poller.new.swept } }
-    ensures made { PostsMade A.made (sweep_of poller.old poller.new) acts.old acts.new }
+    ensures posts { AllPosted A.made poller.old.part (sweep_of poller.old poller.new) own.old own.new acts.old acts.new }
     ensures told { C.tells timing.now.clock.now poller.new.second }
-    ensures swept { SweepMade timing.now.limit poller.old poller.new own.old own.new }
-    ensures still { IsWorn own.old.seat → own.new.seat ≡ own.old.seat }
-    ensures own { AreIn poller.old.part (sweep_of poller.old poller.new) }
-    ensures queues { SameQueues own.old own.new }
+    ensures swept { poller.new.swept ≡ swept_after timing.now.limit poller.old.second poller.old.swept }
 {
     let due = is_due(poller, timing.limit);
     sweep(
@@ -66,8 +63,6 @@ fn sweep<A: Acts>(
     requires room { length table.now ≤ ticket_room hand.old }
     ensures made { PostsMade A.made (if due then all_opened table.now else []) acts.old acts.new }
     ensures posted { ArePosted (if due then all_opened table.now else []) seat.old seat.new hand.old hand.new }
-    ensures still { IsWorn seat.old → seat.new ≡ seat.old }
-    ensures idle { HoldsNothing seat.new }
 {
     if !due {
         return;
@@ -80,7 +75,7 @@ fn sweep<A: Acts>(
 /// The last connection that was opened in a slot, if one was.
 fn last_in(table: &[u64], slot: usize) -> Option<Ticket>
     requires { slot < length table.now }
-    ensures opened { cons_option result [] ≡ opened_in table.now slot }
+    ensures opened { result ≡ last_in table.now slot }
     ensures inside { IfSome result (λ ticket. ticket.slot < length table.now) }
 {
     let generation = table[slot];

@@ -1,26 +1,23 @@
-use Rattle.std.proofs.Common.{rules, ◌≡◌, refl, inl, inr, arith, sym, ◌∙◌}
-use Rattle.rounds.{specs.Openings.{Dropped, Naming, Spent, next_in}, proofs.Rounds.{between_still, no_names, no_tries, opened_never, opened_not, placed_fate, placed_there, some_first, still, tried_once}}
-use Rattle.ready.specs.declared.ticket.Ticket.{Ticket}
+use Rattle.std.proofs.Common.{rules, ◌≡◌, ◌+◌, refl, inl, inr, sym, ◌∙◌, slice_index}
+use Rattle.rounds.{specs.Openings.{Dropped, Naming, Spent}, proofs.Rounds.{between_still, fate_by, no_names, no_tries, opened_never, opened_not, placed_there, some_first, tried_once}}
 use Rattle.rounds.proofs.opening.open.Goals as goal
 
 pub returns-in_default : goal.returns-in_default
 returns-in_default g c = absurd (some_first c.args.own.now.hand.slots c.requires.slot (sym c.take_slot.ensures.value ∙ c.in_default.is))
 
 pub returns-then-not-has-clause-done : goal.returns-then-not-has-clause-done
-returns-then-not-has-clause-done g c = inr (record {
-  done = opened_never c.take_slot.ensures.left no_tries (sym c.take_slot.ensures.value ∙ c.in-Some.is) (inl (search rules)) c.count_lost-then-not-has.ensures;
-  room = rw c.take_slot.ensures.left (omega arith);
-})
+returns-then-not-has-clause-done g c =
+    inr (opened_never c.take_slot.ensures.left (sym c.take_slot.ensures.value ∙ c.in-Some.is) no_tries (inl (search rules)) c.count_lost-then-not-has.ensures)
 
 pub returns-in_default-next_names : goal.returns-in_default-next_names
 returns-in_default-next_names g c =
     let first = sym c.take_slot.ensures.value ∙ c.in-Some.is in
-    let spent = no_names c.args.poller.now.table c.in-Some.slot (rw c.table.ensures.table at (c.in_default-next_names.ensures.none refl)) in
+    let spent = no_names c.args.poller.now c.in-Some.slot (rw c.table.ensures.table at (c.in_default-next_names.ensures.none refl)) in
     let lost = c.count_lost-in_default-next_names.ensures in
     record {
       between = between_still c.requires.between refl (rw lost);
-      counted = rw (first, lost) (Spent (refl, refl, refl) (inr spent) refl);
-      done = inr (record { done = opened_never c.take_slot.ensures.left no_tries first (inr spent) lost; room = rw c.take_slot.ensures.left (omega arith) });
+      counted = rw (first, lost) (Spent (refl, refl, refl) spent refl);
+      done = inr (opened_never c.take_slot.ensures.left first no_tries spent lost);
       ready = refl;
       poller = rw lost;
     }
@@ -34,12 +31,8 @@ returns-in-Err g c =
       between = between_still c.requires.between refl (rw logged);
       counted = rw (first, logged) (Dropped c.in-Err.dropped (refl, refl, refl) (c.count_dropped.ensures, c.in-Err.ensures.lacked)
           acts);
-      done = inr (record {
-        done = opened_not c.take_slot.ensures.left (record { acts = (c.prepare.new.acts, record { acts = acts }, refl) }) first
-            (rw c.in-Some-next_names.ensures.client at c.in-Err.ensures.failed)
-            (rw logged (still c.args.poller.now)) (search rules) refl;
-        room = rw (c.in-Err.ensures.failed, c.take_slot.ensures.left) (omega arith);
-      });
+      done = inr (opened_not c.take_slot.ensures.left first (record { acts = (c.prepare.new.acts, record { acts = acts }, refl) })
+          (rw c.in-Some-next_names.ensures.client at c.in-Err.ensures.failed) (rw logged assumption) (search rules));
       ready = refl;
       poller = rw logged;
     }
@@ -48,18 +41,24 @@ pub returns-in-Ok : goal.returns-in-Ok
 returns-in-Ok g c =
     let first = sym c.take_slot.ensures.value ∙ c.in-Some.is in
     let hand = c.in-Ok.ensures.prepared ∙ c.take_slot.ensures.left in
-    let registered = rw (c.in-Some-next_names.ensures.client, c.table.ensures.table) at c.in-Ok.ensures.acts in
-    let next : ◌≡◌ {A = Ticket} (record { slot = c.in-Some.slot; generation = c.generation-generation.result }) (next_in c.args.poller.now c.in-Some.slot) =
+    let next : c.generation-generation.result ≡ slice_index c.args.poller.now.table c.in-Some.slot + 1 =
     rw (c.generation-generation.ensures.value, c.in-Some-next_names.ensures.client, c.table.ensures.table) in
+    let registered = rw (c.in-Some-next_names.ensures.client, c.table.ensures.table) at c.in-Ok.ensures.acts in
     let fresh = rw (c.in-Some-next_names.ensures.client, c.table.ensures.table) at c.in-Ok.ensures.fresh in
     record {
       between = c.place.ensures.between;
-      counted = rw first (placed_fate c.in-Ok.ensures.same next
+      counted = rw first (fate_by (rw (c.in-Ok.ensures.same, next) at c.place.ensures.counted)
           (λ opened. (opened.0, (c.in-Ok.berth.value, fresh, (c.prepare.new.acts, registered, opened.1))))
-          (λ made. (c.prepare.new.acts, registered, made)) c.place.ensures.placed);
-      done = placed_there hand (tried_once (Naming g.A.Moves.named g.A.Acts.made) _ c.args.acts.now c.prepare.new.acts c.place.new.acts
-          (λ acts. (c.args.client, (c.in-Ok.berth.value, rw next fresh, (c.prepare.new.acts, rw next registered, acts))))
-          (λ acts. (c.prepare.new.acts, rw next registered, acts))) first c.in-Ok.ensures.same c.place.ensures.placed;
+          (λ made. (c.prepare.new.acts, registered, made)));
+      done = placed_there hand first (rw c.in-Ok.ensures.same at c.place.ensures.done) (λ tries tried. record {
+        acts = rw tried.once (
+          c.place.new.acts,
+          tried_once (Naming g.A.Moves.named g.A.Acts.made) _ c.args.acts.now c.prepare.new.acts c.place.new.acts
+              (λ acts. (c.args.client, (c.in-Ok.berth.value, rw next fresh, (c.prepare.new.acts, rw next registered, acts))))
+              (λ acts. (c.prepare.new.acts, rw next registered, acts)) tried,
+          refl,
+        );
+      });
       ready = c.place.ensures.ready;
       poller = rw (c.place.ensures.poller, c.in-Ok.ensures.same);
     }

@@ -1,7 +1,7 @@
 use Rattle.std.proofs.{Common.{◌∙◌, ◌∷◌, [], ap, arith, inl, inr, refl}, lemmas.List.length-set}
 use Rattle.claims.{specs.declared.view.Account.Account, proofs.Seats.{account_after, holds_nothing_again}}
 use Rattle.dispatch.{specs.Acts.{AreMade, Adopt, placing}, proofs.Holding.{holds_from}}
-use Rattle.rounds.{specs.{Acts.{SeatAct, opening}, Openings.Putting}, proofs.{Acts.{acts_one, try_held}, Rounds.{lost_one, opened_once}}}
+use Rattle.rounds.{specs.{Acts.{SeatAct, opening}, Openings.Putting}, proofs.{Acts.{acts_one, try_held}, Rounds.{counted_one, opened_once, times-append, none_opened}}}
 use Rattle.claims.specs.declared.view.Exchange.TheVariants as exchange
 use Rattle.rounds.proofs.opening.place.Goals as goal
 
@@ -18,16 +18,12 @@ returns-in-Adopted g c =
         idle = c.start.ensures.idle;
         sized = rw (told, counted, length-set) c.requires.between.sized;
       };
-      placed = record {
-        done = opened_once (λ noted. record { exchanges = opening change.0 noted; once = refl; acts = acts })
-            c.start.ensures.started c.requires.next change.1 c.start.ensures.queues (rw (told, counted));
-        counted = inl (
-          rw (told, counted) (refl, refl, refl),
-          ((c.log_open.ensures, c.count_opened.ensures.counted), acts),
-        );
-        free = c.start.ensures.queues.free;
-        slots = c.start.ensures.slots;
-      };
+      done = opened_once (λ noted. record { exchanges = opening change.0 noted; once = refl; acts = acts })
+          c.start.ensures.started c.requires.next change.1 c.start.ensures.queues (rw (told, counted));
+      counted = inl (
+        rw (told, counted) (refl, refl, refl),
+        ((c.log_open.ensures, c.count_opened.ensures.counted), acts),
+      );
       poller = rw (told, counted);
       ready = c.start.ensures.queues.ready;
     }
@@ -44,18 +40,16 @@ returns-in-NotFree g c =
             (ap (λ (a : Account). a.holds) (account_after _ _ _ _ change) ∙ c.requires.between.idle.nowhere c.args.ticket.slot);
         sized = rw c.count_lost.ensures c.requires.between.sized;
       };
-      placed = record {
-        done = inr (
-          inr (lost_one (c.args.ticket.slot ∷ []) (try ∷ [])
-              (record { exchanges = exchange.NotFree ∷ []; once = refl; acts = found }) c.count_lost.ensures (inr ([], refl, refl))
-              (c.args.poller.now.table, record { own = c.requires.next.own; next = c.requires.next.generation; entered = refl }, refl)
-              (try_held c.args.ticket) (acts_one try _ _ change) refl refl refl),
-          omega arith,
-        );
-        counted = inr (rw c.count_lost.ensures (refl, refl, refl), change, found);
-        free = refl;
-        slots = refl;
-      };
+      done = inr (record {
+        tries = try ∷ [];
+        acts = record { exchanges = exchange.NotFree ∷ []; once = refl; acts = found };
+        did = rw c.count_lost.ensures (none_opened (try ∷ []) (c.args.ticket.slot ∷ []) (c.args.ticket.slot ∷ []) (try_held c.args.ticket) (acts_one try _ _ change)
+            (c.args.poller.now.table, record { own = c.requires.next.own; next = c.requires.next.generation; entered = refl }, refl) refl refl
+            (counted_one _ c.args.poller.now.lost _ refl) (inr ([], refl, refl)) refl refl refl refl
+            (λ s. omega (arith, times-append s (c.args.ticket.slot ∷ []) c.args.own.now.hand.slots)));
+        room = omega arith;
+      });
+      counted = inr (rw c.count_lost.ensures (refl, refl, refl), change, found);
       poller = rw c.count_lost.ensures;
       ready = refl;
     }

@@ -1,6 +1,6 @@
 use Rattle.std.proofs.Common.{◌≡◌, ◌+◌, ◌≤◌}
 use Rattle.dispatch.specs.{Hands.ticket_room, Posts.IsWorn}
-use Rattle.rounds.specs.{Openings.{Between, AcceptDone, OnlyAccepted, Naming, Opens, TriesMade}, Rounds.OnlyAnswered}
+use Rattle.rounds.specs.{Openings.{Between, AcceptDone, TriesMade}, Rounds.OnlyAnswered}
 use Rattle.rounds.proofs.round.accept.Given as goal
 
 -- each try takes at most one ticket in hand
@@ -9,9 +9,7 @@ invariant-loop-try g l = record {
   between : Between l.shared.claims l.own l.poller;
   room : 4 ≤ l._try + ticket_room l.own.hand;
   tries : l._try + l.poller.tries ≡ 4;
-  done : AcceptDone (TriesMade (Naming g.A.Moves.named g.A.Acts.made) (Opens g.A.Moves.moved (Naming g.A.Moves.named g.A.Acts.made) g.F.Front.may_tell l.fn.poller.opening l.fn.poller.second)
-      l.fn.acts l.acts) l.fn.poller l.poller l.fn.own l.own;
-  poller : OnlyAccepted l.fn.poller l.poller;
-  still : IsWorn l.fn.own.seat → l.own.seat ≡ l.fn.own.seat;
+  done : AcceptDone (TriesMade g.A.Moves.moved g.A.Moves.named g.A.Acts.made g.F.Front.may_tell l.fn.poller l.fn.acts l.acts) l.fn.poller l.poller l.fn.own l.own;
+  still : IsWorn l.fn.own.seat → IsWorn l.own.seat;
   answered : OnlyAnswered g.F.Front.gave_none l.fn.poller l.poller;
 }

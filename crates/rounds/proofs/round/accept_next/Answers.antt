@@ -1,38 +1,22 @@
-use Rattle.std.proofs.Common.{arith, inl, inr, refl}
-use Rattle.rounds.proofs.Rounds.{accept_both, accept_none, accept_with, no_tries, answered_both, answered_none, not_worn, still, unless}
-use Rattle.rounds.specs.Openings.{Naming, Opens}
+use Rattle.std.proofs.Common.{inl, inr, refl}
+use Rattle.rounds.proofs.Rounds.{accept_none, no_tries, answered_both, answered_none, not_worn, once_after, unless}
 use Rattle.rounds.proofs.round.accept_next.Goals as goal
 
 pub returns-then-is_worn-clause-done : goal.returns-then-is_worn-clause-done
-returns-then-is_worn-clause-done g c = record { done = accept_none no_tries (still c.args.poller.now); room = omega arith }
+returns-then-is_worn-clause-done g c = accept_none no_tries assumption
 
 pub returns-then-leaves-clause-done : goal.returns-then-leaves-clause-done
-returns-then-leaves-clause-done g c = record { done = accept_none no_tries (rw c.leaves.ensures (still c.args.poller.now)); room = omega arith }
+returns-then-leaves-clause-done g c = accept_none no_tries (rw c.leaves.ensures assumption)
 
 pub returns-in-Err-clause-done : goal.returns-in-Err-clause-done
-returns-in-Err-clause-done g c = record {
-  done = accept_none no_tries (rw (c.not_accepted.ensures.flag, c.in-Err.ensures.refused, c.leaves.ensures) (still c.args.poller.now));
-  room = omega arith;
-}
+returns-in-Err-clause-done g c = accept_none no_tries (rw (c.not_accepted.ensures.flag, c.in-Err.ensures.refused, c.leaves.ensures) assumption)
 
 pub returns-in-Ok-clause-done : goal.returns-in-Ok-clause-done
 returns-in-Ok-clause-done g c =
-    let once = unless (not_worn _ c.args.own.now.seat c.is_worn.ensures c.if-is_worn.false) c.open.ensures.done in
-    record {
-      done = accept_both (accept_none no_tries (rw (c.in-Ok.ensures.accepted, c.leaves.ensures) (still c.args.poller.now)))
-          (accept_with (Opens g.A.Moves.moved (Naming g.A.Moves.named g.A.Acts.made) g.F.Front.may_tell)
-          (rw (c.in-Ok.ensures.accepted, c.leaves.ensures), rw (c.in-Ok.ensures.accepted, c.leaves.ensures)) once.done);
-      room = once.room;
-    }
+    once_after (unless (not_worn _ c.args.own.now.seat c.is_worn.ensures c.if-is_worn.false) c.open.ensures.done) (rw (c.in-Ok.ensures.accepted, c.leaves.ensures) assumption)
 
 pub returns-in-Ok-clause-still : goal.returns-in-Ok-clause-still
-returns-in-Ok-clause-still g c = λ worn. absurd (not_worn _ c.args.own.now.seat c.is_worn.ensures c.if-is_worn.false worn)
-
-pub returns-in-Err-clause-poller : goal.returns-in-Err-clause-poller
-returns-in-Err-clause-poller g c = rw (c.not_accepted.ensures.flag, c.in-Err.ensures.refused, c.leaves.ensures)
-
-pub returns-in-Ok-clause-poller : goal.returns-in-Ok-clause-poller
-returns-in-Ok-clause-poller g c = rw (c.open.ensures.poller, c.in-Ok.ensures.accepted, c.leaves.ensures)
+returns-in-Ok-clause-still g c = λ is. absurd (not_worn _ c.args.own.now.seat c.is_worn.ensures c.if-is_worn.false is)
 
 pub returns-then-is_worn-clause-answered : goal.returns-then-is_worn-clause-answered
 returns-then-is_worn-clause-answered g c = answered_none refl (inl refl)

@@ -1,5 +1,4 @@
-use Rattle.std.proofs.Common.{◌∙◌, refl}
-use Rattle.rounds.proofs.Acts.{flag_by, own_reports}
+use Rattle.rounds.proofs.{Acts.{flag_down, own_reports}, Rounds.between_posted}
 use Rattle.rounds.proofs.round.deliver_batch.Goals as goal
 
 pub deliver_by-listener-requires : goal.deliver_by-listener-requires
@@ -15,16 +14,13 @@ returns g c =
     let told = c.deliver_by-listener.ensures in
     let raised = c.raise_accept_flag.ensures in
     record {
-      between = record {
-        same = told.delivered.made.table ∙ c.requires.between.same;
-        idle = told.idle;
-        sized = rw raised c.requires.between.sized;
-      };
+      between = between_posted c.requires.between told.delivered (rw raised);
       poller = rw raised;
-      made = rw (c.table.ensures.table, c.batch.ensures.batch) at told.made;
-      delivered = rw (c.table.ensures.table, c.batch.ensures.batch) at told.delivered;
-      flag = rw (raised, c.unwrap_or.ensures) (flag_by _ _ _ c.deliver_by-listener.new.seat (rw c.batch.ensures.batch at told.listener) told.worn);
-      own = own_reports _ _ c.args.poller.now.batch (rw c.table.ensures.table at c.table.ensures.own);
-      ready = refl;
-      free = refl;
+      posts = record {
+        made = rw (c.table.ensures.table, c.batch.ensures.batch) at told.made;
+        posted = rw (c.table.ensures.table, c.batch.ensures.batch) at told.delivered;
+        own = own_reports _ _ c.args.poller.now.batch (rw c.table.ensures.table at c.table.ensures.own);
+        queues = assumption;
+      };
+      flag = rw raised (flag_down _ _ (rw c.batch.ensures.batch at told.listener));
     }

@@ -1,5 +1,4 @@
-use Rattle.std.proofs.Common.{length, refl, ◌∙◌}
-use Rattle.rounds.proofs.Acts.{below_own, own_sweep, swept_by}
+use Rattle.rounds.proofs.{Acts.{own_sweep, swept_by}, Rounds.between_posted}
 use Rattle.rounds.proofs.sweeping.keep_time.Goals as goal
 
 pub sweep-requires : goal.sweep-requires
@@ -15,19 +14,14 @@ returns g c =
     let second = c.set_second.ensures in
     let swept = swept_by c.args.timing.now.limit c.args.poller.now c.set_second.new.self _ c.is_due-due.ensures second in
     record {
-      between = record {
-        same = c.sweep.ensures.posted.made.table ∙ c.requires.between.same;
-        idle = c.sweep.ensures.idle;
-        sized = rw second c.requires.between.sized;
-      };
+      between = between_posted c.requires.between c.sweep.ensures.posted (rw second);
       poller = rw second;
-      made = rw swept (rw c.table.ensures.table at c.sweep.ensures.made);
-      told = rw second c.moment.ensures.told;
-      still = c.sweep.ensures.still;
-      swept = record {
+      posts = record {
+        made = rw swept (rw c.table.ensures.table at c.sweep.ensures.made);
         posted = rw swept (rw c.table.ensures.table at c.sweep.ensures.posted);
-        swept = rw (second, c.is_due-due.ensures);
+        own = own_sweep c.args.poller.now.part c.args.poller.now c.set_second.new.self (rw c.table.ensures.table at c.table.ensures.own);
+        queues = assumption;
       };
-      own = own_sweep c.args.poller.now.part c.args.poller.now c.set_second.new.self (below_own _ _ (length c.args.poller.now.table) (rw c.table.ensures.table at c.table.ensures.own));
-      queues = record { ready = refl; free = refl };
+      told = rw second c.moment.ensures.told;
+      swept = rw (second, c.is_due-due.ensures);
     }

@@ -1,37 +1,27 @@
-use Rattle.std.proofs.Common.{◌≡◌, length, arith, rules, refl, ◌∙◌}
-use Rattle.rounds.proofs.Acts.{in_order, posted_none, posted_both, few_tickets, capacity_kept, holds_nothing_still, below_more, few_below}
+use Rattle.std.proofs.Common.{◌≡◌, length, arith, refl}
+use Rattle.rounds.proofs.Acts.{in_order, posted_none, posted_both, room_left, holds_nothing_still, below_more, few_below}
 use Rattle.rounds.proofs.sweeping.sweep.Goals as goal
 
 pub loop-slot-init : goal.loop-slot-init
-loop-slot-init g c = record { made = refl; posted = posted_none c.args.seat.now c.args.hand.now; still = λ worn. refl }
+loop-slot-init g c = record { made = refl; posted = posted_none c.args.seat.now c.args.hand.now }
 
 -- each slot takes at most one ticket in hand
 pub post_note-requires-clause-room : goal.post_note-requires-clause-room
-post_note-requires-clause-room g c = omega (arith, few_tickets c.loop-slot.invariant.posted, capacity_kept c.loop-slot.invariant.posted, few_below c.args.table.now c.loop-slot.slot)
-
-pub loop-slot-preserved : goal.loop-slot-preserved
-loop-slot-preserved g c = record {
-  made = rw (below_more c.args.table.now c.loop-slot.slot) (in_order _ _ _ _ _ _ c.loop-slot.invariant.made (rw c.last_in.ensures.opened at c.post_note.ensures.made));
-  posted = rw (below_more c.args.table.now c.loop-slot.slot) (posted_both c.loop-slot.invariant.posted (rw c.last_in.ensures.opened at c.post_note.ensures.posted) c.post_note.ensures.still);
-  still = λ worn. (c.post_note.ensures.still (rw (c.loop-slot.invariant.still worn) worn)).0 ∙ c.loop-slot.invariant.still worn;
-}
+post_note-requires-clause-room g c = omega (arith, room_left c.loop-slot.invariant.posted, few_below c.args.table.now c.loop-slot.slot)
 
 pub post_note-requires-clause-idle : goal.post_note-requires-clause-idle
 post_note-requires-clause-idle g c = holds_nothing_still c.loop-slot.invariant.posted c.requires.idle
 
-pub returns-then-not-due-clause-posted : goal.returns-then-not-due-clause-posted
-returns-then-not-due-clause-posted g c = rw c.if-not-due.true (posted_none c.args.seat.now c.args.hand.now)
+pub loop-slot-preserved : goal.loop-slot-preserved
+loop-slot-preserved g c = rw (below_more c.args.table.now c.loop-slot.slot) (record {
+  made = in_order _ _ _ _ _ _ c.loop-slot.invariant.made (rw c.last_in.ensures.opened at c.post_note.ensures.made);
+  posted = posted_both c.loop-slot.invariant.posted (rw c.last_in.ensures.opened at c.post_note.ensures.posted);
+})
 
-pub returns-clause-posted : goal.returns-clause-posted
-returns-clause-posted g c = rw c.if-not-due.false (search rules)
+pub returns-then-not-due : goal.returns-then-not-due
+returns-then-not-due g c = rw c.if-not-due.true (record { made = refl; posted = posted_none c.args.seat.now c.args.hand.now })
 
-pub returns-clause-idle : goal.returns-clause-idle
-returns-clause-idle g c = holds_nothing_still c.loop-slot.invariant.posted c.requires.idle
-
-pub returns-then-not-due-clause-made : goal.returns-then-not-due-clause-made
-returns-then-not-due-clause-made g c = rw c.if-not-due.true refl
-
-pub returns-clause-made : goal.returns-clause-made
-returns-clause-made g c =
+pub returns : goal.returns
+returns g c =
     let all : c.loop-slot.slot ≡ length c.args.table.now = omega (arith, c.loop-slot-test.false, c.loop-slot.auto.slot-end) in
-    rw c.if-not-due.false (rw all at c.loop-slot.invariant.made)
+    rw c.if-not-due.false (rw all at c.loop-slot.invariant)

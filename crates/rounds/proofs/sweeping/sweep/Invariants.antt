@@ -1,5 +1,3 @@
-use Rattle.std.proofs.Common.{◌≡◌}
-use Rattle.dispatch.specs.Posts.{IsWorn}
 use Rattle.rounds.specs.Acts.{ArePosted, PostsMade, opened_below}
 use Rattle.rounds.proofs.sweeping.sweep.Given as goal
 
@@ -8,5 +6,4 @@ abbrev pub invariant-loop-slot : goal.invariant-loop-slot
 invariant-loop-slot g l = record {
   made : PostsMade g.A.Acts.made (opened_below l.table l.slot) l.initial.acts l.acts;
   posted : ArePosted (opened_below l.table l.slot) l.initial.seat l.seat l.initial.hand l.hand;
-  still : IsWorn l.initial.seat → l.seat ≡ l.initial.seat;
 }
