@@ -193,10 +193,7 @@ where
 {
     match server_of(rt, alloc, settings, split, fronts, waker, &lent) {
         Ok(server) => {
-            let timing = Timing {
-                clock: lent.clock,
-                limit: u64::from(settings.idle),
-            };
+            let timing = timing_of(settings, lent.clock);
             run_threads(rt, alloc, lent.gate, timing, lent.stop.flag(), server)
         }
         Err(fault) => Outcome::refused(fault),
@@ -249,6 +246,15 @@ fn header_of(settings: &Settings, split: Split) -> Header {
         idle: u64::from(settings.idle),
         proxy: settings.proxy,
         from: None,
+    }
+}
+
+fn timing_of<'a, C>(settings: &Settings, clock: &'a C) -> Timing<'a, C>
+    ensures { result.limit ≡ settings.now.idle }
+{
+    Timing {
+        clock,
+        limit: u64::from(settings.idle),
     }
 }
 
