@@ -1,6 +1,6 @@
 // What fronts and wires over sockets answer, on loopback.
 use crate::all_well;
-use dispatch::{Front, MAX_BATCH, ServerFault, Settle, Split, Unopened, Waiting};
+use common::{Front, MAX_BATCH, ServerFault, Settle, Split, Unopened, Waiting};
 use engine::Wire;
 use log::sink::{Discard, Lines, Memory};
 use log::{Level, Log, Logged};

@@ -1,14 +1,15 @@
 // The texts of messages, a line that is too long, and a message of a level that is off.
 use crate::all_well;
+use common::{ClientsAt, ServerFault};
 use log::sink::Discard;
 use log::{Level, Logged};
-use log_queue::LogLine;
 use relay_core::Fault;
-use relay_log::{ClientsAt, Done, Failed, ServerFault, log_peer};
+use relay_log::{Done, Failed, log_peer};
 use std::alloc::{AllocError, Global};
 use std::cell::Cell;
 use std::fmt::{self, Write};
 use std::test::Fail;
+use writer_queue::LogLine;
 
 fn is(text: Result<String, AllocError>, wanted: &str) -> Result<bool, AllocError> {
     Ok(text?.as_str() == wanted)

@@ -1,6 +1,6 @@
 // What stays in hand if the ready queue is full, as it is in no run.
 use crate::all_well;
-use dispatch::{Hand, put_tickets};
+use common::{Hand, put_tickets};
 use ready::{ReadyQueue, Ticket};
 use std::alloc::AllocError;
 use std::sync::Wait;

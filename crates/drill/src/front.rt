@@ -3,7 +3,7 @@ ghost use Rattle.std.specs.Prelude.{◌≡◌, ◌≤◌, true, vec_len, vec_cap
 
 use crate::stage::StageCell;
 use crate::wire::StageWire;
-use dispatch::{Front, MAX_BATCH, Opened, Route, Unopened, Waiting};
+use common::{Front, MAX_BATCH, Opened, Route, Unopened, Waiting};
 use log::Log;
 use std::alloc::{AllocError, Global};
 use std::io::{self, ErrorKind};

@@ -3,7 +3,7 @@ ghost use Rattle.std.specs.Prelude.{◌≡◌, ◌≤◌};
 
 use crate::front::StageFront;
 use crate::stage::StageCell;
-use dispatch::{Clock, Gate, ServerFault, Split, Timing};
+use common::{Clock, Gate, ServerFault, Split, Timing};
 use log::Log;
 use ready::ReadyQueue;
 use server::build;

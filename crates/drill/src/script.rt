@@ -1,7 +1,7 @@
 //! Reads a script, and has each of its steps made.
 use crate::played::Server;
 use crate::stage::{Answer, Point, StageCell};
-use dispatch::Unopened;
+use common::Unopened;
 use engine::error_of;
 use log::kv::Source;
 use log::span::Spans;

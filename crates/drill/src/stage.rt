@@ -1,5 +1,5 @@
 //! What the server's calls reach in place of a system.
-use dispatch::{LISTENER, Split, Unopened};
+use common::{LISTENER, Split, Unopened};
 use relay_core::CallKind;
 use std::alloc::{AllocError, Global};
 use std::cell::RefCell;

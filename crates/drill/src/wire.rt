@@ -3,7 +3,7 @@ ghost use Rattle.std.specs.Prelude.{◌≡◌};
 ghost use Rattle.engine.specs.Classes.{class_by, counted};
 
 use crate::stage::{Answer, Point, StageCell};
-use dispatch::Settle;
+use common::Settle;
 use engine::{Tally, Wire};
 use relay_core::CallKind;
 use std::alloc::Global;

@@ -1,7 +1,7 @@
 -- What holds after any list of steps, and what no thread ever finds.
 pub mod Programs
 use Rattle.world.{specs.{declared.limits.Limits.Limits, Headline.EveryRunHolds, CoreLaws.CoreLaws, States.{opening, unused as unused_place}}, proofs.Headline.Ends.Pairs.Holders.{Events.{holds_after, Lists.{get-replicate, get_beside}}, turns_after, turns_on}}
-use Rattle.dispatch.specs.Acts.{gone_turn, quiet_turn, again_turn, ended_turn}
+use Rattle.common.specs.Acts.{gone_turn, quiet_turn, again_turn, ended_turn}
 use Rattle.interleaving.specs.{Threads.{Claim, Close, Play, ProgramsAreThese, PutIn, gone, resting, run, seen, start}, Likeness.{exchanges, taken_word, EveryInterleavingIsARun, EveryStepIsFollowed, NoActInVain}}
 use Rattle.std.proofs.lemmas.Option.{option_and_then_some, same_Some}
 use Programs.*

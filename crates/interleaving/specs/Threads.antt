@@ -7,14 +7,14 @@ use Rattle.kernel_model.specs.{declared.{reply.Reply.Reply, watched.Watched.Watc
 use Rattle.relay_core.specs.{Pairs.{PairState, fresh, noted, verdict, is_live}, Order.next_call, Idle.expired}
 use Rattle.claims.specs.Words.{WordState, word_after, wakes, some_wait}
 use Rattle.world.specs.{declared.{connection.Connection.Connection, limits.Limits.Limits, past.Past.Past, event.{Change.Change, Reported.Reported}}, Calls.{when, OpenConnection, descriptor, called}, Leads.lead_at, Steps.{change_at, token_of, is_worn}}
-pub use Rattle.dispatch.specs.Acts.{Act, Claim, TakeOut, TakeNotes, Call, Play, PutIn, Post, Release, Close, Retire, Give, Register, Adopt, Enter, Discard, Settle, PutTicket}
-use Rattle.dispatch.specs.Acts.{busy_turn, gone_turn, quiet_turn, again_turn, ended_turn}
+pub use Rattle.common.specs.Acts.{Act, Claim, TakeOut, TakeNotes, Call, Play, PutIn, Post, Release, Close, Retire, Give, Register, Adopt, Enter, Discard, Settle, PutTicket}
+use Rattle.common.specs.Acts.{busy_turn, gone_turn, quiet_turn, again_turn, ended_turn}
 use Rattle.token.specs.declared.name.Name.TheVariants as name
 use Rattle.kernel_model.specs.declared.watched.Watched.TheVariants as watched
 use Rattle.kernel_model.specs.Kernel as kernel
 use Rattle.claims.specs.Words as word
 use Rattle.world.specs.declared.event.Reported.TheVariants as reported
-use Rattle.dispatch.specs.Acts as server
+use Rattle.common.specs.Acts as server
 
 -- Programs
 

@@ -1,7 +1,7 @@
 -- All that a picture consists of was written.
 use Rattle.std.proofs.Common.{◌≡◌, ℕ, Bool, true, List, [], ◌∷◌, ◌++◌, length, codes, Option, sym, subst}
 use Rattle.std.specs.{Io.KnownBytes.Appends, Prelude.{Result, Ok, Err, OnOk, nat_lt}}
-use Rattle.records.specs.declared.replay.ReplayFault.{ReplayFault}
+use Rattle.input.specs.declared.replay.ReplayFault.{ReplayFault}
 use Rattle.picture.proofs.Drawing.{all_drawn, draws_more}
 use Rattle.picture.specs.{Events.{AreInOrder, IsPictureOf, all_turns, lane_events, named_if, poller_tracks, slot_events, slot_tracks}, Json.{Draws, opening}}
 use Rattle.recorded.specs.declared.recording.Numbered.{Numbered}

@@ -6,7 +6,7 @@ ghost use Rattle.picture.specs.Json.{Draws, event_data, micros};
 ghost use Rattle.picture.specs.declared.event.Event.TheVariants as event;
 
 use crate::event::{Event, Label, Track};
-use records::ReplayFault;
+use input::ReplayFault;
 use serde_json::{Value, json};
 use std::alloc::{AllocError, Global};
 use std::io::Write;

@@ -14,10 +14,9 @@ use crate::starting::{foresee, look_at_addresses, prepare, warn_of_short_time, w
 use crate::stats_file::find_file;
 use crate::streams::{LoggedCauses, Stream, log_error};
 use crate::usage::answer_usage;
-use input::{Outcome, Simulate};
+use common::ServerFault;
+use input::{Outcome, Replay, Simulate};
 use log::{LevelFilter, Log};
-use records::Replay;
-use relay_log::ServerFault;
 use settings::Settings;
 use sockets::{Bound, bind};
 use std::alloc::{AllocError, Global};

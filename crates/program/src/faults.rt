@@ -3,9 +3,8 @@ ghost use Rattle.program.specs.{Faults.{settings_fault, argument_fault, status_o
 
 use crate::constants::{FAULT, USAGE};
 use crate::extras::NumberOption;
-use input::ScriptFault;
-use records::ReplayFault;
-use relay_log::ServerFault;
+use common::ServerFault;
+use input::{ReplayFault, ScriptFault};
 use settings::SettingsFault;
 use std::alloc::AllocError;
 use std::env::{self, Env};

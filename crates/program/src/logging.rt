@@ -6,12 +6,12 @@ ghost use Rattle.std.specs.{Prelude.{◌≡◌, ◌≢◌, ◌⊎◌, IfErr, map
 ghost use Rattle.log.specs.Level.{filter_name};
 ghost use Rattle.settings.specs.Table.{level_name};
 
+use common::ServerFault;
 use log::kv::Source;
 use log::span::Spans;
 use log::{Level, LevelFilter, Log, Logged, Metadata, Record};
-use log_queue::{Direct, Form, LogLine, LogQueue, write_lines};
 use os::set_thread_name;
-use relay_log::{ServerFault, log_no_thread};
+use relay_log::log_no_thread;
 use settings::LogLevel;
 use std::alloc::AllocGlobal;
 use std::cell::Cell;
@@ -26,6 +26,7 @@ use std::sync::atomic::Ordering::SeqCst;
 use std::sync::{Arc, Wait};
 use std::thread::{Builder, Parker, Threads};
 use std::time::Duration;
+use writer_queue::{Direct, Form, LogLine, LogQueue, write_lines};
 
 /// How many milliseconds the end of the program waits for the log.
 const LAST_WAIT: u64 = 1_000;

@@ -7,9 +7,8 @@ use crate::constants::{DONE, FAULT};
 use crate::faults::ProgramFault;
 use crate::recording_file::{FIRST_WORDS, first_bytes};
 use crate::streams::{FileName, Stream, Unopened, log_error, log_text};
-use input::MAX_SCRIPT;
+use input::{Judged, MAX_SCRIPT, Replay, ReplayFault, Wanted};
 use log::{Level, Log};
-use records::{Outcome, Replay, ReplayFault, Wanted};
 use settings::has_leading_zero;
 use std::fs::{self, File};
 use std::io::{self, Write};
@@ -63,10 +62,10 @@ fn open<R: AllocGlobal + Files>(rt: &R, log: &impl Log, path: &str) -> Result<R:
 }
 
 /// Returns the status. Warns if the `bytes` that were written are a script that is too long for `sim`.
-fn status_after(log: &impl Log, outcome: Outcome, wanted: Wanted, bytes: usize) -> u8
+fn status_after(log: &impl Log, judged: Judged, wanted: Wanted, bytes: usize) -> u8
     ensures { IsCarriedOut result }
 {
-    let has_run = matches!(outcome, Outcome::Run);
+    let has_run = matches!(judged, Judged::Run);
     if matches!(wanted, Wanted::Script(..)) || !has_run && matches!(wanted, Wanted::Steps) {
         warn_if_long(log, bytes);
     }

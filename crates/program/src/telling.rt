@@ -5,10 +5,10 @@ ghost use Rattle.std.specs.Prelude.{◌≡◌, ◌⊎◌, IfErr};
 use crate::logging::level_filter;
 use crate::stats_file::{Replacing, StatsFile};
 use crate::streams::{FileName, log_text};
+use common::ServerFault;
 use log::{Level, Logged};
-use log_queue::{Direct, LogQueue, Queued};
 use os::set_thread_name;
-use relay_log::{ServerFault, log_no_thread};
+use relay_log::log_no_thread;
 use settings::{LogLevel, Settings};
 use statistics::{Monitored, Statistics, Totals};
 use std::alloc::{AllocError, AllocGlobal, Global};
@@ -16,6 +16,7 @@ use std::io::{self, Eprint};
 use std::sync::{Arc, Mutex, Wait};
 use std::thread::{self, Builder, Threads};
 use std::time::{Clock, Duration};
+use writer_queue::{Direct, LogQueue, Queued};
 
 /// The seconds between two writings of the file, if the options do not say.
 const FILE_SECONDS: u32 = 15;

@@ -4,16 +4,17 @@ ghost use Rattle.std.specs.Prelude.{◌≡◌, ◌⊎◌, IfErr};
 
 use crate::logging::level_filter;
 use crate::streams::log_text;
+use common::ServerFault;
 use log::{Level, LevelFilter, Logged};
-use log_queue::{Direct, LogQueue, Queued};
 use os::set_thread_name;
-use relay_log::{ServerFault, log_no_thread};
+use relay_log::log_no_thread;
 use settings::LogLevel;
 use sockets::Stop;
 use std::alloc::AllocGlobal;
 use std::io::{self, Eprint, Stdin};
 use std::sync::{Arc, Wait};
 use std::thread::{Builder, Threads};
+use writer_queue::{Direct, LogQueue, Queued};
 
 /// Returns a stop. If standard input `is_sign`, starts a thread that reads standard input to its end, throws that away,
 /// and sets the stop. A read that fails counts as the end. Logs the end at level info, a failed read at level warn.

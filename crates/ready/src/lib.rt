@@ -33,7 +33,7 @@
 //! # Inside
 //!
 //! [`IdleEnds`] has all of this for any place that items are put into ([`Put`]) and looked at ([`Source`]): the queue of
-//! tickets, and the queues of `log_queue` with the writer as their one end that takes.
+//! tickets, and the queues of `writer_queue` with the writer as their one end that takes.
 //!
 //! The order of the steps is kept by values that only the step before gives (`steps.rt`). A put that has put its item has a
 //! wake (`push`), unless its own end comes back (`End`: `wakes`). A wake can be neither copied nor dropped (`Wake`): it unparks

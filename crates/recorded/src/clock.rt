@@ -1,6 +1,7 @@
 //! Which seconds the clock showed, as far as it was read.
 use crate::recording::{Numbered, Recording};
-use records::{Act, Polling, ReplayFault};
+use input::ReplayFault;
+use records::{Act, Polling};
 use std::alloc::{AllocError, Global};
 use std::mem;
 

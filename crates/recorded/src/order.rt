@@ -4,7 +4,8 @@ ghost use Rattle.recorded.specs.Sequences.{IsBegun, IsMissing, Follows, FollowsA
 
 use crate::reading::fault;
 use crate::recording::{Last, Numbered, Recording, begun_before, is_twice, sort};
-use records::{Act, Made, Polling, ReplayFault};
+use input::ReplayFault;
+use records::{Act, Made, Polling};
 use std::alloc::AllocError;
 
 /// Puts the last list of a recording in the order of the counts before its records. Refuses with `Broken` if the lines

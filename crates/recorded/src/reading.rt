@@ -1,10 +1,10 @@
 //! A recording is read line by line, so that its text is never all in memory.
 use crate::beginning::{Beginning, LeftOut, Omitted};
 use crate::recording::{Recording, split_of};
-use dispatch::Split;
+use common::Split;
+use input::ReplayFault;
 use records::{
-    Act, Header, MAX_RECORD, Made, Polling, Record, ReplayFault, Wrong, is_header, read_header,
-    read_line,
+    Act, Header, MAX_RECORD, Made, Polling, Record, Wrong, is_header, read_header, read_line,
 };
 use std::alloc::{AllocError, Global};
 use std::io::Read;

@@ -4,7 +4,8 @@
 //! an earlier connection in the slot, since its wire left what it did not look at; and it may be older than the read that
 //! would block, since a wire that reads does not look.
 use crate::recording::{Recording, add, lists};
-use records::{Act, Answer, Made, Polling, ReplayFault};
+use input::ReplayFault;
+use records::{Act, Answer, Made, Polling};
 use std::alloc::AllocError;
 use token::{Name, Side};
 

@@ -4,8 +4,9 @@ ghost use Rattle.recorded.specs.Sequences.{records_at, records_of};
 
 use crate::order::is_of_wait;
 use crate::reading::{Rest, fault_of, wanted};
-use dispatch::Split;
-use records::{Act, Header, Polling, Record, ReplayFault};
+use common::Split;
+use input::ReplayFault;
+use records::{Act, Header, Polling, Record};
 use settings::pollers_for;
 use std::alloc::{AllocError, Global};
 

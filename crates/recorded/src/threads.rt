@@ -2,8 +2,9 @@
 //! else, or by a worker.
 use crate::order::first_overlap;
 use crate::recording::{Numbered, Recording, ended_before, sort};
-use dispatch::OWN_BUDGET;
-use records::{Act, Made, Record, ReplayFault};
+use common::OWN_BUDGET;
+use input::ReplayFault;
+use records::{Act, Made, Record};
 use std::alloc::AllocError;
 
 /// What one thread did at a slot without a break: a turn, with the closing that follows it, or another closing.

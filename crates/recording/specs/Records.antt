@@ -2,12 +2,12 @@
 use Rattle.std.specs.{Prelude.{ℕ, Bool, true, false, ◌==◌, if◌then◌else◌, List, [], ◌∷◌, ◌++◌, length, Option, Some, None, Result, Ok, Err, ◌≡◌}, declared.io.{Error.Error, ErrorKind.{ErrorKind, TheVariants.Interrupted}}, IoError.error_kind}
 use Rattle.token.specs.{Names.EndName, Numbers.name_of, declared.{name.Name.Name, side.Side.{Side, TheVariants.{Client, Target}}}}
 use Rattle.engine.specs.{Wires.{Asked, Given, Brought, Took, Done, Refused, WireView}, Classes.kind_of_error}
-use Rattle.dispatch.specs.{declared.front.{Unaccepted.Unaccepted, Unopened.Unopened}, Told.unaccepted_of}
+use Rattle.common.specs.{declared.front.{Unaccepted.Unaccepted, Unopened.Unopened}, Told.unaccepted_of}
 use Rattle.records.specs.declared.act.{Accepted.{Accepted, TheVariants.{Taken, Again, Blocked, Starved}}, Act.{Act, TheVariants.{Poller, Wire}}, Answer.Answer, Made.Made, Opening.Opening, Polling.Polling, Record.Record}
 use Rattle.relay_core.specs.declared.Kind.TheVariants as kind
 use Rattle.engine.specs.Wires as ask
-use Rattle.dispatch.specs.declared.front.Unaccepted.TheVariants as unaccepted
-use Rattle.dispatch.specs.declared.front.Unopened.TheVariants as unopened
+use Rattle.common.specs.declared.front.Unaccepted.TheVariants as unaccepted
+use Rattle.common.specs.declared.front.Unopened.TheVariants as unopened
 use Rattle.records.specs.declared.act.Answer.TheVariants as answer
 use Rattle.records.specs.declared.act.Made.TheVariants as made
 use Rattle.records.specs.declared.act.Opening.TheVariants as opening

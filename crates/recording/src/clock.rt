@@ -5,7 +5,7 @@ ghost use Rattle.recording.specs.Records.{Beside, Records, RecordsAtOnce};
 ghost use Rattle.records.specs.declared.act.Act.TheVariants as act;
 
 use crate::recorder::{Begun, Inner, Recorder, Sink};
-use dispatch::{Clock, Gate};
+use common::{Clock, Gate};
 use records::Act;
 
 /// Shows the seconds of the clock in it. Each reading is recorded if there is an idle limit: a replay needs readings

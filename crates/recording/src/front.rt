@@ -1,13 +1,13 @@
 // A front that records its waits, accepts and openings.
 ghost use Rattle.std.specs.{Prelude.{◌≡◌, ◌≢◌, ◌≤◌, Some, None, true, [], ◌∷◌, IfOk, IfErr, OnErr, vec_len, vec_capacity}, IoError.error_kind, declared.io.ErrorKind.TheVariants.Interrupted};
 ghost use Rattle.recording.specs.Records.{accepted, not_accepted, not_waited, opened as opened_of, Records, RecordsPoll};
-ghost use Rattle.dispatch.specs.Told.{unaccepted_of, Waited};
+ghost use Rattle.common.specs.Told.{unaccepted_of, Waited};
 ghost use Rattle.records.specs.declared.act.Act.TheVariants as act;
 ghost use Rattle.records.specs.declared.act.Polling.TheVariants as polling;
 
 use crate::recorder::{Begun, Inner, Recorder, Sink};
 use crate::wire::RecordedWire;
-use dispatch::{Front, MAX_BATCH, Opened, Unaccepted, Unopened, Waiting, unaccepted_of};
+use common::{Front, MAX_BATCH, Opened, Unaccepted, Unopened, Waiting, unaccepted_of};
 use log::Log;
 use records::{Accepted, Act, Opening, Polling};
 use std::alloc::{AllocError, Global};

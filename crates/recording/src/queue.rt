@@ -2,17 +2,17 @@
 ghost use Rattle.std.specs.Prelude.{◌≡◌, IfOk, replicate};
 
 use crate::recorder::Sink;
+use common::Split;
 use crossbeam_queue::ArrayQueue;
 use crossbeam_utils::CachePadded;
-use dispatch::Split;
 use log::{Log, warn};
-use log_queue::{Drained, ParkedQueue};
 use records::{Act, Record};
 use std::alloc::{AllocError, Global};
 use std::sync::Wait;
 use std::sync::atomic::AtomicU64;
 use std::sync::atomic::Ordering::SeqCst;
 use std::time::{Clock, Duration, Instant};
+use writer_queue::{Drained, ParkedQueue};
 
 /// How many queues there are. Each poller uses one, with its slots, so that threads seldom meet at one.
 pub const QUEUES: usize = 4;

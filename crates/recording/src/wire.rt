@@ -5,7 +5,7 @@ ghost use Rattle.engine.specs.Wires.{counts_alone};
 ghost use Rattle.recording.specs.Records.{answered, made_of, refused, BegunBy, EndedBy, WireRecords, Settled};
 
 use crate::recorder::{Begun, Inner, Recorder, Sink};
-use dispatch::Settle;
+use common::Settle;
 use engine::{Wire, kind_of};
 use records::{Act, Answer, Made};
 use relay_core::{Kind, Side};

@@ -4,10 +4,10 @@ ghost use Rattle.std.specs.Prelude.{◌<◌};
 use crate::lines::Lines;
 use crate::queue::{MAX_RUN, QUEUES, RecordQueue, soon};
 use log::{Log, warn};
-use log_queue::Drain;
 use records::{Header, Parts};
 use std::io;
 use std::sync::Wait;
+use writer_queue::Drain;
 
 /// Writes the header, then the records, each queue's in order, until the queues are closed and empty, and then the
 /// last record: into files of at most `most` bytes ([`Lines`]). If records were lost, and the recording goes on in another

@@ -50,7 +50,7 @@ pub enum Polling {
     Open(usize, u64, Opening),
 }
 
-/// What accept(2) answered: a connection, or why none (`Unaccepted` of `dispatch`).
+/// What accept(2) answered: a connection, or why none (`Unaccepted` of `common`).
 #[derive(Clone, Copy)]
 pub enum Accepted {
     Taken,

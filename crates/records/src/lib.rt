@@ -4,7 +4,7 @@
 //! count just before and just after the act. Both print themselves as their line, without its line feed and without
 //! taking memory; [`read_header`] and [`read_line`] read the lines. Of bytes a record has only the number.
 //!
-//! [`Parts`] are the files of a recording. A [`Replay`] plays a whole recording.
+//! [`Parts`] are the files of a recording.
 //!
 //! `docs/FORMATS.md` describes the lines; `specs/Texts.antt` has them as definitions.
 #![tactic(auto)]
@@ -14,11 +14,9 @@ mod header;
 mod parts;
 mod printing;
 mod reading;
-mod replay;
 
 pub use act::{Accepted, Act, Answer, Made, Opening, Polling, Record};
 pub use header::{Header, is_header, read_header};
 pub use parts::Parts;
 pub use printing::MAX_RECORD;
 pub use reading::{Wrong, read_line};
-pub use replay::{Outcome, Replay, ReplayFault, Wanted};

@@ -3,9 +3,8 @@ use Rattle.std.specs.{Prelude.{ℕ, Bool, true, false, List, [], ◌++◌, codes
 use Rattle.log.specs.declared.level.Level.{Level}
 use Rattle.token.specs.{Sides.side_name, Kinds.kind_name}
 use Rattle.relay_core.specs.{Calls.call_name, Pairs.PairState, declared.verdict.{Fault.{Fault, TheVariants.{Broken, Idle}}, Verdict.{Verdict, TheVariants.{Live, Done, Failed}}}}
-use Rattle.relay_log.specs.declared.{cause.Cause.{Cause, TheVariants.{Memory, Connect, Register, Address}}, gone.ClientsAt.ClientsAt}
+use Rattle.common.specs.{declared.cause.Cause.{Cause}, Told.cause_name}
 use Rattle.log.specs.declared.level.Level.TheVariants as level
-use Rattle.relay_log.specs.declared.gone.ClientsAt.TheVariants as clients
 
 abbrev pub open_message : ℕ → ℕ → List ℕ
 open_message slot generation = codes "open s=" ++ (decimal slot ++ (codes " g=" ++ decimal generation))
@@ -41,12 +40,6 @@ abbrev pub EndLogged : (Level → Option (List ℕ) → Type 0) → Verdict → 
 EndLogged logged Done p = logged level.Info (Some (done_message p.slot p.generation p.sent_up p.sent_down))
 EndLogged logged (Failed fault) p = logged level.Warn (Some (fail_message p.slot p.generation fault))
 EndLogged logged Live p = Unit {0}
-
-abbrev pub cause_name : Cause → List ℕ
-cause_name Memory = codes "memory"
-cause_name Connect = codes "connect"
-cause_name Register = codes "register"
-cause_name Address = codes "address"
 
 abbrev pub drop_message : Cause → List ℕ
 drop_message cause = codes "drop kind=" ++ cause_name cause
@@ -84,8 +77,3 @@ gone_between connected up down seconds = gone_counts (yes_or_no connected) up do
 abbrev pub gone_text : Option (List ℕ) → Option (List ℕ) → Option (ℕ × ℕ) → Option Bool → ℕ → ℕ → ℕ → Option (List ℕ)
 gone_text from cause opened connected up down seconds =
     Some (gone_begins opened) ++? from ++? Some (gone_between connected up down seconds) ++? cause
-
--- the level of `peer` and `gone`
-abbrev pub client_level : ClientsAt → Level
-client_level clients.Debug = level.Debug
-client_level clients.Info = level.Info

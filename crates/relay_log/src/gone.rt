@@ -1,37 +1,10 @@
 //! The message about a connection that has ended, with its client and the system's cause.
 ghost use Rattle.std.specs.Prelude.{◌≡◌, ◌-◌, Some};
-ghost use Rattle.relay_log.specs.Messages.{client_level, gone_counts, gone_text, yes_or_no};
+ghost use Rattle.relay_log.specs.Messages.{gone_counts, gone_text, yes_or_no};
 
-use log::Level;
 use relay_core::Pair;
 use std::fmt::{self, Display};
 use std::io;
-
-/// The level of the messages `peer` and `gone`, and which connections have a `gone`.
-#[derive(Clone, Copy)]
-pub enum ClientsAt {
-    /// At debug: a `peer` for each connection that is opened, and a `gone` for one that failed or was not opened.
-    Debug,
-    /// At info: also a `gone` for a connection that is done.
-    Info,
-}
-
-impl ClientsAt {
-    /// The level of both messages.
-    pub fn level(self) -> Level
-        ensures { result ≡ client_level self }
-    {
-        match self {
-            ClientsAt::Debug => Level::Debug,
-            ClientsAt::Info => Level::Info,
-        }
-    }
-
-    /// Whether a connection that is done has its `gone`, too.
-    pub fn has_done(self) -> bool {
-        matches!(self, ClientsAt::Info)
-    }
-}
 
 /// A connection that has ended: whose it was, how far it got, and what the system says of the cause.
 ///

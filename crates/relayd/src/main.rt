@@ -7,7 +7,6 @@ mod lent;
 
 use lent::{Announcing, MonotonicClock};
 use log::Logged;
-use log_queue::Queued;
 use program::logging::{self, Errors, Until};
 use program::{Extras, RecordFiles, report_unheld, telling, until_eof};
 use replaying::OnMachine;
@@ -18,6 +17,7 @@ use std::cell::Cell;
 use std::process::ExitCode;
 use std::sync::atomic::AtomicBool;
 use std::sync::atomic::Ordering::SeqCst;
+use writer_queue::Queued;
 
 fn main(rt: HostRuntime) -> ExitCode {
     let mut input = rt.stdin();

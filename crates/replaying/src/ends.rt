@@ -3,8 +3,9 @@
 use crate::entry::Entry;
 use crate::moments::Moments;
 use crate::writing::{flush, write_left_out, write_text};
+use input::ReplayFault;
 use recorded::{Sizes, Take, read_each};
-use records::{Act, Opening, Polling, Record, ReplayFault};
+use records::{Act, Opening, Polling, Record};
 use std::alloc::{AllocError, Global};
 use std::io::{Read, Write};
 use token::{Name, Token};

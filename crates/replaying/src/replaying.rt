@@ -11,12 +11,13 @@ use crate::results::{Flawed, Results, Whose};
 use crate::slot_replay::{Findings, SlotReplay};
 use crate::timeline::write_timeline;
 use crate::writing::{flush, write_flaw, write_results};
+use input::{Judged, Replay, ReplayFault, Wanted};
 use picture::write_picture;
 use recorded::{
     Clock, Last, Recording, check_reads, check_rounds, check_threads, find_posts, put_in_order,
     read, times_of,
 };
-use records::{Header, Outcome, Replay, ReplayFault, Wanted};
+use records::Header;
 use std::alloc::Global;
 use std::io::{Read, Write};
 use world::{Lead, Limits};
@@ -39,7 +40,7 @@ impl Replay for OnMachine {
         wanted: Wanted,
         rests: bool,
         output: &mut W,
-    ) -> Result<Outcome, ReplayFault> {
+    ) -> Result<Judged, ReplayFault> {
         match wanted {
             Wanted::Ends => write_ends(alloc, input, output)?,
             Wanted::Timeline(slot, generation) => {
@@ -48,7 +49,7 @@ impl Replay for OnMachine {
             Wanted::Trace => write_picture(alloc, input, output)?,
             _ => return replay_read(alloc, input, wanted, rests, output),
         }
-        Ok(Outcome::Run)
+        Ok(Judged::Run)
     }
 }
 
@@ -58,7 +59,7 @@ fn replay_read<R: Read, W: Write>(
     wanted: Wanted,
     rests: bool,
     output: &mut W,
-) -> Result<Outcome, ReplayFault> {
+) -> Result<Judged, ReplayFault> {
     let mut recording = read(alloc, input)?;
     put_in_order(&mut recording)?;
     let mut results = Results::new(wanted);
@@ -73,7 +74,7 @@ fn replay_recording<W: Write>(
     rests: bool,
     output: &mut W,
     results: &mut Results,
-) -> Result<Outcome, ReplayFault> {
+) -> Result<Judged, ReplayFault> {
     let flaw = find_flaw(recording, rests, results)?;
     let outcome = write_outcome(output, recording, results, flaw)?;
     flush(output)?;
@@ -126,17 +127,17 @@ fn write_outcome<W: Write>(
     recording: &Recording,
     results: &Results,
     flaw: Option<Flaw>,
-) -> Result<Outcome, ReplayFault> {
+) -> Result<Judged, ReplayFault> {
     match (flaw, &results.flawed, &results.machine) {
         (None, _, _) => {
             write_results(output, results, recording)?;
-            Ok(Outcome::Run)
+            Ok(Judged::Run)
         }
         (Some(Flaw::NoMemory), _, _) | (_, None, _) | (_, _, None) => Err(ReplayFault::NoMemory),
         (Some(flaw), Some(flawed), Some(machine)) => {
             let left_out = recording.rest.left_out;
             write_flaw(output, results.wanted, flawed, flaw, machine, left_out)?;
-            Ok(Outcome::NoRun)
+            Ok(Judged::NoRun)
         }
     }
 }

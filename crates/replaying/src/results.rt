@@ -2,9 +2,9 @@
 use crate::history::History;
 use crate::machine::Machine;
 use crate::slot_replay::Phase;
+use input::Wanted;
 use kernel_model::End;
 use recorded::Numbered;
-use records::Wanted;
 use std::mem;
 use world::World;
 use world_text::Counts;

@@ -2,8 +2,9 @@
 use crate::machine::{Flaw, Machine};
 use crate::results::{Flawed, Results, Whose};
 use crate::slot_replay::Phase;
+use input::{ReplayFault, Wanted};
 use recorded::{LeftOut, Numbered, Recording};
-use records::{Act, Opening, Polling, ReplayFault, Wanted};
+use records::{Act, Opening, Polling};
 use std::alloc::{AllocError, Global};
 use std::io::Write;
 use world::Event;

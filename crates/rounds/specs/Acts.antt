@@ -4,7 +4,7 @@ use Rattle.claims.specs.{declared.view.Exchange.{Exchange, TheVariants.{Post, Ta
 use Rattle.ready.specs.declared.ticket.Ticket.{Ticket}
 use Rattle.token.specs.{declared.name.Name.{Name, TheVariants.{End}}, Numbers.name_of}
 use Rattle.relay_core.specs.Idle.{is_past}
-use Rattle.dispatch.specs.{Acts.{Made, Post as PostAct}, Hands.HandState, Posts.IsWorn}
+use Rattle.common.specs.{Acts.{Made, Post as PostAct}, Hands.HandState, Posts.IsWorn}
 use Rattle.rounds.specs.Pollers.{PollerState}
 
 -- exchanges of a seat at the slot of a ticket

@@ -1,7 +1,7 @@
 -- What the poller keeps between its rounds, and the numbers of a round that clauses name. Part of the promises.
 use Rattle.std.specs.Prelude.{◌≡◌, ◌⊎◌, ℕ, ◌+◌, ◌≤◌, min, Bool, List, All, slice_index}
 use Rattle.rounds.specs.declared.{episodes.Episodes.Episodes, opening.Opening.Opening}
-use Rattle.dispatch.specs.{declared.split.Part.Part, Splits.IsIn, Told.Seen}
+use Rattle.common.specs.{declared.split.Part.Part, Splits.IsIn, Told.Seen}
 use Rattle.token.specs.Names.{last_generation}
 
 -- what a poller keeps between its rounds

@@ -1,13 +1,12 @@
 //! The reports of one poll become notes at their slots.
 ghost use Rattle.std.specs.{Prelude.{◌≡◌, ◌-◌, ◌<◌, ◌≤◌, ◌↔◌, [], length, IsTrue, IfOk, IfSome, MatchResult, Contains}, List.cons_option};
 ghost use Rattle.claims.specs.Seats.{HoldsNothing};
-ghost use Rattle.dispatch.specs.{Hands.ticket_room, Posts.{IsWorn, OnlyWorn}};
+ghost use Rattle.common.specs.{Hands.ticket_room, Posts.{IsWorn, OnlyWorn}};
 ghost use Rattle.rounds.specs.Acts.{all_reported, reported, ArePosted, Delivered, PostsMade};
 
 use claims::{ClaimSeat, Claims, Posted};
-use dispatch::{Acts, Hand, LISTENER};
+use common::{Acts, Hand, LISTENER, ServerFault};
 use ready::Ticket;
-use relay_log::ServerFault;
 use token::{Name, unpack};
 
 /// Posts a note for each report of a batch, and adds a ticket to the hand for each post that answers Wake. Returns

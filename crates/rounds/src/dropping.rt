@@ -4,7 +4,8 @@ ghost use Rattle.rounds.specs.Episodes.{dropped_for, line_of};
 ghost use Rattle.log.specs.declared.level.Level.TheVariants as level;
 
 use crate::episodes::Drops;
-use relay_log::{Cause, Logs, log_drop, log_drops};
+use common::Cause;
+use relay_log::{Logs, log_drop, log_drops};
 use std::marker::Model;
 
 /// A line that must be logged. This value cannot be dropped, and only [`Owed::log`] takes it.
@@ -44,7 +45,7 @@ pub(crate) struct Dropped {
 }
 
 impl Model for Dropped {
-    ghost use Rattle.relay_log.specs.declared.cause.Cause.{Cause};
+    ghost use Rattle.common.specs.declared.cause.Cause.{Cause};
 
     ghost Value = { Cause };
 

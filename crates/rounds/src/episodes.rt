@@ -4,7 +4,8 @@ ghost use Rattle.rounds.specs.Episodes.{all_logged_at, dropped_at, dropped_for, 
 ghost use Rattle.log.specs.declared.level.Level.TheVariants as level;
 
 use crate::dropping::Owed;
-use relay_log::{Cause, Logs};
+use common::Cause;
+use relay_log::Logs;
 
 /// Conditions of a poller that were logged when they began, and still last.
 #[derive(Drop)]

@@ -3,22 +3,22 @@ ghost use Rattle.std.specs.Prelude.{◌≡◌, ◌+◌, ◌<◌, ◌≤◌, [], 
 ghost use Rattle.claims.specs.Seats.{Adds, HoldsNothing, OnlyAt};
 ghost use Rattle.relay_core.specs.{Pairs.fresh, Proxy.proxy_line};
 ghost use Rattle.rounds.specs.{Openings.{lacks, lead_of, next_in, Between, DropCounted, DropLogged, DropsFor, Fate, IsFresh, IsLost, IsNext, IsOpened, LeadGiven, Naming, OneAccepted, OnlyOpened, OpeningLogged, OpensFresh, Putting, Registered, SameQueues, Started, TriedOnce, TriesMade, of_end, with_slot}, Pollers.AreGenerations};
-ghost use Rattle.dispatch.specs.{Acts.{AreMade, placing}, Posts.{HoldsOnly, IsWorn}, Hands.ticket_room};
+ghost use Rattle.common.specs.{Acts.{AreMade, placing}, Posts.{HoldsOnly, IsWorn}, Hands.ticket_room};
 ghost use Rattle.token.specs.Names.{last_generation};
-ghost use Rattle.dispatch.specs.Acts as act;
+ghost use Rattle.common.specs.Acts as act;
 ghost use Rattle.claims.specs.declared.view.Exchange.TheVariants as exchange;
 ghost use Rattle.token.specs.declared.side.Side.TheVariants as side;
 
 use crate::dropping::Dropped;
 use crate::poller::{Poller, Uncounted};
 use claims::{Adopted, Released};
-use dispatch::{Acts, Berth, Counting, Front, Hand, Moves, Opened, Own, Route, Settle, Shared};
+use common::{
+    Acts, Berth, Cause, ClientsAt, Counting, Front, Hand, Moves, Opened, Own, Route, Settle, Shared,
+};
 use log::Log;
 use ready::Ticket;
 use relay_core::{Pair, proxy_line};
-use relay_log::{
-    Cause, ClientsAt, Gone, Known, Logs, Why, log_gone, log_open, log_peer, logs_gone,
-};
+use relay_log::{Gone, Known, Logs, Why, log_gone, log_open, log_peer, logs_gone};
 use std::alloc::{AllocError, Global};
 use std::net::SocketAddr;
 use std::sync::Wait;

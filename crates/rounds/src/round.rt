@@ -2,7 +2,7 @@
 ghost use Rattle.std.specs.{Prelude.{◌≡◌, ◌⊎◌, ◌+◌, ◌-◌, ◌<◌, ◌≤◌, ◌↔◌, [], length, Err, IsOk, IfErr, IsTrue, MatchResult, Contains, true, false}, IoError.error_kind, declared.io.ErrorKind.TheVariants.Interrupted};
 ghost use Rattle.ready.specs.Steps.{HeldOnce};
 ghost use Rattle.rounds.specs.{Acts.{all_reported}, Episodes.{episodes_after, flag_after, starved_after}, Openings.{Between, OnlyTook, AcceptDone, OneAccepted, TriesMade}, Pollers.{HasOpenedAll, max_accepts, spare_room}, Rounds.{AcceptEnded, AllPosted, EndedEarly, IsFull, IsOver, ListensNoMore, ListensToOpen, Looked, LooksForAll, MayAccept, NoSlot, NoneToAccept, NotBegun, OnlyAnswered, OnlyListens, RoundEnded, RoundInOrder, RoundKeeps, RoundRefused, TookAll, WaitedAsMay, WaitsAsMay}};
-ghost use Rattle.dispatch.specs.{Hands.ticket_room, Posts.IsWorn, Told.{unaccepted_of, Waited}};
+ghost use Rattle.common.specs.{Hands.ticket_room, Posts.IsWorn, Told.{unaccepted_of, Waited}};
 
 use crate::delivering::deliver_by;
 use crate::limits::SPARE_ROOM;
@@ -10,12 +10,12 @@ use crate::opening::open;
 use crate::poller::Poller;
 use crate::sweeping::{is_due, keep_time};
 use claims::Claims;
-use dispatch::{
-    Acts, Clock, Front, Hand, LISTENER, MAX_ACCEPTS, MAX_BATCH, Moves, Own, Shared, Timing,
-    Unaccepted, Waiting, unaccepted_of,
+use common::{
+    Acts, Clock, Front, Hand, LISTENER, MAX_ACCEPTS, MAX_BATCH, Moves, Own, ServerFault, Shared,
+    Timing, Unaccepted, Waiting, unaccepted_of,
 };
 use log::{Log, error};
-use relay_log::{ServerFault, log_all_taken};
+use relay_log::log_all_taken;
 use std::alloc::Global;
 use std::io;
 use std::sync::Wait;

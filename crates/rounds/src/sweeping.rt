@@ -2,12 +2,12 @@
 ghost use Rattle.std.specs.Prelude.{◌≡◌, ◌<◌, ◌≤◌, [], if◌then◌else◌, length, IfSome};
 ghost use Rattle.claims.specs.Seats.{HoldsNothing};
 ghost use Rattle.rounds.specs.{Acts.{ArePosted, PostsMade, all_opened, is_due, last_in, sweep_of, swept_after}, Openings.Between, Rounds.AllPosted};
-ghost use Rattle.dispatch.specs.Hands.{ticket_room};
+ghost use Rattle.common.specs.Hands.{ticket_room};
 
 use crate::delivering::post_note;
 use crate::poller::Poller;
 use claims::{ClaimSeat, Claims};
-use dispatch::{Acts, Clock, Front, Hand, Own, Shared, Timing};
+use common::{Acts, Clock, Front, Hand, Own, Shared, Timing};
 use ready::Ticket;
 
 /// Makes a sweep if one is due, and reads the second of the round. A sweep goes by the second of the last round, and

@@ -9,7 +9,7 @@
 mod making;
 mod serving;
 
-pub use dispatch::{Clock, Gate, ServerFault};
+pub use common::{Clock, Gate, ServerFault};
 pub use making::{build, split_of};
 pub use serving::{Lent, serve, serve_recorded};
 pub use sockets::{Bound, Stop};

@@ -1,9 +1,9 @@
 //! A server over the system's sockets, from its settings to its end, which may record what its threads do.
 ghost use Rattle.std.specs.Prelude.{◌≡◌, length};
-ghost use Rattle.dispatch.specs.Splits.{parts_of};
+ghost use Rattle.common.specs.Splits.{parts_of};
 
 use crate::making::{build, split_of};
-use dispatch::{ClientsAt, Clock, Front, Gate, ServerFault, Split, Timing};
+use common::{ClientsAt, Clock, Front, Gate, ServerFault, Split, Timing};
 use log::Log;
 use os::set_thread_name;
 use recording::{

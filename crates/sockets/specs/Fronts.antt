@@ -3,10 +3,10 @@ use Rattle.std.specs.{Prelude.{◌≡◌, ◌≢◌, ◌⊎◌, ℕ, pos, ◌*�
 use Rattle.token.specs.{Names.EndName, Numbers.name_of, declared.name.Name.{Name, TheVariants.{Listener, Waker, End}}}
 use Rattle.readiness.specs.Words.{WordName, word_of}
 use Rattle.settings.specs.Addresses.{SocketAddress}
-use Rattle.dispatch.specs.{Told.Seen, declared.front.{Waiting.Waiting, Route.Route}}
+use Rattle.common.specs.{Told.Seen, declared.front.{Waiting.Waiting, Route.Route}}
 use Rattle.sockets.specs.{declared.forwarding.Forwarding.Forwarding, Wires.{Made, NamedHere}}
 use Rattle.mio.specs.{declared.event.event.Event.Event, Event.{event_token, is_readable, is_error, is_read_closed, is_write_closed}}
-use Rattle.dispatch.specs.declared.front.Waiting.TheVariants as waiting
+use Rattle.common.specs.declared.front.Waiting.TheVariants as waiting
 
 -- the numbers of what is reported, in the order of the reports
 abbrev pub numbers : List Event → List ℕ

@@ -3,7 +3,7 @@ ghost use Rattle.std.specs.{Prelude.{◌≡◌, ◌↔◌, ◌<◌, IfOk, IfErr,
 ghost use Rattle.sockets.specs.Fronts.{IsAt};
 
 use crate::failure::log_failure_at;
-use dispatch::ServerFault;
+use common::ServerFault;
 use log::{Level, Log, error};
 use mio::net::TcpListener;
 use settings::Settings;

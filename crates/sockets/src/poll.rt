@@ -3,7 +3,7 @@ ghost use Rattle.std.specs.{Prelude.{◌≡◌, ◌≢◌, ◌↔◌, ◌⊎◌,
 ghost use Rattle.mio.specs.{Event.event_token, Events.items};
 ghost use Rattle.token.specs.Numbers.{name_of};
 ghost use Rattle.sockets.specs.{Fronts.{end_in, fresh_front, heard_of, longest_of, most_lacking, most_left, names_reading, numbers, v4_of, LacksDescriptors, LacksMemory, IsLocal, IsRoute, MayTell, OnlyLacked, WaitEnded}, Wires.{SameButWatched, fresh_wire, patient, under, unlimited}};
-ghost use Rattle.dispatch.specs.{Splits.parts_of, Told.{unaccepted_of, Waited}, declared.front.{Unaccepted.TheVariants.Starved, Unopened.TheVariants.{Connect, Register}}};
+ghost use Rattle.common.specs.{Splits.parts_of, Told.{unaccepted_of, Waited}, declared.front.{Unaccepted.TheVariants.Starved, Unopened.TheVariants.{Connect, Register}}};
 
 use crate::bound::Bound;
 use crate::failure::{log_failure, log_failure_at};
@@ -17,7 +17,7 @@ use crate::stop::{IsSet, Stop};
 use crate::stream::Stream;
 use crate::waiting::Waiter;
 use crate::wire::SocketWire;
-use dispatch::{
+use common::{
     Front, LISTENER, MAX_BATCH, Opened, Route, ServerFault, Settle, Split, Unopened, WAKER, Waiting,
 };
 use libc::{EMFILE, ENOMEM, ENOSPC};

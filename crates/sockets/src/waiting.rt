@@ -1,10 +1,10 @@
 //! How a poller waits for reports: nothing else calls epoll_wait(2).
 ghost use Rattle.std.specs.Prelude.{◌≡◌, ◌↔◌, ◌≤◌, ℕ, IfOk, IsTrue, OnErr, [], length, false};
 ghost use Rattle.mio.specs.Events.{items, capacity as events_capacity};
-ghost use Rattle.dispatch.specs.Told.{millis_of};
+ghost use Rattle.common.specs.Told.{millis_of};
 ghost use Rattle.sockets.specs.Fronts.{Fails};
 
-use dispatch::{MAX_BATCH, Waiting};
+use common::{MAX_BATCH, Waiting};
 use mio::{Events, Poll, Registry};
 use std::alloc::{AllocError, Global};
 use std::io;

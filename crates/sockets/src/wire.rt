@@ -9,7 +9,7 @@ use crate::failure::log_failure;
 use crate::forwarding::Patience;
 use crate::socket::Socket;
 use crate::stream::Stream;
-use dispatch::Settle;
+use common::Settle;
 use engine::{Class, Tally, Wire, class_by};
 use log::{Level, Log};
 use mio::Registry;

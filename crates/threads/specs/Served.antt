@@ -2,9 +2,9 @@
 use Rattle.std.specs.{Prelude.{◌≡◌, ℕ, Bool, All, List, [], ◌++◌, length, map, Option, None, option_to_list}, List.{range_with_len}}
 use Rattle.claims.specs.Seats.{SeatState}
 use Rattle.ready.specs.Steps.{EndState}
-use Rattle.dispatch.specs.declared.shared.Own.{Own}
+use Rattle.common.specs.declared.shared.Own.{Own}
 use Rattle.rounds.specs.Pollers.{PollerState}
-use Rattle.dispatch.specs.declared.front.Unaccepted.{Unaccepted}
+use Rattle.common.specs.declared.front.Unaccepted.{Unaccepted}
 use Rattle.threads.specs.{declared.{context.ThreadEnd.ThreadEnd, faults.Few.Few, running.Served.Served, working.Owned.Owned}, Divided.{HasOneOfEach, IsEndOf, OfFirst, ends_of, numbered}, Loops.{EndsWell, PollerRan, RunMade, WorkerEnded}}
 
 -- what a poller's thread begins with

@@ -4,7 +4,7 @@ ghost use Rattle.threads.specs.Loops.{AllWoken, EndsAll, IsTold};
 
 use crate::ending::{Ended, Ending, Why};
 use crate::faults::Recorded;
-use dispatch::{Front, Shared, Split, Timing};
+use common::{Front, Shared, Split, Timing};
 use ready::{Closed, ReadyQueue};
 use std::alloc::Global;
 use std::sync::Wait;

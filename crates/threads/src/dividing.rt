@@ -1,13 +1,13 @@
 //! Divides what a server is made of among its threads.
 ghost use Rattle.std.specs.{Prelude.{◌≡◌, ◌≤◌, [], All, Contains, drop, map, IfOk, IfSome, OnOk}, Arc.arc_value, List.range_with_len};
 ghost use Rattle.claims.specs.Seats.{fresh_seat};
-ghost use Rattle.dispatch.specs.{Hands.empty_hand, Posts.AreFresh};
+ghost use Rattle.common.specs.{Hands.empty_hand, Posts.AreFresh};
 ghost use Rattle.threads.specs.Divided.{hand_of_poller, numbered, IsEndOf, AreLeft, HasOneOfEach, OfFirst, ends_of};
 ghost use Rattle.threads.specs.Served.{IsDivided, poller_part, worker_part};
 
 use crate::polling::PollerThread;
 use crate::working::{Owned, Worker};
-use dispatch::{Front, MAX_BATCH, Own, Parts, ServerFault, Shared};
+use common::{Front, MAX_BATCH, Own, Parts, ServerFault, Shared};
 use ready::FreeQueue;
 use rounds::Poller;
 use std::alloc::Global;

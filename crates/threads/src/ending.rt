@@ -1,13 +1,13 @@
 //! How the threads of a server come to their end: why the loop of each ends, and what becomes of a fault.
 ghost use Rattle.std.specs.Prelude.{◌≡◌, ◌↔◌, IfOk, IfErr, IfSome, IsSome, IsTrue, OnErr, OnOk, None, Some, option_map, true, false};
-ghost use Rattle.dispatch.specs.Outgoing.{PutAll};
+ghost use Rattle.common.specs.Outgoing.{PutAll};
 ghost use Rattle.ready.specs.Steps.{HeldOnce};
-ghost use Rattle.relay_log.specs.declared.faults.ServerFault.{ServerFault};
+ghost use Rattle.common.specs.declared.faults.ServerFault.{ServerFault};
 ghost use Rattle.threads.specs.Loops.{EndsAll, Took, announced, fault_by};
 
 use crate::faults::{Found, Lowest, Outcome, Recorded};
 use crate::running::Served;
-use dispatch::{Front, Own, ServerFault};
+use common::{Front, Own, ServerFault};
 use ready::Ticket;
 use rounds::Poller;
 use std::marker::Model;

@@ -3,12 +3,12 @@ ghost use Rattle.std.specs.{Prelude.{◌≡◌, ◌⊎◌, ℕ, length, slice_ge
 ghost use Rattle.claims.specs.Seats.{HoldsNothing};
 ghost use Rattle.rounds.specs.{Episodes.no_drops, Pollers.HasOpenedAll};
 ghost use Rattle.turns.specs.Turns.{NoOwnTurn};
-ghost use Rattle.dispatch.specs.Posts.{OnlyWorn};
+ghost use Rattle.common.specs.Posts.{OnlyWorn};
 ghost use Rattle.threads.specs.{Loops.{AllWoken, Asked, EndsWell, IsTold, LoopMade, OwnRan, PollerRan, RoundCut, RoundOver, RunMade, StepCut, StepMade, TurnsAfter, TurnsCut}};
 
 use crate::context::{Context, StopFlag, Told};
 use crate::ending::{Ended, NoFault, end_if_over};
-use dispatch::{Clock, Front, Gate, MAX_OWN_TURNS, Own, ServerFault, Shared};
+use common::{Clock, Front, Gate, MAX_OWN_TURNS, Own, ServerFault, Shared};
 use log::Log;
 use rounds::{Poller, poller_round};
 use std::sync::{Arc, Wait};

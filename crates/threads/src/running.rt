@@ -2,7 +2,7 @@
 ghost use Rattle.std.specs.Prelude.{◌≡◌, ℕ, List, [], IfOk, IfSome, IsSome, None, Some, map, option_to_list, true};
 ghost use Rattle.std.specs.Thread.{IsSend, IsSync};
 ghost use Rattle.claims.specs.Seats.{fresh_seat};
-ghost use Rattle.dispatch.specs.Posts.{AreFresh};
+ghost use Rattle.common.specs.Posts.{AreFresh};
 ghost use Rattle.threads.specs.{Divided.OfFirst, Served.{AllRan, IsDivided, PollerPart, PollerRuns, WorkerPart, WorkerRuns, poller_part, worker_part}};
 
 use crate::context::{Context, StopFlag, ThreadEnd};
@@ -12,7 +12,7 @@ use crate::faults::{Few, Outcome};
 use crate::joining::{Joins, Part};
 use crate::polling::PollerThread;
 use crate::working::Worker;
-use dispatch::{Clock, Front, Gate, Parts, ServerFault, Shared, Split, Timing};
+use common::{Clock, Front, Gate, Parts, ServerFault, Shared, Split, Timing};
 use log::Log;
 use os::set_thread_name;
 use ready::FreeQueue;

@@ -1,12 +1,12 @@
 //! The steps of a worker's thread.
 ghost use Rattle.std.specs.{Prelude.{◌≡◌, ◌<◌, [], IfErr, OnOk}, Arc.arc_value};
 ghost use Rattle.claims.specs.Seats.{HoldsNothing};
-ghost use Rattle.dispatch.specs.{Hands.HasRoom, Outgoing.{outgoing, PutAll}, Posts.OnlyWorn};
+ghost use Rattle.common.specs.{Hands.HasRoom, Outgoing.{outgoing, PutAll}, Posts.OnlyWorn};
 ghost use Rattle.threads.specs.{Divided.ends_of, Loops.{Changes, GivesToOwner, IsTold, OneRan, WorkerEnded, WorkerRan}};
 
 use crate::context::{Context, Told};
 use crate::ending::{Cleared, Ended, take};
-use dispatch::{Clock, Front, Gate, Hand, Own, ServerFault, Shared, give_slots, put_tickets};
+use common::{Clock, Front, Gate, Hand, Own, ServerFault, Shared, give_slots, put_tickets};
 use log::Log;
 use ready::FreeQueue;
 use std::sync::{Arc, Wait};

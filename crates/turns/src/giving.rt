@@ -1,20 +1,20 @@
 //! What a turn puts into the queues: the ticket of its slot, or the slot. What a queue refuses stays in hand.
 ghost use Rattle.std.specs.Prelude.{◌≡◌, ◌<◌, nat_lt, length};
 ghost use Rattle.claims.specs.Seats.{HoldsNot};
-ghost use Rattle.dispatch.specs.{Acts.{AreMade, giving}, Outgoing.{tickets_out, Inserted, KeepsTicket}};
+ghost use Rattle.common.specs.{Acts.{AreMade, giving}, Outgoing.{tickets_out, Inserted, KeepsTicket}};
 ghost use Rattle.token.specs.Names.{last_generation};
 ghost use Rattle.turns.specs.{Shares.Passed, Turns.SlotGiven};
-ghost use Rattle.dispatch.specs.Acts as act;
+ghost use Rattle.common.specs.Acts as act;
 
 use crate::visit::Closed;
-use dispatch::{Acts, Own};
+use common::{Acts, Own};
 use ready::{Full, Ticket};
 use std::sync::Wait;
 use token::MAX_GENERATION;
 
 /// Puts the ticket of a slot that was released. If it were put before, another thread could take it, find the slot
 /// held, and drop it.
-#[tactic(auto, using(dispatch::proofs::Outgoing::put_inserts, dispatch::proofs::Outgoing::refused_ticket))]
+#[tactic(auto, using(common::proofs::Outgoing::put_inserts, common::proofs::Outgoing::refused_ticket))]
 pub(crate) fn put_ticket<A: Acts, R: Wait>(rt: &R, acts: &mut A, own: &mut Own, ticket: Ticket)
     requires released { HoldsNot own.old.seat ticket.slot }
     requires room { length own.old.hand.tickets < own.old.hand.capacity }
@@ -34,7 +34,7 @@ pub(crate) fn put_ticket<A: Acts, R: Wait>(rt: &R, acts: &mut A, own: &mut Own, 
 
 /// Gives back the slot of a connection that has ended, once it is retired, unless its generation is the last. If it were
 /// given back before, its poller could find it held, and lose it.
-#[tactic(auto, using(dispatch::proofs::Outgoing::put_inserts, dispatch::proofs::Outgoing::refused_slot))]
+#[tactic(auto, using(common::proofs::Outgoing::put_inserts, common::proofs::Outgoing::refused_slot))]
 pub(crate) fn give_back<A: Acts, R: Wait>(
     rt: &R,
     acts: &mut A,

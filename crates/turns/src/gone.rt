@@ -1,6 +1,6 @@
 //! What the log has of a connection that has ended.
 
-use dispatch::{Berth, ClientsAt, Front, Settle};
+use common::{Berth, ClientsAt, Front, Settle};
 use log::Log;
 use relay_core::{Fault, Verdict};
 use relay_log::{Gone, Known, Why, logs_gone};

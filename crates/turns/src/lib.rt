@@ -3,14 +3,14 @@
 //! its rounds itself ([`own_turn`]), and puts the others into the queue ([`share_tickets`]).
 //!
 //! One thread at a time holds a slot (`claims`), so a connection's two sockets and its pair are never touched by two
-//! threads at once, and no note is lost between them. What a thread is lent for its turns is in `dispatch`; `rounds`
+//! threads at once, and no note is lost between them. What a thread is lent for its turns is in `common`; `rounds`
 //! makes the tickets.
 //!
 //! # Inside
 //!
-//! - A turn touches words, places, queues and what sockets hold back only by its acts ([`Acts`](dispatch::Acts),
-//!   [`Moves`](dispatch::Moves)), and makes these in the order of its program (`acts_of` of `specs/Turns.antt`). Its gate
-//!   hears of it by one of these alone ([`Gated::play`](dispatch::Gated::play)): no body here knows that `G` is a gate.
+//! - A turn touches words, places, queues and what sockets hold back only by its acts ([`Acts`](common::Acts),
+//!   [`Moves`](common::Moves)), and makes these in the order of its program (`acts_of` of `specs/Turns.antt`). Its gate
+//!   hears of it by one of these alone ([`Gated::play`](common::Gated::play)): no body here knows that `G` is a gate.
 //! - A place is reached by these acts alone (`Places`). What a turn found there, how it played that, and what it put back
 //!   or closed is said of its acts (`Handles` and `PlaysAt` of `specs/Turns.antt`).
 //! - The connection that is put back or closed is the one that was taken out (`Visit`, which cannot be dropped). Its
@@ -20,7 +20,7 @@
 //!   `back`). A ticket is put, and a slot is given back, once the seat no longer holds the slot (`put_ticket`:
 //!   `released`; `give_back`: `retired`), and a slot only once its connection is closed (`Closed`). Then the poller is
 //!   woken (`wake_if_ended`). What is in hand is put oldest first, until nothing is left or the queue was full
-//!   (`put_tickets`, `give_slots` of `dispatch`: `all`).
+//!   (`put_tickets`, `give_slots` of `common`: `all`).
 //! - The function that takes the notes and makes the calls (`play`) is passed no allocator, and no `Wait`, so that it
 //!   waits for no lock. The connection's place is locked before `play`, and again after it.
 //! - If workers run light tickets, one after the first 16 is kept only after a look of its own, which found no end of

@@ -2,17 +2,17 @@
 ghost use Rattle.std.specs.Prelude.{◌≡◌, ◌↔◌, ◌⊎◌, ◌<◌, ◌≤◌, ◌∷◌, ◌++◌, [], length, min, slice_get, Ok, Some, None, IfErr, IfSome, IsSome, false, true};
 ghost use Rattle.claims.specs.Seats.{HoldsNothing};
 ghost use Rattle.engine.specs.Turns.{IsServed};
-ghost use Rattle.dispatch.specs.{Heavy.looked_at, Limits.{first_light, own_budget}, Posts.{AtRest, OnlyWorn}};
+ghost use Rattle.common.specs.{Heavy.looked_at, Limits.{first_light, own_budget}, Posts.{AtRest, OnlyWorn}};
 ghost use Rattle.turns.specs.{Shares.{IsLight, Stays, TicketsShared}, Turns.{marks_after, Handling, NoOwnTurn, OwnTurn, PlaysAt}};
 
 use crate::giving::put_ticket;
 use crate::worker::{Worked, turn_of};
-use dispatch::{
-    Clock, FIRST_LIGHT, Front, Gated, Hand, HeavyMarks, OWN_BUDGET, Own, Shared, Timing,
+use common::{
+    Clock, FIRST_LIGHT, Front, Gated, Hand, HeavyMarks, OWN_BUDGET, Own, ServerFault, Shared,
+    Timing,
 };
 use log::Log;
 use ready::{AllBusy, ReadyQueue, Ticket};
-use relay_log::ServerFault;
 use std::sync::Wait;
 
 /// Why a light ticket stays in hand.

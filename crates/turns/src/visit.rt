@@ -2,14 +2,14 @@
 ghost use Rattle.std.specs.Prelude.{◌≡◌, ℕ, ◌<◌, ◌≤◌, [], ◌∷◌, Some, None, IfOk, IfErr};
 ghost use Rattle.claims.specs.Seats.{Adds};
 ghost use Rattle.engine.specs.Turns.{outcome_of, IsServed};
-ghost use Rattle.dispatch.specs.{Posts.HoldsOnly, Told.{ended_by, moved_by}};
+ghost use Rattle.common.specs.{Posts.HoldsOnly, Told.{ended_by, moved_by}};
 ghost use Rattle.turns.specs.Turns.{noted_by, Plays};
 ghost use Rattle.claims.specs.declared.view.Exchange.TheVariants as exchange;
-ghost use Rattle.dispatch.specs.Acts as act;
+ghost use Rattle.common.specs.Acts as act;
 
 use crate::gone::log_gone;
 use claims::ClaimSeat;
-use dispatch::{Berth, ClientsAt, Front, Gated, Moves, Own, Settle, Shared, ended_by, moved_by};
+use common::{Berth, ClientsAt, Front, Gated, Moves, Own, Settle, Shared, ended_by, moved_by};
 use engine::{Moment, Turn};
 use log::Log;
 use ready::Ticket;
@@ -110,7 +110,7 @@ impl<F: Front> Visit<F> {
     /// Takes the notes of the slot, which raise the connection's flags, and makes its calls on its two wires, between the
     /// gate's two calls. It is passed neither an allocator nor anything that may wait, so it allocates nothing and waits
     /// for no lock.
-    #[tactic(auto, using(dispatch::proofs::Holding::holds_still))]
+    #[tactic(auto, using(common::proofs::Holding::holds_still))]
     pub(crate) fn play<A: Gated<F, G>, G>(
         &mut self,
         acts: &mut A,

@@ -1,18 +1,20 @@
 //! One turn of a worker.
 ghost use Rattle.std.specs.{Prelude.{◌≡◌, ◌<◌, ◌≤◌, true, false, Some, Ok, IfErr, IfNone, IfSome}, Option.ok_or};
 ghost use Rattle.engine.specs.Turns.{IsServed};
-ghost use Rattle.dispatch.specs.{declared.places.Berth.Berth, Hands.HasRoom, Outgoing.KeepsSlot, Posts.{AtRest, IsWorn, OnlyWorn}};
+ghost use Rattle.common.specs.{declared.places.Berth.Berth, Hands.HasRoom, Outgoing.KeepsSlot, Posts.{AtRest, IsWorn, OnlyWorn}};
 ghost use Rattle.token.specs.Names.{last_generation};
 ghost use Rattle.turns.specs.Turns.{AtWork, Handled, Handling, LeftSlot, Plays, PlaysAt, RunRest, TurnInOrder, TurnRest, WorkerTurn};
 
 use crate::giving::{give_back, put_ticket};
 use crate::visit::{Back, Terms, Visit, put_in, take_out};
 use claims::{Claimed, Posted, Released};
-use dispatch::{Clock, Front, Gated, Moves, Own, Shared, Timing, give_slots, put_tickets};
+use common::{
+    Clock, Front, Gated, Moves, Own, ServerFault, Shared, Timing, give_slots, put_tickets,
+};
 use engine::Turn;
 use log::Log;
 use ready::Ticket;
-use relay_log::{ServerFault, log_end};
+use relay_log::log_end;
 use std::sync::Wait;
 
 /// The outcome of a worker's turn.
@@ -118,7 +120,7 @@ pub(crate) fn turn_of<F: Front, A: Gated<F, G>, G, C: Clock, R: Wait + Log>(
 }
 
 /// Throws the notes away and releases a slot without the ticket's connection.
-#[tactic(auto, using(crate::proofs::Turns::still_at_work, dispatch::proofs::Holding::holds_still))]
+#[tactic(auto, using(crate::proofs::Turns::still_at_work, common::proofs::Holding::holds_still))]
 fn give_up<F: Front, A: Moves<F>, R: Wait>(
     rt: &R,
     acts: &mut A,
@@ -170,7 +172,7 @@ fn run<F: Front, A: Gated<F, G>, G, R: Wait + Log>(
 
 /// Puts back a connection that has spent its budget, and keeps it due: it posts a note, and releases the slot. The post
 /// of a holder never answers Wake: the release does.
-#[tactic(auto, using(crate::proofs::Turns::still_at_work, dispatch::proofs::Holding::holds_behind_post, claims::proofs::Seats::only_at_post))]
+#[tactic(auto, using(crate::proofs::Turns::still_at_work, common::proofs::Holding::holds_behind_post, claims::proofs::Seats::only_at_post))]
 fn again<F: Front, A: Moves<F>, R: Wait>(
     rt: &R,
     acts: &mut A,
@@ -216,7 +218,7 @@ fn rest<F: Front, A: Moves<F>, R: Wait>(
 }
 
 /// Releases a slot, and puts a ticket if notes wait.
-#[tactic(auto, using(dispatch::proofs::Holding::let_go))]
+#[tactic(auto, using(common::proofs::Holding::let_go))]
 fn leave<F: Front, A: Moves<F>, R: Wait>(
     rt: &R,
     acts: &mut A,
@@ -237,7 +239,7 @@ fn leave<F: Front, A: Moves<F>, R: Wait>(
     }
 }
 
-#[tactic(auto, using(dispatch::proofs::Holding::let_go))]
+#[tactic(auto, using(common::proofs::Holding::let_go))]
 fn end<F: Front, A: Moves<F>, R: Wait + Log>(
     rt: &R,
     acts: &mut A,

@@ -1,6 +1,6 @@
 use Rattle.std.proofs.{Common.{◌∙◌, ◌∷◌, [], ap, arith, inl, inr, refl}, lemmas.List.length-set}
 use Rattle.claims.{specs.declared.view.Account.Account, proofs.Seats.{account_after, holds_nothing_again}}
-use Rattle.dispatch.{specs.Acts.{AreMade, Adopt, placing}, proofs.Holding.{holds_from}}
+use Rattle.common.{specs.Acts.{AreMade, Adopt, placing}, proofs.Holding.{holds_from}}
 use Rattle.rounds.{specs.{Acts.{SeatAct, opening}, Openings.Putting}, proofs.{Acts.{acts_one, try_held}, Rounds.{counted_one, opened_once, times-append, none_opened}}}
 use Rattle.claims.specs.declared.view.Exchange.TheVariants as exchange
 use Rattle.rounds.proofs.opening.place.Goals as goal

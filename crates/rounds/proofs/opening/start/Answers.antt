@@ -1,5 +1,5 @@
 use Rattle.std.proofs.Common.{refl, append-nil}
-use Rattle.dispatch.proofs.Holding.{holds_still, holds_behind_post, released_all}
+use Rattle.common.proofs.Holding.{holds_still, holds_behind_post, released_all}
 use Rattle.rounds.proofs.Rounds.{started_by}
 use Rattle.rounds.proofs.opening.start.Goals as goal
 use Rattle.claims.specs.declared.answers.Released.TheVariants as released

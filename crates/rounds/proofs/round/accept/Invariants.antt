@@ -1,5 +1,5 @@
 use Rattle.std.proofs.Common.{◌≡◌, ◌+◌, ◌≤◌}
-use Rattle.dispatch.specs.{Hands.ticket_room, Posts.IsWorn}
+use Rattle.common.specs.{Hands.ticket_room, Posts.IsWorn}
 use Rattle.rounds.specs.{Openings.{Between, AcceptDone, TriesMade}, Rounds.OnlyAnswered}
 use Rattle.rounds.proofs.round.accept.Given as goal
 
