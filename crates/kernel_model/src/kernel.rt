@@ -89,13 +89,6 @@ impl Kernel {
         self.backlog
     }
 
-    /// Whether the next connection must be reported, as after an accept that answered blocked.
-    pub fn is_armed(&self) -> bool
-        ensures { result ≡ self.now.armed }
-    {
-        self.armed
-    }
-
     /// Opens an end and registers it under its token. Returns the lowest descriptor that was not open (open(2)).
     ///
     /// Refuses with `NoMemory`, and changes nothing, if the table of descriptors cannot grow.

@@ -113,18 +113,6 @@ impl<F: Front> Poller<F> {
         })
     }
 
-    /// From now on this slot counts as having had this many connections. A server starts at 0. A test may start near
-    /// the last generation, 2^47 - 1.
-    #[tactic(auto, using(crate::proofs::Acts::own_set))]
-    pub fn start_at(&mut self, slot: usize, generation: u64)
-        requires inside { slot < length self.old.table }
-        requires own { IsIn self.old.part slot }
-        requires generation { generation ≤ last_generation }
-        ensures { self.new ≡ record self.old { table = slice_set self.old.table slot generation } }
-    {
-        self.table[slot] = generation;
-    }
-
     /// The poller begins at this second, in place of second 0: its first sweep comes an idle limit later.
     pub fn begin_at(&mut self, second: u64)
         ensures { self.new ≡ record self.old { swept = second } }
