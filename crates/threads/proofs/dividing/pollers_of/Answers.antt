@@ -22,7 +22,8 @@ loop-poller-preserved g c =
     record {
       fresh = made.fresh;
       numbered = threads_more _ _ _ _ _ _ _ c.len-in-Some.result _ pushed c.in-Some.ensures.items
-          (omega (arith, c.len-in-Some.ensures, c.pop.new.self.ok.0)) (rw (made.made.0, made.made.1)) was.numbered;
+          (omega (arith, c.len-in-Some.ensures, c.pop.new.self.ok.0))
+          (rw (made.made.0, made.made.1)) was.numbered;
       own = all_pushed (λ thread. (thread.own.seat ≡ fresh_seat (arc_value c.args.shared.now).claims) × IsEndOf c.args.rest.now.free thread.number thread.own.free)
           _ pushed was.own (made.seat, end_of_left _ _ _ _ was.ends made.slots);
       ends = left_of_left was.ends made.left;
