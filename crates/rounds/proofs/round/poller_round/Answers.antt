@@ -67,7 +67,7 @@ returns g c =
     let last : Lasts c.look.new.poller c.take_back.new.poller = rw (end, told, accepted.done.did.poller, timed.poller, delivered.poller) in
     let swept = rw (delivered.poller, looked.poller) at timed.swept in
     let answer = answered c.is_worn-is_worn.result c.args.poller.now
-        c.take_back.new.poller c.args.own.now c.take_back.new.own c.ok_or.result c.is_worn-is_worn.ensures (rw c.then_some.ensures at c.ok_or.ensures.value) in
+    c.take_back.new.poller c.args.own.now c.take_back.new.own c.ok_or.result c.is_worn-is_worn.ensures (rw c.then_some.ensures at c.ok_or.ensures.value) in
     record {
       between = between_still accepted.between back.took.seat (rw (end, told));
       early = begun_not_early _ _ (c.has_room.ensures.room c.if-not-has_room.false);
