@@ -8,7 +8,7 @@ use Rattle.rounds.specs.{Pollers.{PollerState, Counted, counted_up}, Acts.{SeatA
 use Rattle.log.specs.declared.level.Level.{Level}
 use Rattle.statistics.specs.declared.event.Event.{Event}
 use Rattle.common.specs.declared.cause.Cause.{Cause}
-use Rattle.relay_log.specs.Messages.open_message
+use Rattle.relay_log.specs.Messages.{open_message}
 use Rattle.relay_core.specs.{Pairs.fresh, Proxy.proxy_line}
 use Rattle.claims.specs.declared.view.Exchange.TheVariants as exchange
 use Rattle.common.specs.Acts as act
