@@ -364,6 +364,7 @@ fn start<F: Front, A: Moves<F>, R: Wait>(
     ensures idle { HoldsNothing own.new.seat }
     ensures only { OnlyAt ticket.slot own.old.seat own.new.seat }
     ensures started { IsWorn own.old.seat ⊎ Started ticket own.old own.new }
+    ensures slots { own.new.hand.slots ≡ own.old.hand.slots }
     ensures queues { SameQueues own.old own.new }
 {
     acts.discard(&shared.claims, &mut own.seat, ticket.slot);

@@ -1,5 +1,5 @@
 //! What a poller keeps between its rounds.
-ghost use Rattle.std.specs.{Prelude.{◌≡◌, ◌||◌, if◌then◌else◌, ◌-◌, ◌<◌, ◌≤◌, ◌↔◌, [], length, IfOk, IfErr, OnOk, OnErr, IsTrue, slice_set, true, false}, IoError.error_kind};
+ghost use Rattle.std.specs.{Prelude.{◌≡◌, ◌||◌, if◌then◌else◌, ◌-◌, ◌<◌, ◌≤◌, ◌↔◌, [], length, IfOk, IfErr, OnOk, OnErr, IsTrue, Contains, slice_set, true, false}, IoError.error_kind};
 ghost use Rattle.token.specs.Names.{last_generation};
 ghost use Rattle.common.specs.{Splits.IsIn, Told.unaccepted_of};
 ghost use Rattle.rounds.specs.{Episodes.{all_logged_at, opened_after, AreLogged}, Openings.{fresh_poller, DropLogged}, Pollers.{AreGenerations, IsOwnTable, HasOpenedAll, counted_up, max_accepts}};
@@ -173,6 +173,7 @@ impl<F: Front> Poller<F> {
 
     /// Raises the accept flag if the listener was reported.
     pub(crate) fn raise_accept_flag(&mut self, reported: bool)
+        requires { IsTrue reported ↔ Contains self.old.batch 0 }
         ensures { self.new ≡ record self.old { accepting = self.old.accepting || reported } }
     {
         self.accepting = self.accepting || reported;

@@ -69,7 +69,8 @@ pub fn poller_round<F: Front, A: Moves<F>, C: Clock, R: Wait + Log>(
     if !look(rt, own, poller, timing.limit) {
         return Err(ServerFault::Poll);
     }
-    deliver_batch(acts, shared, own, poller);
+    let listener = deliver_batch(acts, shared, own, poller);
+    poller.raise_accept_flag(listener);
     keep_time(acts, shared, own, poller, timing);
     accept(rt, alloc, acts, shared, own, poller);
     poller.log_counted(rt);
@@ -103,7 +104,7 @@ fn look<F: Front, R: Wait + Log>(rt: &R, own: &mut Own, poller: &mut Poller<F>, 
 {
     listen_to_open(poller);
     let wait = may_wait(rt, own, poller, limit);
-    poll(rt, poller, wait)
+    poll(rt, own, poller, limit, wait)
 }
 
 /// Has the front stop listening if the poller has opened all that it may.
@@ -134,8 +135,16 @@ fn may_wait<F: Front, R: Wait>(rt: &R, own: &mut Own, poller: &Poller<F>, limit:
     }
 }
 
-/// Asks for reports. After a signal the batch is empty. Returns false if the wait failed.
-fn poll<F: Front, R: Log>(rt: &R, poller: &mut Poller<F>, wait: Waiting) -> bool
+/// Asks for reports, with no longer wait than the limit and what the thread has in hand allow. After a signal the batch is
+/// empty. Returns false if the wait failed.
+fn poll<F: Front, R: Log>(
+    rt: &R,
+    _own: &Own,
+    poller: &mut Poller<F>,
+    _limit: u64,
+    wait: Waiting,
+) -> bool
+    requires wait { WaitsAsMay wait _limit poller.old _own.now }
     requires closed { ListensToOpen poller.old }
     ensures same { Looked poller.old poller.new }
     ensures waited { Waited wait poller.old.seen poller.new.seen }
@@ -161,30 +170,29 @@ fn polled<R: Log>(rt: &R, answer: io::Result<()>) -> bool
     }
 }
 
-/// Delivers the reports of the batch. No note goes to another poller's slot: the table has no connection there.
+/// Delivers the reports of the batch. Returns whether the listener was reported. No note goes to another poller's slot: the
+/// table has no connection there.
 fn deliver_batch<F: Front, A: Acts>(
     acts: &mut A,
     shared: &Shared<F, A>,
     own: &mut Own,
-    poller: &mut Poller<F>,
-)
-    requires between { Between shared.now.claims own.old poller.old }
-    requires room { length poller.old.batch ≤ ticket_room own.old.hand }
-    ensures between { Between shared.now.claims own.new poller.new }
-    ensures poller { poller.new ≡ record poller.old { accepting = poller.new.accepting } }
-    ensures posts { AllPosted A.made poller.old.part (all_reported poller.old.table poller.old.batch)
+    poller: &Poller<F>,
+) -> bool
+    requires between { Between shared.now.claims own.old poller.now }
+    requires room { length poller.now.batch ≤ ticket_room own.old.hand }
+    ensures between { Between shared.now.claims own.new poller.now }
+    ensures posts { AllPosted A.made poller.now.part (all_reported poller.now.table poller.now.batch)
         own.old own.new acts.old acts.new }
-    ensures flag { poller.new.accepting ≡ false → (poller.old.accepting ≡ false) × (Contains poller.old.batch 0 → ⊥) }
+    ensures listener { IsTrue result ↔ Contains poller.now.batch 0 }
 {
-    let listener = deliver_by(
+    deliver_by(
         acts,
         &shared.claims,
         &mut own.seat,
         poller.table(),
         poller.batch(),
         &mut own.hand,
-    );
-    poller.raise_accept_flag(listener);
+    )
 }
 
 /// If a client waits for a slot, the poller is full from now on, until accept(2) answers that nobody waits. If all
@@ -240,7 +248,7 @@ fn accept<F: Front, A: Moves<F>, R: Wait + Log>(
         poller.old poller.new own.old own.new }
     ensures ended { AcceptEnded poller.new own.new }
     ensures answered { OnlyAnswered F.gave_none poller.old poller.new }
-    ensures still { IsWorn own.old.seat → IsWorn own.new.seat }
+    ensures still { IsWorn own.old.seat → own.new.seat ≡ own.old.seat }
 {
     log_if_full(rt, shared, own, poller);
     poller.reset_tries();
@@ -280,7 +288,7 @@ fn accept_next<F: Front, A: Moves<F>, R: Wait + Log>(
     ensures between { Between shared.now.claims own.new poller.new }
     ensures done { OneAccepted (TriesMade A.moved A.named A.made F.may_tell poller.old acts.old acts.new)
         poller.old poller.new own.old own.new }
-    ensures still { IsWorn own.old.seat → IsWorn own.new.seat }
+    ensures still { IsWorn own.old.seat → own.new.seat ≡ own.old.seat }
     ensures tries { result ≡ true → poller.new.tries ≡ poller.old.tries - 1 }
     ensures ended { result ≡ false → AcceptEnded poller.new own.new }
     ensures answered { OnlyAnswered F.gave_none poller.old poller.new }
@@ -304,6 +312,7 @@ fn accept_next<F: Front, A: Moves<F>, R: Wait + Log>(
 fn has_slot<R: Wait>(rt: &R, own: &mut Own) -> bool
     requires room { 1 ≤ ticket_room own.old.hand }
     ensures took { OnlyTook own.old own.new }
+    ensures had { 1 ≤ length own.old.hand.slots → (result ≡ true) × (own.new ≡ own.old) }
     ensures slot { result ≡ true → 1 ≤ length own.new.hand.slots }
     ensures none { result ≡ false → NoSlot own.new × (own.new ≡ own.old) }
 {

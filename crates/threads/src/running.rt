@@ -3,12 +3,12 @@ ghost use Rattle.std.specs.Prelude.{◌≡◌, ℕ, List, [], IfOk, IfSome, IsSo
 ghost use Rattle.std.specs.Thread.{IsSend, IsSync};
 ghost use Rattle.claims.specs.Seats.{fresh_seat};
 ghost use Rattle.common.specs.Posts.{AreFresh};
-ghost use Rattle.threads.specs.{Divided.OfFirst, Served.{AllRan, IsDivided, PollerPart, PollerRuns, WorkerPart, WorkerRuns, poller_part, worker_part}};
+ghost use Rattle.threads.specs.{Divided.OfFirst, Loops.{announced}, Served.{AllRan, IsDivided, PollerPart, PollerRuns, WorkerPart, WorkerRuns, poller_part, worker_part}};
 
 use crate::context::{Context, StopFlag, ThreadEnd};
 use crate::dividing::{Rest, ServerThreads, divide};
 use crate::ending::Ending;
-use crate::faults::{Few, Outcome};
+use crate::faults::{Few, Outcome, Recorded};
 use crate::joining::{Joins, Part};
 use crate::polling::PollerThread;
 use crate::working::Worker;
@@ -229,8 +229,7 @@ fn run_first<F: Front + Drop, G: Gate, C: Clock, R: Wait + Log, S: StopFlag>(
     }
 }
 
-/// If not all threads could be started, but so many of those that are wanted beside the first, the fault is recorded under
-/// number 0, before those of all threads.
+/// If not all threads could be started, that is recorded, before the faults of all threads.
 fn few_started<G, C, R: Wait + Log, S>(
     context: &Context<'_, G, C, R, S>,
     all: bool,
@@ -242,10 +241,21 @@ fn few_started<G, C, R: Wait + Log, S>(
     if all {
         return None;
     }
+    Some(not_started(context, started, wanted).few())
+}
+
+/// Fewer threads were started beside the first than are wanted. The fault is logged, and recorded under number 0.
+fn not_started<'a, G, C, R: Wait + Log, S>(
+    context: &Context<'a, G, C, R, S>,
+    started: usize,
+    wanted: usize,
+) -> Recorded<'a>
+    ensures { result ≡ announced context.now.ending.now (0, ServerFault.Threads) }
+{
     let fault = log_few_threads(
         context.rt,
         started.saturating_add(1),
         wanted.saturating_add(1),
     );
-    Some(context.ending.record(context.rt, 0, fault).few())
+    context.ending.record(context.rt, 0, fault)
 }

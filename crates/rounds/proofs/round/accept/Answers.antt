@@ -1,4 +1,4 @@
-use Rattle.std.proofs.Common.{inl, inr, refl, arith}
+use Rattle.std.proofs.Common.{◌∙◌, inl, inr, refl, arith}
 use Rattle.rounds.proofs.Rounds.{accept_and_took, accept_both, accept_took, done_of, no_tries, answered_both, answered_none, between_still, room_same}
 use Rattle.rounds.proofs.round.accept.Goals as goal
 
@@ -10,7 +10,7 @@ loop-try-init g c =
       room = omega (arith, room_same full.took);
       tries = rw c.reset_tries.ensures;
       done = done_of (accept_took no_tries (rw (c.reset_tries.ensures, full.poller) assumption) full.took);
-      still = rw full.took.seat (λ is. is);
+      still = λ _. full.took.seat;
       answered = answered_none (rw (c.reset_tries.ensures, full.poller)) (inl (rw (c.reset_tries.ensures, full.poller)));
     }
 
@@ -33,7 +33,7 @@ returns-then-not-may_accept g c =
       between = between_still before.between took.seat refl;
       done = accept_and_took before.done took;
       ended = inl (inr (c.may_accept.ensures.ended c.if-not-may_accept.true));
-      still = rw took.seat before.still;
+      still = λ is. took.seat ∙ before.still is;
       answered = before.answered;
     }
 
@@ -46,7 +46,7 @@ returns-then-not-accept_next g c =
       between = tried.between;
       done = accept_both (accept_and_took before.done took) tried.done;
       ended = tried.ended c.if-not-accept_next.true;
-      still = λ is. tried.still (rw took.seat (before.still is));
+      still = λ is. tried.still (rw (took.seat, before.still is) is) ∙ took.seat ∙ before.still is;
       answered = answered_both before.answered tried.answered;
     }
 
@@ -60,6 +60,6 @@ loop-try-preserved g c =
       room = omega (arith, room_same took, tried.done.room, before.room);
       tries = omega (arith, tried.tries c.if-not-accept_next.false, before.tries, c.loop-try-test.true);
       done = accept_both (accept_and_took before.done took) tried.done;
-      still = λ is. tried.still (rw took.seat (before.still is));
+      still = λ is. tried.still (rw (took.seat, before.still is) is) ∙ took.seat ∙ before.still is;
       answered = answered_both before.answered tried.answered;
     }

@@ -1,8 +1,9 @@
-use Rattle.rounds.proofs.{Acts.{flag_down, own_reports}, Rounds.between_posted}
+use Rattle.std.proofs.Common.{refl}
+use Rattle.rounds.proofs.{Acts.own_reports, Rounds.between_posted}
 use Rattle.rounds.proofs.round.deliver_batch.Goals as goal
 
-pub deliver_by-listener-requires : goal.deliver_by-listener-requires
-deliver_by-listener-requires g c = record {
+pub deliver_by-requires : goal.deliver_by-requires
+deliver_by-requires g c = record {
   same = c.requires.between.same;
   idle = c.requires.between.idle;
   sized = rw c.table.ensures.table c.requires.between.sized;
@@ -11,16 +12,14 @@ deliver_by-listener-requires g c = record {
 
 pub returns : goal.returns
 returns g c =
-    let told = c.deliver_by-listener.ensures in
-    let raised = c.raise_accept_flag.ensures in
+    let told = c.deliver_by.ensures in
     record {
-      between = between_posted c.requires.between told.delivered (rw raised);
-      poller = rw raised;
+      between = between_posted c.requires.between told.delivered refl;
       posts = record {
         made = rw (c.table.ensures.table, c.batch.ensures.batch) at told.made;
         posted = rw (c.table.ensures.table, c.batch.ensures.batch) at told.delivered;
         own = own_reports _ _ c.args.poller.now.batch (rw c.table.ensures.table at c.table.ensures.own);
         queues = assumption;
       };
-      flag = rw raised (flag_down _ _ (rw c.batch.ensures.batch at told.listener));
+      listener = rw c.batch.ensures.batch at told.listener;
     }

@@ -1,5 +1,5 @@
-use Rattle.std.proofs.Common.{refl, inl, inr, arith}
-use Rattle.rounds.proofs.{Rounds.{accept_and_took, between_still, room_same, took_none, answered, Lasts, begun_not_early, ended_still, flag_ended, kept, listens_still, unless, round_ended, round_of}, Acts.{filter_le, room_left, few_sweep}}
+use Rattle.std.proofs.Common.{◌≡◌, refl, length, inl, inr, arith}
+use Rattle.rounds.proofs.{Rounds.{accept_and_took, between_still, room_same, took_none, answered, Lasts, begun_not_early, ended_still, flag_ended, kept, listens_still, unless, round_ended, round_of}, Acts.{filter_le, room_left, few_sweep, flag_down}}
 use Rattle.rounds.specs.Acts.{reported}
 use Rattle.rounds.proofs.round.poller_round.Goals as goal
 
@@ -45,44 +45,47 @@ returns-then-not-look g c =
 pub keep_time-requires-clause-room : goal.keep_time-requires-clause-room
 keep_time-requires-clause-room g c =
     let room = c.has_room.ensures.room c.if-not-has_room.false in
-    omega (arith, room_same c.look.ensures.took, room_left c.deliver_batch.ensures.posts.posted, filter_le (reported c.look.new.poller.table) c.look.new.poller.batch)
+    let same : length c.raise_accept_flag.new.self.table ≡ length c.look.new.poller.table = rw c.raise_accept_flag.ensures in
+    omega (arith, room_same c.look.ensures.took, room_left c.deliver_batch-listener.ensures.posts.posted, filter_le (reported c.look.new.poller.table) c.look.new.poller.batch)
 
 pub accept-requires-clause-room : goal.accept-requires-clause-room
 accept-requires-clause-room g c =
     let room = c.has_room.ensures.room c.if-not-has_room.false in
-    let delivered = room_left c.deliver_batch.ensures.posts.posted in
+    let delivered = room_left c.deliver_batch-listener.ensures.posts.posted in
     let swept = room_left c.keep_time.ensures.posts.posted in
-    let few = few_sweep c.deliver_batch.new.poller c.keep_time.new.poller in
+    let same : length c.raise_accept_flag.new.self.table ≡ length c.look.new.poller.table = rw c.raise_accept_flag.ensures in
+    let few = few_sweep c.raise_accept_flag.new.self c.keep_time.new.poller in
     omega (arith, room_same c.look.ensures.took, filter_le (reported c.look.new.poller.table) c.look.new.poller.batch)
 
 pub returns : goal.returns
 returns g c =
     let looked = c.look.ensures in
-    let delivered = c.deliver_batch.ensures in
+    let delivered = c.deliver_batch-listener.ensures in
+    let raised = c.raise_accept_flag.ensures in
     let timed = c.keep_time.ensures in
     let accepted = c.accept.ensures in
     let told = c.log_counted.ensures.logged in
     let back = c.take_back.ensures in
     let end = back.poller in
-    let last : Lasts c.look.new.poller c.take_back.new.poller = rw (end, told, accepted.done.did.poller, timed.poller, delivered.poller) in
-    let swept = rw (delivered.poller, looked.poller) at timed.swept in
+    let last : Lasts c.look.new.poller c.take_back.new.poller = rw (end, told, accepted.done.did.poller, timed.poller, raised) in
+    let swept = rw (raised, looked.poller) at timed.swept in
     let answer = answered c.is_worn-is_worn.result c.args.poller.now
     c.take_back.new.poller c.args.own.now c.take_back.new.own c.ok_or.result c.is_worn-is_worn.ensures (rw c.then_some.ensures at c.ok_or.ensures.value) in
     record {
       between = between_still accepted.between back.took.seat (rw (end, told));
       early = begun_not_early _ _ (c.has_room.ensures.room c.if-not-has_room.false);
       waits = inr (rw last looked.waits);
-      made = round_of looked.poller looked.took delivered.posts delivered.poller timed.posts timed.poller (accept_and_took accepted.done back.took)
-          (λ is. rw back.took.seat (accepted.still is)) (rw (end, told));
+      made = round_of {r = c.raise_accept_flag.new.self} looked.poller looked.took delivered.posts (rw raised) timed.posts timed.poller (accept_and_took accepted.done back.took)
+          (λ is. rw (back.took.seat, accepted.still is) is) (rw (end, told));
       ended = inr (inr (record {
         answer = answer.0;
         read = rw last looked.batch;
         second = rw (end, told, accepted.done.did.poller) timed.told;
         swept = rw (end, told, accepted.done.did.poller) swept;
         accepted = ended_still (rw told accepted.ended) back.left;
-        flag = λ down. flag_ended c.args.poller.now c.look.new.poller c.deliver_batch.new.poller c.keep_time.new.poller c.take_back.new.poller looked.poller
-            delivered.flag (rw timed.poller) (rw last) (accepted.answered.flag (rw (end, told) at down));
-        starved = λ starved. rw (timed.poller, delivered.poller, looked.poller) at (accepted.answered.starved (rw (end, told) at starved));
+        flag = λ down. flag_ended c.args.poller.now c.look.new.poller c.raise_accept_flag.new.self c.keep_time.new.poller c.take_back.new.poller looked.poller
+            (λ down. flag_down _ _ delivered.listener (rw raised at down)) (rw timed.poller) (rw last) (accepted.answered.flag (rw (end, told) at down));
+        starved = λ starved. rw (timed.poller, raised, looked.poller) at (accepted.answered.starved (rw (end, told) at starved));
         closed = back.closed;
         back = back.all;
         drops = rw end c.log_counted.ensures.all;
@@ -93,16 +96,16 @@ returns g c =
         heavy = rw (last, looked.poller);
         longest = rw last looked.longest;
         swept = inr (rw (end, told, accepted.done.did.poller) swept);
-        listens = listens_still c.args.poller.now (rw (told, accepted.done.did.poller, timed.poller, delivered.poller) looked.listens) back.left back.closed;
-        over = rw (told, accepted.done.did.poller, timed.poller, delivered.poller, looked.poller) at back.over;
+        listens = listens_still c.args.poller.now (rw (told, accepted.done.did.poller, timed.poller, raised) looked.listens) back.left back.closed;
+        over = rw (told, accepted.done.did.poller, timed.poller, raised, looked.poller) at back.over;
         took = rw (back.took.ready, accepted.done.did.ready, timed.posts.queues.ready, delivered.posts.queues.ready, looked.took.ready);
       };
       none = λ why. absurd (answer.1 (unless (begun_not_early _ _ (c.has_room.ensures.room c.if-not-has_room.false)) why));
       refused = answer.2;
     }
 
-pub deliver_batch-requires : goal.deliver_batch-requires
-deliver_batch-requires g c =
+pub deliver_batch-listener-requires : goal.deliver_batch-listener-requires
+deliver_batch-listener-requires g c =
     let room = c.has_room.ensures.room c.if-not-has_room.false in
     let same = room_same c.look.ensures.took in
     record {
