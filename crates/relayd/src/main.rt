@@ -58,7 +58,7 @@ fn main(rt: HostRuntime) -> ExitCode {
         };
         let lent = Lent {
             gate: &gate,
-            clock: &MonotonicClock(rt),
+            clock: &MonotonicClock,
             stop: &stop,
             statistics: teller.map(|teller| &teller.statistics),
             patience: extras.patience,
