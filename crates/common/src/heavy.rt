@@ -52,4 +52,13 @@ impl HeavyMarks {
             *left = HEAVY_MARKS;
         }
     }
+
+    /// Takes the slot's marks away: a new connection has it.
+    pub fn clear(&mut self, slot: usize)
+        ensures { self.new ≡ slice_set self.old slot 0 }
+    {
+        if let Some(left) = self.marks.get_mut(slot) {
+            *left = 0;
+        }
+    }
 }

@@ -245,3 +245,8 @@ swept_by limit p r false due is = rw (is, eq-eqb p.swept p.swept refl)
 pub flag_down : {reported : Type 0} (told flag : Bool) → IsTrue told ↔ reported → (flag || told) ≡ false → (flag ≡ false) × (reported → ⊥)
 flag_down told true is down = absurd (false≢true (sym down))
 flag_down told false is down = (refl, λ has. false≢true (sym down ∙ is.1 has))
+
+-- it is up
+pub flag_raised : {reported : Type 0} (told flag : Bool) → IsTrue told ↔ reported → (flag || told) ≡ true → (flag ≡ true) ⊎ reported
+flag_raised told true is up = inl refl
+flag_raised told false is up = inr (is.0 up)

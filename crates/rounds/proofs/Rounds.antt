@@ -5,7 +5,7 @@ use Rattle.claims.{specs.{declared.answers.Posted.Posted, Calls.PostChange, Seat
 use Rattle.common.{specs.{Posts.{HoldsOnly, IsWorn}, declared.{places.Berth.Berth, shared.Own.Own, split.Part.Part, front.{Unaccepted.Unaccepted, Unopened.Unopened, Route.Route, Waiting.{Waiting, TheVariants.{No, Brief, Long}}}}, Hands.{HandState, ticket_room}, Acts.{Act, AreMade, Made, Register, Adopt}, Told.{cause_of, Seen, Waited}, Splits.IsIn}, proofs.Holding.{holds_still, woke_behind_post, worn_still}}
 use Rattle.ready.specs.declared.ticket.Ticket.{Ticket}
 use Rattle.token.specs.Names.{last_generation}
-use Rattle.rounds.{specs.{Acts.{SeatAct, opening, ActsMade, AreTries, InOrder, all_reported, ArePosted, sweep_of}, Openings.{times, with_slot, AreOpened, OnlyTook, SlotsCounted, Between, Started, Connected, AcceptDone, OneAccepted, OnlyAccepted, IsOpened, IsLost, IsSpent, AreLost, IsNext, SameQueues, Fate, next_in, Opened, NotFree, DropsFor, ActsOf, DropMade, TriedOnce, TriesMade, TriesNext, TryMade, lacks, lead_of}, Pollers.{PollerState, Counted, counted_up, HasOpenedAll}, Rounds.{AcceptEnded, AllPosted, RoundInOrder, ListenerKept, ListensNoMore, ListensToOpen, Looked, OnlyAnswered, OnlyListens, RoundRefused, WaitedAsMay, WaitsAsMay}}, proofs.Acts.{at_slot-append, acts_none, acts_one, acts_both, in_order, none_at, try_dropped, try_opened, tries_none, tries_both, holds_nothing_still, posted_none, posts_still, no_sweep}}
+use Rattle.rounds.{specs.{Acts.{SeatAct, opening, ActsMade, AreTries, InOrder, all_reported, ArePosted, sweep_of}, Openings.{times, with_slot, AreOpened, OnlyTook, SlotsCounted, Between, Started, Connected, AcceptDone, OneAccepted, OnlyAccepted, unmarked, IsOpened, IsLost, IsSpent, AreLost, IsNext, SameQueues, Fate, next_in, Opened, NotFree, DropsFor, ActsOf, DropMade, TriedOnce, TriesMade, TriesNext, TryMade, lacks, lead_of}, Pollers.{PollerState, Counted, counted_up, HasOpenedAll}, Rounds.{AcceptEnded, AllPosted, RoundInOrder, ListenerKept, ListensNoMore, ListensToOpen, Looked, OnlyAnswered, OnlyListens, RoundRefused, WaitedAsMay, WaitsAsMay}}, proofs.Acts.{at_slot-append, acts_none, acts_one, acts_both, in_order, none_at, try_dropped, try_opened, tries_none, tries_both, holds_nothing_still, posted_none, posts_still, no_sweep}}
 use Rattle.common.specs.declared.{cause.Cause.{Cause}, faults.ServerFault.{ServerFault, TheVariants.{Poll, Worn}}}
 use Rattle.claims.specs.declared.view.Exchange.TheVariants as exchange
 use Rattle.claims.specs.declared.answers.Posted.TheVariants as posted
@@ -33,6 +33,10 @@ times-append slot xs ys = sum_by-append (λ (s : ℕ). cond (s == slot) 1 0) xs 
 opened-append : (xs ys : List Ticket) (a b c : List ℕ) → AreOpened a xs b → AreOpened b ys c → AreOpened a (xs ++ ys) c
 opened-append [] ys a b c same rest = rw same at rest
 opened-append (x ∷ xs) ys a b c first rest = (first.0, opened-append xs ys (slice_set a x.slot x.generation) b c first.1 rest)
+
+unmarked-append : (xs ys : List Ticket) (heavy : List ℕ) → unmarked (xs ++ ys) heavy ≡ unmarked ys (unmarked xs heavy)
+unmarked-append [] ys heavy = refl
+unmarked-append (x ∷ xs) ys heavy = unmarked-append xs ys (slice_set heavy x.slot 0)
 
 -- why slots are lost
 
@@ -74,6 +78,7 @@ connected_both {us} {bs} {p} {q} {r} {a} one two = record {
   made = acts_both _ _ _ _ _ one.made two.made;
   next = in_order (TriesNext p.part) us bs p.table q.table r.table one.next (rw one.poller at two.next);
   table = opened-append one.opened two.opened p.table q.table r.table one.table two.table;
+  heavy = two.heavy ∙ ap (unmarked two.opened) one.heavy ∙ sym (unmarked-append one.opened two.opened p.heavy);
   counted = rw (length-append one.opened two.opened) (counted_both _ _ _ _ _ _ one.counted two.counted);
   unused = rw (length-append one.lost two.lost) (counted_both _ _ _ _ _ _ one.unused two.unused);
   why = lost_both r one.not_free two.not_free one.lost two.lost
@@ -88,14 +93,14 @@ connected_both {us} {bs} {p} {q} {r} {a} one two = record {
 
 -- what connections say of a poller is as it was, as after a change that opens nothing
 abbrev pub SamePoller : PollerState → PollerState → Type 0
-SamePoller p q = record { table : q.table ≡ p.table; opened : q.opened ≡ p.opened; lost : q.lost ≡ p.lost; poller : OnlyAccepted p q }
+SamePoller p q = record { table : q.table ≡ p.table; heavy : q.heavy ≡ p.heavy; opened : q.opened ≡ p.opened; lost : q.lost ≡ p.lost; poller : OnlyAccepted p q }
 
 -- nothing was opened by these tries
 pub none_opened : {p q : PollerState} {a b : Own} (tries : List SeatAct) (lost not_free : List ℕ) → AreTries [] not_free tries → ActsMade tries a.seat b.seat
-    → InOrder (TriesNext p.part) tries p.table p.table → q.table ≡ p.table → q.opened ≡ p.opened → Counted p.lost (length lost) q.lost
+    → InOrder (TriesNext p.part) tries p.table p.table → q.table ≡ p.table → q.heavy ≡ p.heavy → q.opened ≡ p.opened → Counted p.lost (length lost) q.lost
     → AreLost q not_free lost → OnlyAccepted p q → b.hand.tickets ≡ a.hand.tickets → b.ready ≡ a.ready → b.free.history.put ≡ a.free.history.put
     → SlotsCounted a b [] lost → Connected tries p q a b
-none_opened {a = a} tries lost not_free are made next table opened unused why poller tickets ready gave slots = record {
+none_opened {a = a} tries lost not_free are made next table heavy opened unused why poller tickets ready gave slots = record {
   opened = [];
   lost = lost;
   not_free = not_free;
@@ -103,6 +108,7 @@ none_opened {a = a} tries lost not_free are made next table opened unused why po
   made = made;
   next = rw table next;
   table = table;
+  heavy = heavy;
   counted = counted_same opened;
   unused = unused;
   why = why;
@@ -119,7 +125,7 @@ room_same took = rw (took.capacity, took.tickets)
 
 -- slots were taken, and nothing was opened
 took_only : {p q : PollerState} {a b : Own} → SamePoller p q → OnlyTook a b → Connected [] p q a b
-took_only {a = a} same took = none_opened [] [] [] tries_none (rw took.seat (acts_none a.seat)) refl same.table same.opened (counted_same same.lost) refl same.poller
+took_only {a = a} same took = none_opened [] [] [] tries_none (rw took.seat (acts_none a.seat)) refl same.table same.heavy same.opened (counted_same same.lost) refl same.poller
     took.tickets took.ready took.gave took.slots
 
 pub accept_took : {acted : List SeatAct → Type 0} {p q : PollerState} {a b : Own} → acted [] → SamePoller p q → OnlyTook a b → OneAccepted acted p q a b
@@ -184,7 +190,7 @@ module _ {p q : PollerState} {a : Own} {hand : HandState} {slot : ℕ} (taken : 
   opened_never none spent lost = record {
     tries = [];
     acts = none;
-    did = rw lost (none_opened [] (slot ∷ []) [] tries_none (acts_none a.seat) refl refl refl (counted_one _ p.lost _ refl) (inl (spent, refl)) refl
+    did = rw lost (none_opened [] (slot ∷ []) [] tries_none (acts_none a.seat) refl refl refl refl (counted_one _ p.lost _ refl) (inl (spent, refl)) refl
         (rw taken) refl refl (λ s. rw taken (omega (arith, times_first s a.hand.slots slot is))));
     room = rw taken (omega arith);
   }
@@ -198,7 +204,7 @@ module _ {p q : PollerState} {a : Own} {hand : HandState} {slot : ℕ} (taken : 
         tries = try ∷ [];
         acts = acts;
         did = none_opened (try ∷ []) [] [] (try_dropped (next_in p slot)) (acts_one try a.seat a.seat (adds_none slot a.seat))
-            (p.table, record { own = own; next = refl; entered = refl }, refl) same.table same.opened (counted_same same.lost) refl same.poller
+            (p.table, record { own = own; next = refl; entered = refl }, refl) same.table same.heavy same.opened (counted_same same.lost) refl same.poller
             (rw (again, taken)) refl refl (λ s. rw (again, taken) (omega (arith, times_first s a.hand.slots slot is, times-append s (drop 1 a.hand.slots) (slot ∷ []))));
         room = rw (again, taken) (omega arith);
       }
@@ -281,7 +287,7 @@ started_by t noted posted.Quiet woke a first second b only took change quiet lef
 pub opened_once : {acted : List SeatAct → Type 0} {t : Ticket} {p q : PollerState} {a b : Own} {middle : SeatState} {found : ℕ}
     → ((noted : ℕ) → acted (record { ticket = t; exchanges = opening found noted } ∷ [])) → IsWorn middle ⊎ Started t (record a { seat = middle }) b
     → IsNext p t → Adds t.slot (exchange.Adopted found ∷ []) a.seat middle → SameQueues (record a { seat = middle }) b
-    → q ≡ record p { table = slice_set p.table t.slot t.generation; opened = counted_up p.opened 1; episodes = q.episodes }
+    → q ≡ record p { table = slice_set p.table t.slot t.generation; heavy = slice_set p.heavy t.slot 0; opened = counted_up p.opened 1; episodes = q.episodes }
     → IsWorn a.seat ⊎ OneAccepted acted p q (with_slot t.slot a) b
 opened_once acts (inl is_worn) next adopted queues is = inl (worn_before _ _ _ _ adopted refl is_worn)
 opened_once {t = t} {p = p} {a = a} {found = found} acts (inr started) next adopted queues is =
@@ -297,6 +303,7 @@ opened_once {t = t} {p = p} {a = a} {found = found} acts (inr started) next adop
         made = acts_one try _ _ (adds_both _ _ _ _ _ _ adopted started.seat);
         next = (_, record { own = next.own; next = next.generation; entered = (next.generation, refl) }, refl);
         table = (next.generation, refl);
+        heavy = refl;
         counted = counted_one _ p.opened _ refl;
         unused = counted_same refl;
         why = refl;
@@ -373,6 +380,7 @@ module _ {C S T : Type 0} {moved : Berth C T → S → Type 0} {named : Ticket �
               (simp append_assoc);
           next = rw (sweep, flag, looked) at done.next;
           table = rw (sweep, flag, looked) at done.table;
+          heavy = rw (sweep, flag, looked) at done.heavy;
           counted = rw (sweep, flag, looked) at done.counted;
           unused = rw (sweep, flag, looked) at done.unused;
           gave = rw (done.gave, sweeps.queues.free, reports.queues.free) took.gave;
@@ -392,17 +400,26 @@ or_more (inr x) more = inr x
 
 -- what answers made of the poller, one after the other
 pub answered_both : {gave : Unaccepted → Type 0} {p q r : PollerState} → OnlyAnswered gave p q → OnlyAnswered gave q r → OnlyAnswered gave p r
-answered_both first second = record { flag = λ down. or_more (second.flag down) first.flag; starved = λ lack. or_more (second.starved lack) first.starved }
+answered_both first second = record {
+  raised = λ up. first.raised (second.raised up);
+  flag = λ down. or_more (second.flag down) first.flag;
+  starved = λ lack. or_more (second.starved lack) first.starved;
+}
 
 pub answered_none : {gave : Unaccepted → Type 0} {p q : PollerState} → q.accepting ≡ p.accepting → (q.starved ≡ p.starved) ⊎ (q.starved ≡ false) → OnlyAnswered gave p q
-answered_none flag (inl same) = record { flag = λ down. inl (sym flag ∙ down); starved = λ lack. inl (sym same ∙ lack) }
-answered_none flag (inr none) = record { flag = λ down. inl (sym flag ∙ down); starved = λ lack. absurd (false≢true (sym none ∙ lack)) }
+answered_none flag (inl same) = record { raised = λ up. sym flag ∙ up; flag = λ down. inl (sym flag ∙ down); starved = λ lack. inl (sym same ∙ lack) }
+answered_none flag (inr none) = record { raised = λ up. sym flag ∙ up; flag = λ down. inl (sym flag ∙ down); starved = λ lack. absurd (false≢true (sym none ∙ lack)) }
 
 -- the accept flag is down at the end
 pub flag_ended : {gave : Type 0} (p q r v t : PollerState) → Looked p q → (r.accepting ≡ false → (q.accepting ≡ false) × (Contains q.batch 0 → ⊥))
     → v.accepting ≡ r.accepting → t.batch ≡ q.batch → (v.accepting ≡ false) ⊎ gave → ((p.accepting ≡ false) × (Contains t.batch 0 → ⊥)) ⊎ gave
 flag_ended p q r v t looked flag same batch (inl down) = inl (rw batch (rw looked at (flag (rw same at down))))
 flag_ended p q r v t looked flag same batch (inr gave) = inr gave
+
+-- the accept flag is up at the end
+pub flag_up : (p q r v t : PollerState) → Looked p q → (r.accepting ≡ true → (q.accepting ≡ true) ⊎ Contains q.batch 0)
+    → v.accepting ≡ r.accepting → t.batch ≡ q.batch → v.accepting ≡ true → (p.accepting ≡ true) ⊎ Contains t.batch 0
+flag_up p q r v t looked flag same batch up = rw batch (rw looked at (flag (rw same at up)))
 
 -- why accepting ended stays the reason, since the slots are taken back only once all connections were opened
 pub ended_still : {p q : PollerState} {a b : Own} → AcceptEnded p a → ((b ≡ a) × (q ≡ p)) ⊎ HasOpenedAll q → AcceptEnded q b
@@ -427,7 +444,6 @@ Lasts old new = new ≡ record new {
   seen = record old.seen { listens = new.seen.listens };
   batch = old.batch;
   opening = old.opening;
-  heavy = old.heavy;
   most = old.most;
 }
 

@@ -60,6 +60,11 @@ abbrev pub AreOpened : List ℕ → List Ticket → List ℕ → Type 0
 AreOpened old [] new = new ≡ old
 AreOpened old (t ∷ ts) new = (t.generation ≡ slice_index old t.slot + 1) × AreOpened (slice_set old t.slot t.generation) ts new
 
+-- the heavy marks after these openings: a new connection has none
+abbrev pub unmarked : List Ticket → List ℕ → List ℕ
+unmarked [] heavy = heavy
+unmarked (t ∷ ts) heavy = unmarked ts (slice_set heavy t.slot 0)
+
 -- all of these tickets are for a poller's own slots
 abbrev pub AreIn : Part → List Ticket → Type 0
 AreIn part tickets = (slot : ℕ) → (IsIn part slot → ⊥) → at_slot slot tickets ≡ 0
@@ -110,14 +115,15 @@ OnlyAccepted old new = new ≡ record old {
   starved = new.starved;
   left = new.left;
   tries = new.tries;
+  heavy = new.heavy;
   opened = new.opened;
   lost = new.lost;
   episodes = new.episodes;
 }
 
 -- By these tries the `opened` connections were opened in the poller's own slots, each with its slot's next generation,
--- one note and one ticket, which is in hand after the others. The `lost` slots are no longer used. Each slot that was
--- taken was opened, or is in hand, or is no longer used. The seat did nothing else
+-- one note and one ticket, which is in hand after the others, and no heavy marks. The `lost` slots are no longer used. Each
+-- slot that was taken was opened, or is in hand, or is no longer used. The seat did nothing else
 pub record Connected (tries : List SeatAct) (old new : PollerState) (had has : Own) : Type 0 where
   pub opened : List Ticket
   pub lost : List ℕ
@@ -126,6 +132,7 @@ pub record Connected (tries : List SeatAct) (old new : PollerState) (had has : O
   pub made : ActsMade tries had.seat has.seat
   pub next : InOrder (TriesNext old.part) tries old.table new.table
   pub table : AreOpened old.table opened new.table
+  pub heavy : new.heavy ≡ unmarked opened old.heavy
   pub counted : Counted old.opened (length opened) new.opened
   pub unused : Counted old.lost (length lost) new.lost
   pub why : AreLost new not_free lost
@@ -138,22 +145,18 @@ pub record Connected (tries : List SeatAct) (old new : PollerState) (had has : O
 
 -- What became of an accepted connection, as it counts: it was opened, or closed unopened, or its slot is no longer used
 abbrev pub IsOpened : PollerState → PollerState → Type 0
-IsOpened old new =
-    (new.opened ≡ counted_up old.opened 1) × (new.lost ≡ old.lost) × (new.episodes ≡ opened_after old.episodes)
+IsOpened old new = (new.opened ≡ counted_up old.opened 1) × (new.lost ≡ old.lost) × (new.episodes ≡ opened_after old.episodes)
 
 -- a drop was logged, or counted for a later line
 abbrev pub DropLogged : Cause → PollerState → PollerState → Type 0
-DropLogged cause old new =
-    new ≡ record old { episodes = record old.episodes { drops = dropped_for cause old.second old.episodes.drops } }
+DropLogged cause old new = new ≡ record old { episodes = record old.episodes { drops = dropped_for cause old.second old.episodes.drops } }
 
 abbrev pub IsDropped : Cause → PollerState → PollerState → Type 0
-IsDropped why old new =
-    (new.opened ≡ old.opened) × (new.lost ≡ old.lost)
+IsDropped why old new = (new.opened ≡ old.opened) × (new.lost ≡ old.lost)
     × (new.episodes ≡ record old.episodes { drops = dropped_for why old.second old.episodes.drops })
 
 abbrev pub IsLost : PollerState → PollerState → Type 0
-IsLost old new =
-    (new.opened ≡ old.opened) × (new.lost ≡ counted_up old.lost 1) × (new.episodes ≡ old.episodes)
+IsLost old new = (new.opened ≡ old.opened) × (new.lost ≡ counted_up old.lost 1) × (new.episodes ≡ old.episodes)
 
 -- What a target is sent before the client's own bytes
 
@@ -294,7 +297,7 @@ with_slot slot own = record own { hand = record own.hand { slots = slot ∷ own.
 
 -- opening a connection, or failing to, changes at most this
 abbrev pub OnlyOpened : PollerState → PollerState → Type 0
-OnlyOpened old new = new ≡ record old { table = new.table; opened = new.opened; lost = new.lost; episodes = new.episodes }
+OnlyOpened p q = q ≡ record p { table = q.table; heavy = q.heavy; opened = q.opened; lost = q.lost; episodes = q.episodes }
 
 pub record SameQueues (old new : Own) : Type 0 where
   pub ready : new.ready ≡ old.ready

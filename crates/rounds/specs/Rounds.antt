@@ -3,7 +3,7 @@
 use Rattle.std.specs.Prelude.{◌≡◌, ◌≢◌, ◌⊎◌, ◌↔◌, ℕ, ◌+◌, ◌<◌, ◌≤◌, true, false, List, [], ◌++◌, length, Contains, Result, Err}
 use Rattle.ready.specs.{declared.ticket.Ticket.Ticket, Steps.HeldOnce}
 use Rattle.common.specs.{declared.{front.{Route.Route, Unaccepted.Unaccepted, Waiting.Waiting}, places.Berth.Berth, shared.Own.Own, split.Part.Part}, Acts.Made, Hands.{HasRoom, ticket_room}, Outgoing.tickets_out, Posts.{IsWorn, OnlyWorn}}
-use Rattle.rounds.specs.{Acts.{SeatAct, due_of, ActsMade, ArePosts, AreTries, InOrder, PostsMade, all_reported, ArePosted, is_due, sweep_of, swept_after}, Openings.{AreIn, AreLost, AreOpened, OnlyTook, SameQueues, SlotsCounted, TriesMade, TriesNext}, Pollers.{PollerState, HasOpenedAll, Counted, spare_room}, Episodes.AreLogged}
+use Rattle.rounds.specs.{Acts.{SeatAct, due_of, ActsMade, ArePosts, AreTries, InOrder, PostsMade, all_reported, ArePosted, is_due, sweep_of, swept_after}, Openings.{AreIn, AreLost, AreOpened, OnlyTook, SameQueues, SlotsCounted, TriesMade, TriesNext, unmarked}, Pollers.{PollerState, HasOpenedAll, Counted, spare_room}, Episodes.AreLogged}
 use Rattle.common.specs.declared.faults.ServerFault.{ServerFault}
 use Rattle.common.specs.declared.front.Unaccepted.TheVariants as unaccepted
 use Rattle.common.specs.declared.front.Waiting.TheVariants as waiting
@@ -13,8 +13,8 @@ use Rattle.common.specs.declared.faults.ServerFault.TheVariants as server_fault
 -- a sweep, if one was made, and then connections were opened. Of the posts the last ones are missing only if the seat is
 -- worn. These acts, in this order, are all that the seat did, and all are at the poller's own slots. The tickets from
 -- before the round, of the reports, of the sweep and of the openings are put or in hand, in this order. Each slot that
--- was taken was opened, or is in hand, or is no longer used. Each try, also one that was dropped, was made for the next
--- connection of one of the poller's own slots
+-- was taken was opened, or is in hand, or is no longer used. An opening takes its slot's heavy marks away, and nothing else
+-- changes these. Each try, also one that was dropped, was made for the next connection of one of the poller's own slots
 pub record RoundDone (old new : PollerState) (had has : Own) : Type 0 where
   pub reports : List SeatAct
   pub sweep : List SeatAct
@@ -34,6 +34,7 @@ pub record RoundDone (old new : PollerState) (had has : Own) : Type 0 where
   pub own_openings : AreIn old.part opened
   pub tickets : tickets_out has ≡ tickets_out had ++ (due_of reports ++ (due_of sweep ++ opened))
   pub table : AreOpened old.table opened new.table
+  pub heavy : new.heavy ≡ unmarked opened old.heavy
   pub counted : Counted old.opened (length opened) new.opened
   pub unused : Counted old.lost (length lost) new.lost
   pub gave : has.free.history.put ≡ had.free.history.put
@@ -102,9 +103,10 @@ HasLeft p = (p.left ≡ true) × (p.accepting ≡ true)
 abbrev pub MayWaitBriefly : ℕ → PollerState → Own → Type 0
 MayWaitBriefly limit p own = (is_due limit p ≡ false) × (own.hand.tickets ≡ []) × HasLeft p
 
--- What the answers of accept(2) made of the poller: the accept flag is down only if it was, or no client waited; it is
--- starved only if it was, or the system lacked what accept(2) needs
+-- What the answers of accept(2) made of the poller: the accept flag is up only if it was, and down only if it was, or no
+-- client waited; it is starved only if it was, or the system lacked what accept(2) needs
 pub record OnlyAnswered (gave_none : Unaccepted → Type 0) (old new : PollerState) : Type 0 where
+  pub raised : new.accepting ≡ true → old.accepting ≡ true
   pub flag : new.accepting ≡ false → (old.accepting ≡ false) ⊎ gave_none unaccepted.Blocked
   pub starved : new.starved ≡ true → (old.starved ≡ true) ⊎ gave_none unaccepted.Starved
 
@@ -112,6 +114,10 @@ pub record OnlyAnswered (gave_none : Unaccepted → Type 0) (old new : PollerSta
 abbrev pub FlagIsDown : (Unaccepted → Type 0) → PollerState → PollerState → Type 0
 FlagIsDown gave_none old new =
     new.accepting ≡ false → ((old.accepting ≡ false) × (Contains new.batch 0 → ⊥)) ⊎ gave_none unaccepted.Blocked
+
+-- the accept flag is up only if it was, or the listener was reported
+abbrev pub FlagIsUp : PollerState → PollerState → Type 0
+FlagIsUp old new = new.accepting ≡ true → (old.accepting ≡ true) ⊎ Contains new.batch 0
 
 -- why accepting ends: it may, or a client was left to other pollers, or accept(2) was tried 4 times, or the seat is worn
 abbrev pub AcceptEnded : PollerState → Own → Type 0
@@ -174,7 +180,8 @@ LooksForAll p own = HasOpenedAll p → TookAll p.part.slots own × (IsBack p own
 
 -- A round that began, and whose poll did not fail: it is refused exactly if the seat is worn then. It delivered what its
 -- front reported, at a second that the clock may show. A sweep was made if one was due, accepting ended for a reason, the
--- accept flag is down and accept(2) starved only by an answer or as before, and no drop is left to be logged at this second
+-- accept flag is up only by a report or as before, it is down and accept(2) starved only by an answer or as before, and no
+-- drop is left to be logged at this second
 pub record RoundEnded (result : Result (Unit {0}) ServerFault) (tells : ℕ → Type 0) (gave_none : Unaccepted → Type 0) (limit : ℕ)
     (old new : PollerState) (has : Own) : Type 0 where
   pub answer : (result ≡ Err server_fault.Worn) ↔ IsWorn has.seat
@@ -182,6 +189,7 @@ pub record RoundEnded (result : Result (Unit {0}) ServerFault) (tells : ℕ → 
   pub second : tells new.second
   pub swept : new.swept ≡ swept_after limit old.second old.swept
   pub accepted : AcceptEnded new has
+  pub raised : FlagIsUp old new
   pub flag : FlagIsDown gave_none old new
   pub starved : new.starved ≡ true → (old.starved ≡ true) ⊎ gave_none unaccepted.Starved
   pub closed : ListensToOpen new
@@ -193,7 +201,6 @@ pub record RoundEnded (result : Result (Unit {0}) ServerFault) (tells : ℕ → 
 pub record RoundKeeps (limit : ℕ) (old new : PollerState) (had has : Own) : Type 0 where
   pub opening : new.opening ≡ old.opening
   pub most : new.most ≡ old.most
-  pub heavy : new.heavy ≡ old.heavy
   pub swept : (new.swept ≡ old.swept) ⊎ (new.swept ≡ swept_after limit old.second old.swept)
   pub longest : new.seen.longest ≡ old.seen.longest
   pub listens : ListenerKept old new

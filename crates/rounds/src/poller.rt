@@ -216,7 +216,8 @@ impl<F: Front> Poller<F> {
         Ok((client, Uncounted(())))
     }
 
-    /// A connection is opened in a slot that the thread holds. The slot has the ticket's generation from now on.
+    /// A connection is opened in a slot that the thread holds. The slot has the ticket's generation from now on, and no
+    /// heavy marks: those of its last connection say nothing of this one.
     #[tactic(auto, using(crate::proofs::Acts::own_set))]
     pub(crate) fn count_opened<A: Acts>(
         &mut self,
@@ -233,11 +234,13 @@ impl<F: Front> Poller<F> {
         ensures made { A.made act.Enter ticket.slot acts.old acts.new }
         ensures poller { self.new ≡ record self.old {
           table = slice_set self.old.table ticket.slot ticket.generation;
+          heavy = slice_set self.old.heavy ticket.slot 0;
           opened = counted_up self.old.opened 1;
         } }
         ensures counted { F.counted ticket.slot Event.Opened }
     {
         acts.enter(&mut self.table, ticket);
+        self.heavy.clear(ticket.slot);
         self.opened = self.opened.saturating_add(1);
         shared.count(ticket.slot, Event::Opened);
         uncounted.spend();

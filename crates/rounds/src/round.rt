@@ -34,10 +34,10 @@ use std::sync::Wait;
 /// Once the poller has opened all that it may, its front no longer listens: from the start of a round, if that was so
 /// then, or else from the round's end.
 ///
-/// An opened connection has the slot's next generation, one note and one ticket, and is logged. If an opening fails,
-/// the connection is closed; the drop is logged or counted, and the slot is in hand, or the slot is no longer used. At
-/// its end the round logs the counted drops, once a second. If the listener was reported and no slot is free, the last
-/// poller to find that logs it.
+/// An opened connection has the slot's next generation, one note, one ticket and no heavy marks, and is logged. If an
+/// opening fails, the connection is closed; the drop is logged or counted, and the slot is in hand, or the slot is no
+/// longer used. At its end the round logs the counted drops, once a second. If the listener was reported and no slot is
+/// free, the last poller to find that logs it.
 ///
 /// Refusals: `Poll` if the wait for reports failed; the round then at most took free slots in hand and stopped
 /// listening. `Worn` exactly if the seat has posted 2^56 times at the end of any other round that began: a worn seat
@@ -135,8 +135,8 @@ fn may_wait<F: Front, R: Wait>(rt: &R, own: &mut Own, poller: &Poller<F>, limit:
     }
 }
 
-/// Asks for reports, with no longer wait than the limit and what the thread has in hand allow. After a signal the batch is
-/// empty. Returns false if the wait failed.
+/// Asks for reports, with no longer wait than the limit and what the thread has in hand allow. After a signal the
+/// batch is empty. Returns false if the wait failed.
 fn poll<F: Front, R: Log>(
     rt: &R,
     _own: &Own,
@@ -170,8 +170,8 @@ fn polled<R: Log>(rt: &R, answer: io::Result<()>) -> bool
     }
 }
 
-/// Delivers the reports of the batch. Returns whether the listener was reported. No note goes to another poller's slot: the
-/// table has no connection there.
+/// Delivers the reports of the batch. Returns whether the listener was reported. No note goes to another poller's slot:
+/// the table has no connection there.
 fn deliver_batch<F: Front, A: Acts>(
     acts: &mut A,
     shared: &Shared<F, A>,

@@ -1,5 +1,5 @@
 use Rattle.std.proofs.Common.{◌≡◌, refl, length, inl, inr, arith}
-use Rattle.rounds.proofs.{Rounds.{accept_and_took, between_still, room_same, took_none, answered, Lasts, begun_not_early, ended_still, flag_ended, kept, listens_still, unless, round_ended, round_of}, Acts.{filter_le, room_left, few_sweep, flag_down}}
+use Rattle.rounds.proofs.{Rounds.{accept_and_took, between_still, room_same, took_none, answered, Lasts, begun_not_early, ended_still, flag_ended, flag_up, kept, listens_still, unless, round_ended, round_of}, Acts.{filter_le, room_left, few_sweep, flag_down, flag_raised}}
 use Rattle.rounds.specs.Acts.{reported}
 use Rattle.rounds.proofs.round.poller_round.Goals as goal
 
@@ -13,7 +13,7 @@ returns-then-not-has_room g c =
       waits = inl early;
       made = round_ended (rw cleared) (rw cleared) (took_none c.args.own.now);
       ended = inl early;
-      keeps = rw cleared (record { opening = refl; most = refl; heavy = refl; swept = inl refl; longest = refl; listens = inl refl; over = λ over. inl over; took = refl });
+      keeps = rw cleared (record { opening = refl; most = refl; swept = inl refl; longest = refl; listens = inl refl; over = λ over. inl over; took = refl });
       none = λ _. refl;
       refused = tt;
     }
@@ -32,7 +32,6 @@ returns-then-not-look g c =
       keeps = record {
         opening = rw looked.poller;
         most = rw looked.poller;
-        heavy = rw looked.poller;
         swept = inl (rw looked.poller);
         longest = looked.longest;
         listens = kept c.args.poller.now c.look.new.poller looked.listens;
@@ -83,6 +82,8 @@ returns g c =
         second = rw (end, told, accepted.done.did.poller) timed.told;
         swept = rw (end, told, accepted.done.did.poller) swept;
         accepted = ended_still (rw told accepted.ended) back.left;
+        raised = λ up. flag_up c.args.poller.now c.look.new.poller c.raise_accept_flag.new.self c.keep_time.new.poller c.take_back.new.poller looked.poller
+            (λ up. flag_raised _ _ delivered.listener (rw raised at up)) (rw timed.poller) (rw last) (accepted.answered.raised (rw (end, told) at up));
         flag = λ down. flag_ended c.args.poller.now c.look.new.poller c.raise_accept_flag.new.self c.keep_time.new.poller c.take_back.new.poller looked.poller
             (λ down. flag_down _ _ delivered.listener (rw raised at down)) (rw timed.poller) (rw last) (accepted.answered.flag (rw (end, told) at down));
         starved = λ starved. rw (timed.poller, raised, looked.poller) at (accepted.answered.starved (rw (end, told) at starved));
@@ -93,7 +94,6 @@ returns g c =
       keeps = record {
         opening = rw (last, looked.poller);
         most = rw (last, looked.poller);
-        heavy = rw (last, looked.poller);
         longest = rw last looked.longest;
         swept = inr (rw (end, told, accepted.done.did.poller) swept);
         listens = listens_still c.args.poller.now (rw (told, accepted.done.did.poller, timed.poller, raised) looked.listens) back.left back.closed;
