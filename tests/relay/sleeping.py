@@ -164,7 +164,7 @@ def much_moved(both):
 def a_worker_beside_a_poller_that_puts_in_any_case():
     relay = Relay(recorded=False, slots=64, workers=1, log="off")
     for both in tries(relay, relay.process.pid, *relay.named("worker")):
-        if both.number % 6 == 0:
+        if both.number % 3 == 0:
             clients, ends = zip(much_moved(both), much_moved(both))
         put_twice(both, clients[:1], clients[1:], ends)
 
