@@ -1,11 +1,11 @@
 -- Connections that are opened one after the other, why one is closed unopened, and a round of its parts.
-use Rattle.std.proofs.{Common.{◌≡◌, ◌≢◌, ◌⊎◌, ℕ, ◌+◌, ◌<◌, ◌≤◌, List, [], ◌∷◌, ◌++◌, length, drop, slice_get, slice_set, min, cond, Bool, true, refl, sym, ◌∙◌, arith, inl, inr, append_assoc, length-append, Option, Some, None, ◌==◌, Result, Ok, Err, IfErr, IsErrAnd, slice_index, ap, ◌↔◌, IsTrue, not, false, Contains, if◌then◌else◌}, lemmas.{Bool.false≢true, List.{append-nil, length-set, get_or-set_other, get_or_past, Sums.sum_by-append}, Grind.get_or-set_at, Option.{none-some, same_Some}}}
+use Rattle.std.proofs.{Common.{◌≡◌, ◌≢◌, ◌⊎◌, ℕ, ◌+◌, ◌<◌, ◌≤◌, List, [], ◌∷◌, ◌++◌, length, drop, slice_get, slice_set, min, cond, Bool, true, refl, sym, ◌∙◌, arith, inl, inr, append_assoc, length-append, Option, Some, None, ◌==◌, Result, Ok, Err, IfErr, IfSome, IsErrAnd, slice_index, ap, ◌↔◌, IsTrue, not, false, Contains, if◌then◌else◌}, lemmas.{Bool.false≢true, List.{append-nil, length-set, get_or-set_other, get_or_past, Sums.sum_by-append}, Grind.get_or-set_at, Option.{none-some, same_Some}}}
 use Rattle.std.specs.{Option.ok_or, Bool.then_some}
 use Rattle.claims.{specs.{declared.answers.Posted.Posted, Calls.PostChange, Seats.{SeatState, TableId, Adds, account_at}, declared.view.{Account.Account, Exchange.{Exchange, TheVariants.{NotFree as WasNotFree}}}, Views.after_all}, proofs.Seats.{account_after, adds_both, adds_none}}
 use Rattle.common.{specs.{Posts.{HoldsOnly, IsWorn}, declared.{places.Berth.Berth, shared.Own.Own, split.Part.Part, front.{Unaccepted.Unaccepted, Unopened.Unopened, Route.Route, Waiting.{Waiting, TheVariants.{No, Brief, Long}}}}, Hands.{HandState, ticket_room}, Acts.{Act, AreMade, Made, Register, Adopt}, Told.{cause_of, Seen, Waited}, Splits.IsIn}, proofs.Holding.{holds_still, woke_behind_post, worn_still}}
 use Rattle.ready.specs.declared.ticket.Ticket.{Ticket}
 use Rattle.token.specs.Names.{last_generation}
-use Rattle.rounds.{specs.{Acts.{SeatAct, opening, ActsMade, AreTries, InOrder, all_reported, ArePosted, sweep_of}, Openings.{times, with_slot, AreOpened, OnlyTook, SlotsCounted, Between, Started, Connected, AcceptDone, OneAccepted, OnlyAccepted, unmarked, IsOpened, IsLost, IsSpent, AreLost, IsNext, SameQueues, Fate, next_in, Opened, NotFree, DropsFor, ActsOf, DropMade, TriedOnce, TriesMade, TriesNext, TryMade, lacks, lead_of}, Pollers.{PollerState, Counted, counted_up, HasOpenedAll}, Rounds.{AcceptEnded, AllPosted, RoundInOrder, ListenerKept, ListensNoMore, ListensToOpen, Looked, OnlyAnswered, OnlyListens, RoundRefused, WaitedAsMay, WaitsAsMay}}, proofs.Acts.{at_slot-append, acts_none, acts_one, acts_both, in_order, none_at, try_dropped, try_opened, tries_none, tries_both, holds_nothing_still, posted_none, posts_still, no_sweep}}
+use Rattle.rounds.{specs.{Acts.{SeatAct, opening, ActsMade, AreTries, InOrder, all_reported, ArePosted, sweep_of}, Openings.{times, with_slot, AreOpened, OnlyTook, SlotsCounted, Between, Started, Connected, AcceptDone, OneAccepted, OnlyAccepted, unmarked, IsOpened, IsSpent, AreLost, IsNext, SameQueues, Fate, next_in, Opened, Dropped, Spent, NotFree, DropsFor, ActsOf, DropMade, TriedOnce, TriesMade, TriesNext, TryMade, lacks, lead_of}, Pollers.{PollerState, Counted, counted_up, HasOpenedAll}, Rounds.{AcceptEnded, AllPosted, RoundInOrder, ListenerKept, ListensNoMore, ListensToOpen, Looked, OnlyAnswered, OnlyListens, RoundRefused, WaitedAsMay, WaitsAsMay}}, proofs.Acts.{at_slot-append, acts_none, acts_one, acts_both, in_order, none_at, try_dropped, try_opened, tries_none, tries_both, holds_nothing_still, posted_none, posts_still, no_sweep}}
 use Rattle.common.specs.declared.{cause.Cause.{Cause}, faults.ServerFault.{ServerFault, TheVariants.{Poll, Worn}}}
 use Rattle.claims.specs.declared.view.Exchange.TheVariants as exchange
 use Rattle.claims.specs.declared.answers.Posted.TheVariants as posted
@@ -247,10 +247,22 @@ answered false old new had has answer is same =
 
 -- what became of an accepted connection that was placed, with the acts that were made from there on
 pub fate_by : {slot : ℕ} {p q : PollerState} {told opened : Type 0} {dropped : Cause → Type 0} {found : Type 0} {made : List Act → Type 0} {a b : SeatState}
-    → (IsOpened p q × told) ⊎ (IsLost p q × Adds slot (exchange.NotFree ∷ []) a b × found) → (told → opened) → (found → made (Register ∷ Adopt ∷ []))
-    → Fate slot opened dropped made p q a b
+    → (IsOpened (next_in p slot) p q × told) ⊎ ((q ≡ record p { lost = counted_up p.lost 1 }) × Adds slot (exchange.NotFree ∷ []) a b × found)
+    → (told → opened) → (found → made (Register ∷ Adopt ∷ [])) → Fate slot opened dropped made p q a b
 fate_by (inl done) opens joined = Opened done.0 (opens done.1)
 fate_by (inr lost) opens joined = NotFree lost.0 lost.1 (joined lost.2)
+
+-- an opening, or a failure of it, changes at most this
+abbrev pub OnlyOpened : PollerState → PollerState → Type 0
+OnlyOpened p q = q ≡ record p { table = q.table; heavy = q.heavy; opened = q.opened; lost = q.lost; episodes = q.episodes }
+
+pub fate_only : (opened : ℕ → Type 0) (dropped : ℕ → Cause → Type 0) (made : ℕ → List Act → Type 0) (p q : PollerState) (a b : SeatState) (slots : List ℕ) → 1 ≤ length slots
+    → IfSome (slice_get slots 0) (λ slot. Fate slot (opened slot) (dropped slot) (made slot) p q a b) → OnlyOpened p q
+fate_only opened dropped made p q a b [] some fate = absurd (omega arith)
+fate_only opened dropped made p q a b (slot ∷ slots) some (Opened is told) = rw is
+fate_only opened dropped made p q a b (slot ∷ slots) some (Dropped why is because acts) = rw is
+fate_only opened dropped made p q a b (slot ∷ slots) some (Spent is spent none) = rw is
+fate_only opened dropped made p q a b (slot ∷ slots) some (NotFree is adds acts) = rw is
 
 -- a slot that has no next names
 pub no_names : (p : PollerState) (slot : ℕ) → (slot ≤ 32767 → slot < length p.table → slice_index p.table slot ≡ last_generation) → IsSpent p slot
@@ -287,7 +299,7 @@ started_by t noted posted.Quiet woke a first second b only took change quiet lef
 pub opened_once : {acted : List SeatAct → Type 0} {t : Ticket} {p q : PollerState} {a b : Own} {middle : SeatState} {found : ℕ}
     → ((noted : ℕ) → acted (record { ticket = t; exchanges = opening found noted } ∷ [])) → IsWorn middle ⊎ Started t (record a { seat = middle }) b
     → IsNext p t → Adds t.slot (exchange.Adopted found ∷ []) a.seat middle → SameQueues (record a { seat = middle }) b
-    → q ≡ record p { table = slice_set p.table t.slot t.generation; heavy = slice_set p.heavy t.slot 0; opened = counted_up p.opened 1; episodes = q.episodes }
+    → IsOpened t p q
     → IsWorn a.seat ⊎ OneAccepted acted p q (with_slot t.slot a) b
 opened_once acts (inl is_worn) next adopted queues is = inl (worn_before _ _ _ _ adopted refl is_worn)
 opened_once {t = t} {p = p} {a = a} {found = found} acts (inr started) next adopted queues is =

@@ -143,20 +143,18 @@ pub record Connected (tries : List SeatAct) (old new : PollerState) (had has : O
   pub gave : has.free.history.put ≡ had.free.history.put
   pub slots : SlotsCounted had has opened lost
 
--- What became of an accepted connection, as it counts: it was opened, or closed unopened, or its slot is no longer used
-abbrev pub IsOpened : PollerState → PollerState → Type 0
-IsOpened old new = (new.opened ≡ counted_up old.opened 1) × (new.lost ≡ old.lost) × (new.episodes ≡ opened_after old.episodes)
+-- a connection was opened: its slot has its generation, and no heavy marks, and nothing else of the poller changed
+abbrev pub IsOpened : Ticket → PollerState → PollerState → Type 0
+IsOpened t old new = new ≡ record old {
+  table = slice_set old.table t.slot t.generation;
+  heavy = slice_set old.heavy t.slot 0;
+  opened = counted_up old.opened 1;
+  episodes = opened_after old.episodes;
+}
 
--- a drop was logged, or counted for a later line
+-- a connection was dropped: that was logged, or counted for a later line, and nothing else of the poller changed
 abbrev pub DropLogged : Cause → PollerState → PollerState → Type 0
 DropLogged cause old new = new ≡ record old { episodes = record old.episodes { drops = dropped_for cause old.second old.episodes.drops } }
-
-abbrev pub IsDropped : Cause → PollerState → PollerState → Type 0
-IsDropped why old new = (new.opened ≡ old.opened) × (new.lost ≡ old.lost)
-    × (new.episodes ≡ record old.episodes { drops = dropped_for why old.second old.episodes.drops })
-
-abbrev pub IsLost : PollerState → PollerState → Type 0
-IsLost old new = (new.opened ≡ old.opened) × (new.lost ≡ counted_up old.lost 1) × (new.episodes ≡ old.episodes)
 
 -- What a target is sent before the client's own bytes
 
@@ -241,16 +239,21 @@ DropsFor may_refuse may_tell proxy cause.Connect = may_refuse unopened.Connect
 DropsFor may_refuse may_tell proxy cause.Register = may_refuse unopened.Register
 DropsFor may_refuse may_tell proxy cause.Address = LeadGiven may_tell proxy None
 
--- What became of an accepted connection for this slot, what is logged and counted of it, and which acts were made: it
--- was opened; it was dropped, for this cause; the slot can have no connection; or one exchange found the slot not free
+-- the next connection of a slot
+abbrev pub next_in : PollerState → ℕ → Ticket
+next_in p slot = record { slot = slot; generation = slice_index p.table slot + 1 }
+
+-- What became of an accepted connection for this slot, all that changed of the poller, what is logged and counted of it,
+-- and which acts were made: it was opened; it was dropped, for this cause; the slot can have no connection; or one exchange
+-- found the slot not free
 pub data Fate (slot : ℕ) (opened : Type 0) (dropped : Cause → Type 0) (made : List act.Act → Type 0)
     (old new : PollerState) (had has : SeatState) : Type 0 where
-  Opened : IsOpened old new → opened → Fate slot opened dropped made old new had has
-  Dropped : (why : Cause) → IsDropped why old new → dropped why → made [] ⊎ made (act.Register ∷ [])
+  Opened : IsOpened (next_in old slot) old new → opened → Fate slot opened dropped made old new had has
+  Dropped : (why : Cause) → DropLogged why old new → dropped why → made [] ⊎ made (act.Register ∷ [])
       → Fate slot opened dropped made old new had has
-  Spent : IsLost old new → IsSpent old slot → made [] → Fate slot opened dropped made old new had has
-  NotFree : IsLost old new → Adds slot (exchange.NotFree ∷ []) had has → made (act.Register ∷ act.Adopt ∷ [])
-      → Fate slot opened dropped made old new had has
+  Spent : new ≡ record old { lost = counted_up old.lost 1 } → IsSpent old slot → made [] → Fate slot opened dropped made old new had has
+  NotFree : new ≡ record old { lost = counted_up old.lost 1 } → Adds slot (exchange.NotFree ∷ []) had has
+      → made (act.Register ∷ act.Adopt ∷ []) → Fate slot opened dropped made old new had has
 
 -- the log was passed the line of an opening, which was counted at its slot
 abbrev pub OpeningLogged : (Level → Option (List ℕ) → Type 0) → (ℕ → Event → Type 0) → Ticket → Type 0
@@ -259,10 +262,6 @@ OpeningLogged logged counted t = logged level.Info (Some (open_message t.slot t.
 -- a drop was counted at this slot, and the front was told if memory was lacking
 abbrev pub DropCounted : (ℕ → Event → Type 0) → Type 0 → ℕ → Cause → Type 0
 DropCounted counted lacked slot why = counted slot event.Dropped × (why ≡ cause.Memory → lacked)
-
--- the next connection of a slot
-abbrev pub next_in : PollerState → ℕ → Ticket
-next_in p slot = record { slot = slot; generation = slice_index p.table slot + 1 }
 
 -- this is the next connection of one of the poller's own slots
 pub record IsNext (p : PollerState) (t : Ticket) : Type 0 where
@@ -294,10 +293,6 @@ pub record OneAccepted (acted : List SeatAct → Type 0) (old new : PollerState)
 -- before the oldest slot in hand was taken to be opened
 abbrev pub with_slot : ℕ → Own → Own
 with_slot slot own = record own { hand = record own.hand { slots = slot ∷ own.hand.slots } }
-
--- opening a connection, or failing to, changes at most this
-abbrev pub OnlyOpened : PollerState → PollerState → Type 0
-OnlyOpened p q = q ≡ record p { table = q.table; heavy = q.heavy; opened = q.opened; lost = q.lost; episodes = q.episodes }
 
 pub record SameQueues (old new : Own) : Type 0 where
   pub ready : new.ready ≡ old.ready

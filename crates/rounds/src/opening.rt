@@ -2,7 +2,7 @@
 ghost use Rattle.std.specs.Prelude.{◌≡◌, ◌+◌, ◌<◌, ◌≤◌, [], ◌∷◌, ◌++◌, drop, length, Err, Some, None, ◌⊎◌, IfOk, IfErr, OnOk, OnErr, OnSome, IfSome, IsNone, slice_get, slice_index};
 ghost use Rattle.claims.specs.Seats.{Adds, HoldsNothing, OnlyAt};
 ghost use Rattle.relay_core.specs.{Pairs.fresh, Proxy.proxy_line};
-ghost use Rattle.rounds.specs.{Openings.{lacks, lead_of, next_in, Between, DropCounted, DropLogged, DropsFor, Fate, IsFresh, IsLost, IsNext, IsOpened, LeadGiven, Naming, OneAccepted, OnlyOpened, OpeningLogged, OpensFresh, Putting, Registered, SameQueues, Started, TriedOnce, TriesMade, of_end, with_slot}, Pollers.AreGenerations};
+ghost use Rattle.rounds.specs.{Openings.{lacks, lead_of, next_in, Between, DropCounted, DropLogged, DropsFor, Fate, IsFresh, IsNext, IsOpened, LeadGiven, Naming, OneAccepted, OpeningLogged, OpensFresh, Putting, Registered, SameQueues, Started, TriedOnce, TriesMade, of_end, with_slot}, Pollers.{counted_up, AreGenerations}};
 ghost use Rattle.common.specs.{Acts.{AreMade, placing}, Posts.{HoldsOnly, IsWorn}, Hands.ticket_room};
 ghost use Rattle.token.specs.Names.{last_generation};
 ghost use Rattle.common.specs.Acts as act;
@@ -77,7 +77,6 @@ pub fn open<F: Front + Counting, A: Moves<F>, R: Wait + Logs>(
         ⊎ OneAccepted (TriesMade A.moved A.named A.made F.may_tell poller.old acts.old acts.new)
         poller.old poller.new own.old own.new }
     ensures ready { own.new.ready ≡ own.old.ready }
-    ensures poller { OnlyOpened poller.old poller.new }
 {
     let Some(slot) = own.hand.take_slot() else {
         poller.count_lost(uncounted);
@@ -307,11 +306,11 @@ fn place<F: Front + Counting, A: Moves<F>, R: Wait + Logs>(
         (TriedOnce (λ t. AreMade (Putting A.moved A.made berth.value) t.slot placing)
         (λ t. AreMade A.made t.slot (act.Adopt ∷ [])) ticket acts.old acts.new)
         poller.old poller.new (with_slot ticket.slot own.old) own.new }
-    ensures counted { (IsOpened poller.old poller.new × (OpeningLogged (R.logged rt.now) F.counted ticket
+    ensures counted { (IsOpened ticket poller.old poller.new × (OpeningLogged (R.logged rt.now) F.counted ticket
         × AreMade (Putting A.moved A.made berth.value) ticket.slot placing acts.old acts.new))
-        ⊎ (IsLost poller.old poller.new × Adds ticket.slot (exchange.NotFree ∷ []) own.old.seat own.new.seat
+        ⊎ ((poller.new ≡ record poller.old { lost = counted_up poller.old.lost 1 })
+        × Adds ticket.slot (exchange.NotFree ∷ []) own.old.seat own.new.seat
         × AreMade A.made ticket.slot (act.Adopt ∷ []) acts.old acts.new) }
-    ensures poller { OnlyOpened poller.old poller.new }
     ensures ready { own.new.ready ≡ own.old.ready }
 {
     if let Some(from) = F::peer(&berth.client) {

@@ -16,10 +16,9 @@ returns-in_default-next_names g c =
     let lost = c.count_lost-in_default-next_names.ensures in
     record {
       between = between_still c.requires.between refl (rw lost);
-      counted = rw (first, lost) (Spent (refl, refl, refl) spent refl);
+      counted = rw (first, lost) (Spent refl spent refl);
       done = inr (opened_never c.take_slot.ensures.left first no_tries spent lost);
       ready = refl;
-      poller = rw lost;
     }
 
 pub returns-in-Err : goal.returns-in-Err
@@ -29,12 +28,11 @@ returns-in-Err g c =
     let logged = c.in-Err.ensures.logged in
     record {
       between = between_still c.requires.between refl (rw logged);
-      counted = rw (first, logged) (Dropped c.in-Err.dropped (refl, refl, refl) (c.count_dropped.ensures, c.in-Err.ensures.lacked)
+      counted = rw (first, logged) (Dropped c.in-Err.dropped refl (c.count_dropped.ensures, c.in-Err.ensures.lacked)
           acts);
       done = inr (opened_not c.take_slot.ensures.left first (record { acts = (c.prepare.new.acts, record { acts = acts }, refl) })
           (rw c.in-Some-next_names.ensures.client at c.in-Err.ensures.failed) (rw logged assumption) (search rules));
       ready = refl;
-      poller = rw logged;
     }
 
 pub returns-in-Ok : goal.returns-in-Ok
@@ -60,7 +58,6 @@ returns-in-Ok g c =
         );
       });
       ready = c.place.ensures.ready;
-      poller = rw (c.place.ensures.poller, c.in-Ok.ensures.same);
     }
 
 pub place-requires-clause-between : goal.place-requires-clause-between

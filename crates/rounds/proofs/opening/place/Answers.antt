@@ -20,11 +20,7 @@ returns-in-Adopted g c =
       };
       done = opened_once (λ noted. record { exchanges = opening change.0 noted; once = refl; acts = acts })
           c.start.ensures.started c.requires.next change.1 c.start.ensures.queues (rw (told, counted));
-      counted = inl (
-        rw (told, counted) (refl, refl, refl),
-        ((c.log_open.ensures, c.count_opened.ensures.counted), acts),
-      );
-      poller = rw (told, counted);
+      counted = inl (rw (told, counted), ((c.log_open.ensures, c.count_opened.ensures.counted), acts));
       ready = c.start.ensures.queues.ready;
     }
 
@@ -49,8 +45,7 @@ returns-in-NotFree g c =
             (λ s. omega (arith, times-append s (c.args.ticket.slot ∷ []) c.args.own.now.hand.slots)));
         room = omega arith;
       });
-      counted = inr (rw c.count_lost.ensures (refl, refl, refl), change, found);
-      poller = rw c.count_lost.ensures;
+      counted = inr (c.count_lost.ensures, change, found);
       ready = refl;
     }
 

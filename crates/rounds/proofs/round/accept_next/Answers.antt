@@ -1,5 +1,5 @@
 use Rattle.std.proofs.Common.{inl, inr, refl}
-use Rattle.rounds.proofs.Rounds.{accept_none, no_tries, answered_both, answered_none, not_worn, once_after, unless}
+use Rattle.rounds.proofs.Rounds.{accept_none, no_tries, answered_both, answered_none, fate_only, not_worn, once_after, unless}
 use Rattle.rounds.proofs.round.accept_next.Goals as goal
 
 pub returns-then-is_worn-clause-done : goal.returns-then-is_worn-clause-done
@@ -30,4 +30,8 @@ returns-in-Err-clause-answered g c =
 
 pub returns-in-Ok-clause-answered : goal.returns-in-Ok-clause-answered
 returns-in-Ok-clause-answered g c =
-    answered_none (rw (c.open.ensures.poller, c.in-Ok.ensures.accepted, c.leaves.ensures)) (inr (rw (c.open.ensures.poller, c.in-Ok.ensures.accepted)))
+    let only = fate_only _ _ _ _ _ _ _ _ c.requires.may.2 c.open.ensures.counted in
+    answered_none (rw (only, c.in-Ok.ensures.accepted, c.leaves.ensures)) (inr (rw (only, c.in-Ok.ensures.accepted)))
+
+pub returns-in-Ok-clause-tries : goal.returns-in-Ok-clause-tries
+returns-in-Ok-clause-tries g c = λ more. rw (fate_only _ _ _ _ _ _ _ _ c.requires.may.2 c.open.ensures.counted, c.in-Ok.ensures.accepted, c.leaves.ensures)
