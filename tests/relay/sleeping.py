@@ -9,7 +9,7 @@ import random
 import time
 
 from loopback import WAIT, Relay, echo, target, until
-from shared import MUCH, is_silent, left_out, served
+from shared import MUCH, by_time, is_silent, left_out, served
 from tracing import ACCEPT4, CLOSE, EPOLL_WAIT, FUTEX, RECVFROM, SENDTO, SLEEP, SLEEPS, SYSCALL, halted
 
 TRIES = 48  # of each pair
@@ -161,6 +161,8 @@ def much_moved(both):
 
 
 # refuses worker_sleeps_without_its_second_look: a worker announces that it sleeps, and sleeps without another look
+# Where the host holds up a client while much goes, the worker's 16 tickets may be used before they are counted on.
+@by_time
 def a_worker_beside_a_poller_that_puts_in_any_case():
     relay = Relay(recorded=False, slots=64, workers=1, log="off")
     for both in tries(relay, relay.process.pid, *relay.named("worker")):
