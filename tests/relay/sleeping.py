@@ -161,8 +161,8 @@ def much_moved(both):
 
 
 # refuses worker_sleeps_without_its_second_look: a worker announces that it sleeps, and sleeps without another look
-# It has hung in two gates, and why is not known. A worker whose 16 tickets were used too early would hang so, and so would one
-# that is not woken. A try that hangs prints where each time, so look at those lines, also where a later try ends well.
+# Some tries hang in `put_twice`, at the poller's first epoll_wait(2), whose answer has to be one report: the worker still stands
+# then, so it is no wake that is lost. Why another number is answered is not known.
 @by_time
 def a_worker_beside_a_poller_that_puts_in_any_case():
     relay = Relay(recorded=False, slots=64, workers=1, log="off")
