@@ -9,7 +9,7 @@ import random
 import time
 
 from loopback import WAIT, Relay, echo, target, until
-from shared import MUCH, by_time, is_silent, left_out, served
+from shared import MUCH, is_silent, left_out, served
 from tracing import ACCEPT4, CLOSE, EPOLL_WAIT, FUTEX, RECVFROM, SENDTO, SLEEP, SLEEPS, SYSCALL, halted
 
 TRIES = 48  # of each pair
@@ -161,14 +161,13 @@ def much_moved(both):
 
 
 # refuses worker_sleeps_without_its_second_look: a worker announces that it sleeps, and sleeps without another look
-# Some tries hang in `put_twice`, at the poller's first epoll_wait(2), whose answer has to be one report: the worker still stands
-# then, so it is no wake that is lost. Why another number is answered is not known.
-@by_time
 def a_worker_beside_a_poller_that_puts_in_any_case():
-    relay = Relay(recorded=False, slots=64, workers=1, log="off")
+    relay, moved = Relay(recorded=False, slots=64, workers=1, log="off"), []
     for both in tries(relay, relay.process.pid, *relay.named("worker")):
         if both.number % 3 == 0:
-            clients, ends = zip(much_moved(both), much_moved(both))
+            # The earlier ones stay open, or reports that they end would come beside those that the poller waits for.
+            moved += much_moved(both), much_moved(both)
+            clients, ends = zip(*moved[-2:])
         put_twice(both, clients[:1], clients[1:], ends)
 
 
