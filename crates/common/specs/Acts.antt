@@ -3,7 +3,7 @@ use Rattle.std.specs.Prelude.{◌≡◌, ℕ, Bool, if◌then◌else◌, List, [
 
 -- `Claim`, `TakeNotes`, `Post`, `Release`, `Retire`, `Adopt` and `Discard`, a take whose notes are thrown away, are exchanges
 -- of the slot's word. `TakeOut` and `PutIn` move the connection out of its place and back, `Call` is its next call on a socket,
--- `Play` all calls of a turn, just before and after which its gate is told, and `Close` closes both sockets. `Give` puts the slot
+-- `Play` all calls of a turn, just before and after which its gate is called, and `Close` closes both sockets. `Give` puts the slot
 -- into its free queue. `Register` starts the connection to the target, and registers both sockets for reports. `Enter` writes the
 -- generation into the poller's table. `Settle` has both sockets send what they held back, and `PutTicket` puts the ticket into the
 -- ready queue

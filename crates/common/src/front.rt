@@ -154,7 +154,7 @@ pub trait Front {
     // That accept(2) gave no connection for this reason.
     ghost gave_none: { Unaccepted → Type 0 } = { λ _. Unit {0} };
 
-    // Whether it was told of a lack of memory.
+    // Whether `lacked_memory` was called.
     ghost lacked: { Type 0 } = { Unit {0} };
 
     // Whether the wait of the thread that opens this slot was ended.

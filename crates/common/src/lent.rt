@@ -41,11 +41,11 @@ impl<'a, C: Clock> Timing<'a, C> {
 pub trait Gate {
     ghost use Rattle.std.specs.Prelude.{ℕ};
 
-    // It was told that a turn at a slot is about to begin. The defaults promise nothing: over any gate, a proof has such a
-    // fact only from a call that was made.
+    // `before_turn` was called for a slot. The defaults promise nothing: over any gate, a proof has
+    // such a fact only from a call that was made.
     ghost began: { Self → ℕ → Type 0 } = { λ _ _. Unit {0} };
 
-    // It was told that a turn at a slot has ended.
+    // `after_turn` was called for a slot.
     ghost ended: { Self → ℕ → Type 0 } = { λ _ _. Unit {0} };
 
     /// All threads have been started. The thread that serves calls this before it polls.

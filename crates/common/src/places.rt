@@ -30,9 +30,9 @@ pub struct Berth<C, T> {
 #[derive(Drop)]
 pub struct Occupied<B>(pub B);
 
-/// A place for each slot, empty or with one berth, which only the acts `A` reach ([`Moves`](crate::Moves)). So code over
-/// any acts reaches no place by others. The threads share the places by `&`. A berth is boxed, since it has some 460
-/// bytes, and a turn hands it on several times.
+/// A place for each slot, empty or with one berth, which only the acts `A` reach ([`Moves`](crate::Moves)). So code
+/// over any acts reaches no place by others. The threads share the places by `&`. A berth is boxed, since it has some
+/// 460 bytes, and a turn hands it on several times.
 ///
 /// In a clause it is the number of slots.
 #[derive(Drop)]

@@ -24,8 +24,8 @@ pub enum Wanted {
 /// Whether a recording is of runs of the machine.
 #[derive(Clone, Copy, PartialEq, Eq)]
 pub enum Judged {
-    /// What was played is of runs: each slot and each listener, or with `Script` its slot alone, and nothing with `Ends`,
-    /// `Timeline` and `Trace`. What was wanted is written.
+    /// What was played is of runs: each slot and each listener, or with `Script` its slot alone, and nothing with
+    /// `Ends`, `Timeline` and `Trace`. What was wanted is written.
     Run,
     /// A slot or a listener is not of runs. Written are the first record that fits nowhere, and the script up to
     /// there.

@@ -102,7 +102,7 @@ module _ (core : CoreLaws) (law : EveryInterleavingIsARun) (l : Limits) (one : l
 
 -- What is so after any list of steps
 
--- a report that is coming will be told
+-- a report that is coming will be passed on
 coming_told_way : (w : Wired) (side : Side) (r : Registered) → coming w.system.kernel.queue w.poll (End r.token) ≡ true → WillBeTold (way w side r)
 coming_told_way w side r h = elim (or_cases (has (End r.token) w.system.kernel.queue) (soon w.poll (End r.token)) h) [ inl queued ↦ inl queued | inr later ↦ inr (by w.poll later) ]
   where

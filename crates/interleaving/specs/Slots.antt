@@ -10,7 +10,7 @@ use Rattle.interleaving.specs.Threads as alone
 
 -- The server
 
--- The limits are those of each slot, but for `slots`, of which there are so many; `workers`, the number of all threads,
+-- The limits are those of each slot, but for `slots`, the number of slots; `workers`, the number of all threads,
 -- pollers' and others; and the leads, which are by slot. `owner` says which thread is a slot's poller, and `share` how
 -- many connections that thread may open in all
 pub record Server : Type 0 where

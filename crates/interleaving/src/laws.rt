@@ -15,9 +15,9 @@ pub fn every_interleaving_is_a_run()
     world::laws::every_run_holds();
 }
 
-/// Step by step: threads and machine begin alike, and from like states each step of the threads is followed by events of
-/// the machine that lead to like states. So the events for a longer list of steps continue those for a shorter one, and
-/// calls, outside events and, but within an opening, exchanges keep their order among each other.
+/// Step by step: threads and machine begin alike, and from like states each step of the threads is followed by events
+/// of the machine that lead to like states. So the events for a longer list of steps continue those for a shorter one,
+/// and calls, outside events and, but within an opening, exchanges keep their order among each other.
 pub fn every_step_is_followed()
     ensures { EveryStepIsFollowed }
 {
@@ -50,10 +50,10 @@ pub fn left_alone_it_rests()
     every_interleaving_is_a_run();
 }
 
-/// Each slot of a server can be looked at alone. For each list of steps of a server, of any number of slots and with any
-/// split of them among its pollers, and for each slot: what it has seen of these steps is a run of the threads at one
-/// slot, which leads to that slot as it is. So it is a run of the machine, where each connection has its own lead. And
-/// while a client waits, each poller that listens has its accept flag up, or a report of the listener on its way to it.
+/// Each slot of a server can be looked at alone. For each list of steps of a server, of any number of slots and with
+/// any split of them among its pollers, and for each slot: what it has seen of these steps is a run of the threads at
+/// one slot, which leads to that slot as it is. So it is a run of the machine, where each connection has its own lead.
+/// And while a client waits, each poller that listens has its accept flag up, or a report of the listener coming.
 pub fn slots_stand_apart()
     ensures { SlotsStandApart }
 {
@@ -61,8 +61,8 @@ pub fn slots_stand_apart()
 }
 
 /// The same of a whole server, whose weight is a sum over its slots and pollers: from any state to which steps lead, no
-/// more of its own steps can follow, in any order and by any of its threads, than it weighs, but for two for each report
-/// of the waker that a poll gives.
+/// more of its own steps can follow, in any order and by any of its threads, than it weighs, but for two for each
+/// report of the waker that a poll gives.
 pub fn servers_come_to_rest()
     ensures { ServersComeToRest }
 {
@@ -70,11 +70,11 @@ pub fn servers_come_to_rest()
     left_alone_it_ends();
 }
 
-/// What the threads at a slot do over wires that rest is a run of the threads without such wires, and so of the machine.
-/// Such a wire answers reads by itself after one that would block, until a report that names reading is passed on to it.
-/// What comes meanwhile is late in the other run: it comes just before the wire is told of it or is given an error, or
-/// before the sockets are closed. Acts, calls with their replies, and the exchanges of the slot's word are the same, in
-/// order. And no wire misses anything: what is late, or will come, is reported to it.
+/// What the threads at a slot do over wires that rest is a run of the threads without such wires, and so of the
+/// machine. Such a wire answers reads by itself after one that would block, until a report that names reading is passed
+/// on to it. What comes meanwhile is late in the other run: it comes just before the wire hears of it or is given an
+/// error, or before the sockets are closed. Acts, calls with their replies, and the exchanges of the slot's word are
+/// the same, in order. And no wire misses anything: what is late, or will come, is reported to it.
 pub fn wires_come_late()
     ensures { WiresComeLate }
 {

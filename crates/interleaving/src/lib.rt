@@ -6,8 +6,8 @@
 //! the machine (`world`) are alike. `specs/Rest.antt` has what a state of the threads weighs, and what rest is.
 //! `specs/Slots.antt` has a server of many slots, and `specs/Whole.antt` what it weighs.
 //!
-//! [`laws`] says that each run of the threads is a run of the machine, that each slot of a server can be looked at alone,
-//! and that the threads, left alone, come to rest.
+//! [`laws`] says that each run of the threads is a run of the machine, that each slot of a server can be looked at
+//! alone, and that the threads, left alone, come to rest.
 #![tactic(auto)]
 
 pub mod laws;

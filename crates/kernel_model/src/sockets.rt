@@ -131,8 +131,8 @@ impl Kernel {
 fn tell(registered: &mut Open, queue: &mut Vec<Name>, change: Change<'_>) -> Result<(), Refusal>
     ensures outcome { Meets (told change.entry (watch registered.old queue.old.items)) (watch registered.old queue.old.items)
         (watch registered.new queue.new.items) result }
-    ensures memory { IsErrOf result Refusal.NoMemory → IsTrue (brings_bytes change.entry
-        || lengthens (watch registered.old queue.old.items) (told change.entry (watch registered.old queue.old.items))) }
+    ensures memory { IsErrOf result Refusal.NoMemory → IsTrue (brings_bytes change.entry || lengthens
+        (watch registered.old queue.old.items) (told change.entry (watch registered.old queue.old.items))) }
 {
     if !registered.socket.may_change(change) {
         return Err(Refusal::NotAllowed);

@@ -5,8 +5,8 @@
 //! and returns a status. `command_line` reads the command; `forwarding` the settings, and `extras` the other options,
 //! that arguments give; `usage` prints help, and why words are refused. Before a relay serves, [`config`] reads its
 //! settings, and `starting` looks at what they need. [`logging`] has the relay's log, [`telling`] its statistics, which
-//! `stats_file` writes for a monitor, and [`until_eof`] the end of its standard input. `streams` logs what is wrong with
-//! an input, an output, a file or a script.
+//! `stats_file` writes for a monitor, and [`until_eof`] the end of its standard input. `streams` logs what is wrong
+//! with an input, an output, a file or a script.
 //!
 //! `report_fault` (`status_of` of `specs/Faults.antt`) and `answer_usage` give the statuses that `relayd(1)` names
 //! (EXIT STATUS); `simulate` says by the status whether the report or a fault's line was written (`report`, `refused`).

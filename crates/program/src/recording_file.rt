@@ -69,8 +69,8 @@ impl<R: Files + Drop> Parts for RecordFiles<R> {
         self.file.write_all(bytes)
     }
 
-    /// The file becomes the one before the last, in place of the one that was (rename(2)). Without names there is no next
-    /// file.
+    /// The file becomes the one before the last, in place of the one that was (rename(2)). Without names there is no
+    /// next file.
     fn begin_next(&mut self) -> io::Result<()> {
         self.file.flush()?;
         let Some(names) = &self.names else {
@@ -101,8 +101,8 @@ impl From<AllocError> for Unmade {
 
 /// What is at the path to record into, if one is given. Refuses with `Record`, and logs the cause, if nothing can be
 /// recorded there: it cannot be looked at, or is a file that is neither empty nor a recording, a pipe that nobody
-/// reads, a folder, or a link to nothing; or, for a recording `in_parts`, if it is no file by itself, or its second name
-/// is of anything but an empty file or a recording. Nothing is made or moved.
+/// reads, a folder, or a link to nothing; or, for a recording `in_parts`, if it is no file by itself, or its second
+/// name is of anything but an empty file or a recording. Nothing is made or moved.
 pub(crate) fn find_place<R: AllocGlobal + Files>(
     rt: &R,
     log: &impl Log,

@@ -15,7 +15,7 @@ use std::io::{self, Write};
 use std::rt::Files;
 
 /// Returns 0 if the recording in a file is of runs of the machine, and 1 if not. Logs what is wrong with the file.
-/// Refuses with `Connection` or `Timeline`, before anything is written, if `--script` or `--timeline` names no connection.
+/// Refuses with `Connection` or `Timeline`, before any output, if `--script` or `--timeline` names no connection.
 pub(crate) fn replay<R: AllocGlobal + Files, L: Log, O: Write, P: Replay>(
     rt: &R,
     log: &L,
@@ -149,7 +149,7 @@ fn other_file(rt: &impl Files, path: &str) -> Option<&'static str> {
     }
 }
 
-/// What is wanted of a recording. Refuses with `Connection` or `Timeline`, and logs the cause, if that option names none.
+/// What is wanted of a recording. Refuses with `Connection` or `Timeline`, and logs the cause, if it names none.
 fn find_wanted(log: &impl Log, replayed: Replayed<'_>) -> Result<Wanted, ProgramFault>
     ensures { IfErr result (λ fault. (fault ≡ ProgramFault.Connection) ⊎ (fault ≡ ProgramFault.Timeline)) }
 {

@@ -1,5 +1,5 @@
-//! The file of statistics for a monitor. It is made beside its place, and renamed into it, so whoever opens it finds all
-//! of a text.
+//! The file of statistics for a monitor. It is made beside its place, and renamed into it, so whoever opens it finds
+//! all of a text.
 ghost use Rattle.std.specs.{Prelude.{◌≡◌, IfErr, true}, Fs.{asks_write, asks_create_new}};
 ghost use Rattle.program.specs.Faults.{status_of};
 

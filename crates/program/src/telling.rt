@@ -1,5 +1,5 @@
-//! The statistics of a relay that serves, and a thread that tells the sums from time to time: to the log, to a monitor by
-//! a file, or to both.
+//! The statistics of a relay that serves, and a thread that tells the sums from time to time: to the log, to a monitor
+//! by a file, or to both.
 ghost use Rattle.std.specs.Prelude.{◌≡◌, ◌⊎◌, IfErr};
 
 use crate::logging::level_filter;
@@ -42,10 +42,10 @@ struct State {
     has_ended: bool,
 }
 
-/// If the options ask for statistics, by seconds or a file, returns a teller, and starts a thread that tells the sums at
-/// the interval of the options until the program ends. At level `off` no line is logged, and without a file nothing is
-/// counted. With a file, that is written at once. Refuses with `NoMemory`. Refuses with `Threads`, and logs the cause, if
-/// the thread cannot be started.
+/// If the options ask for statistics, by seconds or a file, returns a teller, and starts a thread that tells the sums
+/// at the interval of the options until the program ends. At level `off` no line is logged, and without a file nothing
+/// is counted. With a file, that is written at once. Refuses with `NoMemory`. Refuses with `Threads`, and logs the
+/// cause, if the thread cannot be started.
 pub fn start<R>(
     rt: R,
     settings: &Settings,
@@ -146,8 +146,8 @@ impl Teller {
         self.write(rt, queue, &totals, is_last);
     }
 
-    /// Writes the sums into the file, if there is one. That it could not be written is logged once, at level warn. After
-    /// the last sums no others are written.
+    /// Writes the sums into the file, if there is one. That it could not be written is logged once, at level warn.
+    /// After the last sums no others are written.
     fn write<R>(&self, rt: &R, queue: &LogQueue, totals: &Totals, is_last: bool)
     where
         R: Eprint + Wait + Replacing + Copy + Drop,

@@ -1,5 +1,5 @@
-// The words that the ends of a queue share, and all atomic steps on them. These are sequentially consistent, as are those
-// of the queues: all threads see them in one order.
+// The words that the ends of a queue share, and all atomic steps on them. These are sequentially consistent, as are
+// those of the queues: all threads see them in one order.
 ghost use Rattle.ready.specs.Steps.{BitStep, ReadBits, SetBits, ClearedBits};
 
 use std::sync::atomic::AtomicU32;
@@ -12,8 +12,8 @@ pub trait Bits {
     // This step, with its answer, was made on this word: one act, between the first and the second.
     ghost did: { BitStep → Self → Self.Acts → Self.Acts → Type 0 };
 
-    /// What has been done so far. A clause that has one act between what was done before a call and after it leaves room
-    /// for no other.
+    /// What has been done so far. A clause that has one act between what was done before a call and after it leaves
+    /// room for no other.
     type Acts;
 
     /// Returns the bits.

@@ -65,8 +65,8 @@ impl IdleEnds {
         unreachable!()
     }
 
-    // Announces that the end is idle, looks again, and parks if there is nothing. If it found something, and another thread
-    // had spent a wake on this end, the wake is passed on.
+    // Announces that the end is idle, looks again, and parks if there is nothing. If it found something, and another
+    // thread had spent a wake on this end, the wake is passed on.
     fn look_or_park<L: Source>(
         &self,
         rt: &impl Wait,
@@ -104,8 +104,8 @@ impl IdleEnds {
 }
 
 impl<U: Unpark> IdleEnds<U> {
-    /// Puts an item, and then wakes the idle end with the lowest number for it, if any is idle. Who puts it does not come
-    /// back for one.
+    /// Puts an item, and then wakes the idle end with the lowest number for it, if any is idle. Who puts it does not
+    /// come back for one.
     pub fn put<T, L: Put<T>>(&self, rt: &impl Wait, line: &mut L, item: T) -> Result<Spent, Full<T>>
         ensures put { OnOk result (L.did_put line.old item line.new) }
         ensures woken { IfOk result (λ spent. IfSome spent.0 (λ end. IsSomeAnd (slice_get self.now.parkers end) U.unparked)) }

@@ -32,19 +32,20 @@
 //!
 //! # Inside
 //!
-//! [`IdleEnds`] has all of this for any place that items are put into ([`Put`]) and looked at ([`Source`]): the queue of
-//! tickets, and the queues of `writer_queue` with the writer as their one end that takes.
+//! [`IdleEnds`] has all of this for any place that items are put into ([`Put`]) and looked at ([`Source`]): the queue
+//! of tickets, and the queues of `writer_queue` with the writer as their one end that takes.
 //!
-//! The order of the steps is kept by values that only the step before gives (`steps.rt`). A put that has put its item has a
-//! wake (`push`), unless its own end comes back (`End`: `wakes`). A wake can be neither copied nor dropped (`Wake`): it unparks
-//! the one end whose bit it cleared (`wake`), or one look found no bit (`look_for`); each gives [`Spent`], which a put returns.
-//! So an end is woken only once its item was put, or `close` has set its mark (`wake_all`). `take` returns none only if it read
-//! that mark and then looked in vain ([`Drained`]). An end announces that it is idle only if it read that the queue was open
-//! and then looked in vain (`announce`: `open`), and parks once for each announcement, only after it looked in vain again
-//! (`look`, `park`). Its next put counts on it to come back exactly if its last `take` gave a ticket and it has put nothing
-//! since (`End`: `wakes`, `comes_back`, `stays`). The word has no step but a read, and to set or clear bits at once (`Bits`),
-//! and each says what it found (`cleared`, `looked`). A close gives a value that only the mark and a wake of every end make
-//! ([`Closed`]). An end that found an item passes a wake on that was spent on it (`withdraw`); one that slept looks again.
+//! The order of the steps is kept by values that only the step before gives (`steps.rt`). A put that has put its item
+//! has a wake (`push`), unless its own end comes back (`End`: `wakes`). A wake can be neither copied nor dropped
+//! (`Wake`): it unparks the one end whose bit it cleared (`wake`), or one look found no bit (`look_for`); each gives
+//! [`Spent`], which a put returns. So an end is woken only once its item was put, or `close` has set its mark
+//! (`wake_all`). `take` returns none only if it read that mark and then looked in vain ([`Drained`]). An end announces
+//! that it is idle only if it read that the queue was open and then looked in vain (`announce`: `open`), and parks once
+//! for each announcement, only after it looked in vain again (`look`, `park`). Its next put counts on it to come back
+//! exactly if its last `take` gave a ticket and it has put nothing since (`End`: `wakes`, `comes_back`, `stays`). The
+//! word has no step but a read, and to set or clear bits at once (`Bits`), and each says what it found (`cleared`,
+//! `looked`). A close gives a value that only the mark and a wake of every end make ([`Closed`]). An end that found an
+//! item passes a wake on that was spent on it (`withdraw`); one that slept looks again.
 #![tactic(auto)]
 
 mod end;

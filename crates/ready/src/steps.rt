@@ -1,5 +1,5 @@
-// How ends sleep, and who wakes them: each step gives the value that the next one asks for, and nothing else makes it. A
-// comment at each atomic step names the one that it pairs with.
+// How ends sleep, and who wakes them: each step gives the value that the next one asks for, and nothing else makes it.
+// A comment at each atomic step names the one that it pairs with.
 ghost use Rattle.std.specs.Prelude.{◌≡◌, ◌≢◌, ◌<◌, ◌↔◌, ℕ, IsErr, IsOk, IsSome, IsSomeAnd, IsTrue, IfErr, IfNone, IfOk, IfSome, OnErr, OnOk, None, Some, length, slice_get, true, not};
 ghost use Rattle.std.specs.Int.{trailing_zeros, w32};
 ghost use Rattle.ready.specs.Steps.{ReadBits, SetBits, ClearedBits, bit_of, has_bit};
@@ -59,8 +59,8 @@ pub(crate) struct Announced {
     ghost few: { end < 32 },
 }
 
-/// The duty to wake an idle end for an item that was put. Only [`push`] makes one, and [`IdleBits::withdraw`] if another
-/// thread has spent a wake on the caller's end. A wake can be neither copied nor dropped: it is `Spent`.
+/// The duty to wake an idle end for an item that was put. Only [`push`] makes one, and [`IdleBits::withdraw`] if
+/// another thread has spent a wake on the caller's end. A wake can be neither copied nor dropped: it is `Spent`.
 pub(crate) struct Wake(());
 
 /// A wake was spent after its item was put: this end was unparked for it, or one look found no end idle.
@@ -151,8 +151,8 @@ impl<W: Bits> IdleBits<W> {
         Announced { end }
     }
 
-    /// Clears the bit of an end that has looked since it announced itself. If another thread had cleared the bit before,
-    /// returns the wake that it spent on this end.
+    /// Clears the bit of an end that has looked since it announced itself. If another thread had cleared the bit
+    /// before, returns the wake that it spent on this end.
     pub(crate) fn withdraw(&self, acts: &mut W::Acts, looked: Looked<Announced>) -> Option<Wake>
         ensures cleared { (before : ℕ) × W.did (ClearedBits (bit_of looked.0.end) before) self.now.0 acts.old acts.new
             × (IsSome result ↔ IsTrue (not (has_bit looked.0.end before))) }
@@ -165,8 +165,8 @@ impl<W: Bits> IdleBits<W> {
         if was_woken { Some(Wake(())) } else { None }
     }
 
-    /// Parks an end that has looked in vain since it announced itself, and then clears its bit. The end looks again, so a
-    /// wake that another thread spent on it is used up.
+    /// Parks an end that has looked in vain since it announced itself, and then clears its bit. The end looks again, so
+    /// a wake that another thread spent on it is used up.
     pub(crate) fn park(
         &self,
         acts: &mut W::Acts,

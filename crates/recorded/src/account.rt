@@ -159,7 +159,7 @@ impl Account {
         self.joined || target.read > 0 || target.written > 0 || target.ended || target.shut
     }
 
-    /// What an open connection waits for, whose target is connected or not. `due`: a report has come since its last turn.
+    /// What an open connection waits for, whose target is connected or not. `due`: a report came since its last turn.
     pub fn waits(&self, due: bool, connected: bool) -> Waits
         ensures { result ≡ waits_of due connected self.now }
     {

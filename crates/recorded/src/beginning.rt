@@ -42,9 +42,11 @@ impl Beginning {
     /// Whether the next record of the file stays.
     pub(crate) fn keeps(&mut self, record: &Record) -> bool
         ensures stays { (kept : List Record) → Knows kept self.old → IsInside self.old record.now.act
-            → (result ≡ stays self.old.from kept record.now) × Knows (if result then record.now ∷ kept else kept) self.new }
+            → (result ≡ stays self.old.from kept record.now)
+            × Knows (if result then record.now ∷ kept else kept) self.new }
         ensures from { self.new.from ≡ self.old.from }
-        ensures sized { (length self.new.waited.items ≡ length self.old.waited.items) × (length self.new.opened.items ≡ length self.old.opened.items) }
+        ensures sized { (length self.new.waited.items ≡ length self.old.waited.items)
+            × (length self.new.opened.items ≡ length self.old.opened.items) }
     {
         let stays = self.from < record.before && self.follows(&record.act);
         if stays {
@@ -67,7 +69,8 @@ impl Beginning {
     /// An act stays.
     fn note(&mut self, act: &Act)
         ensures from { self.new.from ≡ self.old.from }
-        ensures sized { (length self.new.waited.items ≡ length self.old.waited.items) × (length self.new.opened.items ≡ length self.old.opened.items) }
+        ensures sized { (length self.new.waited.items ≡ length self.old.waited.items)
+            × (length self.new.opened.items ≡ length self.old.opened.items) }
         ensures known { (kept : List Record) → (r : Record) → r.act ≡ act.now → Knows kept self.old → IsInside self.old act.now
             → Knows (r ∷ kept) self.new }
     {

@@ -106,9 +106,9 @@ pub fn read<R: Read>(alloc: Global, reader: &mut R) -> Result<Recording, ReplayF
 /// What is wanted of a file's first line.
 const FIRST: &str = "a recording begins with relayd recording 1";
 
-/// Hands on each record of a file. Where it has several parts, one after the other, each must follow the one before it; if
-/// the first follows others, what these may have the beginning of is left out. Refuses with
-/// `Broken` the first line that is none of a recording.
+/// Hands on each record of a file. Where it has several parts, one after the other, each must follow the one before it;
+/// if the first follows others, what these may have the beginning of is left out. Refuses with `Broken` the first line
+/// that is none of a recording.
 pub fn read_each<R: Read, T: Take>(
     alloc: Global,
     reader: &mut R,

@@ -1,8 +1,8 @@
 //! Whether each read asked its socket only while its wire reads. After a read that would block the wire answers that by
-//! itself, until it looks, and finds that a report has been passed on. So a read that then has another answer had a report:
-//! one whose wait had begun before the read ended, and had not ended before the wire last looked. The report may be one of
-//! an earlier connection in the slot, since its wire left what it did not look at; and it may be older than the read that
-//! would block, since a wire that reads does not look.
+//! itself, until it looks, and finds that a report has been passed on. So a read that then has another answer had a
+//! report: one whose wait had begun before the read ended, and had not ended before the wire last looked. The report
+//! may be one of an earlier connection in the slot, since its wire left what it did not look at; and it may be older
+//! than the read that would block, since a wire that reads does not look.
 use crate::recording::{Recording, add, lists};
 use input::ReplayFault;
 use records::{Act, Answer, Made, Polling};
@@ -51,8 +51,8 @@ fn at(slot: usize, side: Side) -> usize {
     }
 }
 
-/// The waits that reported the client's end of each slot, and the target's. They stand in their order: an end is reported
-/// by one poller.
+/// The waits that reported the client's end of each slot, and the target's. They stand in their order: an end is
+/// reported by one poller.
 fn waits_of(recording: &Recording) -> Result<Vec<Vec<Wait>>, AllocError> {
     let mut waits = lists(recording.alloc, recording.header.slots.saturating_mul(2))?;
     for poller in 0..recording.header.pollers {

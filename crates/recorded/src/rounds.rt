@@ -183,8 +183,8 @@ impl Swept {
         }
     }
 
-    /// The first act of a poller has this count before it. In a file that follows other parts it may have made sweeps, or
-    /// begun, at any time before.
+    /// The first act of a poller has this count before it. In a file that follows other parts it may have made sweeps,
+    /// or begun, at any time before.
     fn before(recording: &Recording, clock: &Clock, count: u64) -> Swept {
         let (first, last) = clock.between(0, count);
         let first = if recording.header.from.is_some() {

@@ -191,8 +191,8 @@ impl<F: Front + Drop, S: Sink> Front for RecordedFront<F, S> {
         ensures same { F.Client.told client.new.inner ≡ F.Client.told client.old.inner }
         ensures seen { F.seen self.new.inner ≡ F.seen self.old.inner }
         ensures named { IfOk result (λ opened. (client.new.name ≡ Some client_token) × (opened.target.name ≡ Some target_token)) }
-        ensures recorded { Records S.did
-            (act.Poller self.old.poller (polling.Open client_token.slot client_token.generation (opened_of result)) ∷ [])
+        ensures recorded { Records S.did (act.Poller self.old.poller
+            (polling.Open client_token.slot client_token.generation (opened_of result)) ∷ [])
             self.old.recorder.sink self.new.recorder.sink }
     {
         let (slot, generation) = (client_token.slot(), client_token.generation());

@@ -32,10 +32,11 @@ pub struct Lines<P> {
 }
 
 impl<P: Parts> Lines<P> {
-    /// Puts the header into the first file, which is there and empty. A file gets at most `most` bytes, or 1,024 if that
-    /// is more.
+    /// Puts the header into the first file, which is there and empty. A file gets at most `most` bytes, or 1,024 if
+    /// that is more.
     pub fn begin(parts: P, header: Header, most: u64) -> io::Result<Lines<P>>
-        ensures held { IfOk result (λ l. Are (P.texts parts) ([] ∷ []) → Holds header l.most [] (P.texts l.parts) l.length l.greatest l.is_over) }
+        ensures held { IfOk result (λ l. Are (P.texts parts) ([] ∷ [])
+            → Holds header l.most [] (P.texts l.parts) l.length l.greatest l.is_over) }
         ensures header { IfOk result (λ l. l.header ≡ header) }
         ensures most { IfOk result (λ l. l.most ≡ max most 1024) }
     {
@@ -55,8 +56,10 @@ impl<P: Parts> Lines<P> {
     /// Puts the line of a record after the others.
     pub fn put(&mut self, record: &Record) -> io::Result<()>
         ensures held { OnOk result ((records : List Record)
-            → Holds self.old.header self.old.most records (P.texts self.old.parts) self.old.length self.old.greatest self.old.is_over
-            → Holds self.new.header self.new.most (record.now ∷ records) (P.texts self.new.parts) self.new.length self.new.greatest self.new.is_over) }
+            → Holds self.old.header self.old.most records (P.texts self.old.parts) self.old.length self.old.greatest
+            self.old.is_over
+            → Holds self.new.header self.new.most (record.now ∷ records) (P.texts self.new.parts) self.new.length
+            self.new.greatest self.new.is_over) }
         ensures same { (self.new.header ≡ self.old.header) × (self.new.most ≡ self.old.most) }
     {
         let line = line_of(record)?;
@@ -71,8 +74,10 @@ impl<P: Parts> Lines<P> {
     fn make_room(&mut self, length: u64) -> io::Result<()>
         requires { length ≤ 256 }
         ensures held { OnOk result ((records : List Record)
-            → Holds self.old.header self.old.most records (P.texts self.old.parts) self.old.length self.old.greatest self.old.is_over
-            → Holds self.new.header self.new.most records (P.texts self.new.parts) self.new.length self.new.greatest self.new.is_over) }
+            → Holds self.old.header self.old.most records (P.texts self.old.parts) self.old.length self.old.greatest
+            self.old.is_over
+            → Holds self.new.header self.new.most records (P.texts self.new.parts) self.new.length self.new.greatest
+            self.new.is_over) }
         ensures room { OnOk result (self.new.length + length ≤ self.new.most) }
         ensures open { OnOk result (self.new.is_over ≡ false) }
         ensures same { (self.new.header ≡ self.old.header) × (self.new.most ≡ self.old.most) × (self.new.greatest ≡ self.old.greatest) }

@@ -38,15 +38,15 @@ pub struct RecordQueue {
     began: Option<Instant>,
     /// Each act changes it, so it shares no cache line with what each act only looks at.
     count: CachePadded<AtomicU64>,
-    /// How often a record found no room, or could not be written, plus how often the writer had recording go on. Odd: no act
-    /// that begins now is recorded.
+    /// How often a record found no room, or could not be written, plus how often the writer had recording go on. Odd:
+    /// no act that begins now is recorded.
     breaks: AtomicU64,
     in_parts: bool,
 }
 
 impl RecordQueue {
-    /// Empty queues for a relay whose pollers have these slots. `in_parts`: once records were lost, recording goes on in
-    /// another part. No later call takes memory.
+    /// Empty queues for a relay whose pollers have these slots. `in_parts`: once records were lost, recording goes on
+    /// in another part. No later call takes memory.
     pub fn new(
         rt: &impl Clock,
         alloc: Global,
@@ -97,8 +97,8 @@ impl RecordQueue {
         is_first || self.in_parts
     }
 
-    /// Puts a record after the others. Returns whether it waits there, and whether it is the first for which there was no
-    /// room: from then on nothing is recorded, in parts until the writer has written what waits.
+    /// Puts a record after the others. Returns whether it waits there, and whether it is the first for which there was
+    /// no room: from then on nothing is recorded, in parts until the writer has written what waits.
     fn put(&self, rt: &impl Wait, record: &Record) -> (bool, bool) {
         let breaks = self.breaks.load(SeqCst);
         if self.put_one(rt, record) {

@@ -10,9 +10,9 @@ use std::sync::Wait;
 use writer_queue::Drain;
 
 /// Writes the header, then the records, each queue's in order, until the queues are closed and empty, and then the
-/// last record: into files of at most `most` bytes ([`Lines`]). If records were lost, and the recording goes on in another
-/// part, it first writes all that waits, and then that some are lost. It flushes before it rests, and takes no memory.
-/// If a file cannot be written, the recording ends: that is logged, and what was written stays.
+/// last record: into files of at most `most` bytes ([`Lines`]). If records were lost, and the recording goes on in
+/// another part, it first writes all that waits, and then that some are lost. It flushes before it rests, and takes no
+/// memory. If a file cannot be written, the recording ends: that is logged, and what was written stays.
 pub fn write_records<R: Wait + Log, P: Parts>(
     rt: &R,
     queue: &RecordQueue,

@@ -193,7 +193,7 @@ pub fn log_no_thread(rt: &impl Log) -> ServerFault
     ServerFault::Threads
 }
 
-/// As [`log_no_thread`], of a server that has started so many of its threads.
+/// As [`log_no_thread`], of a server that has started some of its threads.
 pub fn log_few_threads(rt: &impl Log, started: usize, wanted: usize) -> ServerFault
     ensures { result ≡ ServerFault.Threads }
 {

@@ -5,8 +5,8 @@
 //! of `machine`, and keep its `history`. `trace` compares the records of a connection with its run, by their actions
 //! (`action`). `results` has what came of it, which `writing` writes.
 //!
-//! `ends` and `timeline` play nothing: they follow each connection, or one, by its records alone (`entry`), up to its line
-//! (`live`), each act with its time (`moments`). A picture is of `picture`.
+//! `ends` and `timeline` play nothing: they follow each connection, or one, by its records alone (`entry`), up to its
+//! line (`live`), each act with its time (`moments`). A picture is of `picture`.
 #![tactic(auto)]
 
 mod action;

@@ -27,12 +27,12 @@ use world::{Lead, Limits};
 pub struct OnMachine;
 
 impl Replay for OnMachine {
-    /// Reads a recording, and replays it; for `Ends`, `Timeline` and `Trace` it reads it alone. With `rests`, or after the
-    /// record `end`, no slot may have anything left to do. This is not asked after a failed wait for reports, which ends a
-    /// relay early; nor by `rests` alone, if records are missing or were left out: they may have done the rest. Refuses
-    /// with `Read` if the reader gives an error, `Broken` if a line is malformed or no relay acts in that order, `Unknown`
-    /// if it lacks the connection that is wanted, `Write`, and `NoMemory`. No clause covers this call. After a refusal a
-    /// part of the outcome may be written.
+    /// Reads a recording, and replays it; for `Ends`, `Timeline` and `Trace` it reads it alone. With `rests`, or after
+    /// the record `end`, no slot may have anything left to do. This is not asked after a failed wait for reports, which
+    /// ends a relay early; nor by `rests` alone, if records are missing or were left out: they may have done the rest.
+    /// Refuses with `Read` if the reader gives an error, `Broken` if a line is malformed or no relay acts in that
+    /// order, `Unknown` if it lacks the connection that is wanted, `Write`, and `NoMemory`. No clause covers this call.
+    /// After a refusal a part of the outcome may be written.
     fn replay<R: Read, W: Write>(
         &self,
         alloc: Global,

@@ -30,8 +30,8 @@ struct Course {
     failed: Option<u64>,
 }
 
-/// Writes the records of a connection in the order of their counts, each with the bytes that its rings hold then, and what
-/// has become of it. Refuses with `Unknown` if it was not opened. Takes memory for its records.
+/// Writes the records of a connection in the order of their counts, each with the bytes that its rings hold then, and
+/// what has become of it. Refuses with `Unknown` if it was not opened. Takes memory for its records.
 pub(crate) fn write_timeline<R: Read, W: Write>(
     alloc: Global,
     input: &mut R,

@@ -34,7 +34,7 @@ pub(crate) fn write_results<W: Write>(
     }
 }
 
-/// Writes a line that says what is left out of a file that follows other parts of its recording. `mark` stands before it.
+/// Writes, after `mark`, a line that says what is left out of a file that follows other parts of its recording.
 pub(crate) fn write_left_out<W: Write>(
     output: &mut W,
     alloc: Global,

@@ -259,7 +259,7 @@ pub data Fate (slot : ℕ) (opened : Type 0) (dropped : Cause → Type 0) (made 
 abbrev pub OpeningLogged : (Level → Option (List ℕ) → Type 0) → (ℕ → Event → Type 0) → Ticket → Type 0
 OpeningLogged logged counted t = logged level.Info (Some (open_message t.slot t.generation)) × counted t.slot event.Opened
 
--- a drop was counted at this slot, and the front was told if memory was lacking
+-- a drop was counted at this slot, and the front heard of it if memory was lacking
 abbrev pub DropCounted : (ℕ → Event → Type 0) → Type 0 → ℕ → Cause → Type 0
 DropCounted counted lacked slot why = counted slot event.Dropped × (why ≡ cause.Memory → lacked)
 

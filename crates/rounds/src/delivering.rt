@@ -16,8 +16,8 @@ use token::{Name, unpack};
 /// generation. A number that names no end, such as the waker's, leaves no note. Neither does an end whose slot the
 /// table lacks or has with another generation: that end's connection was closed after the report arrived.
 ///
-/// The only refusal is `Worn`, exactly if the seat has posted 2^56 times then. It posts no more: the last reports may not
-/// be delivered.
+/// The only refusal is `Worn`, exactly if the seat has posted 2^56 times then. It posts no more: the last reports may
+/// not be delivered.
 pub fn deliver(
     claims: &Claims,
     seat: &mut ClaimSeat,

@@ -36,8 +36,8 @@ impl Owed {
 }
 
 /// An accepted connection is closed unopened. That was logged with its cause, or is counted for a later line. Only
-/// [`Dropped::log`] makes this value, and only [`Uncounted::count_dropped`](crate::Uncounted::count_dropped) takes it. It
-/// cannot be dropped.
+/// [`Dropped::log`] makes this value, and only [`Uncounted::count_dropped`](crate::Uncounted::count_dropped) takes it.
+/// It cannot be dropped.
 ///
 /// In a clause it is the cause.
 pub(crate) struct Dropped {

@@ -9,8 +9,8 @@
 //!
 //! # Inside
 //!
-//! - `WaitsAsMay` says when a round waits for reports, and for how long (`may_wait`; `poll`: `waited`). A wait is a fault
-//!   exactly if it gave an error other than a signal (`polled`). The batch is delivered (`deliver_batch`).
+//! - `WaitsAsMay` says when a round waits for reports, and for how long (`may_wait`; `poll`: `waited`). A wait is a
+//!   fault exactly if it gave an error other than a signal (`polled`). The batch is delivered (`deliver_batch`).
 //! - Each error of accept(2) has its class, and only the answer that no client waits lowers the accept flag
 //!   (`unaccepted_of`, `not_accepted`: `flag`). A lack lasts until that answer or a connection (`starved_after`).
 //! - A drop is counted, or has a line of its own (`dropped_at`, `owed_for`). A count is cleared only if a line of its
@@ -23,10 +23,10 @@
 //!   gave, or nothing (`LeadGiven`). `DropsFor` says which cause is logged if there is none (`cause`).
 //! - An accepted connection counts once (`Uncounted`): as opened, as dropped, or its slot as lost (`open`: `counted`,
 //!   by `Fate`). An opening passes its line to the log. Openings and drops are counted at their slots (`OpeningLogged`,
-//!   `DropCounted`, by which the front is told of a lack of memory). A drop counts only if the log gets a line or a
-//!   count of it (`Dropped`). A slot is lost only if one exchange found it not free (`NotFree`), or no connection can be
-//!   opened there (`Spent`). After a failed opening the slot is in hand, and nowhere else (`prepare`: `failed`; `round`:
-//!   `slots`). Slots start at generation 0 (`Poller::new`); in a poller's table the slots of others stay at 0
+//!   `DropCounted`, by which the front hears of a lack of memory). A drop counts only if the log gets a line or a
+//!   count of it (`Dropped`). A slot is lost only if one exchange found it not free (`NotFree`), or no connection can
+//!   be opened there (`Spent`). After a failed opening the slot is in hand, and nowhere else (`prepare`: `failed`;
+//!   `round`: `slots`). Slots start at generation 0 (`Poller::new`); in a poller's table the slots of others stay at 0
 //!   (`IsOwnTable`).
 #![tactic(auto)]
 

@@ -40,8 +40,8 @@ pub struct Poller<F: Front> {
 }
 
 /// A connection was accepted, and is counted nowhere yet. Only [`Poller::accept`] makes this value, and only
-/// `count_opened`, `count_lost` and [`Uncounted::count_dropped`] take it. It cannot be dropped, so each accepted connection is
-/// counted once.
+/// `count_opened`, `count_lost` and [`Uncounted::count_dropped`] take it. It cannot be dropped, so each accepted
+/// connection is counted once.
 pub struct Uncounted(());
 
 impl<F: Front> Model for Poller<F> {

@@ -55,8 +55,8 @@ impl<G, C> Copy for Lent<'_, G, C> {}
 /// every socket is closed.
 ///
 /// The fault is `NoMemory` if there is not enough to begin with, `Poll` if the system cannot report on sockets,
-/// `Threads` if a thread cannot be started, and `Worn` if a thread has posted 2^56 notes. Of several it is `Threads`, or
-/// else the first poller's, or the next thread's: pollers come before workers.
+/// `Threads` if a thread cannot be started, and `Worn` if a thread has posted 2^56 notes. Of several it is `Threads`,
+/// or else the first poller's, or the next thread's: pollers come before workers.
 pub fn serve<
     G: Gate + Sync,
     C: Clock + Sync,
@@ -65,8 +65,8 @@ pub fn serve<
     serve_into(rt, alloc, settings, bound, lent, None)
 }
 
-/// Serves as [`serve`] does. If there are files, what each thread does is recorded into them until the server ends, each
-/// of at most `most` bytes; the last line then says that all is recorded. A thread of its own writes them, and the
+/// Serves as [`serve`] does. If there are files, what each thread does is recorded into them until the server ends,
+/// each of at most `most` bytes; the last line then says that all is recorded. A thread of its own writes them, and the
 /// call returns once all is written. If records come faster than that thread writes, a warning is logged, and the
 /// recording ends, or goes on in the next file if `most` is below 2^64 - 1. If a file cannot be written, it ends. The
 /// server serves on. The recording may also refuse to begin, with `NoMemory` or `Threads`.

@@ -3,8 +3,8 @@
 //! `parse` reads a text. `Settings` has one field for each key and prints as `KEY=VALUE` lines, and `SettingsFault`
 //! prints as the line that a person sees. The table of the keys, with kinds, ranges and defaults, is in
 //! `src/table.rt`, and for the promises in `specs/Table.antt`. `cause` and `argument_cause` help a person to find a
-//! fault in a file or in a command line. `pollers_for` says how many threads poll, which no key sets, and `calls_for` how
-//! many calls a turn makes at most.
+//! fault in a file or in a command line. `pollers_for` says how many threads poll, which no key sets, and `calls_for`
+//! how many calls a turn makes at most.
 #![tactic(auto)]
 
 mod addresses;

@@ -4,8 +4,8 @@ use std::sync::atomic::AtomicBool;
 use std::sync::atomic::Ordering::SeqCst;
 use std::sync::{Arc, OnceLock};
 
-/// Whether no more connections may be opened. Each poller looks before it waits for reports, and whoever says so ends the
-/// waits of all.
+/// Whether no more connections may be opened. Each poller looks before it waits for reports, and whoever says so ends
+/// the waits of all.
 #[derive(Drop)]
 pub struct Stop {
     is_set: AtomicBool,

@@ -6,7 +6,7 @@ use Rattle.std.specs.Prelude.{flat_map}
 one_more : {A : Type 0} (f : A → List ℕ) (xs : List A) (n : ℕ) (x : A) → n < length xs → x ≡ get_or xs n x → flat_map f (take n xs) ++ f x ≡ flat_map f (take (n + 1) xs)
 one_more {A} f xs n x h is = flat_map_more f [] (take n xs) x ∙ ap (λ (y : A). flat_map f (take n xs ++ y ∷ [])) is ∙ ap (flat_map f) (sym (take_more xs n x h))
 
--- behind what was written before the table
+-- after what was written before the table
 pub grown : {A : Type 0} (f : A → List ℕ) (begun : List ℕ) (xs : List A) (n : ℕ) (x : A) → n < length xs → x ≡ get_or xs n x
     → (begun ++ flat_map f (take n xs)) ++ f x ≡ begun ++ flat_map f (take (n + 1) xs)
 grown {A} f begun xs n x h is = append_assoc begun (flat_map f (take n xs)) (f x) ∙ ap (λ (y : List ℕ). begun ++ y) (one_more f xs n x h is)

@@ -1,4 +1,4 @@
-//! How many connections are open, the most that were, and for how long all slots were taken, in memory that threads share.
+//! How many connections are open, the most that were, and how long all slots were taken, in memory that threads share.
 ghost use Rattle.statistics.specs.Counts.{Entered, IsGauged, IsLookedAt, Left, Passed, Shown, Told, Turn};
 
 use crate::event::Event;
@@ -22,8 +22,8 @@ impl Levels {
     };
 }
 
-/// Memory for these numbers, which threads share. No clause can name what it holds, so the trait leaves open what a step
-/// does. What is proved over any such memory says which steps are made on it.
+/// Memory for these numbers, which threads share. No clause can name what it holds, so the trait leaves open what a
+/// step does. What is proved over any such memory says which steps are made on it.
 pub trait Gauge {
     // This step was made on this gauge. The step has what was read.
     ghost did: { Turn → Self → Type 0 };
@@ -96,8 +96,8 @@ impl Gauge for AtomicGauge {
     }
 }
 
-/// The most tries to raise a number. A try fails only if another thread has raised it, and it rises no higher than there
-/// are slots, which are 4,096 at most.
+/// The most tries to raise a number. A try fails only if another thread has raised it, and it rises no higher than
+/// there are slots, which are 4,096 at most.
 const MAX_RAISES: usize = 4_097;
 
 /// Raises a number to this one, if it is lower.

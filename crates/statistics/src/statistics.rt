@@ -67,8 +67,8 @@ impl<M: Memory, G: Gauge> Statistics<M, G> {
         gauge::look(&self.gauge, self.places.len());
     }
 
-    /// Sums what all places have, and then reads the gauge. A place that changes meanwhile is read again, up to 8 times.
-    /// The places are read one after another, so the sums are not of one moment.
+    /// Sums what all places have, and then reads the gauge. A place that changes meanwhile is read again, up to 8
+    /// times. The places are read one after another, so the sums are not of one moment.
     pub fn totals(&self) -> Totals
         ensures totals { AreTotals M.did G.did self.now (no_sums (length self.now.places) Levels.NONE Counts.NONE) result }
         ensures slots { result.slots ≡ length self.now.places }

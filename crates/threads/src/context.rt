@@ -40,8 +40,8 @@ pub struct Context<'a, G, C, R, S = AtomicBool> {
     pub split: Split,
 }
 
-/// What a thread told as it ended: the fault that it met is recorded, and if it met or found one, the queue of tickets is
-/// closed. Only [`Context::end`] makes this value.
+/// What a thread told as it ended: the fault that it met is recorded, and if it met or found one, the queue of tickets
+/// is closed. Only [`Context::end`] makes this value.
 #[derive(Drop)]
 pub struct Told<'a> {
     number: usize,
@@ -98,7 +98,7 @@ impl<G, C, R: Wait, S> Context<'_, G, C, R, S> {
         told
     }
 
-    /// Wakes every poller, once the thread's end was told: so each finds what was told.
+    /// Wakes every poller, once the thread has `told` its end: so each finds what that says.
     fn wake_after<F: Front>(&self, shared: &Shared<F>, _told: &Told<'_>)
         ensures { AllWoken (F.woke shared.now.waker) self.now.split }
     {

@@ -129,7 +129,7 @@ impl Ending {
         }
     }
 
-    /// Records the fault that ended the loop of the thread with this number, if a fault did. Returns why the loop ended.
+    /// Records the fault that ended the loop of the thread with this number, if one did. Returns why the loop ended.
     pub(crate) fn end(
         &self,
         rt: &impl Wait,

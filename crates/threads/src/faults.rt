@@ -107,7 +107,7 @@ impl Lowest {
         Kept { number, fault }
     }
 
-    /// How the server ended, once all its threads have ended: by the lack of a thread, or the fault that was kept, if any.
+    /// How the server ended, once all its threads have ended: by the lack of a thread, or the fault that was kept.
     pub(crate) fn outcome(self, served: Served) -> Outcome
         ensures fault { result.fault ≡ if is_some served.few then Some ServerFault.Threads
             else option_map (λ first. first.1) self.kept }

@@ -35,7 +35,8 @@ impl<F: Front + Drop> PollerThread<F> {
     ) -> Told<'c>
         ensures made { RunMade (S.said context.now.is_stopped.now)
             (EndsWell (C.tells context.now.timing.clock.now) F.gave_none context.now.timing.limit)
-            (C.tells context.now.timing.clock.now) context.now.ending.now result.why self.old.poller self.old.own self.new.own }
+            (C.tells context.now.timing.clock.now) context.now.ending.now result.why
+            self.old.poller self.old.own self.new.own }
         ensures told { IsTold context.now.ending.now self.old.number result.why result.recorded result.closed }
         ensures number { result.number ≡ self.old.number }
         ensures ran { PollerRan self.old.own self.new.own }
@@ -172,7 +173,8 @@ impl<F: Front + Drop> PollerThread<F> {
         context: &Context<'_, G, C, R, S>,
     ) -> Result<(), Ended>
         ensures turns { OnOk result (TurnsAfter self.old.poller self.new.poller self.old.own self.new.own) }
-        ensures cut { IfErr result (λ ended. TurnsCut context.now.ending.now ended.why self.old.poller self.new.poller self.old.own self.new.own) }
+        ensures cut { IfErr result (λ ended. TurnsCut context.now.ending.now ended.why
+            self.old.poller self.new.poller self.old.own self.new.own) }
     {
         let shares_light = self.shared.shares_light;
         let poller = &mut self.poller;

@@ -41,8 +41,8 @@ pub struct Server<F: Front> {
 /// have ended. Once `is_stopped` is set, the server opens no more connections, and ends once all are closed.
 ///
 /// Refuses with `NoMemory`, before any thread has started, if there is none for what they need; else with the
-/// fault that a thread met, or `Threads` if one could not be started. Of several faults it is `Threads`, or else that of
-/// the lowest thread: pollers come before workers.
+/// fault that a thread met, or `Threads` if one could not be started. Of several faults it is `Threads`, or else that
+/// of the lowest thread: pollers come before workers.
 pub fn run_threads<
     'a,
     F,
@@ -64,9 +64,9 @@ where
     F::Target: Send,
     F::Waker: Send + Sync,
     ensures ran { IfSome result.served (λ served. (mark : ℕ) × (pollers : List PollerPart) × (workers : List WorkerPart)
-        × IsDivided (fresh_seat server.shared.claims) (map (λ ends. ends.items) server.free.items) server.pollers.items server.workers
-        pollers workers
-        × AllRan (PollerRuns (S.said is_stopped.now) (C.tells timing.entry.clock.now) F.gave_none timing.entry.limit mark)
+        × IsDivided (fresh_seat server.shared.claims) (map (λ ends. ends.items) server.free.items) server.pollers.items
+        server.workers pollers workers × AllRan
+        (PollerRuns (S.said is_stopped.now) (C.tells timing.entry.clock.now) F.gave_none timing.entry.limit mark)
         (WorkerRuns mark) pollers workers served) }
     ensures few { IfSome result.served (λ served. IsSome served.few → result.fault ≡ Some ServerFault.Threads) }
 {
@@ -165,7 +165,7 @@ impl<'a, F: Front + Drop, G: Gate, C: Clock, R: Wait + Log, S: StopFlag> Part<
     }
 }
 
-/// Starts the threads of the workers and of all pollers but the first, runs that one in the calling thread, and joins all.
+/// Starts threads for the workers and all pollers but the first, runs that one in the calling thread, and joins all.
 fn run_in<
     's,
     E,

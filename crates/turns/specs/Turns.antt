@@ -116,8 +116,8 @@ noted_by notes pair = if nat_lt 0 notes then noted pair else pair
 abbrev pub Serves : Type 0 → Type 1
 Serves S = ℕ → S → S → Side → PairState → List AnswerValue → Type 0
 
--- a connection had one turn on its two wires, after this many notes were taken: with at most so many calls, at this second, and
--- with this idle limit
+-- a connection had one turn on its two wires, after this many notes were taken: with this budget, at this second, and with this
+-- idle limit
 abbrev pub Plays : {C T : Type 0} → Serves C → Serves T → ℕ → ℕ → ℕ → ℕ → Berth C T → Berth C T → Type 0
 Plays client target budget second limit notes old new = IsTurn budget second limit (noted_by notes old.pair) new.pair
     (client second old.client new.client) (target second old.target new.target)

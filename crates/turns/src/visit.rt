@@ -107,9 +107,9 @@ impl<F: Front> Visit<F> {
         &self.berth.pair
     }
 
-    /// Takes the notes of the slot, which raise the connection's flags, and makes its calls on its two wires, between the
-    /// gate's two calls. It is passed neither an allocator nor anything that may wait, so it allocates nothing and waits
-    /// for no lock.
+    /// Takes the notes of the slot, which raise the connection's flags, and makes its calls on its two wires, between
+    /// the gate's two calls. It is passed neither an allocator nor anything that may wait, so it allocates nothing and
+    /// waits for no lock.
     #[tactic(auto, using(common::proofs::Holding::holds_still))]
     pub(crate) fn play<A: Gated<F, G>, G>(
         &mut self,

@@ -24,7 +24,7 @@ pub enum Worked {
     Busy,
     /// The ticket's connection was not in the slot, or there is no such slot.
     Gone,
-    /// The connection is done or has failed. Its sockets are closed, and its slot is free, unless its generation is the last.
+    /// The connection is done or has failed. Its sockets are closed, and its slot is free, if it has a next generation.
     Ended,
     /// The budget is spent, and the connection is due again.
     Again,
@@ -36,10 +36,10 @@ pub enum Worked {
 ///
 /// What is in hand is put first, until a queue refuses an item. Then the slot is claimed, the connection is taken out
 /// of its place, its notes are taken, which raise its flags, and it makes its calls on its two wires, `budget` at most,
-/// between the gate's two calls. A connection that is done or failed is logged and closed, its slot is given back unless
-/// its generation is the last one, and the poller is woken. Any other connection is put back, settled first if it has no
-/// call to make; with its budget spent a note is posted; and the slot is released. If the release finds notes, a ticket is
-/// put for them. What a queue refuses stays in hand.
+/// between the gate's two calls. A connection that is done or failed is logged and closed, its slot is given back
+/// unless its generation is the last one, and the poller is woken. Any other connection is put back, settled first if
+/// it has no call to make; with its budget spent a note is posted; and the slot is released. If the release finds
+/// notes, a ticket is put for them. What a queue refuses stays in hand.
 ///
 /// A connection fails if it is left without a call and, by the turn's second, has moved nothing for the idle limit.
 ///
@@ -259,8 +259,8 @@ fn end<F: Front, A: Moves<F>, R: Wait + Log>(
     give_back(rt, acts, own, ticket, closed);
 }
 
-/// If the connection has ended, wakes the poller, which may wait for the slot. If it were woken before the slot is given
-/// back, it could wait on.
+/// If the connection has ended, wakes the poller, which may wait for the slot. If it were woken before the slot is
+/// given back, it could wait on.
 fn wake_if_ended<F: Front, A>(
     shared: &Shared<F, A>,
     _own: &Own,

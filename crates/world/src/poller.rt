@@ -100,7 +100,8 @@ impl World {
     }
 
     fn fresh_pair(&self, slot: usize, generation: u64) -> Result<Pair, AllocError>
-        ensures { IfOk result (λ pair. pair ≡ fresh slot generation self.now.limits.ring self.now.second (lead_at self.now.limits.lead slot generation)) }
+        ensures { IfOk result (λ pair. pair ≡ fresh slot generation self.now.limits.ring self.now.second
+            (lead_at self.now.limits.lead slot generation)) }
     {
         Pair::new(
             self.alloc,

@@ -1,5 +1,5 @@
-//! Queues for a thread that writes, and sleeps while there is nothing to write. It is the one end that takes, of the ends of
-//! `ready`.
+//! Queues for a thread that writes, and sleeps while there is nothing to write. It is the one end that takes, of the
+//! ends of `ready`.
 ghost use Rattle.std.specs.Prelude.{◌≡◌, ◌<◌, map, true, All, ℕ, List};
 ghost use Rattle.crossbeam_queue.specs.Passes.{queue_capacity};
 ghost use Rattle.writer_queue.specs.Lines.{Added};

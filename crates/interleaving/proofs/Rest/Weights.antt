@@ -94,7 +94,7 @@ blocks now p call next fit = by (either p call next)
         (clears now p call up, rw (is.0, opposite_twice p.turn, keeps_passing now p call p.turn, keeps_passing now p call (opposite p.turn), none_passes p p.turn none, is.1) less)
 
 -- An answer that moves something. What is left to move in the pair becomes less, but for bytes that were read, of which
--- each is to be written
+-- each must be written
 
 abbrev pub moves_of : PairState → ℕ
 moves_of p = moves_left p.up + (moves_left p.down + one (not p.joined))

@@ -52,7 +52,7 @@ brought_there s t i ts gs other = tickets_append t ts _ ∙ ap (λ (hs : List �
 
 -- The ticket that is taken
 
--- it is the first ticket, which passes the test, or behind it
+-- it is the first ticket, which passes the test, or after it
 abbrev pub Found : (Ticket → Bool) → Ticket → List Ticket → Taken → Type 0
 Found test t ts c = ((c ≡ record { ticket = t; rest = ts }) × (test t ≡ true))
     ⊎ ((d : Taken) × (first_of test ts ≡ Some d) × (c ≡ record { ticket = d.ticket; rest = t ∷ d.rest }))

@@ -217,7 +217,7 @@ eased more h = record {
   owed = λ o. cc;
 }
 
--- the wire reads or was told: nothing is late
+-- the wire reads or has heard: nothing is late
 pub awake : (e : EndState) (b : Bool) (wire : Wire) → (wire.reads ≡ true) ⊎ (wire.told ≡ true) → EndOk e b wire [] e
 awake e b wire up = record {
   held = record { due = Settled; waits = Prompt refl; rests = λ reads told. elim up [ inl r ↦ cc | inr t ↦ cc ]; queued = λ q. cc; owed = λ o. cc };
@@ -232,7 +232,7 @@ pub told_soon : (e : EndState) (b : Bool) (wire : Wire) → WillBeTold (near e b
 told_soon e b wire (inl is) = is
 told_soon e b wire (inr (k, below, is)) = absurd (omega arith)
 
--- nothing is late where the wire reads or was told, or where there is nothing to read
+-- nothing is late where the wire reads or has heard, or where there is nothing to read
 pub same_here : {e x : EndState} {b : Bool} {wire : Wire} {late : List Change} → EndOk e b wire late x → (wire.reads ≡ false → wire.told ≡ false → is_readable e ≡ true → ⊥) → (late ≡ []) × (x ≡ e)
 same_here {late = late} ok never =
     let none : map as_input late ≡ [] = prompt (λ a. never a.reads a.told a.readable) ok.held.waits in
