@@ -11,6 +11,7 @@ r"""Reads the rows of this folder: what each run of the program is given, and wh
     > TEXT              a line of standard output
     ! TEXT              a line of standard error
     settings KEY=VALUE  standard output is every setting, and these differ from their defaults
+    options --NAME=TEXT standard output is a page of help with these options, and their defaults
     status N            the status, 0 where there is no such line
 
 A line of a transcript that ends with `\` has no line feed.
@@ -134,6 +135,13 @@ def printed(different):
     return "".join(f"{key}={value}\n" for key, value in values.items()).encode()
 
 
+def has_options(wanted, status, output, errors):
+    """Whether a page of help has these options, and no others, with their defaults."""
+    had = re.findall(r"^ {2,6}(?:-\w, )?(--[\w-]+)|\[default:\s+(\S+)\]", output.decode(), re.MULTILINE)
+    had = "".join(f" {name}" if name else f"={default}" for name, default in had)
+    return (status, had, errors) == (0, f" {wanted}", b"")
+
+
 def transcript(lines):
     runs = []
     for number, line in named(lines):
@@ -153,6 +161,8 @@ def transcript(lines):
             row.errors += line_of(text)
         elif mark == "settings":
             row.output = printed(text)
+        elif mark == "options":
+            row.will_do = functools.partial(has_options, text.replace(" | ", " "))
         elif mark == "status":
             row.status = int(text)
         elif mark.endswith(":"):
