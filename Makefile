@@ -1,6 +1,6 @@
 # Thin targets over the toolchain's command `rt`. See README.md.
 
-.PHONY: help build run sim pages test test-program test-drill soak growths bench counts install uninstall dist deb checksum
+.PHONY: help build run sim test test-program test-drill soak growths bench counts install uninstall dist deb checksum
 
 # The settings file of `make run`.
 CONFIG ?= examples/relayd.toml
@@ -17,7 +17,6 @@ ARCHIVE = $(OUT)/relayd-$(VERSION)-linux-x86_64.tar.gz
 PACKAGE = $(OUT)/relayd_$(VERSION)_amd64.deb
 # The date of what is in these: that of the commit, or without git(1) that of the file that names each version.
 DATE = $${SOURCE_DATE_EPOCH:-$$(git -C $(CURDIR) log -1 --format=%ct 2>/dev/null || stat -c %Y $(CURDIR)/CHANGELOG.md)}
-PAGES = out/pages/index.html
 
 # A line that begins with two of these signs is printed by `make` on its own.
 help:
@@ -35,13 +34,6 @@ run: build
 ## make sim           runs the script on standard input
 sim: build
 	@$(PROGRAM)
-
-## make pages         writes out/pages/index.html, and for each public call a page with all that its contract cites
-pages: $(PAGES)
-	@echo $(PAGES)
-
-$(PAGES): README.md crates.txt $(wildcard docs/* tests/* tests/*/* packaging/pages/* $(addprefix crates/*/,src/* specs/* edits/*))
-	@packaging/pages/write $(@D)
 
 ## make test          the gate: every proof and test from scratch, and the built program
 test:
@@ -101,13 +93,12 @@ endif
 
 ## make install       installs what make build has built under PREFIX=/usr/local, with DESTDIR in front
 # What is installed names other files by where they are then.
-install: $(PROGRAM) $(PAGES)
+install: $(PROGRAM)
 	@for it in $(INSTALLED); do \
 	  test -x "$${it#*:}" && mode=755 || mode=644; \
 	  install -v -D -m $$mode -t "$(DESTDIR)$(PREFIX)/$${it%%:*}" "$${it#*:}" || exit 1; \
 	done
 	@packaging/completions $(PROGRAM) "$(DESTDIR)$(PREFIX)/share" $(COMPLETIONS)
-	@install -D -m 644 -t "$(DESTDIR)$(PREFIX)/$(DOCUMENTS)/pages" $(dir $(PAGES))*
 	@cd "$(DESTDIR)$(PREFIX)" && sed -i -e 's|/usr/local/|$(PREFIX)/|g' \
 	  -e 's;`docs/\($(subst $(space),\|,$(MANUALS))\)\.md;`\1.md;g' -e 's;`packaging/\([a-z]*\.\(conf\|yaml\)\);`examples/\1;g' \
 	  lib/systemd/system/relayd.service $(DOCUMENTS)/examples/*.conf $(DOCUMENTS)/*.md
@@ -116,7 +107,6 @@ install: $(PROGRAM) $(PAGES)
 uninstall:
 	@cd "$(DESTDIR)$(PREFIX)" && for it in $(INSTALLED); do file=$${it#*:}; rm -vf "$${it%%:*}/$${file##*/}"; done
 	@cd "$(DESTDIR)$(PREFIX)" && rm -vf $(addprefix share/,$(COMPLETIONS))
-	@rm -rf "$(DESTDIR)$(PREFIX)/$(DOCUMENTS)/pages"
 	@cd "$(DESTDIR)$(PREFIX)/share/doc" && rmdir --ignore-fail-on-non-empty relayd/examples relayd 2>/dev/null || true
 
 # The file BUILD below a prefix: of which commit and with which toolchain the program is, and its checksum. A program older than
