@@ -67,21 +67,46 @@ fn at(alloc: Global, bytes: &[u8], index: usize, slip: Slip<'_>) -> Option<Strin
 /// An unknown key, and what to write instead.
 fn unknown(alloc: Global, text: &str, name: &str) -> Option<String> {
     let line = line_of(alloc, text, name).ok()?;
-    let place = Place(line);
+    match option_named(name) {
+        Some((option, has_value)) => {
+            let value = if has_value {
+                value_of(alloc, text, name)?
+            } else {
+                String::new(alloc)
+            };
+            option_cause(alloc, Place(line), name, option, value.as_str())
+        }
+        None if is_heading(text, line) => heading_cause(alloc, Place(line), name),
+        None => key_cause(alloc, Place(line), name),
+    }
+}
+
+/// The value that a text has for a name, as it is typed on a command line. It is empty if there is none.
+fn value_of(alloc: Global, text: &str, name: &str) -> Option<String> {
     let document = toml::table_from_str(alloc, text).ok()?;
-    if let Some((option, has_value)) = option_named(name) {
-        let name = OneLine(name);
-        let value = match document.get(name.0) {
-            Some(value) if has_value => typed(alloc, value).ok()?,
-            _ => String::new(alloc),
-        };
-        let value = Behind(value.as_str());
-        return format!(in alloc; "{place}{name} is an option: relayd run --{option}{value}").ok();
+    match document.get(name) {
+        Some(value) => typed(alloc, value).ok(),
+        None => Some(String::new(alloc)),
     }
-    if is_heading(text, line) {
-        let name = OneLine(name);
-        return format!(in alloc; "{place}keys stand at the top: leave the line [{name}] out").ok();
-    }
+}
+
+fn option_cause(
+    alloc: Global,
+    place: Place,
+    name: &str,
+    option: &str,
+    value: &str,
+) -> Option<String> {
+    let (name, value) = (OneLine(name), Behind(value));
+    format!(in alloc; "{place}{name} is an option: relayd run --{option}{value}").ok()
+}
+
+fn heading_cause(alloc: Global, place: Place, name: &str) -> Option<String> {
+    let name = OneLine(name);
+    format!(in alloc; "{place}keys stand at the top: leave the line [{name}] out").ok()
+}
+
+fn key_cause(alloc: Global, place: Place, name: &str) -> Option<String> {
     let near = Near(key_near(alloc, name).ok()?);
     let (name, names) = (OneLine(name), KeyNames);
     format!(in alloc; "{place}{name}: {near}one of {names} is wanted").ok()
@@ -265,13 +290,18 @@ impl<'a> Slip<'a> {
     /// What is wrong in the line with this byte, where a text stops being TOML. None if only the parser can say it,
     /// or there is no memory to find out.
     pub(crate) fn of(alloc: Global, text: &'a str, index: usize) -> Option<Slip<'a>> {
-        let (before, line) = line_around(text, index)?;
         let rest = rest_of_line(text, index)?;
         if rest.starts_with("//") {
-            return Some(Slip::Other("a comment begins with #"));
+            Some(Slip::Other("a comment begins with #"))
         } else if rest.starts_with([';', ',']) {
-            return Some(Slip::Behind(rest));
+            Some(Slip::Behind(rest))
+        } else {
+            let (before, line) = line_around(text, index)?;
+            Slip::in_line(alloc, before, line)
         }
+    }
+
+    fn in_line(alloc: Global, before: &str, line: &'a str) -> Option<Slip<'a>> {
         let (name, written) = line.split_once('=')?;
         let name = name.trim();
         match line_of(alloc, before, name) {

@@ -268,18 +268,30 @@ impl fmt::Display for Wanted<'_> {
             }
             Wanted::Port(lowest) => write!(f, "a port from {lowest} up is wanted"),
             Wanted::Quotes(key, text) => {
-                let text = OneLine(text);
-                write!(f, "a text stands in quotes: {key} = \"{text}\"")
+                f.write_str("a text stands in quotes: ")?;
+                write_quoted(f, key, text)
             }
             Wanted::NoQuote(quote, key, text) => {
-                let text = OneLine(text);
-                write!(f, "{quote} is no quote of TOML: {key} = \"{text}\"")
+                write!(f, "{quote} is no quote of TOML: ")?;
+                write_quoted(f, key, text)
             }
             Wanted::Bare(bare) => bare.fmt(f),
-            Wanted::Words(before, part, after) => {
-                let part = OneLine(part);
-                write!(f, "{before}{part}{after}")
-            }
+            Wanted::Words(before, part, after) => write_words(f, before, part, after),
         }
     }
+}
+
+fn write_quoted<W: fmt::Write>(f: &mut fmt::Formatter<W>, key: Key, text: &str) -> fmt::Result {
+    let text = OneLine(text);
+    write!(f, "{key} = \"{text}\"")
+}
+
+fn write_words<W: fmt::Write>(
+    f: &mut fmt::Formatter<W>,
+    before: &str,
+    part: &str,
+    after: &str,
+) -> fmt::Result {
+    let part = OneLine(part);
+    write!(f, "{before}{part}{after}")
 }
