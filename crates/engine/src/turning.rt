@@ -1,12 +1,12 @@
 //! A turn: steps until there is no next call or the budget is spent.
-ghost use Rattle.std.specs.Prelude.{◌≡◌, ◌≤◌, None, Some};
-ghost use Rattle.relay_core.specs.{Order.next_call, Idle.expired, Laws.IsPossible};
-ghost use Rattle.engine.specs.{Steps.IsMove, Turns.{outcome_of, IsServed, IsTurn}};
+ghost use Rattle.std.specs.Prelude.{◌≡◌, ◌≤◌, None};
+ghost use Rattle.relay_core.specs.{Order.next_call, Idle.expired};
+ghost use Rattle.engine.specs.Turns.{outcome_of, IsServed, IsTurn};
 
 use crate::outcome::Turn;
 use crate::step::step;
 use crate::wire::Wire;
-use relay_core::{Call, MAX_READ, Pair, Side, Verdict};
+use relay_core::{MAX_READ, Pair, Side, Verdict};
 
 /// The second at which a turn is made, and the idle limit.
 #[derive(Clone, Copy)]
@@ -66,29 +66,12 @@ pub fn turn_with<A: Wire, B: Wire>(
         let Some(call) = pair.next() else {
             return rest(pair, moment);
         };
-        advance(pair, call, moment.second, client, target, buffer);
+        match call.side() {
+            Side::Client => step(pair, call, moment.second, client, buffer),
+            Side::Target => step(pair, call, moment.second, target, buffer),
+        }
     }
     finish(pair, moment)
-}
-
-/// Makes the pair's next call, on the wire of its side.
-fn advance<A: Wire, B: Wire>(
-    pair: &mut Pair,
-    call: Call,
-    now: u64,
-    client: &mut A,
-    target: &mut B,
-    buffer: &mut [u8; MAX_READ],
-)
-    requires next { next_call pair.old ≡ Some call }
-    requires possible { IsPossible pair.old call }
-    ensures { IsMove now pair.old pair.new (IsServed A.told A.does now client.old client.new)
-        (IsServed B.told B.does now target.old target.new) }
-{
-    match call.side() {
-        Side::Client => step(pair, call, now, client, buffer),
-        Side::Target => step(pair, call, now, target, buffer),
-    }
 }
 
 /// The outcome once the budget is spent.
