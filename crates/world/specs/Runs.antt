@@ -23,12 +23,3 @@ pub record FailsAt (first st : State) (events : List Event) (i : ℕ) (cause : R
 -- Why a replay fails: an event fails; or, reported at index 0, there was no memory for the opening world
 abbrev pub Fails : Limits → List Event → ℕ → Refusal → Type 0
 Fails l events i cause = ((st : State) × FailsAt (opening l) st events i cause) ⊎ ((i ≡ 0) × (cause ≡ NoMemory))
-
-pub record TapeState : Type 0 where
-  pub limits : Limits
-  pub events : List Event
-  pub world : State
-
--- the events happened in this world, one after the other, from the opening world on
-abbrev pub IsRun : TapeState → Type 0
-IsRun t = run (opening t.limits) t.events ≡ Some t.world

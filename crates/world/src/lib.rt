@@ -4,7 +4,7 @@
 //! A [`World`] starts from its [`Limits`], and changes by one [`Event`] at a time. Every choice is part of the event:
 //! what the network brings, which names a poll gives, what a call is answered. So [`World::step`] has one outcome, or
 //! refuses the event and changes nothing. [`World::play`] makes a list of events happen, and [`replay`] does so from
-//! the opening world on. A [`Tape`] is a world together with the events that led to it.
+//! the opening world on.
 //!
 //! An accepted connection is opened in a free slot, for a new generation of that slot. A report about one of its ends
 //! becomes a note in the slot, if it has the slot's generation; the first note at a slot that nobody holds makes a
@@ -37,7 +37,6 @@ mod readers;
 mod replaying;
 mod slot;
 mod step;
-mod tape;
 mod worker;
 mod working;
 mod world;
@@ -50,6 +49,5 @@ pub use limits::Limits;
 pub use past::Past;
 pub use replaying::replay;
 pub use slot::Slot;
-pub use tape::Tape;
 pub use worker::Worker;
 pub use world::World;

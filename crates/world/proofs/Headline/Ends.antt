@@ -395,9 +395,6 @@ heard_continues c b = grind arith
 failed_plain : (said : Reply) (kind : Kind) → plain said ≡ Some (answer.Failed kind) → said ≡ reply.Failed kind
 failed_plain said kind h = grind arith
 
-no_bytes : (o : Option (List ℕ)) (kind : Kind) → option_map (λ (bytes : List ℕ). answer.Bytes bytes) o ≡ Some (answer.Failed kind) → ⊥
-no_bytes o kind h = grind arith
-
 failed_told : (l : OpenConnection) (call : Call) (said : Reply) (kind : Kind) → told_of l call said ≡ Some (answer.Failed kind) → said ≡ reply.Failed kind
 failed_told l call said kind h = grind (arith, failed_plain said kind)
 
