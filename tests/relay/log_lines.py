@@ -9,6 +9,7 @@ import tempfile
 import time
 
 from loopback import WAIT, Relay, echo, in_thread, port_of, read_all, send_and_shut, target, unanswered, unheard
+from monitoring import as_line, folder, read
 from shared import (
     answer_and_read, ask_once, asked, at_once, by_time, drops_in, having, is_closed_soon, leave_one_descriptor, name_of,
     numbers_in, reset, served, told,
@@ -131,6 +132,7 @@ def end_as_asked(connection):
 # refuses event_is_not_kept: an event is not kept in the statistics
 # refuses ended_bytes_are_forgotten: the bytes of a slot's earlier connections are not in the statistics
 # refuses idle_ones_have_not_failed: those that the idle limit ended are not counted as failed
+# refuses metrics_have_each_others_numbers: two metrics for a monitor have each other's numbers
 @by_time
 def statistics_add_up():
     # Of 1,000 connections that end in every way, after a client that is dropped.
@@ -148,8 +150,9 @@ def statistics_add_up():
         read_all(client)
 
     begun, listener = time.monotonic(), unheard()
-    with tempfile.TemporaryFile("w+") as errors:
-        relay = Relay(port_of(listener), errors=errors, slots=256, idle=1, stop_after=1000, options=("--stats", "1"), log="debug")
+    with tempfile.TemporaryFile("w+") as errors, folder() as (_, path):
+        options = ["--stats", "1", "--stats-file", path]
+        relay = Relay(port_of(listener), errors=errors, slots=256, idle=1, stop_after=1000, options=options, log="debug")
         leave_one_descriptor(relay)
         assert relay.connect().recv(1) == b""
         relay.limit(resource.RLIMIT_NOFILE, None)
@@ -161,7 +164,7 @@ def statistics_add_up():
         at_once(*[sends(b"s", is_closed_soon)] * 100, *works * 4)
         assert relay.process.wait(WAIT) == 0
         errors.seek(0)
-        lines = errors.read().splitlines()
+        lines, monitored = errors.read().splitlines(), as_line(read(path))
     each = [numbers_in(line) for line in having(lines, "[INFO  relayd] stats ")]
     wanted = {"open": 0, "slots": 256, "dropped": drops_in(lines)}
     words = {"opened": "] open s=", "done": "] done s=", "failed": "] fail s=", "client": "side=client", "target": "side=target"}
@@ -171,7 +174,8 @@ def statistics_add_up():
     over = [numbers_in(line) for line in having(lines, "] done s=") + having(lines, "] gone s=")]
     wanted |= {way: sum(line[way] for line in over) for way in ("up", "down")}
     last = numbers_in(lines[-1])
-    assert each[-1] == last == wanted and len(having(lines, "] gone ")) == last["failed"] + 1 and last["opened"] == 1000
+    assert each[-1] == last == wanted == monitored and last["opened"] == 1000
+    assert len(having(lines, "] gone ")) == last["failed"] + 1
     assert all(last[name] for name in last if name not in ("open", "timedout"))
     assert all(one["opened"] == one["open"] + one["done"] + one["failed"] for one in each)
     assert 2 <= len(each) <= time.monotonic() - begun + 1

@@ -4,9 +4,6 @@ import collections
 import contextlib
 import os
 import re
-import resource
-import stat
-import subprocess
 import tempfile
 import threading
 import time
@@ -14,33 +11,42 @@ import time
 from loopback import WAIT, Relay, echo, in_thread, target, until
 from shared import ask_once, by_time, having, numbers_in, reset, served
 
-NAME, LABELS = r"[a-z_]+", r'(?:\{side="[a-z]+",kind="[a-z]+"\})?'
-KINDS = {"reset", "pipe", "aborted", "refused", "notconnected", "timedout", "zero", "other"}
+KINDS = ["reset", "pipe", "aborted", "refused", "notconnected", "timedout", "zero", "other"]
+FAILED = [f'{{side="{side}",kind="{kind}"}}' for side in ("client", "target") for kind in KINDS]
+# The metrics in order: what follows `relayd_` in the name, the type, and what it is.
+METRICS = """\
+connections_open gauge Connections that are open.
+connections_open_max gauge The most connections that were open at once.
+slots gauge How many connections can be open at once.
+slots_full_seconds_total counter Seconds with all slots taken.
+connections_opened_total counter Connections that were opened.
+connections_done_total counter Connections that ended after both ends of input were passed on.
+connections_idle_total counter Connections that were ended by the idle limit.
+clients_dropped_total counter Clients that were accepted, and closed unopened.
+up_bytes_total counter Bytes that were written to targets.
+down_bytes_total counter Bytes that were written to clients.
+connections_failed_total counter Connections that failed by a call on a socket, by its side and how."""
 
 
-def series_of(text):
-    """The number of each series of such a text, which has to be as promtool(1) wants it: each metric has its help and type, and
-    then its samples; its type fits its name; each series stands there once; and the last line is whole."""
-    series, kind, name = {}, None, None
-    assert text.endswith("\n"), text
-    for line in text.splitlines():
-        if found := re.fullmatch(rf"# HELP (relayd_{NAME}) (\S.*\.)", line):
-            assert name is None or any(each.startswith(name) for each in series)
-            name, kind = found[1], None
-            assert not any(re.match(rf"{name}({{|$)", each) for each in series), line
-        elif found := re.fullmatch(rf"# TYPE ({NAME}) (counter|gauge)", line):
-            assert kind is None and found[1] == name and (found[2] == "counter") == name.endswith("_total"), line
-            kind = found[2]
-        else:
-            found = re.fullmatch(rf"(({NAME}){LABELS}) (\d+)", line)
-            assert found and kind and found[2] == name and found[1] not in series, line
-            series[found[1]] = int(found[3])
-    return series
+def text_of(series):
+    """The whole text of these numbers."""
+    text = ""
+    for metric in METRICS.splitlines():
+        name, kind, what = metric.split(" ", 2)
+        text += f"# HELP relayd_{name} {what}\n# TYPE relayd_{name} {kind}\n"
+        for labels in FAILED if name == "connections_failed_total" else [""]:
+            text += f"relayd_{name}{labels} {series[f'relayd_{name}{labels}']}\n"
+    return text
 
 
+# refuses type_of_a_metric_is_wrong: a metric that only rises has the type of one that may fall
 def read(path):
+    """The number of each series of such a file, whose text has to be these numbers' to the byte."""
     with open(path) as file:
-        return series_of(file.read())
+        text = file.read()
+    series = {name: int(number) for name, number in re.findall(r"^(relayd_\S+) (\d+)$", text, re.MULTILINE)}
+    assert text == text_of(series), text
+    return series
 
 
 def as_line(series):

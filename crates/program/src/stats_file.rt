@@ -11,7 +11,7 @@ use std::fs::{self, OpenOptions};
 use std::io::{self, ErrorKind, Write};
 use std::rt::Files;
 
-/// What every such file begins with (`Monitor.antt` of `statistics`).
+/// What every such file begins with (`Monitored` of `statistics`).
 const FIRST_WORDS: &[u8] = b"# HELP relayd_";
 
 /// Where the file is, and where it is made.

@@ -1,6 +1,6 @@
 -- What is counted at a slot, and the sums. Part of the promises.
-use Rattle.std.specs.{Prelude.{ℕ, ◌+◌, ◌*◌, ◌-◌, ◌≤◌, min, List, map, ◌++◌, codes, ◌≡◌, [], ◌∷◌, slice_index, slice_set, sum_by, flat_map}, List.zip, Fmt.decimal}
-use Rattle.token.specs.{Kinds.all_kinds, Sides.side_number, declared.{kind.Kind.{Kind, TheVariants.{Refused, Reset, TimedOut}}, side.Side.{Side, TheVariants.{Client, Target}}}}
+use Rattle.std.specs.{Prelude.{ℕ, ◌+◌, ◌*◌, ◌-◌, ◌≤◌, min, List, map, ◌≡◌, [], ◌∷◌, slice_index, slice_set, sum_by}, List.zip}
+use Rattle.token.specs.{Kinds.all_kinds, Sides.side_number, declared.{kind.Kind.Kind, side.Side.{Side, TheVariants.{Client, Target}}}}
 use Rattle.relay_core.specs.declared.verdict.{Fault.TheVariants.{Broken, Idle}, Verdict.{Verdict, TheVariants.{Live, Done, Failed}}}
 use Rattle.statistics.specs.declared.{counts.{Count.Count, Counts.Counts}, event.Event.{Event, TheVariants.{Dropped, Opened, Moved, Ended}}, gauge.Levels.Levels, totals.{Figure.Figure, Totals.Totals}}
 use Rattle.token.specs.declared.kind.Kind.TheVariants as kind
@@ -112,23 +112,6 @@ number_of (figure.As kind) t = failed_as kind t.sums
 number_of (figure.Of count) t = at count t.sums
 number_of figure.MostOpen t = t.levels.most
 number_of figure.FullSeconds t = t.levels.full_seconds
-
--- The line of the statistics.
-
--- its numbers in order, as they are written
-abbrev pub columns : List (List ℕ × Figure)
-columns =
-    (codes "open", figure.Open) ∷ (codes "slots", figure.Slots) ∷ (codes "opened", figure.Opened)
-    ∷ (codes "done", figure.Of is.Done) ∷ (codes "failed", figure.Failed) ∷ (codes "dropped", figure.Of is.Dropped)
-    ∷ (codes "client", figure.At Client) ∷ (codes "target", figure.At Target)
-    ∷ (codes "refused", figure.As Refused) ∷ (codes "reset", figure.As Reset) ∷ (codes "timedout", figure.As TimedOut)
-    ∷ (codes "idle", figure.Of is.Idle) ∷ (codes "up", figure.Of is.Up) ∷ (codes "down", figure.Of is.Down) ∷ []
-
-abbrev pub column : Totals → List ℕ × Figure → List ℕ
-column t (name, figure) = codes " " ++ (name ++ (codes "=" ++ decimal (number_of figure t)))
-
-abbrev pub stats_message : Totals → List ℕ
-stats_message t = codes "stats" ++ flat_map (column t) columns
 
 -- What is done to the places of the slots' counts, and to the gauge.
 

@@ -1,6 +1,6 @@
 //! The sums of the counts, and their line of the log.
-ghost use Rattle.std.specs.Prelude.{◌≡◌, Some};
-ghost use Rattle.statistics.specs.Counts.{added, no_sums, number_of, stats_message};
+ghost use Rattle.std.specs.Prelude.{◌≡◌};
+ghost use Rattle.statistics.specs.Counts.{added, no_sums, number_of};
 
 use crate::counts::{Count, Counts};
 use crate::gauge::Levels;
@@ -103,8 +103,6 @@ impl Totals {
 }
 
 impl Display for Totals {
-    ghost output = { λ totals. Some (stats_message totals) };
-
     fn fmt<W: fmt::Write>(&self, f: &mut fmt::Formatter<W>) -> fmt::Result {
         write!(f, "stats")?;
         for (name, figure) in &COLUMNS {

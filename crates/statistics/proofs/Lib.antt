@@ -1,2 +1,0 @@
--- The crate's lemmas.
-mod Tables
