@@ -1,6 +1,6 @@
 # Thin targets over the toolchain's command `rt`. See README.md.
 
-.PHONY: help build run sim test test-program test-drill soak growths bench counts install uninstall dist deb checksum
+.PHONY: help build run sim test test-program soak growths bench counts install uninstall dist deb checksum
 
 # The settings file of `make run`.
 CONFIG ?= examples/relayd.toml
@@ -44,11 +44,6 @@ test-program: build
 	@tests/program/run $(PROGRAM)
 	@tests/relay/run $(PROGRAM)
 	@tests/packages $(PROGRAM)
-
-## make test-drill    plays the server's threads step by step, in memory; part of the gate
-test-drill:
-	@.ci/build drill
-	@tests/drill/run
 
 ## make soak          keeps a thousand connections of every kind going for ten minutes
 soak: build

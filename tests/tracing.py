@@ -5,6 +5,7 @@ import contextlib
 import ctypes
 import errno
 import os
+import subprocess
 import time
 
 SEIZE, INTERRUPT, DETACH, CONT, STEP, SYSCALL, GETREGS, SETREGS = 0x4206, 0x4207, 17, 7, 9, 24, 12, 13  # ptrace(2)
@@ -155,13 +156,25 @@ class Traced:
 
 @contextlib.contextmanager
 def halted(*tasks):
-    """These threads stand still meanwhile, and all others go on. Answers them, or nothing if that can't be had."""
+    """These threads stand still meanwhile, and all others go on. Answers them."""
     found = []
     try:
-        with contextlib.suppress(PermissionError):
-            for task in tasks:
-                found.append(Traced(int(task)))
-        yield found if len(found) == len(tasks) else None
+        for task in tasks:
+            found.append(Traced(int(task)))
+        yield found
     finally:
         for thread in found:
             thread.let_go()
+
+
+def is_allowed():
+    """Whether a process may trace another that it has started."""
+    process = subprocess.Popen(["sleep", "9"])
+    try:
+        with halted(process.pid):
+            return True
+    except PermissionError:
+        return False
+    finally:
+        process.kill()
+        process.wait()

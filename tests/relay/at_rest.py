@@ -1,14 +1,10 @@
 """What a relay does once it is left alone, and how many calls its turns make."""
 
-import contextlib
 import functools
 import re
-import shutil
-import socket
-import time
 
 from loopback import WAIT, Relay, beside_polls, echo, in_thread, made, target, unanswered, until
-from shared import at_once, by_time, having, left_out, served
+from shared import at_once, by_time, fill, having, needs, served
 
 
 def warned(budget):
@@ -17,22 +13,12 @@ def warned(budget):
     return [f"[WARN  relayd] budget: 4 is used in place of {budget}, {why}"] if budget < 4 else []
 
 
-def fill(connection):
-    """Sends until nobody takes more."""
-    connection.setsockopt(socket.SOL_SOCKET, socket.SO_SNDBUF, 1 << 15)
-    connection.settimeout(0.5)
-    with contextlib.suppress(socket.timeout, ConnectionError):
-        while connection.send(bytes(1 << 15)):
-            pass
-
-
 # refuses turns_of_fewer_calls: a turn makes no more calls than `budget` says, also if that is below four
 @by_time
+@needs("strace")
 def makes_no_call_while_all_connections_wait():
     # For each budget two relays without a limit and two with one. The target of the first is silent, or nobody reads what is
     # sent one way, the other or both; the other's answers no connect, and has a byte to get or none.
-    if not shutil.which("strace"):
-        return left_out("strace")
     with unanswered() as absent:
         relays, kept, filled = {}, [], []
         for budget, idle in [(budget, idle) for budget in range(1, 9) for idle in (0, 5)]:
@@ -59,9 +45,8 @@ def makes_no_call_while_all_connections_wait():
             assert len(having(lines, "] fail ", " idle")) == (many if idle else 0)
 
 
+@needs("recording")
 def makes_as_many_calls_a_turn_as_are_set():
-    if not Relay.records:
-        return left_out("recording")
     for budget in 1, 3, 4, 5, 9, 1024:
         relay = Relay(target(echo), slots=64, workers=1, ring=16, budget=budget)
         (client,) = served(relay, 1)

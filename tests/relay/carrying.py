@@ -11,12 +11,14 @@ import tempfile
 import time
 
 from loopback import WAIT, Relay, echo, in_thread, read_all, send_and_shut, start, target, until
-from shared import asked, by_time, connected, is_open, left_out, line_of, name_of, reset, served, unused_port
+from shared import by_time, connected, is_open, left_out, line_of, name_of, needs, reset, served, unused_port
 
 
 # refuses bit_down_after_a_short_read: a wire stops reading after a short read
 # refuses expires_without_limit: a connection without a next call fails, although there is no limit
 # refuses counts_swapped: the counts of the two ways are exchanged
+# refuses take_out_always_none: a place gives nothing back
+# refuses names_exchanged: the names of a connection's two sockets are exchanged
 def either_end_may_end_first():
     for first, moved in (0, "up=200000 down=100"), (1, "up=100 down=200000"):
         relay = Relay()
@@ -97,9 +99,8 @@ def traced(calls, times, many=1):
 # refuses busy_poller_keeps_on: a poller that finds several reports each time lets no other thread run
 # refuses few_reports_are_forgotten: polls of few reports do not count against those of several
 @by_time
+@needs("strace")
 def lets_others_run_under_load():
-    if not shutil.which("strace"):
-        return left_out("strace")
     for many, times in (1, 200), (32, 200):
         calls = traced("epoll_wait,sched_yield", times, many)
         busy = lets = 0
@@ -110,10 +111,9 @@ def lets_others_run_under_load():
 
 
 # refuses listener_stays_registered: a front that stops listening leaves the listening socket in its epoll(7)
+@needs("strace")
 def makes_no_call_that_nobody_asked_for():
     # From its only accept(2) on. How often it writes and waits is left out.
-    if not shutil.which("strace"):
-        return left_out("strace")
     _, accepted, after = re.split(r"(accept4.* = \d+\n)", traced("%network,epoll_ctl", 3))
     made = collections.Counter(re.findall(r"^\d+ +(\w+)\(", after, re.M))
     wanted = {"socket": 1, "connect": 1, "epoll_ctl": 3, "setsockopt": 2, "shutdown": 2}

@@ -12,8 +12,8 @@ import time
 
 from loopback import Relay, echo, port_of, target, unheard, until
 from shared import (
-    answers_soon, ask_once, asked, asking, at_once, by_time, drops_in, few, having, is_closed_soon, is_silent,
-    leave_one_descriptor, left_out, reset, served,
+    answers_soon, ask_once, asked, asking, at_once, by_time, drops_in, few, having, is_closed_soon, is_silent, leave_one_descriptor,
+    needs, reset, served,
 )
 
 
@@ -73,9 +73,8 @@ def unstarted(started):
 # refuses found_fault_leaves_the_queue_open: a thread that finds a fault does not close the queue of tickets, so workers sleep on
 # refuses serves_without_its_recorder: a relay whose recording cannot be written for want of a thread serves on without it
 # refuses fault_leaves_the_recording_open: after a fault the relay waits without end for the thread that records
+@needs("cc")
 def no_thread_for_some():
-    if not Relay.library:
-        return left_out("cc")
     # One thread writes the log, without which no other is started, two are workers, and one more polls.
     for most, level in itertools.product(range(4), ["info", "off"]):
         relay = Relay(preload={"MOST_THREADS": str(most)}, slots=128, workers=2, recorded=False, log=level)
@@ -88,9 +87,9 @@ def no_thread_for_some():
 
 # refuses failed_poll_is_swallowed: a relay whose poller cannot poll goes on, or ends well
 # refuses off_hides_a_cause: at level off nothing says why a relay that served has ended
+# refuses goes_on_after_a_fault: other threads go on after a fault
+@needs("cc")
 def a_poll_that_fails():
-    if not Relay.library:
-        return left_out("cc")
     # Two threads poll, at least five times a second each, and two more are workers.
     fault = ["[ERROR relayd] poll: Input/output error (os error 5)", "relayd: poll: failed"]
     for level in "info", "off":
@@ -101,6 +100,7 @@ def a_poll_that_fails():
         assert all([is_closed_soon(client) for client in clients])
 
 
+# refuses starved_told_each_time: that accept(2) is starved is logged each time
 @by_time
 def out_of_descriptors():
     # With one poller, since each logs that it lacks descriptors.
@@ -158,22 +158,6 @@ def closes_what_it_has_opened():
         assert until(lambda: len(relay.descriptors()) <= before)
 
 
-@by_time
-def floods_nothing_with_drops():
-    # No connection to the broadcast address of a network can begin. Each of four pollers logs the first drop, and a count a second.
-    relay = Relay(target="127.255.255.255:1", log="warn")
-    ended = time.monotonic() + 3
-
-    def connect_again_and_again():
-        while time.monotonic() < ended:
-            with contextlib.suppress(ConnectionError), relay.connect() as client:
-                client.recv(1)
-
-    at_once(*[connect_again_and_again] * 8)
-    lines = relay.end()
-    assert len(lines) <= 32 and drops_in(lines) > 100
-
-
 def is_answered(client):
     """Whether a client that sent a byte reads it, and is not closed."""
     with contextlib.suppress(ConnectionError):
@@ -208,9 +192,8 @@ def out_of_memory():
 
 
 # refuses system_memory_makes_none_wait: without the system's memory for a target, one client after the other is closed
+@needs("cc")
 def the_system_lacks_memory():
-    if not Relay.library:
-        return left_out("cc")
     # The first twenty connections to the target find none.
     relay = Relay(target(echo), preload={"CONNECTS_LACK": "20"}, slots=64)
     tries = asking(relay, 60)
@@ -222,6 +205,7 @@ def the_system_lacks_memory():
     assert having(lines, "] accept: ") == ["[ERROR relayd] accept: out of memory"]
 
 
+@needs("cc")
 def requests_take_no_memory():
     def ask(client):
         assert all(asked(client, b"a request of some bytes") for _ in range(2_500))
@@ -229,8 +213,6 @@ def requests_take_no_memory():
     def count():
         return int.from_bytes(os.pread(file.fileno(), 8, 0), sys.byteorder)
 
-    if not Relay.library:
-        return left_out("cc")
     with tempfile.NamedTemporaryFile() as file:
         file.truncate(8)
         relay = Relay(target(echo), preload={"GROWTHS_COUNT": file.name, "GROWTHS_OF_ALL": ""})

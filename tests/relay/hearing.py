@@ -5,7 +5,7 @@ import subprocess
 import time
 
 from loopback import WAIT, Relay, echo, start, target
-from shared import answer_and_read, by_time, left_out, move_much, served
+from shared import answer_and_read, by_time, move_much, needs, served
 from tracing import halted
 
 MANY = {"workers": 16, "slots": 1024}  # 16 pollers, too
@@ -24,6 +24,7 @@ def seconds_to_end(process):
 
 # refuses close_wakes_one_worker: of all workers that sleep one alone is woken once the queue of tickets is closed
 # refuses fault_behind_the_eighth_is_unmarked: the fault of a thread with a number over 8 sets no mark, so no thread finds it
+@needs("ptrace")
 @by_time
 def of_a_fault_whichever_thread_met_it():
     times = []
@@ -31,10 +32,8 @@ def of_a_fault_whichever_thread_met_it():
         relay = Relay(target(echo), recorded=False, log="warn", **MANY)
         time.sleep(0.1)
         pollers = [relay.process.pid, *relay.named("poller", 15)]
-        with halted(pollers[number]) as found:
-            if not found:
-                return left_out("ptrace")
-            found[0].end_call()
+        with halted(pollers[number]) as (poller,):
+            poller.end_call()
         times.append(seconds_to_end(relay.process))
         assert relay.ended(1) == ["[ERROR relayd] poll: Bad file descriptor (os error 9)", "relayd: poll: failed"]
     assert len(pollers) == 16 and median(times) < SOON, times
@@ -42,9 +41,8 @@ def of_a_fault_whichever_thread_met_it():
 
 # refuses fault_is_found_in_silence: a thread that finds a fault ends, and wakes nobody
 @by_time
+@needs("cc")
 def of_a_thread_that_does_not_start():
-    if not Relay.library:
-        return left_out("cc")
     # Threads for 16 workers and 5 pollers, and none for the next. A tenth of a second passes before that is logged.
     begun = time.monotonic()
     assert Relay(preload={"MOST_THREADS": "22"}, recorded=False, **MANY).ended(1)[-1] == "relayd: threads: failed"

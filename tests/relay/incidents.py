@@ -1,24 +1,15 @@
 """What a replay says of the connections of a relay that still runs, while they hang."""
 
 import collections
-import contextlib
 import json
 import re
 import socket
 import time
 
 from loopback import Relay, read_all, replay, unanswered, until
-from shared import by_time, left_out
+from shared import by_time, fill, needs
 
 TIMES = r" opened_us=(\d+) connect_us=(\d+|-) first_us=(\d+|-),(\d+|-) silence_us=(\d+) moved_us=(\d+)"
-
-
-def fill(end):
-    """Sends as much as goes into the buffers on the way."""
-    end.settimeout(1)
-    with contextlib.suppress(socket.timeout):
-        while True:
-            end.sendall(bytes(65_536))
 
 
 def is_told(relay, *wanted):
@@ -61,9 +52,8 @@ def drawn(relay):
 
 
 # refuses waits_of_the_other_side: of two sides that may send, the one that sent last is waited for
+@needs("recording")
 def tells_whom_a_connection_waits_for():
-    if not Relay.records:
-        return left_out("recording")
     relay = Relay(slots=8)
     silent_target, unread, silent_client, half_closed = [relay.pair() for _ in range(4)]
     silent_target[0].sendall(b"?")
@@ -94,9 +84,8 @@ def tells_whom_a_connection_waits_for():
     assert is_told(relay, *told), replay(relay.record, "--ends")
 
 
+@needs("recording")
 def tells_that_a_target_does_not_answer():
-    if not Relay.records:
-        return left_out("recording")
     with unanswered() as port:
         relay = Relay(port, slots=8)
         with relay.connect() as client:
@@ -113,9 +102,8 @@ def times(relay):
 
 # refuses recorder_counts_milliseconds: times are recorded in another unit
 @by_time
+@needs("recording")
 def tells_since_when():
-    if not Relay.records:
-        return left_out("recording")
     relay = Relay(slots=8)
     client, end = relay.pair()
     for wait, sends, hears in (0.2, client, end), (0.5, end, client), (0.1, client, end):

@@ -11,11 +11,12 @@ import time
 from loopback import WAIT, Relay, echo, in_thread, port_of, read_all, send_and_shut, target, unanswered, unheard
 from monitoring import as_line, folder, read
 from shared import (
-    answer_and_read, ask_once, asked, at_once, by_time, drops_in, having, is_closed_soon, leave_one_descriptor, name_of,
-    numbers_in, reset, served, told,
+    answer_and_read, ask_once, asked, asking, at_once, by_time, drops_in, having, is_closed_soon, is_silent, leave_one_descriptor,
+    name_of, numbers_in, reset, served, told,
 )
 
 
+# refuses closed_unlogged: the end of a connection is not logged
 def logs_as_is_set():
     # The option goes before the file's level. Statistics are logged unless the log is off.
     served = ["[INFO  relayd] open s=0 g=1", "[INFO  relayd] done s=0 g=1 up=3 down=3"]
@@ -44,21 +45,41 @@ def marks_its_lines_for_the_journal():
         assert all(line[1] == (priorities[line[2]] if how == "{0}:{1}" else "") for line in lines)
 
 
+# refuses lack_told_of_any_drop: a front is told of a lack of memory for any drop
 def target_out_of_reach():
-    # No connection to the broadcast address of a network can begin.
+    # No connection to the broadcast address of a network can begin. The first drop is logged, and then a count a second at most.
     cause = "Network is unreachable (os error 101)"
     gone = "[DEBUG relayd] gone from={0} connected=no up=0 down=0 seconds=0 cause={1}"
     for level, causes in ("debug", ["[DEBUG relayd] connect: 127.255.255.255:1: {1}", gone]), ("info", []):
         relay = Relay(target="127.255.255.255:1", slots=1, log=level)
-        clients = [relay.connect() for _ in range(3)]
-        assert [client.recv(1) for client in clients] == [b""] * 3
+        clients = [relay.connect() for _ in range(40)]
+        assert [client.recv(1) for client in clients] == [b""] * 40
         time.sleep(1.3)
         lines = relay.end()
         dropped = having(lines, "] drop")
-        assert dropped[0] == "[WARN  relayd] drop kind=connect" and drops_in(dropped) == 3
+        assert dropped[0] == "[WARN  relayd] drop kind=connect" and drops_in(dropped) == 40 and len(dropped) <= 4
         assert all(line.startswith("[WARN  relayd] drops kind=connect more=") for line in dropped[1:])
         told = [line.format(name_of(client), cause) for client in clients for line in causes]
         assert [line for line in lines if line not in dropped] == told
+
+
+# refuses full_told_each_round: that all slots are taken is logged in each round in which a client comes
+def says_once_that_clients_wait_for_a_slot():
+    # And once more after nobody has waited.
+    relay = Relay(target(echo), slots=1)
+    for many in 4, 1:
+        relay.come_to_rest()
+        clients = served(relay, 1)
+        for _ in range(many):
+            # Each is found by a round of its own.
+            clients += asking(relay, 1)
+            assert is_silent(clients[-1], 0.1)
+        for client, next_one in zip(clients, clients[1:]):
+            client.close()
+            assert next_one.recv(1) == b"?"
+        clients[-1].close()
+    words = [re.search(r"\] (\w+)", line)[1] for line in relay.end()]
+    assert words == ["open", "slots", *["done", "open"] * 4, "done", "open", "slots", "done", "open", "done"]
 
 
 # refuses address_of_the_wrong_socket: with --log-clients `via` is not the address that the target sees

@@ -1,11 +1,9 @@
 """Many connections at once: slots, pollers, workers, and what they do while nothing comes."""
 
 import collections
-import contextlib
 import pathlib
 import re
 import resource
-import shutil
 import socket
 import tempfile
 import threading
@@ -13,11 +11,9 @@ import time
 
 from loopback import WAIT, Relay, echo, in_thread, made, port_of, target, unheard, until
 from shared import (
-    answer_and_read, ask_once, asked, asking, by_time, having, is_silent, left_out, move_much, numbers_in, served,
+    answer_and_read, ask_once, asked, asking, by_time, having, is_silent, left_out, move_much, needs, numbers_in, served,
 )
-from tracing import halted
-
-FUTEX = "202"  # the number of the system call in which a worker sleeps
+from tracing import FUTEX, halted
 
 
 def send_both(pairs):
@@ -58,6 +54,9 @@ def uses_each_of_4096_slots():
 
 # refuses listener_watched_by_one_poller: only one front watches the listening socket
 # refuses busy_without_claim: a turn answers that its slot is held, without a claim
+# refuses put_in_always_occupied: a connection is given back although its place is empty
+# refuses accepted_client_closed_untold: of two clients that a poller accepts one is closed, and nothing tells of it
+# refuses full_told_by_the_first_poller: the first poller whose slots are all taken tells that all of the server's are
 def serves_all_slots_of_several_pollers():
     # Four pollers with 64 slots each. One client more waits, and is served whichever slot comes free.
     relay = Relay(target(echo), slots=256)
@@ -68,8 +67,12 @@ def serves_all_slots_of_several_pollers():
         clients[freed].close()
         clients[freed] = waiting
         assert waiting.recv(1) == b"?"
-    slots = [int(line.split("s=")[1].split(" ")[0]) for line in having(relay.end(), "] open ")]
+    lines = relay.end()
+    slots = [numbers_in(line)["s"] for line in having(lines, "] open ")]
     assert len({slot // 64 for slot in slots[:64]}) > 1 and sorted(slots[:256]) == list(range(256)) and len(slots) == 268
+    # From the 257th client on somebody always waits.
+    (full,) = having(lines, "] slots: all 256 are taken; further clients wait")
+    assert len(having(lines[: lines.index(full)], "] open ")) == 256
 
 
 # refuses late_generations_are_not_told: no report whose number has over 32 bits reaches its wire
@@ -111,9 +114,8 @@ def wakes_the_poller_of_a_freed_slot():
 
 
 # refuses wake_of_all: a worker that frees a slot wakes every poller, and not the slot's alone
+@needs("strace")
 def wakes_no_other_poller():
-    if not shutil.which("strace"):
-        return left_out("strace")
     relay = Relay(target(answer_and_read), slots=256, workers=4)
     clients, waiting = served(relay, 256), asking(relay, 16)
     move_much(relay, *clients[:16])
@@ -202,19 +204,6 @@ def leaves_clients_by_two_and_by_an_eighth():
         assert any(taken_by_the_fuller(fewer, fewer + margin + 1) <= 8 for _ in range(5))
 
 
-# refuses left_client_waits_long: a poller that leaves a client to others waits for reports as long as without one
-@by_time
-def serves_clients_that_another_poller_leaves():
-    # The first thread polls for one of four pollers. While it stands still it has the fewest clients, and takes none.
-    relay, clients, times = Relay(target(echo), slots=256), [], []
-    with halted(relay.process.pid) as is_halted:
-        for _ in range(32 if is_halted else left_out("ptrace") or 0):
-            before = time.monotonic()
-            clients += served(relay, 1)
-            times.append(time.monotonic() - before)
-    assert not is_halted or sorted(times)[24] < 0.05
-
-
 def burst(relay, clients):
     """How long it takes until the last of these clients has its answer, if the relay finds a byte of each at once."""
     with relay.stopped():
@@ -264,6 +253,7 @@ def small_messages_wait_for_no_bulk():
 
 # refuses light_ticket_kept_beside_a_sleeper: a poller that polls alone keeps all its light tickets, though a worker sleeps
 # refuses light_tickets_put_where_as_many_poll: they go to workers that sleep, though as many threads poll as work
+@needs("ptrace")
 def wakes_workers_for_what_is_over_16():
     for workers, is_shared in (1, True), (2, False):
         relay = Relay(target(echo), recorded=False, slots=64 * workers, workers=workers, log="off")
@@ -271,52 +261,35 @@ def wakes_workers_for_what_is_over_16():
 
         def slept():
             """How often the workers have gone to sleep, once they sleep."""
-            assert until(lambda: all(relay.system_call(task) == FUTEX for task in others))
+            assert until(lambda: all(relay.system_call(task) == str(FUTEX) for task in others))
             return sum(relay.status("voluntary_ctxt_switches", task) for task in others)
 
         def woken(many):
             """How often workers wake by a burst of so many bytes, all of which the pollers find at once."""
             before = slept()
-            with contextlib.ExitStack() as pollers:
-                for task in [relay.process.pid, *relay.named("poller", workers - 1)]:
-                    if not pollers.enter_context(halted(task)):
-                        return None
+            with halted(relay.process.pid, *relay.named("poller", workers - 1)):
                 for client in clients[:many]:
                     client.sendall(b"!")
             assert all([client.recv(1) == b"!" for client in clients[:many]])
             return slept() - before
 
         few, many = [woken(16) for _ in range(5)], [woken(len(clients)) for _ in range(5)]
-        if None in few:
-            return left_out("ptrace")
         assert not any(few) and any(many) == all(many) == is_shared, (few, many)
 
 
 # refuses one_worker_runs_all: all tickets are run by one worker
+@needs("ptrace")
 def goes_on_while_one_worker_stands_still():
     # One thread polls. Of 48 bytes that it finds at once it puts 32: if one put wakes the worker that stands still, the next
     # wakes the other, which has them all.
     relay = Relay(target(echo), recorded=False, slots=64, workers=2, log="off")
     clients = served(relay, 48)
     for worker in relay.named("worker", 2):
-        with halted(worker) as is_halted:
-            if not is_halted:
-                return left_out("ptrace")
+        with halted(worker):
             with halted(relay.process.pid):
                 for client in clients:
                     client.sendall(b"!")
             assert all([client.recv(1) == b"!" for client in clients])
-
-
-def runs_as_many_threads_as_are_set():
-    # As many poll as there are workers, but at most one for each 64 slots, and at least one.
-    for workers, slots, pollers in (1, 1024, 1), (5, 1024, 5), (5, 200, 3), (5, 63, 1):
-        relay = Relay(workers=workers, slots=slots, recorded=False)
-        # One more writes the log. The last thread may still be about to start.
-        threads = workers + pollers + 1
-        until(lambda: relay.status("Threads") >= threads)
-        time.sleep(0.1)
-        assert relay.status("Threads") == threads
 
 
 def rings_are_as_large_as_is_set():
@@ -330,33 +303,3 @@ def rings_are_as_large_as_is_set():
 
     most = 32 * 2 * 65536
     assert 0 <= grown(1) < 500_000 and most - 500_000 < grown(65536) < most + 500_000
-
-
-# refuses waits_with_work_in_hand: a poller that may accept more clients waits 200 ms for a report
-@by_time
-def accepts_without_waiting():
-    # Nothing is reported of clients who are closed at once, and four are accepted in a round.
-    relay = Relay(target="127.255.255.255:1", workers=1, log="off")
-    with relay.stopped():
-        clients = [relay.connect() for _ in range(80)]
-    before = time.monotonic()
-    assert all([client.recv(1) == b"" for client in clients]) and time.monotonic() - before < 1
-
-
-# refuses waits_two_seconds: a poller waits two seconds for a report
-@by_time
-def sleeps_while_idle():
-    # One thread that polls wakes five times a second, and several together ten times. The log's writer does not.
-    def sleeps():
-        return sum(relay.status("voluntary_ctxt_switches", task) for task in relay.tasks())
-
-    for pollers, least, most in (1, 10, 20), (4, 20, 40), (16, 20, 40):
-        relay = Relay(target(echo), slots=64 * pollers, workers=pollers, recorded=False)
-        for _ in range(2):
-            time.sleep(0.5)
-            before = sleeps()
-            time.sleep(4)
-            assert least <= sleeps() - before <= most + pollers + 2
-            with relay.connect() as client:
-                assert asked(client)
-        assert len(having(relay.end(), "] done ")) == 2

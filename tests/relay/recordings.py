@@ -10,7 +10,7 @@ import threading
 import time
 
 from loopback import WAIT, Relay, echo, in_thread, read_all, replay, send_and_shut, target, until
-from shared import LONGEST, ask_once, asked, at_once, by_time, having, left_out, line_of, reset, told
+from shared import LONGEST, ask_once, asked, at_once, by_time, having, line_of, needs, reset, told
 from tracing import halted
 
 FULL = "[WARN  relayd] record: records came faster than they were written, so "
@@ -29,9 +29,8 @@ def serves_on_where_nothing_can_be_recorded():
 # refuses blocked_as_moved: a read that would block is recorded as one of no byte
 # refuses header_without_proxy: a recording says that targets get no line, although they do
 # refuses header_counts_workers_as_pollers: a recording says that as many threads poll as there are workers
+@needs("recording")
 def records_what_it_did():
-    if not Relay.records:
-        return left_out("recording")
     # Two of these end well, and one by a reset.
     relay = Relay(slots=130, workers=3, ring=1000, idle=30, stop_after=3, proxy=True)
     pairs = [relay.pair() for _ in range(3)]
@@ -50,9 +49,8 @@ def records_what_it_did():
     assert f"\nread client=4000 target=6000 written client=6000 target={sent}" in replay(relay.record)
 
 
+@needs("recording")
 def has_written_what_it_did_when_it_rests():
-    if not Relay.records:
-        return left_out("recording")
     relay = Relay(target(echo))
     with relay.connect() as client:
         assert asked(client) and until(lambda: "client write 1 1\n" in pathlib.Path(relay.record).read_text())
@@ -134,15 +132,14 @@ def keeps_the_end_of_what_it_did_in_two_parts():
 
 # refuses gap_ends_the_recording: a recording of a bounded size ends where records are lost
 # refuses gap_is_not_written: where records are lost, no `full` is written
+@needs("ptrace")
 def goes_on_behind_a_gap():
     with tempfile.TemporaryDirectory() as folder:
         path = pathlib.Path(folder, "relay.record")
         relay = Relay(target(echo), options=("--record", path, "--record-size", "100000000"), log="warn", slots=8, stop_after=14)
         early = [relay.connect() for _ in range(4)]
         assert all(map(asked, early))
-        with halted(*relay.named("record")) as found:
-            if not found:
-                return left_out("ptrace")
+        with halted(*relay.named("record")):
             is_over = threading.Event()
 
             def ask(client):
@@ -190,10 +187,9 @@ def serves_on_where_no_part_can_be_begun():
 
 # refuses records_wait_half_a_second: records are written once in half a second
 @by_time
+@needs("recording")
 def has_recorded_what_it_did_when_it_is_killed():
     # But for the last five milliseconds. Now and then a machine under load takes longer.
-    if not Relay.records:
-        return left_out("recording")
     whole = 0
     for _ in range(5):
         relay = Relay(target(echo))

@@ -1,5 +1,6 @@
 """What the checks of several topics use."""
 
+import contextlib
 import ctypes
 import os
 import re
@@ -23,6 +24,16 @@ def by_time(check):
     """Marks a check whose assertions are about time, which `run` may try again."""
     check.tries = 3
     return check
+
+
+def needs(what):
+    """Marks a check that `run` leaves out where this is not there: a command, leave to use ptrace(2), or a recording."""
+
+    def mark(check):
+        check.needs = what
+        return check
+
+    return mark
 
 
 def few(served, limit, needed=2060):
@@ -72,6 +83,15 @@ def connected(port):
 def reset(connection):
     connection.setsockopt(socket.SOL_SOCKET, socket.SO_LINGER, struct.pack("ii", 1, 0))
     connection.close()
+
+
+def fill(connection):
+    """Sends until nobody takes more."""
+    connection.setsockopt(socket.SOL_SOCKET, socket.SO_SNDBUF, 1 << 15)
+    connection.settimeout(0.5)
+    with contextlib.suppress(socket.timeout, ConnectionError):
+        while connection.send(bytes(1 << 15)):
+            pass
 
 
 def is_silent(client, seconds):

@@ -10,7 +10,7 @@ import time
 
 from loopback import TESTS, WAIT, Relay, echo, in_thread, port_of, read_all, send_and_shut, target, unanswered, until
 from shared import (
-    IDLE, answers_soon, asked, asking, by_time, having, is_closed_soon, is_silent, left_out, numbers_in, served, waits_of,
+    IDLE, answers_soon, asked, asking, by_time, having, is_closed_soon, is_silent, left_out, needs, numbers_in, served, waits_of,
 )
 
 
@@ -53,9 +53,8 @@ def answers_what_came_while_it_was_stopped():
 
 # refuses idle_limit_of_a_byte: an idle limit over 255 seconds is cut
 @by_time
+@needs("cc")
 def keeps_to_the_longest_idle_limit():
-    if not Relay.library:
-        return left_out("cc")
     # A day passes within 2.16 seconds.
     relay = Relay(target(echo), preload={"TIMES_FASTER": "40000"}, slots=1, idle=86400)
     with relay.connect() as client:
@@ -146,16 +145,3 @@ def gives_up_peers_that_are_gone():
     assert is_silent(waiting, 1) and is_silent(next_one, 7) and asked(next_one)
     for each, side in (relay, "client"), (other, "target"):
         assert having(each.end(), f"side={side} call=read kind=timedout")
-
-
-@by_time
-def ends_a_receiver_that_stalls():
-    relay = Relay(slots=1, ring=4096, idle=1)
-    client, _end = relay.pair()
-    client.settimeout(0.5)
-    with contextlib.suppress(ConnectionError):
-        with contextlib.suppress(socket.timeout):
-            while client.send(bytes(65536)):
-                pass
-        assert is_closed_soon(client)
-    assert relay.end()[-1] == IDLE

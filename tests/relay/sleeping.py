@@ -9,9 +9,10 @@ import random
 import time
 
 from loopback import WAIT, Relay, echo, target, until
-from shared import MUCH, is_silent, left_out, served
+from shared import MUCH, is_silent, served
 from tracing import ACCEPT4, CLOSE, EPOLL_WAIT, FUTEX, RECVFROM, SENDTO, SLEEP, SLEEPS, SYSCALL, halted
 
+NEEDS = "ptrace"
 TRIES = 48  # of each pair
 LAST = 8  # places of an end that falls asleep, from its last look before the announcement on
 MOST = 30_000  # instructions that a thread makes by single steps, at most
@@ -77,8 +78,8 @@ class Pair:
 def tries(relay, putter, sleeper, many=TRIES):
     """The pair of these threads for each try, with its number."""
     with halted(putter, sleeper) as found:
-        both = Pair(relay, *found) if found else left_out("ptrace")
-        for both.number in range(many if both else 0):
+        both = Pair(relay, *found)
+        for both.number in range(many):
             yield both
             both.halt()
 
@@ -232,10 +233,7 @@ def a_poller_beside_a_worker_that_gives_its_slot():
         read_all_of(end, MUCH)
         # All other pollers end before they wait.
         assert until(lambda: relay.status("Threads") <= 19 and len(in_call(relay, EPOLL_WAIT)) == 1)
-        with halted(*in_call(relay, EPOLL_WAIT), *relay.named("worker", 16)) as found:
-            if not found:
-                return left_out("ptrace")
-            poller, *workers = found
+        with halted(*in_call(relay, EPOLL_WAIT), *relay.named("worker", 16)) as (poller, *workers):
             client.close()
             end.close()
             poller.go()
@@ -261,15 +259,14 @@ def a_poller_beside_a_worker_that_gives_its_slot():
 
 # refuses waits_of_microseconds: a poller that is to wait for milliseconds waits for so many microseconds
 # refuses waits_without_end: a poller waits until there is a report
+# refuses waits_two_seconds: a poller waits two seconds for a report
 def of_a_poller_as_long_as_it_asks():
     for pollers, longest in (1, 200), (16, 1600):
         relay, times = Relay(recorded=False, workers=pollers, slots=64 * pollers, log="off"), []
-        with halted(relay.process.pid) as found:
-            if not found:
-                return left_out("ptrace")
+        with halted(relay.process.pid) as (poller,):
             # A poller that begins tries to accept, and then waits.
             while times[-2:] != [longest] * 2 and len(times) < 50:
-                assert found[0].begins(EPOLL_WAIT)
-                times.append(found[0].longest())
-                found[0].ends()
+                assert poller.begins(EPOLL_WAIT)
+                times.append(poller.longest())
+                poller.ends()
         assert set(times) - {0} == {longest}, pollers

@@ -14,7 +14,7 @@ import threading
 import time
 
 from loopback import (
-    TESTS, WAIT, Relay, allowed, echo, in_thread, port_of, read_all, send_and_shut, settings_file, start, target, until,
+    TESTS, WAIT, Relay, allowed, echo, in_thread, port_of, read_all, send_and_shut, settings_file, target, until,
 )
 from shared import (
     OWN, ask_once, asked, at_once, by_time, connected, few, having, is_open, is_silent, left_out, line_of, served, unused_port,
@@ -51,20 +51,6 @@ def closes_its_socket_behind_its_last():
     for most, settings in (4, {"workers": 1, "slots": 4}), (10, {"slots": 256}):
         relay = Relay(target(echo), stop_after=most, **settings)
         assert len(having(gives_up_its_port(relay, served(relay, most)), "] open ")) == most
-
-
-# refuses waits_while_it_listens: a poller that may open nothing waits for reports with the listening socket open
-@by_time
-def refuses_who_comes_behind_its_last():
-    # Of sixteen pollers fifteen may open none, and wait for 1.6 seconds. A client would wake them.
-    relay = Relay(target(echo), slots=1024, workers=16, stop_after=1)
-    (client,) = served(relay, 1)
-    time.sleep(0.3)
-    with contextlib.suppress(ConnectionRefusedError):
-        relay.connect().close()
-        assert False, "it listens for nobody"
-    client.close()
-    relay.ended()
 
 
 # refuses end_of_input_overlooked: a relay with --until-eof goes on to accept clients after the end of its standard input
@@ -333,4 +319,3 @@ def looks_where_it_is_to_record():
         recording = os.read(reader, 65_536)
         os.close(reader)
         assert recording.startswith(b"relayd recording 1 ") and recording.endswith(b" end\n")
-

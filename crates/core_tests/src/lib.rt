@@ -3,7 +3,7 @@
 //! bytes, calls that the programs do not make, and mutants that no row shows.
 //!
 //! They have a crate of their own, since to prove a crate's tests is to prove all its functions again. The
-//! repository's `tests/program`, `tests/relay` and `tests/drill` show what the program prints, and how it serves.
+//! repository's `tests/program` and `tests/relay` show what the program prints, and how it serves.
 #![tactic(auto)]
 
 #[cfg(test)]
