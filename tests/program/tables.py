@@ -103,14 +103,14 @@ def named(lines):
             yield number, line
 
 
-def repeated(text, between=" | "):
+def repeated(text):
     """A text in which `N * (TEXT)` stands for TEXT N times."""
 
     def times(many):
         start, count, one = many.groups()
-        return start + (" " if start == " " else between).join(one.replace("{}", str(number)) for number in range(int(count)))
+        return start + (" " if start == " " else " | ").join(one.replace("{}", str(number)) for number in range(int(count)))
 
-    return re.sub(rf"(^|{re.escape(between)}| )(\d+) \* \((.*?)\)", times, text)
+    return re.sub(r"(^| \| | )(\d+) \* \((.*?)\)", times, text)
 
 
 def bytes_of(text):

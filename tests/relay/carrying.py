@@ -18,6 +18,7 @@ from shared import by_time, connected, is_open, left_out, line_of, name_of, need
 # refuses expires_without_limit: a connection without a next call fails, although there is no limit
 # refuses counts_swapped: the counts of the two ways are exchanged
 # refuses take_out_always_none: a place gives nothing back
+# refuses put_in_always_occupied: a connection is given back although its place is empty
 # refuses names_exchanged: the names of a connection's two sockets are exchanged
 def either_end_may_end_first():
     for first, moved in (0, "up=200000 down=100"), (1, "up=100 down=200000"):

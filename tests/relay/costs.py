@@ -11,8 +11,9 @@ from shared import ask_once, asked, needs, served
 # The system calls of a request and its answer over a connection that is alone. A message is reported, read and written, and
 # its side is read once more, which would block; the wire of the other side knows that a read there would.
 CALLS = {"epoll_wait": 2, "recvfrom": 4, "sendto": 2}
-# Those of a connection that comes, has one answer, and goes.
-CALLS_OF_ONE = {}
+# Those of a connection that comes, has one answer, and goes. How often it reads and waits depends on what comes together.
+CALLS_OF_ONE = {"accept4": 2, "ioctl": 1, "socket": 1, "connect": 1, "epoll_ctl": 2, "setsockopt": 2, "sendto": 2, "shutdown": 2}
+CALLS_OF_ONE |= {"close": 2, "epoll_wait": 10, "recvfrom": 20}
 # The instructions of such a request outside the system, as callgrind of valgrind(1) counts them: 3,970, with 3 % of room.
 INSTRUCTIONS = 4_100
 

@@ -54,7 +54,6 @@ def uses_each_of_4096_slots():
 
 # refuses listener_watched_by_one_poller: only one front watches the listening socket
 # refuses busy_without_claim: a turn answers that its slot is held, without a claim
-# refuses put_in_always_occupied: a connection is given back although its place is empty
 # refuses accepted_client_closed_untold: of two clients that a poller accepts one is closed, and nothing tells of it
 # refuses full_told_by_the_first_poller: the first poller whose slots are all taken tells that all of the server's are
 def serves_all_slots_of_several_pollers():
