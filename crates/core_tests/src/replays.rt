@@ -10,7 +10,8 @@ use world::{Event, Lead, Limits, replay};
 /// A connection that sends the lead and three bytes, and then moves nothing for the idle limit.
 const LINES: &str =
     "connect; accept ok; open; put poller; pop 0; claim 0; take 0; arrive 0 client 616263; room 0 target; \
-call 0 wrote 2; call 0 blocked; call 0 read 3; call 0 wrote 3; call 0 blocked; post 0; tick 30; idle 0; close 0; retire 0; free 0";
+     call 0 wrote 2; call 0 blocked; call 0 read 3; call 0 wrote 3; call 0 blocked; \
+     post 0; tick 30; idle 0; close 0; retire 0; free 0";
 
 /// Adds the event of a line. Returns false if the line is no event.
 fn put(alloc: Global, events: &mut Vec<Event>, line: &str) -> Result<bool, AllocError> {

@@ -16,7 +16,8 @@ use world_text::Word;
 
 /// What is expected if the first word of a world's line is another.
 const EVENTS: &str =
-    "not a step of a world; one of accept, arrive, call, claim, close, connect, deliver, drop, fin, free, idle, open, poll, pop, post, put, release, reset, retire, room, spurious, sweep, take, tick and vanish is wanted";
+    "not a step of a world; one of accept, arrive, call, claim, close, connect, deliver, drop, fin, free, idle, open, \
+     poll, pop, post, put, release, reset, retire, room, spurious, sweep, take, tick and vanish is wanted";
 
 /// The event that a line of a world's script stands for, or the first word from the left that is wrong; or that memory
 /// ran out for the event's list of bytes or names.

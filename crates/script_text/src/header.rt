@@ -106,9 +106,11 @@ fn behind(generation: Option<u64>, idle: Option<u64>, has_lead: bool) -> &'stati
     } else if idle.is_some() {
         "lead= and 1 to 107 bytes as pairs of lower-case hexadecimal digits, or the end of the line, is wanted"
     } else if generation.is_some() {
-        "idle=1 to idle=86400, lead= and 1 to 107 bytes as pairs of lower-case hexadecimal digits, or the end of the line, is wanted"
+        "idle=1 to idle=86400, lead= and 1 to 107 bytes as pairs of lower-case hexadecimal digits, \
+         or the end of the line, is wanted"
     } else {
-        "gen=0 to gen=140737488355326, idle=1 to idle=86400, lead= and 1 to 107 bytes as pairs of lower-case hexadecimal digits, or the end of the line, is wanted"
+        "gen=0 to gen=140737488355326, idle=1 to idle=86400, lead= and 1 to 107 bytes as pairs of lower-case \
+         hexadecimal digits, or the end of the line, is wanted"
     }
 }
 
