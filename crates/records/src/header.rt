@@ -37,7 +37,8 @@ impl Display for Header {
         let (proxy, from) = (yes_or_no(self.proxy), FromText(self.from));
         write!(
             f,
-            "relayd recording 1 slots={slots} pollers={pollers} workers={workers} ring={ring} budget={budget} idle={idle} proxy={proxy}{from}"
+            "relayd recording 1 slots={slots} pollers={pollers} workers={workers} \
+             ring={ring} budget={budget} idle={idle} proxy={proxy}{from}"
         )
     }
 }
