@@ -49,13 +49,6 @@ def records_what_it_did():
     assert f"\nread client=4000 target=6000 written client=6000 target={sent}" in replay(relay.record)
 
 
-@needs("recording")
-def has_written_what_it_did_when_it_rests():
-    relay = Relay(target(echo))
-    with relay.connect() as client:
-        assert asked(client) and until(lambda: "client write 1 1\n" in pathlib.Path(relay.record).read_text())
-
-
 # refuses record_empties_a_file: a file that is there is emptied to record into it
 def keeps_what_was_there():
     # A recording gets the first free name after its own, an empty file is used, and any other is left as it is.

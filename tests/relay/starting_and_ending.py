@@ -13,12 +13,8 @@ import tempfile
 import threading
 import time
 
-from loopback import (
-    TESTS, WAIT, Relay, allowed, echo, in_thread, port_of, read_all, send_and_shut, settings_file, target, until,
-)
-from shared import (
-    OWN, ask_once, asked, at_once, by_time, connected, few, having, is_open, is_silent, left_out, line_of, served, unused_port,
-)
+from loopback import TESTS, WAIT, Relay, allowed, echo, in_thread, port_of, read_all, send_and_shut, settings_file, target, until
+from shared import OWN, ask_once, asked, at_once, by_time, connected, few, having, is_open, left_out, served, unused_port
 
 
 # refuses parks_beside_a_closed_queue: an end parks although it read that the queue is closed
@@ -206,20 +202,6 @@ def is_replaced_under_load():
         end_holder(folder)
         assert until(lambda: not is_open(port) and lines("] open ") == lines("] done "))
         assert lines("] fail ") == lines("] drop ") == [0] * 3 and counts["answered"] > 100 and counts["reset"] <= 8
-
-
-def forwards_by_its_command_line():
-    settings = {"ring": 1, "budget": 2, "workers": 3, "slots": 1, "stop_after": 2, "log": "error", "proxy": True}
-    relay = Relay(target(echo), typed=True, recorded=False, **settings)
-    # The second client waits for the only slot.
-    first, second = relay.connect(), relay.connect()
-    lines = [line_of(first), line_of(second)]
-    send_and_shut(second, b"two")
-    # The polling thread, three workers, and the log's.
-    assert is_silent(second, 0.5) and relay.status("Threads") == 5
-    send_and_shut(first, b"three")
-    assert read_all(first) == lines[0] + b"three" and read_all(second) == lines[1] + b"two"
-    assert relay.ended() == []
 
 
 # refuses start_is_not_logged: nothing is logged when a relay begins to serve
