@@ -11,7 +11,7 @@ import time
 
 from loopback import WAIT, Relay, echo, in_thread, made, port_of, target, unheard, until
 from shared import (
-    answer_and_read, ask_once, asked, asking, by_time, having, is_silent, left_out, move_much, needs, numbers_in, served,
+    answer_and_read, ask_once, asked, asking, by_time, having, is_silent, left_out, move_much, needs, numbers_in, send, served,
 )
 from tracing import FUTEX, halted
 
@@ -206,8 +206,7 @@ def leaves_clients_by_two_and_by_an_eighth():
 def burst(relay, clients):
     """How long it takes until the last of these clients has its answer, if the relay finds a byte of each at once."""
     with relay.stopped():
-        for client in clients:
-            client.sendall(b"!")
+        send(clients)
     before = time.monotonic()
     assert all([client.recv(1) == b"!" for client in clients])
     return time.monotonic() - before
@@ -267,8 +266,7 @@ def wakes_workers_for_what_is_over_16():
             """How often workers wake by a burst of so many bytes, all of which the pollers find at once."""
             before = slept()
             with halted(relay.process.pid, *relay.named("poller", workers - 1)):
-                for client in clients[:many]:
-                    client.sendall(b"!")
+                send(clients[:many])
             assert all([client.recv(1) == b"!" for client in clients[:many]])
             return slept() - before
 
@@ -286,8 +284,7 @@ def goes_on_while_one_worker_stands_still():
     for worker in relay.named("worker", 2):
         with halted(worker):
             with halted(relay.process.pid):
-                for client in clients:
-                    client.sendall(b"!")
+                send(clients)
             assert all([client.recv(1) == b"!" for client in clients])
 
 

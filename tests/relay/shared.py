@@ -2,12 +2,14 @@
 
 import contextlib
 import ctypes
+import fcntl
 import os
 import re
 import resource
 import select
 import socket
 import struct
+import termios
 import time
 
 from loopback import WAIT, Relay, echo, in_thread, port_of, read_all, target, until
@@ -73,6 +75,13 @@ def asking(relay, many):
     for client in clients:
         client.sendall(b"?")
     return clients
+
+
+def send(clients):
+    """Has each of these send a byte, and waits until all have arrived: a busy system passes them on in parts."""
+    for client in clients:
+        client.sendall(b"!")
+    assert until(lambda: not any(any(fcntl.ioctl(client, termios.TIOCOUTQ, bytes(4))) for client in clients))
 
 
 def connected(port):
