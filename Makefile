@@ -1,8 +1,9 @@
 # Thin targets over the toolchain's command `rt`. See README.md.
 
-.PHONY: help build run sim test test-program soak growths bench counts install uninstall dist deb checksum
+.PHONY: help try build run sim test test-program soak growths bench counts install uninstall dist deb checksum
 
-# The settings file of `make run`.
+# The script of `make try`, and the settings file of `make run`.
+SCRIPT ?= examples/one-direction.flow
 CONFIG ?= examples/relayd.toml
 # Where `make install` puts things, and the folder that stands for the root there.
 PREFIX ?= /usr/local
@@ -22,6 +23,12 @@ DATE = $${SOURCE_DATE_EPOCH:-$$(git -C $(CURDIR) log -1 --format=%ct 2>/dev/null
 help:
 	@command -v rt >/dev/null || echo 'The command `rt` of the Rattle toolchain is not in PATH. Without it nothing is built or tested; an archive or a package of a built relayd needs none (README.md).'
 	@sed -n 's/^## //p' $(MAKEFILE_LIST)
+
+## make try           runs examples/one-direction.flow, or SCRIPT=FILE, by a relayd that is built without proofs in two minutes
+try:
+	@echo 'Building relayd without proofs, which takes about two minutes.' >&2
+	@{ said=$$(cd crates/relayd && rt try 2>&1 >&3 <"$(abspath $(SCRIPT))") || { echo "$$said" >&2; exit 1; }; } 3>&1
+	@echo 'Nothing was proved: `make run` proves relayd, builds it, and forwards connections.'
 
 ## make build         proves and builds crates/relayd/out/relayd; takes a quarter of an hour or more the first time
 build:
