@@ -1,2 +1,2 @@
 -- The crate's definitions. The first line of each file says whether the promises need it.
-pub mod Lines
+pub mod Steps

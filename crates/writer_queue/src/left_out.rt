@@ -1,5 +1,5 @@
 //! How many lines found the queue full.
-ghost use Rattle.writer_queue.specs.Lines.{CountStep, Added, Taken};
+ghost use Rattle.writer_queue.specs.Steps.{CountStep, Added, Taken};
 
 use ready::{Full, Put};
 use std::sync::Wait;

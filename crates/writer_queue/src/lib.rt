@@ -27,7 +27,7 @@ mod sink;
 mod writing;
 
 pub use limits::{MAX_LINE, MAX_LINES};
-pub use line::{LeftOut, LogLine};
+pub use line::LogLine;
 pub use parked::{Drain, ParkedQueue};
 pub use queue::{LogQueue, Written};
 pub use ready::Drained;

@@ -2,7 +2,7 @@
 //! ends of `ready`.
 ghost use Rattle.std.specs.Prelude.{◌≡◌, ◌<◌, map, true, All, ℕ, List};
 ghost use Rattle.crossbeam_queue.specs.Passes.{queue_capacity};
-ghost use Rattle.writer_queue.specs.Lines.{Added};
+ghost use Rattle.writer_queue.specs.Steps.{Added};
 
 use crate::left_out::{Count, Counted};
 use crossbeam_queue::ArrayQueue;

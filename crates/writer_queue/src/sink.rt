@@ -1,6 +1,5 @@
 //! Loggers: into the queue, or to standard error at once.
-ghost use Rattle.std.specs.Prelude.{◌≡◌, Some, true, []};
-ghost use Rattle.writer_queue.specs.Lines.{mark_of};
+ghost use Rattle.std.specs.Prelude.{Some, true, []};
 
 use crate::line::LogLine;
 use crate::queue::LogQueue;
@@ -21,9 +20,7 @@ pub enum Form {
 }
 
 impl Form {
-    fn mark(self, level: Level) -> &'static str
-        ensures { result.now ≡ mark_of self level }
-    {
+    fn mark(self, level: Level) -> &'static str {
         match (self, level) {
             (Form::Plain, _) => "",
             (Form::Journal, Level::Error) => "<3>",

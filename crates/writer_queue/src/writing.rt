@@ -1,6 +1,5 @@
 //! The thread that writes the log.
 use crate::limits::soon;
-use crate::line::LeftOut;
 use crate::parked::Drain;
 use crate::queue::{LogQueue, Written};
 use crate::sink::Direct;
@@ -45,6 +44,6 @@ fn log_left_out<R: Eprint>(rt: &R, queue: &LogQueue) {
     let count = queue.take_left_out();
     if count > 0 {
         let form = queue.form();
-        warn!(Direct { rt, form }; target: "relayd", "{}", LeftOut(count));
+        warn!(Direct { rt, form }; target: "relayd", "log: {count} lines left out");
     }
 }
