@@ -57,6 +57,7 @@ def makes_as_many_calls_a_turn_as_are_set():
             used, calls, most = max(budget, 4), 0, 0
             assert f" budget={used} " in file.readline()
             for line in file:
-                calls = calls + 1 if re.search(r" 0\.1\.\w+ (read|write|join|shut) ", line) else 0 if " 0 begin" in line else calls
+                is_call = re.search(r" 0\.1\.\w+ (read|write|join|shut) ", line)
+                calls = calls + 1 if is_call else 0 if " 0 begin" in line else calls
                 most = max(most, calls)
         assert most == used and having(relay.told, "budget") == warned(budget)

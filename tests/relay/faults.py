@@ -12,8 +12,8 @@ import time
 
 from loopback import Relay, echo, port_of, target, unheard, until
 from shared import (
-    answers_soon, ask_once, asked, asking, at_once, by_time, drops_in, few, having, is_closed_soon, is_silent, leave_one_descriptor,
-    needs, reset, served,
+    answers_soon, ask_once, asked, asking, at_once, by_time, drops_in, few, having, is_closed_soon, is_silent,
+    leave_one_descriptor, needs, reset, served,
 )
 
 
