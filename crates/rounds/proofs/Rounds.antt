@@ -1,11 +1,11 @@
 -- Connections that are opened one after the other, why one is closed unopened, and a round of its parts.
-use Rattle.std.proofs.{Common.{◌≡◌, ◌≢◌, ◌⊎◌, ℕ, ◌+◌, ◌<◌, ◌≤◌, List, [], ◌∷◌, ◌++◌, length, drop, slice_get, slice_set, min, cond, Bool, true, refl, sym, ◌∙◌, arith, inl, inr, append_assoc, length-append, Option, Some, None, ◌==◌, Result, Ok, Err, IfErr, IfSome, IsErrAnd, slice_index, ap, ◌↔◌, IsTrue, not, false, Contains, if◌then◌else◌}, lemmas.{Bool.false≢true, List.{append-nil, length-set, get_or-set_other, get_or_past, Sums.sum_by-append}, Grind.get_or-set_at, Option.{none-some, same_Some}}}
+use Rattle.std.proofs.{Common.{◌≡◌, ◌≢◌, ◌⊎◌, ℕ, ◌+◌, ◌<◌, ◌≤◌, List, [], ◌∷◌, ◌++◌, length, drop, slice_get, slice_set, min, cond, Bool, true, refl, sym, ◌∙◌, arith, inl, inr, append_assoc, length-append, Option, Some, None, ◌==◌, Result, Ok, Err, IfErr, IfOk, IfSome, IsErrAnd, MatchResult, slice_index, ap, ◌↔◌, IsTrue, not, false, Contains, if◌then◌else◌}, lemmas.{Bool.false≢true, List.{append-nil, length-set, get_or-set_other, get_or_past, Sums.sum_by-append}, Grind.get_or-set_at, Option.{none-some, same_Some}}}
 use Rattle.std.specs.{Option.ok_or, Bool.then_some}
 use Rattle.claims.{specs.{declared.answers.Posted.Posted, Calls.PostChange, Seats.{SeatState, TableId, Adds, account_at}, declared.view.{Account.Account, Exchange.{Exchange, TheVariants.{NotFree as WasNotFree}}}, Views.after_all}, proofs.Seats.{account_after, adds_both, adds_none}}
 use Rattle.common.{specs.{Posts.{HoldsOnly, IsWorn}, declared.{places.Berth.Berth, shared.Own.Own, split.Part.Part, front.{Unaccepted.Unaccepted, Unopened.Unopened, Route.Route, Waiting.{Waiting, TheVariants.{No, Brief, Long}}}}, Hands.{HandState, ticket_room}, Acts.{Act, AreMade, Made, Register, Adopt}, Told.{cause_of, Seen, Waited}, Splits.IsIn}, proofs.Holding.{holds_still, woke_behind_post, worn_still}}
 use Rattle.ready.specs.declared.ticket.Ticket.{Ticket}
-use Rattle.token.specs.Names.{last_generation}
-use Rattle.rounds.{specs.{Acts.{SeatAct, opening, ActsMade, AreTries, InOrder, all_reported, ArePosted, sweep_of}, Openings.{times, with_slot, AreOpened, OnlyTook, SlotsCounted, Between, Started, Connected, AcceptDone, OneAccepted, OnlyAccepted, unmarked, IsOpened, IsSpent, AreLost, IsNext, SameQueues, Fate, next_in, Opened, Dropped, Spent, NotFree, DropsFor, ActsOf, DropMade, TriedOnce, TriesMade, TriesNext, TryMade, lacks, lead_of}, Pollers.{PollerState, Counted, counted_up, HasOpenedAll}, Rounds.{AcceptEnded, AllPosted, RoundInOrder, ListenerKept, ListensNoMore, ListensToOpen, Looked, OnlyAnswered, OnlyListens, RoundRefused, WaitedAsMay, WaitsAsMay}}, proofs.Acts.{at_slot-append, acts_none, acts_one, acts_both, in_order, none_at, try_dropped, try_opened, tries_none, tries_both, holds_nothing_still, posted_none, posts_still, no_sweep}}
+use Rattle.relay_core.specs.Pairs.{PairState}
+use Rattle.rounds.{specs.{Acts.{SeatAct, opening, ActsMade, AreTries, InOrder, all_reported, ArePosted, sweep_of}, Openings.{times, with_slot, AreOpened, OnlyTook, SlotsCounted, Between, Started, Connected, AcceptDone, OneAccepted, OnlyAccepted, unmarked, IsOpened, IsSpent, AreLost, IsNext, SameQueues, Fate, LeadGiven, Registered, next_in, Opened, Dropped, Spent, NotFree, DropsFor, ActsOf, DropMade, TriedOnce, TriesMade, TriesNext, TryMade, lacks, lead_of}, Pollers.{PollerState, Counted, counted_up, HasOpenedAll}, Rounds.{AcceptEnded, AllPosted, RoundInOrder, ListenerKept, ListensNoMore, ListensToOpen, Looked, OnlyAnswered, OnlyListens, RoundRefused, WaitedAsMay, WaitsAsMay}}, proofs.Acts.{at_slot-append, acts_none, acts_one, acts_both, in_order, none_at, try_dropped, try_opened, tries_none, tries_both, holds_nothing_still, posted_none, posts_still, no_sweep}}
 use Rattle.common.specs.declared.{cause.Cause.{Cause}, faults.ServerFault.{ServerFault, TheVariants.{Poll, Worn}}}
 use Rattle.claims.specs.declared.view.Exchange.TheVariants as exchange
 use Rattle.claims.specs.declared.answers.Posted.TheVariants as posted
@@ -171,11 +171,6 @@ pub accept_and_took : {C S T : Type 0} {moved : Berth C T → S → Type 0} {nam
     → AcceptDone (TriesMade moved named made may_tell p s t) p q a c
 accept_and_took done took = accept_both done (accept_took no_tries (assumption) took)
 
--- where there are some, there is a first one
-pub some_first : (xs : List ℕ) → 1 ≤ length xs → slice_get xs 0 ≡ None → ⊥
-some_first [] some is = absurd (omega arith)
-some_first (x ∷ xs) some is = none-some x (sym is)
-
 put_back : (xs : List ℕ) (x : ℕ) → slice_get xs 0 ≡ Some x → x ∷ drop 1 xs ≡ xs
 put_back [] x is = absurd (none-some x is)
 put_back (y ∷ ys) x is = rw (same_Some y x is)
@@ -264,10 +259,6 @@ fate_only opened dropped made p q a b (slot ∷ slots) some (Dropped why is beca
 fate_only opened dropped made p q a b (slot ∷ slots) some (Spent is spent none) = rw is
 fate_only opened dropped made p q a b (slot ∷ slots) some (NotFree is adds acts) = rw is
 
--- a slot that has no next names
-pub no_names : (p : PollerState) (slot : ℕ) → (slot ≤ 32767 → slot < length p.table → slice_index p.table slot ≡ last_generation) → IsSpent p slot
-no_names p slot last = inr (grind arith)
-
 -- a call refuses what a call of its own refused, and no more is said where it does
 pub passed_up : {T E : Type 0} (r : Result T E) (e : E) (P : E → Type 0) → IsErrAnd r (λ y. y ≡ e) → P e → IfErr r P
 passed_up (Ok x) e P is p = tt
@@ -351,6 +342,17 @@ module _ (may_refuse : Unopened → Type 0) (may_tell : Route → Type 0) (proxy
 
   pub memory_drops : (route : Route) (lead : List ℕ) (c : Cause) → may_tell route → lead_of proxy route ≡ Some lead → c ≡ cause.Memory → DropsFor may_refuse may_tell proxy c
   memory_drops route lead c told same is = rw is (lead, (route, told, same))
+
+  pub drops_by : {T : Type 0} (reached : Result (PairState × T) Cause) (c : Cause) → IfErr reached (DropsFor may_refuse may_tell proxy)
+      → IfOk reached (λ made. LeadGiven may_tell proxy (Some made.0.up.lead)) → MatchResult reached (λ made. c ≡ cause.Memory) (λ why. c ≡ why)
+      → DropsFor may_refuse may_tell proxy c
+  drops_by (Ok made) c drops lead is = rw is (made.0.up.lead, lead)
+  drops_by (Err why) c drops lead is = rw is drops
+
+-- a connection whose sockets may be registered is dropped
+pub registered_drop : {S T E : Type 0} (made : Ticket → Made S) {t : Ticket} (reached : Result T E) {from to : S} → Registered made t reached from to → DropMade made t from to
+registered_drop made (Ok target) acts = inr (_, acts, refl)
+registered_drop made (Err why) acts = acts
 
 -- nothing was posted
 none_posted : {S : Type 0} {made : Made S} {part : Part} {tickets : List Ticket} {a : Own} {s : S} → tickets ≡ [] → AllPosted made part tickets a a s s

@@ -1,8 +1,8 @@
 //! Opens an accepted connection.
-ghost use Rattle.std.specs.Prelude.{◌≡◌, ◌+◌, ◌<◌, ◌≤◌, [], ◌∷◌, ◌++◌, drop, length, Err, Some, None, ◌⊎◌, IfOk, IfErr, OnOk, OnErr, OnSome, IfSome, IsNone, slice_get, slice_index};
+ghost use Rattle.std.specs.Prelude.{◌≡◌, ◌+◌, ◌<◌, ◌≤◌, [], ◌∷◌, ◌++◌, drop, length, Ok, Err, Some, None, ◌⊎◌, IfOk, IfErr, MatchResult, OnOk, OnErr, OnSome, IfSome, IsNone, ℕ, slice_get, slice_index};
 ghost use Rattle.claims.specs.Seats.{Adds, HoldsNothing, OnlyAt};
 ghost use Rattle.relay_core.specs.{Pairs.fresh, Proxy.proxy_line};
-ghost use Rattle.rounds.specs.{Openings.{lacks, lead_of, next_in, Between, DropCounted, DropLogged, DropsFor, Fate, IsFresh, IsNext, IsOpened, LeadGiven, Naming, OneAccepted, OpeningLogged, OpensFresh, Putting, Registered, SameQueues, Started, TriedOnce, TriesMade, of_end, with_slot}, Pollers.{counted_up, AreGenerations}};
+ghost use Rattle.rounds.specs.{Openings.{lacks, lead_of, next_in, Between, DropCounted, DropLogged, DropsFor, Fate, IsFresh, IsNext, IsOpened, IsSpent, LeadGiven, Naming, OneAccepted, OpeningLogged, OpensFresh, Putting, Registered, SameQueues, Started, TriedOnce, TriesMade, of_end, with_slot}, Pollers.{counted_up, AreGenerations}};
 ghost use Rattle.common.specs.{Acts.{AreMade, placing}, Posts.{HoldsOnly, IsWorn}, Hands.ticket_room};
 ghost use Rattle.token.specs.Names.{last_generation};
 ghost use Rattle.common.specs.Acts as act;
@@ -19,7 +19,7 @@ use log::Log;
 use ready::Ticket;
 use relay_core::{Pair, proxy_line};
 use relay_log::{Gone, Known, Logs, Why, log_gone, log_open, log_peer, logs_gone};
-use std::alloc::{AllocError, Global};
+use std::alloc::Global;
 use std::net::SocketAddr;
 use std::sync::Wait;
 use token::{Side, Token, next_gen};
@@ -39,6 +39,17 @@ struct Names {
     target: Token,
     ghost first: { client.side ≡ side.Client },
     ghost other: { target ≡ record client { side = side.Target } },
+}
+
+impl Names {
+    fn ticket(&self) -> Ticket
+        ensures { result ≡ of_end self.now.client }
+    {
+        Ticket {
+            slot: self.client.slot(),
+            generation: self.client.generation(),
+        }
+    }
 }
 
 /// Opens an accepted connection in the oldest free slot in hand. The connection gets the slot's next generation, one
@@ -78,20 +89,11 @@ pub fn open<F: Front + Counting, A: Moves<F>, R: Wait + Logs>(
         poller.old poller.new own.old own.new }
     ensures ready { own.new.ready ≡ own.old.ready }
 {
-    let Some(slot) = own.hand.take_slot() else {
+    let Some(names) = next_names(&mut own.hand, poller) else {
         poller.count_lost(uncounted);
         return;
     };
-    if !poller.part.has(slot) {
-        poller.count_lost(uncounted);
-        return;
-    }
-    let Some(names) = next_names(poller.table(), slot) else {
-        poller.count_lost(uncounted);
-        return;
-    };
-    let generation = names.client.generation();
-    let ticket = Ticket { slot, generation };
+    let ticket = names.ticket();
     match prepare(
         rt,
         alloc,
@@ -103,14 +105,29 @@ pub fn open<F: Front + Counting, A: Moves<F>, R: Wait + Logs>(
         names,
     ) {
         Ok(berth) => place(rt, acts, shared, own, poller, ticket, berth, uncounted),
-        Err(dropped) => {
-            uncounted.count_dropped(shared, slot, dropped);
-        }
+        Err(dropped) => uncounted.count_dropped(shared, ticket.slot, dropped),
     }
 }
 
-/// Connects to the target. If that fails, the drop is logged or counted, the front is told if memory was lacking, and
-/// the slot is in hand again.
+/// Takes the oldest free slot in hand, and names the ends of its next connection. None if it can have none: it is another
+/// poller's, the table or the names lack it, or its generation is the last.
+fn next_names<F: Front>(hand: &mut Hand, poller: &Poller<F>) -> Option<Names>
+    requires { 1 ≤ length hand.old.slots }
+    ensures left { hand.new ≡ record hand.old { slots = drop 1 hand.old.slots } }
+    ensures room { length hand.new.slots < hand.new.capacity }
+    ensures first { IfSome result (λ names. slice_get hand.old.slots 0 ≡ Some names.client.slot) }
+    ensures next { IfSome result (λ names. IsNext poller.now (of_end names.client)) }
+    ensures none { IsNone result → (slot : ℕ) × (slice_get hand.old.slots 0 ≡ Some slot) × IsSpent poller.now slot }
+{
+    let slot = hand.take_slot()?;
+    if !poller.part.has(slot) {
+        return None;
+    }
+    names_at(poller.table(), slot)
+}
+
+/// Starts the connection to the target, and makes the berth. If that fails, both sockets are closed, the log may name the
+/// client, the drop is logged or counted, the front is told if memory was lacking, and the slot is in hand again.
 fn prepare<F: Front, A: Moves<F>, N: Log>(
     rt: &N,
     alloc: Global,
@@ -118,7 +135,7 @@ fn prepare<F: Front, A: Moves<F>, N: Log>(
     clients: ClientsAt,
     hand: &mut Hand,
     poller: &mut Poller<F>,
-    client: F::Client,
+    mut client: F::Client,
     names: Names,
 ) -> Result<Box<Berth<F::Client, F::Target>>, Dropped>
     requires { length hand.old.slots < hand.old.capacity }
@@ -132,19 +149,45 @@ fn prepare<F: Front, A: Moves<F>, N: Log>(
     ensures same { OnOk result (poller.new ≡ poller.old) }
     ensures logged { IfErr result (λ dropped. DropLogged dropped poller.old poller.new) }
 {
-    let slot = names.client.slot();
-    match connect(rt, alloc, acts, clients, poller, client, names) {
+    let (slot, second) = (names.client.slot(), poller.second);
+    let reached = reach(rt, alloc, acts, poller, &mut client, names);
+    let (from, error) = (F::peer(&client), client.error());
+    match berth_of(alloc, reached, second, client) {
         Ok(berth) => Ok(berth),
         Err(cause) => {
+            log_unopened(rt, clients, from, error, cause);
             hand.keep_slot(slot);
             Err(poller.log_dropped(rt, cause))
         }
     }
 }
 
+/// The berth of a connection since this second, if its target was reached and there is memory.
+fn berth_of<C: Drop, T: Drop>(
+    alloc: Global,
+    reached: Result<(Pair, T), Cause>,
+    second: u64,
+    client: C,
+) -> Result<Box<Berth<C, T>>, Cause>
+    ensures berth { IfOk result (λ berth. (reached ≡ Ok (berth.value.pair, berth.value.target)) × (berth.value.second ≡ second)) }
+    ensures refused { IfErr result (λ cause. MatchResult reached (λ _. cause ≡ Cause.Memory) (λ why. cause ≡ why)) }
+{
+    let (pair, target) = reached?;
+    let berth = Berth {
+        pair,
+        second,
+        client,
+        target,
+    };
+    match Box::new(alloc, berth) {
+        Ok(boxed) => Ok(boxed),
+        Err(_) => Err(Cause::Memory),
+    }
+}
+
 /// The names of the ends of a slot's next connection. None if the table or the names lack the slot, or its generation
 /// is the last.
-fn next_names(table: &[u64], slot: usize) -> Option<Names>
+fn names_at(table: &[u64], slot: usize) -> Option<Names>
     requires { AreGenerations table.now }
     ensures client { IfSome result (λ names. names.client
         ≡ record { slot = slot; side = Side.Client; generation = slice_index table.now slot + 1 }) }
@@ -155,55 +198,6 @@ fn next_names(table: &[u64], slot: usize) -> Option<Names>
     let client = Token::pack(slot, Side::Client, generation).ok()?;
     let target = Token::pack(slot, Side::Target, generation).ok()?;
     Some(Names { client, target })
-}
-
-/// Starts the connection to the target, and makes the berth. A refusal closes both sockets, and the log may name the
-/// client.
-fn connect<F: Front, A: Moves<F>, N: Log>(
-    rt: &N,
-    alloc: Global,
-    acts: &mut A,
-    clients: ClientsAt,
-    poller: &mut Poller<F>,
-    mut client: F::Client,
-    names: Names,
-) -> Result<Box<Berth<F::Client, F::Target>>, Cause>
-    ensures acts { Registered (Naming A.named A.made) (of_end names.client) result acts.old acts.new }
-    ensures fresh { IfOk result (λ berth. IsFresh (F.may_tell client) poller.old.opening poller.old.second
-        (of_end names.client) berth.value) }
-    ensures cause { IfErr result (λ cause. DropsFor (F.may_refuse client) (F.may_tell client) poller.old.opening.proxy cause) }
-    ensures same { poller.new ≡ poller.old }
-{
-    let second = poller.second;
-    match reach(rt, alloc, acts, poller, &mut client, names) {
-        Ok((pair, target)) => {
-            let (from, error) = (F::peer(&client), client.error());
-            let berth = Berth {
-                pair,
-                second,
-                client,
-                target,
-            };
-            match moved_to_heap(alloc, berth) {
-                Ok(boxed) => Ok(boxed),
-                Err(refused) => {
-                    let cause = Cause::from(refused);
-                    log_unopened(rt, clients, from, error, cause);
-                    Err(cause)
-                }
-            }
-        }
-        Err(cause) => {
-            log_unopened(rt, clients, F::peer(&client), client.error(), cause);
-            Err(cause)
-        }
-    }
-}
-
-fn moved_to_heap<T: Drop>(alloc: Global, value: T) -> Result<Box<T>, AllocError>
-    ensures { IfOk result (λ boxed. boxed.value ≡ value) }
-{
-    Ok(Box::new(alloc, value)?)
 }
 
 /// Starts the connection to the target, registers both sockets, and makes the pair at the second of the round. A
@@ -313,17 +307,7 @@ fn place<F: Front + Counting, A: Moves<F>, R: Wait + Logs>(
         × AreMade A.made ticket.slot (act.Adopt ∷ []) acts.old acts.new) }
     ensures ready { own.new.ready ≡ own.old.ready }
 {
-    if let Some(from) = F::peer(&berth.client) {
-        let via = find_via(rt, shared.clients, &berth.target);
-        log_peer(
-            rt,
-            shared.clients,
-            ticket.slot,
-            ticket.generation,
-            &from,
-            &via,
-        );
-    }
+    log_reached::<F, R>(rt, shared.clients, ticket, &berth);
     match acts.adopt(&shared.claims, &mut own.seat, ticket.slot) {
         Adopted::NotFree => poller.count_lost(uncounted),
         Adopted::Adopted => {
@@ -332,6 +316,19 @@ fn place<F: Front + Counting, A: Moves<F>, R: Wait + Logs>(
             poller.end_episodes(rt);
             log_open(rt, ticket.slot, ticket.generation);
         }
+    }
+}
+
+/// Logs whose connection is about to be opened, if that is known.
+fn log_reached<F: Front, R: Log>(
+    rt: &R,
+    clients: ClientsAt,
+    ticket: Ticket,
+    berth: &Berth<F::Client, F::Target>,
+) {
+    if let Some(from) = F::peer(&berth.client) {
+        let via = find_via(rt, clients, &berth.target);
+        log_peer(rt, clients, ticket.slot, ticket.generation, &from, &via);
     }
 }
 
