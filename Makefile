@@ -21,7 +21,8 @@ DATE = $${SOURCE_DATE_EPOCH:-$$(git -C $(CURDIR) log -1 --format=%ct 2>/dev/null
 
 # A line that begins with two of these signs is printed by `make` on its own.
 help:
-	@command -v rt >/dev/null || echo 'The command `rt` of the Rattle toolchain is not in PATH. Without it nothing is built or tested; an archive or a package of a built relayd needs none (README.md).'
+	@command -v rt >/dev/null || echo 'The command `rt` of the Rattle toolchain is not in PATH. Without it nothing is built or' \
+	  'tested; an archive or a package of a built relayd needs none (README.md).'
 	@sed -n 's/^## //p' $(MAKEFILE_LIST)
 
 ## make try           runs examples/one-direction.flow, or SCRIPT=FILE, by a relayd that is built without proofs in two minutes
