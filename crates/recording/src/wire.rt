@@ -128,12 +128,8 @@ impl<W: Wire + Drop, S: Sink> Wire for RecordedWire<W, S> {
             Ok(count) => Answer::Moved(*count),
             Err(error) => counts.refused(self.inner.wire(), error),
         };
-        end(
-            self.name,
-            &mut self.recorder,
-            begun,
-            Made::Read(most, answer),
-        );
+        let made = Made::Read(most, answer);
+        end(self.name, &mut self.recorder, begun, made);
         result
     }
 
@@ -146,12 +142,8 @@ impl<W: Wire + Drop, S: Sink> Wire for RecordedWire<W, S> {
             Ok(count) => Answer::Moved(*count),
             Err(error) => counts.refused(self.inner.wire(), error),
         };
-        end(
-            self.name,
-            &mut self.recorder,
-            begun,
-            Made::Write(offer.len(), answer),
-        );
+        let made = Made::Write(offer.len(), answer);
+        end(self.name, &mut self.recorder, begun, made);
         result
     }
 
