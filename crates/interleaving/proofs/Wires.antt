@@ -1,11 +1,6 @@
 -- The threads at one slot over wires that rest are the threads without such wires, where what is late comes later.
-pub mod Order
 pub mod Turns
-use Order.{same_steps, same_changes, same_words}
-use Rattle.claims.specs.declared.view.Exchange.{Exchange}
-use Rattle.interleaving.{proofs.{Rest.{known_in}, Runs.{count_free, Programs.{none_by}}}, specs.{Likeness.{EveryInterleavingIsARun, IsHalfOpen, IsSettled, Like, Settled, exchanges, machine_of, opened_slot}, Wires.{inside, ComeLate, EndHolds, WiresComeLate, came_at, delay, exchanges_at, happened, none_late, start, steps_of, way, words}}}
-use Rattle.readiness.{proofs.Runs.{misses_nothing, seam}, specs.Delays.MissesNothing}
-use Rattle.std.{proofs.lemmas.Grind.{flat_map-append}, specs.List.{flat_map}}
+use Rattle.interleaving.{proofs.{Rest.{known_in}, Runs.{count_free, Programs.{none_by}}}, specs.{Likeness.{EveryInterleavingIsARun, IsHalfOpen, IsSettled, Like, Settled, machine_of, opened_slot}, Wires.{ComeLate, EndHolds, WiresComeLate, delay, happened, none_late, start, way}}}
 use Rattle.world.{proofs.Headline.Ends.Pairs.Holders.{Turns as HasTurns, first_free, turns_after}, specs.{CoreLaws.{CoreLaws}, Slots.{SlotState, WorkerState}, States.{State}, declared.limits.Limits.{Limits}}}
 pub use Turns.*
 
@@ -31,36 +26,6 @@ record Went (w : Wired) (d : Delay) (e : List (Option Registered)) (q : List Nam
   leads : run (seen_as w.system e q (batch_there w.poll d.early w.system.batch)) (happened w d steps)
       ≡ Some (seen_as to.system there queue (batch_there to.poll (delay w d steps).early to.system.batch))
   joined : Joined (rim to.system) to.wires to.poll (delay w d steps) there queue
-  inside_too : flat_map inside (happened w d steps) ≡ flat_map inside (flat_map steps_of steps)
-  changes : (side : Side) → flat_map (came_at side) (happened w d steps) ++ (delay w d steps).late side ≡ d.late side ++ flat_map (came_at side) (flat_map steps_of steps)
-  words_too : exchanges (seen_as w.system e q (batch_there w.poll d.early w.system.batch)) (happened w d steps) ≡ words w steps
-
-all_inputs : (late : List Change) → list_all may_come late ≡ true → list_all is_input late ≡ true
-all_inputs [] all = refl
-all_inputs (c ∷ late) all =
-    let parts = and_parts (may_come c) (list_all may_come late) all in
-    rw (and_parts (is_input c) (is_short c) parts.0).0 (all_inputs late parts.1)
-
-module _ {r : Rim} {wires : Side → Wire} {poll : Option Polling} {late : Side → List Change} {e : List (Option Registered)} where
-  inputs_of : {o : Option ℕ} → Both r wires poll late e o → (side : Side) → list_all is_input (late side) ≡ true
-  inputs_of (Away ends real empty none) side = rw (none side) refl
-  inputs_of (Opened f s ends real as_seen oks) side = all_inputs (late side) (oks side).may
-
-  prompt_of : {o : Option ℕ} → Both r wires poll late e o → (side : Side) → (not (wires side).reads && not (wires side).told) ≡ false → late side ≡ []
-  prompt_of (Away ends real empty none) side awake = none side
-  prompt_of (Opened f s ends real as_seen oks) side awake = (same_here (oks side) (λ reads told some. cc)).0
-
--- a delivery is of the batch that is there too
-whole_batch : {o : Option ℕ} (st : System) (early : Bool) {poll : Option Polling} → Polls st.batch early o poll → (next : System) → delivers st st.batch ≡ Some next
-    → batch_there poll early st.batch ≡ st.batch
-whole_batch st early Idle next h = refl
-whole_batch st early (Busy none few once named gone within) next h = let never = rw none at h in cc
-
-whole : (w v : Wired) (d : Delay) {o : Option ℕ} → Polls w.system.batch d.early o w.poll → (x : wired.Step) → wired.step w x ≡ Some v → x ≡ Plain Deliver
-    → batch_there w.poll d.early w.system.batch ≡ w.system.batch
-whole w v d polls (Plain Deliver) h is = option_and_then_some _ (step w.system Deliver) v h (λ next ran rest.
-    whole_batch w.system d.early polls next (when_back (poller_rests w.system) _ next ran).1)
-whole w v d polls x h is = cc
 
 -- a step, and then the rest
 one_more : (x : wired.Step) (steps : List wired.Step) (w v to : Wired) (d : Delay) (e : List (Option Registered)) (q : List Name) → Joined (rim w.system) w.wires w.poll d e q → wired.step w x ≡ Some v
@@ -77,12 +42,6 @@ one_more x steps w v to d e q j is led more =
       queue = more.queue;
       leads = rw (shown, last) (run_on own rest (seen_as w.system e q b) _ led.leads ∙ more.leads);
       joined = rw last more.joined;
-      inside_too = rw shown (flat_map-append inside own rest ∙ (ap (λ (xs : List alone.Step). xs ++ flat_map inside rest) (same_steps w d x)
-          ∙ (ap (λ (xs : List alone.Step). flat_map inside (steps_of x) ++ xs) more.inside_too ∙ sym (flat_map-append inside (steps_of x) (flat_map steps_of steps)))));
-      changes = λ side. rw (shown, last, flat_map-append (came_at side) own rest, flat_map-append (came_at side) (steps_of x) (flat_map steps_of steps))
-          (seam (flat_map (came_at side) own) (flat_map (came_at side) rest) ((delay_after w d x).late side) ((delay v (delay_after w d x) steps).late side) (d.late side)
-          (flat_map (came_at side) (steps_of x)) (flat_map (came_at side) (flat_map steps_of steps)) (same_changes w d (inputs_of j.ends) (prompt_of j.ends) x side) (more.changes side));
-      words_too = rw shown (same_words w d e q b x (whole w v d j.polls x is) _ led.leads rest ∙ ap (λ (xs : List Exchange). exchanges_at w x ++ xs) (more.words_too ∙ rw is refl));
     }
 
 module _ (core : CoreLaws) (law : EveryInterleavingIsARun) (l : Limits) (one : l.slots ≡ 1) where
@@ -90,7 +49,7 @@ module _ (core : CoreLaws) (law : EveryInterleavingIsARun) (l : Limits) (one : l
       → (is_none w.poll || poller_rests w.system) ≡ true → (made : List alone.Step) → run (alone.start l) made ≡ Some (seen_as w.system e q (batch_there w.poll d.early w.system.batch))
       → wired.run w steps ≡ Some to → Went w d e q steps to
   went [] w to d e q j rested made ran h = rw (some_is h)
-      (record { there = e; queue = q; leads = refl; joined = j; inside_too = refl; changes = λ side. sym (append-nil (d.late side)); words_too = refl })
+      (record { there = e; queue = q; leads = refl; joined = j })
   went (x ∷ steps) w to d e q j rested made ran h = option_and_then_some (λ (v : Wired). wired.run v steps) (wired.step w x) to h (λ v is rest.
       let before = seen_as w.system e q (batch_there w.poll d.early w.system.batch) in
       let r = law l made before one ran in
@@ -117,11 +76,9 @@ end_holds : (w : Wired) (g : ℕ) (e x : EndState) (side : Side) (late : List Ch
     → EndHolds w side late (record { token = token g side; socket = e })
 end_holds w g e x side late ok =
     let r : Registered = record { token = token g side; socket = e } in
-    let b = coming w.system.kernel.queue w.poll (End r.token) in
     record {
-      coming = λ some. coming_told_way w side r (told_soon e b (w.wires side) (will_be_told ok.held.waits (λ none. some (no_inputs late none))));
-      nothing_missed = λ reads told. (let it = misses_nothing ok.held ok.held.waits reads told in
-          record { armed = it.armed; coming = λ some. coming_told_way w side r (told_soon e b (w.wires side) (it.coming some)) });
+      coming = λ some. coming_told_way w side r (told_soon ok some);
+      nothing_missed = λ reads told. (let it = missed ok reads told in record { armed = it.0; coming = λ some. coming_told_way w side r (it.1 some) });
     }
 
 -- once all that is late has come
@@ -165,7 +122,4 @@ wires_come_late core law l steps w one ran =
       sockets = refl;
       queue = it.joined.on_way;
       ends = ends_hold w d it.there it.queue b it.joined.ends;
-      acts = it.inside_too;
-      changes = it.changes;
-      words = it.words_too;
     }

@@ -2,13 +2,12 @@
 -- kernel answers each call. Here a wire answers reads by itself once one would block, until a report that names reading was
 -- passed on to it (`Machine.antt` of `readiness`). Without such wires, what comes meanwhile is late.
 use Rattle.std.specs.{Prelude.{◌≡◌, ◌≢◌, ℕ, ◌-◌, ◌==◌, Bool, true, false, not, ◌&&◌, ◌||◌, if◌then◌else◌, List, [], ◌∷◌, ◌++◌, length, map, slice_get, Option, Some, None, option_map, option_and_then, unwrap_or, Vec}, Global.Global, Option.{is_none, is_some}, List.{flat_map, list_all}}
-use Rattle.token.specs.{declared.{side.Side.{Side, TheVariants.{Client, Target}}, name.Name.{Name, TheVariants.{Listener, Waker, End}}}, Sides.side_number}
+use Rattle.token.specs.declared.{side.Side.{Side, TheVariants.{Client, Target}}, name.Name.{Name, TheVariants.{Listener, Waker, End}}}
 use Rattle.kernel_model.specs.{declared.{reply.Reply.Reply, both.Descriptors.Descriptors}, Outcome.guard, Ends.{is_readable}, Kernel.{KernelState, Registered, end_at}, Names.has}
 use Rattle.relay_core.specs.{declared.call.Call.{Call as PairCall, TheVariants.{Read, Write, Join, Shut}}, Pairs.PairState, Calls.side_of, Order.{next_call, offer}, Replies.after}
-use Rattle.readiness.specs.{Machine.{Call, Way, may_call, reads_after}, Delays.{MissesNothing, WillBeTold}}
-use Rattle.claims.specs.declared.view.Exchange.{Exchange}
+use Rattle.readiness.specs.Machine.{Call, MissesNothing, Way, WillBeTold, may_call, reads_after}
 use Rattle.world.specs.{declared.{connection.Connection.Connection, limits.Limits.Limits, event.{Change.{Change, TheVariants.Room}}}, Calls.{when, descriptor}}
-use Rattle.interleaving.specs.{Threads.{Act, Call as CallNext, Close, System, Thread, Network, Spurious, Vanish, Poll, Acts, Calls, poller_rests, planned, with_thread}, Likeness.{IsARun, exchange, exchanges, kind_in}}
+use Rattle.interleaving.specs.{Threads.{Act, Call as CallNext, Close, System, Thread, Network, Spurious, Vanish, Poll, Acts, Calls, poller_rests, planned, with_thread}, Likeness.{IsARun}}
 use Rattle.interleaving.specs.Threads as alone
 use Rattle.readiness.specs.Machine as wire
 use Rattle.kernel_model.specs.Kernel as kernel
@@ -238,7 +237,6 @@ way w side r = record {
   socket = r.socket;
   queued = has (End r.token) w.system.kernel.queue;
   taken = unwrap_or (option_map (λ (p : Polling). if has (End r.token) p.left then p.reading (End r.token) ∷ [] else []) w.poll) [];
-  owed = unwrap_or (option_map (λ (p : Polling). has (End r.token) p.names.items && not (has (End r.token) p.left)) w.poll) false;
   told = (w.wires side).told;
   reads = (w.wires side).reads;
 }
@@ -262,37 +260,12 @@ pub record EndHolds (w : Wired) (side : Side) (late : List Change) (r : Register
   pub coming : late ≢ [] → WillBeTold (way w side r)
   pub nothing_missed : MissesNothing (way w side r)
 
--- The steps as those of `System`; of these, those that are no change of the network, report or poll; changes; exchanges
-abbrev pub steps_of : Step → List alone.Step
-steps_of (Plain s) = s ∷ []
-steps_of (Unasked i) = Calls i reply.Blocked ∷ []
-steps_of s = []
-
-abbrev pub inside : alone.Step → List alone.Step
-inside (Network side change) = []
-inside (Spurious who) = []
-inside (Vanish who) = []
-inside (Poll names) = []
-inside s = s ∷ []
-
-abbrev pub came_at : Side → alone.Step → List Change
-came_at side (Network other change) = if is_input change && side_number side == side_number other then change ∷ [] else []
-came_at side s = []
-
-abbrev pub exchanges_at : Wired → Step → List Exchange
-exchanges_at w (Plain s) = exchange w.system.word (kind_in w.system s)
-exchanges_at w s = []
-
-abbrev pub words : Wired → List Step → List Exchange
-words w [] = []
-words w (s ∷ steps) = exchanges_at w s ++ unwrap_or (option_map (λ (q : Wired). words q steps) (step w s)) []
-
 -- What happens there (`own`) is a run of `System`, so of the machine, of which the headline holds. It leads to the threads as
 -- they are, but for queue, batch and sockets; once what is late has come, the sockets are the same too. A name that is queued
--- there is queued here, or in the poll in progress. In order it has the same acts, and calls with the same replies (`acts`), the
--- same bytes, ends and errors at each end, of which the last may still be late, and the same exchanges of the slot's word with
--- their answers
-pub record ComeLate (l : Limits) (own : List alone.Step) (steps : List Step) (w : Wired) (d : Delay) : Type 0 where
+-- there is queued here, or in the poll in progress. By `happened` a reader works out that acts, calls with their replies, the
+-- exchanges of the slot's word, and the bytes, ends and errors at each end are the same, in order, and that the last of these
+-- may still be late
+pub record ComeLate (l : Limits) (own : List alone.Step) (w : Wired) (d : Delay) : Type 0 where
   pub seen : System
   pub leads : alone.run (alone.start l) own ≡ Some seen
   pub run : IsARun l own seen
@@ -302,10 +275,7 @@ pub record ComeLate (l : Limits) (own : List alone.Step) (steps : List Step) (w 
   pub sockets : settled.kernel.ends ≡ w.system.kernel.ends
   pub queue : (n : Name) → has n seen.kernel.queue ≡ true → (has n w.system.kernel.queue || in_poll d.early w.poll n) ≡ true
   pub ends : (side : Side) (r : Registered) → end_here w.system side ≡ Some r → EndHolds w side (d.late side) r
-  pub acts : flat_map inside own ≡ flat_map inside (flat_map steps_of steps)
-  pub changes : (side : Side) → flat_map (came_at side) own ++ d.late side ≡ flat_map (came_at side) (flat_map steps_of steps)
-  pub words : exchanges (alone.start l) own ≡ words (start l) steps
 
 abbrev pub WiresComeLate : Type 0
 WiresComeLate = (l : Limits) (steps : List Step) (w : Wired) → l.slots ≡ 1 → run (start l) steps ≡ Some w
-    → ComeLate l (happened (start l) none_late steps) steps w (delay (start l) none_late steps)
+    → ComeLate l (happened (start l) none_late steps) w (delay (start l) none_late steps)

@@ -73,8 +73,8 @@ pub fn servers_come_to_rest()
 /// What the threads at a slot do over wires that rest is a run of the threads without such wires, and so of the
 /// machine. Such a wire answers reads by itself after one that would block, until a report that names reading is passed
 /// on to it. What comes meanwhile is late in the other run: it comes just before the wire hears of it or is given an
-/// error, or before the sockets are closed. Acts, calls with their replies, and the exchanges of the slot's word are
-/// the same, in order. And no wire misses anything: what is late, or will come, is reported to it.
+/// error, or before the sockets are closed. So acts, calls with their replies, and the exchanges of the slot's word are
+/// the same, in order (`happened`). And no wire misses anything: what is late, or will come, is reported to it.
 pub fn wires_come_late()
     ensures { WiresComeLate }
 {

@@ -1,4 +1,3 @@
 -- The crate's definitions. The first line of each file says whether the promises need it.
 pub mod Machine
-pub mod Delays
 pub mod Words

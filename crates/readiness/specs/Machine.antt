@@ -1,7 +1,7 @@
--- What is on its way from one socket to its wire. Part of the promises. A poller takes the socket's reports from the
--- system (epoll(7), edge-triggered), and passes on to the wire those that name reading, while any thread makes the
--- wire's calls. The socket is an end of the modelled kernel.
-use Rattle.std.specs.{Prelude.{ℕ, Bool, true, false, not, ◌&&◌, ◌||◌, List, [], ◌∷◌, ◌++◌, Option, Some, None, option_map, option_and_then}, List.flat_map}
+-- What is on its way from one socket to its wire, and that the wire misses nothing. Part of the promises. A poller takes
+-- the socket's reports from the system (epoll(7), edge-triggered), and passes on to the wire those that name reading,
+-- while any thread makes the wire's calls. The socket is an end of the modelled kernel.
+use Rattle.std.specs.Prelude.{◌≡◌, ◌⊎◌, ℕ, Bool, true, false, not, ◌&&◌, ◌||◌, List, [], ◌∷◌, ◌++◌, Contains, Option, Some, None, option_map, option_and_then}
 use Rattle.token.specs.declared.side.Side.{Side}
 use Rattle.kernel_model.specs.{Outcome.{guard, Told}, Ends.{EndState, opened, is_readable, is_writable, arrival, finish, failure, new_room}, Replies.{after_read, after_write, after_join, after_shut}, declared.reply.Reply.Reply}
 use Rattle.kernel_model.specs.declared.reply.Reply.TheVariants as reply
@@ -32,21 +32,18 @@ after_call e Join r = after_join e r
 after_call e Shut r = after_shut e r
 
 -- The socket; whether a report of it is queued; for each report that a poll has taken and that is not passed on yet,
--- the oldest first, whether it names reading; whether one was passed on that the poll has not handed over yet; whether
--- the wire had a report of reading since it last looked; and whether the wire reads its socket, or answers "would
--- block" by itself
+-- the oldest first, whether it names reading; whether the wire had a report of reading since it last looked; and whether
+-- the wire reads its socket, or answers "would block" by itself
 pub record Way : Type 0 where
   pub socket : EndState
   pub queued : Bool
   pub taken : List Bool
-  pub owed : Bool
   pub told : Bool
   pub reads : Bool
 
 -- One step of the network (`Comes`, `HasRoom`), the system (`Spurious`, `Vanished`, `Polled`), the poller (`Tells`,
--- `Old`, `Handed`) or the wire (`Looks`, `Calls`, `Unasked`). `Vanished` takes a queued report back. `Old` passes on a
--- report of an earlier connection under the same name. `Handed` is the end of a poll: what was passed on is handed
--- over. `Unasked` is the answer "would block" that the wire gives to a read by itself
+-- `Old`) or the wire (`Looks`, `Calls`, `Unasked`). `Vanished` takes a queued report back. `Old` passes on a report of an
+-- earlier connection under the same name. `Unasked` is the answer "would block" that the wire gives to a read by itself
 pub data Step : Type 0 where
   Comes : Change → Step
   HasRoom : Step
@@ -55,14 +52,13 @@ pub data Step : Type 0 where
   Polled : Bool → Step
   Tells : Step
   Old : Step
-  Handed : Step
   Looks : Step
   Calls : Call → Reply → Step
   Unasked : ℕ → Step
 
 -- A new connection: its wire reads. What was reported of an earlier one may still stand
 abbrev pub opening : Side → Bool → Way
-opening side told = record { socket = opened side; queued = false; taken = []; owed = false; told = told; reads = true }
+opening side told = record { socket = opened side; queued = false; taken = []; told = told; reads = true }
 
 -- a change of the network, and its report
 abbrev pub changed : Way → Option (Told EndState Bool) → Option Way
@@ -80,7 +76,7 @@ polled w names = guard (w.queued && (not (is_readable w.socket) || names)) (reco
 -- the poller passes on the oldest report that was taken
 abbrev pub tells : Way → List Bool → Option Way
 tells w [] = None
-tells w (names ∷ rest) = Some (record w { taken = rest; owed = true; told = w.told || names })
+tells w (names ∷ rest) = Some (record w { taken = rest; told = w.told || names })
 
 -- a read is asked of the socket only while the wire reads it
 abbrev pub may_call : Bool → Call → Bool
@@ -106,7 +102,6 @@ step w Vanished = guard (w.queued && is_quiet w.socket) (record w { queued = fal
 step w (Polled names) = polled w names
 step w Tells = tells w w.taken
 step w Old = Some (record w { told = true })
-step w Handed = Some (record w { owed = false })
 step w Looks = Some (record w { reads = w.reads || w.told; told = false })
 step w (Calls call r) = called w call r
 step w (Unasked most) = guard (not w.reads && not w.told) w
@@ -116,19 +111,20 @@ abbrev pub run : Way → List Step → Option Way
 run w [] = Some w
 run w (s ∷ steps) = option_and_then (λ (v : Way). run v steps) (step w s)
 
--- the answers of the wire, in order
-abbrev pub answer_of : Step → List (Call × Reply)
-answer_of (Calls call r) = (call, r) ∷ []
-answer_of (Unasked most) = (Read most, reply.Blocked) ∷ []
-answer_of s = []
+-- a report that names reading is queued or taken, and will be passed on
+abbrev pub WillBeTold : Way → Type 0
+WillBeTold w = (w.queued ≡ true) ⊎ Contains w.taken true
 
-abbrev pub answers_of : List Step → List (Call × Reply)
-answers_of = flat_map answer_of
+-- nothing is missed: if there is nothing to read, the system reports what comes next, and if there is, its report is on
+-- its way to the wire
+pub record IsCovered (w : Way) : Type 0 where
+  pub armed : is_readable w.socket ≡ false → w.socket.read_armed ≡ true
+  pub coming : is_readable w.socket ≡ true → WillBeTold w
 
--- what came to the socket that concerns reading, in order
-abbrev pub change_in : Step → List Change
-change_in (Comes change) = change ∷ []
-change_in s = []
+-- a wire that answers by itself misses nothing
+abbrev pub MissesNothing : Way → Type 0
+MissesNothing w = w.reads ≡ false → w.told ≡ false → IsCovered w
 
-abbrev pub changes_of : List Step → List Change
-changes_of = flat_map change_in
+-- so it is after every run from the opening of a connection, whatever was passed on before
+abbrev pub WiresMissNothing : Type 0
+WiresMissNothing = (side : Side) (told : Bool) (steps : List Step) (w : Way) → run (opening side told) steps ≡ Some w → MissesNothing w

@@ -5,9 +5,8 @@
 //! [`Attention`]: the wire stops reading after a read that would block, and reads again when the poller passes on a
 //! report that names reading ([`Reports`]). In between it answers "would block" without a system call.
 //!
-//! [`laws`] says that this misses nothing: over an end of the modelled kernel, in every order of the steps of the
-//! network, the system, the poller and the wire, such a wire gives the answers that the end could give if its input
-//! came only when a report of it is passed on.
+//! [`laws`] says that this misses nothing, over an end of the modelled kernel, in every order of the steps of the
+//! network, the system, the poller and the wire.
 #![tactic(auto)]
 
 mod attention;

@@ -248,10 +248,6 @@ module _ (st : System) (i : ℕ) (a : Asked) (m : Makes st i a) (own : a.connect
       mapped then_kernel (after_call its_end (as_call a.connection.pair a.asks) r) k made (λ x ends k_is.
       (record { value = value; told = told; fit = fit.0; socket = x; after = ends }, after ∙ rw (line_is, k_is) refl)))))
 
-told_failed : (e x : EndState) (call : PairCall) (kind : Kind) → told_at e call (reply.Failed kind) ≡ told_at x call (reply.Failed kind)
-told_failed e x (Read side most) kind = refl
-told_failed e x call kind = refl
-
 -- the bytes that a read gives are the same there: nothing is late while the wire reads
 told_same : {e x : EndState} {b : Bool} {wire : Wire} {late : List Change} → EndOk e b wire late x → (p : PairState) (call : PairCall) (r : Reply) → may_call wire.reads (as_call p call) ≡ true
     → told_at e call r ≡ told_at x call r
@@ -328,7 +324,7 @@ module _ (w : Wired) (d : Delay) (e : List (Option Registered)) (q : List Name) 
     -- what is late comes before a call that fails
     answered_at (reply.Failed kind) n may =
         let r = reply.Failed kind in
-        let c1 = comes_at w.system g s q b side (f side) (d.late side) ends (oks side).may (oks side).held.due in
+        let c1 = comes_at w.system g s q b side (f side) (d.late side) ends (oks side).due in
         let wire : Wire = record (w.wires side) { reads = reads_after (w.wires side).reads (as_call a.connection.pair a.asks) r } in
         let all = changed_end g w.system.kernel.queue w.poll w.system.kernel.queue w.poll side n.socket n.socket wire []
         (awake n.socket _ wire (inl (failed_reads (w.wires side).reads (as_call a.connection.pair a.asks) kind))) (λ k other some more. more) oks in

@@ -106,7 +106,7 @@ pub requeued : {o : Option ℕ} {r : Rim} {wires : Side → Wire} {poll : Option
     → Both r wires poll late e o → Both (record r { queue = queue; batch = batch }) wires next late e o
 requeued queue batch next more (Away ends real there late) = Away ends real there late
 requeued queue batch next more (Opened {g} f s ends real there oks) =
-    Opened f s ends real there (λ k. record { held = eased (more g f refl ends real k) (oks k).held; may = (oks k).may })
+    Opened f s ends real there (λ k. eased (more g f refl ends real k) (oks k))
 
 -- what the slot's connection is there
 abbrev pub shape_there : {o : Option ℕ} {r : Rim} {wires : Side → Wire} {poll : Option Polling} {late : Side → List Change} {e : List (Option Registered)} → Both r wires poll late e o
@@ -142,11 +142,7 @@ withdrawn : {o : Option ℕ} {r : Rim} {wires : Side → Wire} {poll : Option Po
     → name_here o who ≡ Some n → quiet_here backlog (shape_here ends).0 who ≡ true → Both (record r { queue = without_name n r.queue }) wires poll late e o
 withdrawn backlog (Away ends real there late) who n is quiet = Away ends real there late
 withdrawn {r = r} {poll = poll} backlog (Opened {g} f s ends real there oks) who n is quiet = Opened f s ends real there (λ k.
-    record {
-      held = eased (λ some. more_or (has (End (token g k)) r.queue) _ (soon poll (End (token g k))) (has_without (End (token g k)) n r.queue (by who k is quiet some))) (oks k).held;
-      may =
-          (oks k).may;
-    })
+    eased (λ some. more_or (has (End (token g k)) r.queue) _ (soon poll (End (token g k))) (has_without (End (token g k)) n r.queue (by who k is quiet some))) (oks k))
   where
     by : (who : Reported) (k : Side) → name_here (Some g) who ≡ Some n → quiet_here backlog (Some (g, f)) who ≡ true → is_readable (f k) ≡ true → same n (End (token g k)) ≡ false
     by reports.Listener k is quiet some = rw (some_is is) refl
@@ -226,7 +222,7 @@ module _ (w : Wired) (d : Delay) (e : List (Option Registered)) (q : List Name) 
           (record d { late = if b then on side (d.late side ++ c ∷ []) d.late else d.late })
       by t is fit true late =
           let n = End (token g side) in
-          let ok = easier (coming_told n t.told st.kernel.queue w.poll) (waited (oks side) c t is fit late) in
+          let ok = eased (λ _. coming_told n t.told st.kernel.queue w.poll) (waited (oks side) c t is fit late) in
           let all = changed_end g st.kernel.queue w.poll (reported st.kernel.queue n t.told) w.poll side t.value (s side) (w.wires side) (d.late side ++ c ∷ []) ok
           (λ k other some. coming_still n (End (token g k)) t.told st.kernel.queue w.poll) oks in
           record {
@@ -244,7 +240,7 @@ module _ (w : Wired) (d : Delay) (e : List (Option Registered)) (q : List Name) 
       by t is fit false now =
           let n = End (token g side) in
           let m = moves (oks side) c t is now in
-          let ok = easier (coming_told n t.told st.kernel.queue w.poll) m.ok in
+          let ok = eased (λ _. coming_told n t.told st.kernel.queue w.poll) m.ok in
           let all = changed_end g st.kernel.queue w.poll (reported st.kernel.queue n t.told) w.poll side t.value m.there.value (w.wires side) (d.late side) ok
           (λ k other some. coming_still n (End (token g k)) t.told st.kernel.queue w.poll) oks in
           record {
@@ -411,9 +407,6 @@ polls_on st wires None d e q j names reading idle rested empty may k h =
               or_right (has n (without_names names.items st.kernel.queue)) _ (rw (given, reads) refl))
         ]
 
-comes_none : (side : Side) (late : Side → List Change) → late side ≡ [] → comes late (side ∷ []) ≡ []
-comes_none side late none = rw none refl
-
 none_on : (side : Side) (late : Side → List Change) → ((k : Side) → late k ≡ []) → (k : Side) → on side [] late k ≡ []
 none_on Client late none Client = refl
 none_on Client late none Target = none Target
@@ -478,7 +471,7 @@ module _ (st : System) (wires : Side → Wire) (p : Polling) (d : Delay) (e : Li
   })
   hears m is (Opened {g} f s ends real there oks) known polls =
       let side = m.side in
-      let c = comes_at st g s q (batch_there (Some p) d.early st.batch) side (f side) (d.late side) ends (oks side).may (oks side).held.due in
+      let c = comes_at st g s q (batch_there (Some p) d.early st.batch) side (f side) (d.late side) ends (oks side).due in
       let wire : Wire = record (wires side) { told = true } in
       let all = changed_end g st.kernel.queue (Some p) st.kernel.queue (Some after) side (f side) (f side) wire [] (awake (f side) _ wire (inr refl))
       (λ k other some. other_coming (End (token g k)) (λ own. (let never = rw is at own in cc (same_token g k side other m refl)))) oks in

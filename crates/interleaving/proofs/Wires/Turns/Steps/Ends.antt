@@ -2,8 +2,8 @@
 -- kernel does at one of them, and what is kept of both.
 pub use Rattle.interleaving.{proofs.{Rest.Weights.{same_is, same_self}, Runs.{run_on}}, specs.{Threads.{Network, Spurious, System, Vanish, over_kernel, run, step}, Wires.{Delay, Polling, Wire, comes, end_here, in_poll, is_input, on, report_of, seen_as, waits}}}
 pub use Rattle.kernel_model.specs.{Ends.{EndState, arrival, failure, finish, is_readable, is_writable, new_room, opened}, Kernel.{KernelState, Registered, changed, close_both, end_at, open_both, reported}, Names.{are_distinct, has, same, with_name, without_name, without_names}, Outcome.{Told, guard}, declared.{both.{Descriptors.{Descriptors}, Sockets.{Sockets}}, reply.Reply.{Reply}}}
-pub use Rattle.readiness.{proofs.Runs.{After, Asleep, Behind, Held, Prompt, Settled, Settles, Waits, both_down, goes, guarded, is_beside, mapped, prompt, same_socket, some_is, will_be_told}, specs.{Delays.{Called, Seen, WillBeTold, at_call, late_call}, Machine.{Call, Change as Input, Way, after_call, change_of, may_call, reads_after}}}
-pub use Rattle.std.{proofs.{Common.{append-nil, Bool, Contains, List, None, Option, Some, [], ap, arith, false, if◌then◌else◌, inl, inr, length, map, nat_le, nat_lt, not, option_and_then, option_map, refl, sym, true, ℕ, ◌&&◌, ◌++◌, ◌==◌, ◌||◌, ◌∙◌, ◌∷◌, ◌≡◌, ◌≢◌, ◌⊎◌}, lemmas.{Bool.{and_parts, cases_eq, or_cases, or_left, or_right}, List.{map-append}, Option.{option_and_then_some, same_Some}}}, specs.{Cmp.{first_so, second_so}, List.{filter, list_all}, Option.{is_none, is_some}}}
+pub use Rattle.readiness.{proofs.Runs.{Heard, both_down, guarded, heard, mapped, some_is}, specs.Machine.{Call, WillBeTold, after_call, may_call, reads_after}}
+pub use Rattle.std.{proofs.{Common.{append-nil, Bool, Contains, List, None, Option, Some, [], ap, arith, false, if◌then◌else◌, inl, inr, length, map, nat_le, nat_lt, not, option_and_then, option_map, refl, sym, take, true, ℕ, ◌&&◌, ◌++◌, ◌==◌, ◌||◌, ◌∙◌, ◌∷◌, ◌≡◌, ◌≢◌, ◌⊎◌}, lemmas.{Bool.{and_parts, cases_eq, not-true, or_cases, or_left, or_parts, or_right}, Option.{option_and_then_some, same_Some}}}, specs.{Cmp.{first_so, second_so}, List.{filter, list_all}, Option.{is_none, is_some}}}
 pub use Rattle.token.specs.{Names.{EndName}, declared.{name.Name.{Name, TheVariants.{End, Listener, Waker}}, side.Side.{Side, TheVariants.{Client, Target}}}}
 pub use Rattle.world.{proofs.Headline.Ends.Pairs.Holders.Events.Lists.{has_reported, has_with, has_without, reported_has}, specs.{Calls.{descriptor, when}, Steps.{change_at}, declared.event.{Change.{Change, TheVariants.{Arrive, Fin, Reset, Room}}, Reported.{Reported}}}}
 pub use Rattle.interleaving.specs.Threads as alone
@@ -104,18 +104,6 @@ effect Fin e = finish e
 effect Reset e = failure e
 effect Room e = new_room e
 
--- a change that concerns reading, as `readiness` has it
-abbrev pub as_input : Change → Input
-as_input (Arrive bytes) = machine.Bytes bytes.items
-as_input Reset = machine.Error
-as_input change = machine.Fin
-
-pub same_effect : (c : Change) (e : EndState) → is_input c ≡ true → effect c e ≡ change_of e (as_input c)
-same_effect (Arrive bytes) e is = refl
-same_effect Fin e is = refl
-same_effect Reset e is = refl
-same_effect Room e is = cc
-
 abbrev pub at_end : KernelState → ℕ → (Side → EndState) → Side → Told EndState Bool → KernelState
 at_end k g f side t = record k { ends = open_as g (on side t.value f); queue = reported k.queue (End (token g side)) t.told }
 
@@ -157,16 +145,19 @@ pub record Came (st : System) (g : ℕ) (s : Side → EndState) (q b : List Name
   pub more : MoreOf (End (token g side)) q queue
   pub none : late ≡ [] → queue ≡ q
 
-come : (st : System) (g : ℕ) (s : Side → EndState) (q b : List Name) (side : Side) (x f : EndState) (late : List Change) → st.ends ≡ Some two → list_all may_come late ≡ true
-    → Settles x (map as_input late) f → Came st g (on side x s) q b side late f
-come st g s q b side x f [] ends may Settled =
+-- What is late leads from one socket to another
+pub data Settles : EndState → List Change → EndState → Type 0 where
+  Settled : {e : EndState} → Settles e [] e
+  After : {e f : EndState} {c : Change} {late : List Change} (t : Told EndState Bool) → may_come c ≡ true → effect c e ≡ Some t → Settles t.value late f → Settles e (c ∷ late) f
+
+come : (st : System) (g : ℕ) (s : Side → EndState) (q b : List Name) (side : Side) (x f : EndState) (late : List Change) → st.ends ≡ Some two → Settles x late f
+    → Came st g (on side x s) q b side late f
+come st g s q b side x f [] ends Settled =
     record { queue = q; leads = rw (open_twice g side x x s) refl; more = record { back = λ m h. inl h }; none = λ e. refl }
-come st g s q b side x f (c ∷ late) ends may (After t is rest) =
-    let parts = and_parts (may_come c) (list_all may_come late) may in
-    let first = and_parts (is_input c) (is_short c) parts.0 in
-    let effect_is : effect c (on side x s side) ≡ Some t = rw (on_here side x s) (same_effect c x first.0 ∙ is) in
-    let one = network_there st g (on side x s) q b side c t ends first.1 effect_is in
-    let r = come st g s (reported q (End (token g side)) t.told) b side t.value f late ends parts.1 rest in
+come st g s q b side x f (c ∷ late) ends (After t may is rest) =
+    let effect_is : effect c (on side x s side) ≡ Some t = rw (on_here side x s) is in
+    let one = network_there st g (on side x s) q b side c t ends (and_parts (is_input c) (is_short c) may).1 effect_is in
+    let r = come st g s (reported q (End (token g side)) t.told) b side t.value f late ends rest in
     record {
       queue = r.queue;
       leads = rw (one, open_twice g side x t.value s) (r.leads ∙ rw (open_twice g side t.value f s, open_twice g side x f s) refl);
@@ -179,10 +170,10 @@ come st g s q b side x f (c ∷ late) ends may (After t is rest) =
       none = λ e. cc;
     }
 
-pub comes_at : (st : System) (g : ℕ) (s : Side → EndState) (q b : List Name) (side : Side) (f : EndState) (late : List Change) → st.ends ≡ Some two → list_all may_come late ≡ true
-    → Settles (s side) (map as_input late) f → Came st g s q b side late f
-comes_at st g s q b side f late ends may due =
-    let r = come st g s q b side (s side) f late ends may due in
+pub comes_at : (st : System) (g : ℕ) (s : Side → EndState) (q b : List Name) (side : Side) (f : EndState) (late : List Change) → st.ends ≡ Some two → Settles (s side) late f
+    → Came st g s q b side late f
+comes_at st g s q b side f late ends due =
+    let r = come st g s q b side (s side) f late ends due in
     record { queue = r.queue; leads = rw (open_same g side s, open_twice g side (s side) f s) at r.leads; more = r.more; none = r.none }
 
 -- An end with its wire
@@ -195,74 +186,190 @@ soon (Some p) n = has n p.left && p.reading n
 abbrev pub coming : List Name → Option Polling → Name → Bool
 coming queue poll n = has n queue || soon poll n
 
-abbrev pub near : EndState → Bool → Wire → Way
-near e comes wire = record { socket = e; queued = comes; taken = []; owed = false; told = wire.told; reads = wire.reads }
+-- one change more is late
+settle_more : {e f : EndState} {late : List Change} (c : Change) (t : Told EndState Bool) → Settles e late f → may_come c ≡ true → effect c f ≡ Some t → Settles e (late ++ c ∷ []) t.value
+settle_more c t Settled may is = After t may is Settled
+settle_more c t (After u first one rest) may is = After u first one (settle_more c t rest may is)
+
+-- while nothing is late, the two sockets are one
+same_socket : {e f : EndState} {late : List Change} → Settles e late f → late ≡ [] → e ≡ f
+same_socket Settled none = refl
+same_socket (After t may is rest) none = cc
+
+-- What is late concerns reading: the fields of the other direction are the same before and after, if no error is late
+record IsBeside (f e : EndState) : Type 0 where
+  room : e.room ≡ f.room
+  err : f.err ≡ false → e.err ≡ false
+  write_armed : f.err ≡ false → e.write_armed ≡ f.write_armed
+
+beside_one : (c : Change) (e : EndState) (t : Told EndState Bool) → may_come c ≡ true → effect c e ≡ Some t → IsBeside t.value e
+beside_one (Arrive bytes) e t may is = rw (guarded _ _ t is).1 (search)
+beside_one Fin e t may is = rw (guarded _ _ t is).1 (search)
+beside_one Reset e t may is = rw (guarded _ _ t is).1 (record { room = refl; err = λ h. cc; write_armed = λ h. cc })
+beside_one Room e t may is = cc
+
+is_beside : {e f : EndState} {late : List Change} → Settles e late f → IsBeside f e
+is_beside Settled = search
+is_beside (After {e = e} {c = c} t may is rest) =
+    let a = beside_one c e t may is in
+    let b = is_beside rest in
+    record { room = a.room ∙ b.room; err = λ h. a.err (b.err h); write_armed = λ h. a.write_armed (b.err h) ∙ b.write_armed h }
+
+-- What happens to the other direction: room comes, a write takes bytes or would block, or sending is shut down
+record Aside : Type 0 where
+  room : Bool → Bool
+  armed : Bool → Bool
+  taken : List ℕ → List ℕ
+  shut : Bool → Bool
+
+abbrev aside : Aside → EndState → EndState
+aside a e = record e { room = a.room e.room; write_armed = a.armed e.write_armed; taken = a.taken e.taken; shut = a.shut e.shut }
+
+-- an error leaves nobody waiting for room
+abbrev MayBe : Aside → EndState → Type 0
+MayBe a f = (a.armed false ≡ false) ⊎ (f.err ≡ false)
+
+one_aside : (a : Aside) (c : Change) (e : EndState) (t : Told EndState Bool) → MayBe a t.value → may_come c ≡ true → effect c e ≡ Some t
+    → (told : Bool) × (effect c (aside a e) ≡ Some (record { value = aside a t.value; told = told }))
+one_aside a (Arrive bytes) e t may in_ is = let g = guarded _ _ t is in (e.read_armed, rw (g.0, g.1) refl)
+one_aside a Fin e t may in_ is = let g = guarded _ _ t is in (e.read_armed, rw (g.0, g.1) refl)
+one_aside a Reset e t (inl none) in_ is = let g = guarded _ _ t is in (e.read_armed || a.armed e.write_armed, rw (g.0, g.1, none) refl)
+one_aside a Reset e t (inr sound) in_ is = let no = rw (guarded _ _ t is).1 at sound in cc
+one_aside a Room e t may in_ is = cc
+
+settle_aside : {e f : EndState} {late : List Change} (a : Aside) → MayBe a f → Settles e late f → Settles (aside a e) late (aside a f)
+settle_aside a may Settled = Settled
+settle_aside a may (After {e = e} {c = c} t in_ is rest) =
+    let before : MayBe a t.value = elim may [ inl none ↦ inl none | inr sound ↦ inr ((is_beside rest).err sound) ] in
+    let one = one_aside a c e t before in_ is in
+    After (record { value = aside a t.value; told = one.0 }) in_ one.1 (settle_aside a may rest)
+
+abbrev nothing : Aside
+nothing = record { room = λ b. b; armed = λ b. b; taken = λ bytes. bytes; shut = λ b. b }
+
+abbrev roomy : Aside
+roomy = record nothing { room = λ _. true; armed = λ _. false }
+
+abbrev sent : List ℕ → Bool → Aside
+sent more room = record nothing { room = λ _. room; taken = λ bytes. bytes ++ more }
+
+abbrev waiting : Aside
+waiting = record nothing { armed = λ _. true }
+
+abbrev closed : Aside
+closed = record nothing { shut = λ _. true }
+
+abbrev pub is_failed : Reply → Bool
+is_failed (reply.Failed kind) = true
+is_failed r = false
+
+-- a call other than a read that does not fail does the same to both
+record Both_do (x e f : EndState) (call : Call) (r : Reply) : Type 0 where
+  a : Aside
+  here : f ≡ aside a e
+  there : after_call x call r ≡ Some (aside a x)
+  may : MayBe a e
+
+allowed : {X : Type 0} (b : Bool) (x : X) → b ≡ true → guard b x ≡ Some x
+allowed b x h = rw h refl
+
+blocks : {x e f : EndState} (call : Call) → IsBeside e x → guard (not (is_writable e)) (aside waiting e) ≡ Some f
+    → (not (is_writable x) ≡ true → after_call x call reply.Blocked ≡ Some (aside waiting x)) → Both_do x e f call reply.Blocked
+blocks {x} {e} call b is there =
+    let g = guarded (not (is_writable e)) _ _ is in
+    let none = or_parts e.room e.err (not-true (is_writable e) g.0) in
+    record { a = waiting; here = g.1; there = there (rw (b.room ∙ none.0, b.err none.1) refl); may = inr none.1 }
+
+both_do : {x e f : EndState} (call : Call) (r : Reply) → may_call false call ≡ true → is_failed r ≡ false → IsBeside e x → after_call e call r ≡ Some f → Both_do x e f call r
+both_do (machine.Read most) r other sound b is = cc
+both_do call (reply.Failed kind) other sound b is = cc
+both_do {x} {e} {f} call reply.Interrupted other sound b is = by call other is
+  where
+    by : (call : Call) → may_call false call ≡ true → after_call e call reply.Interrupted ≡ Some f → Both_do x e f call reply.Interrupted
+    by (machine.Read most) other is = cc
+    by (machine.Write offer) other is = record { a = nothing; here = some_is is; there = refl; may = inl refl }
+    by machine.Join other is = record { a = nothing; here = some_is is; there = refl; may = inl refl }
+    by machine.Shut other is = record { a = nothing; here = some_is is; there = refl; may = inl refl }
+both_do (machine.Write offer) (reply.Wrote n full) other sound b is =
+    let g = guarded _ _ _ is in
+    record { a = sent (take n offer) (not full); here = g.1; there = allowed _ _ (rw b.room g.0); may = inl refl }
+both_do (machine.Write offer) reply.Blocked other sound b is = blocks (machine.Write offer) b is (allowed _ _)
+both_do machine.Join reply.Blocked other sound b is = blocks machine.Join b is (allowed _ _)
+both_do machine.Join reply.Joined other sound b is = let g = guarded _ _ _ is in record { a = nothing; here = g.1; there = allowed _ _ (b.room ∙ g.0); may = inl refl }
+both_do machine.Shut reply.Shut other sound b is = record { a = closed; here = some_is is; there = refl; may = inl refl }
+both_do call r other sound b is = cc
+
+-- there is nothing to read, and the system reports what comes next
+pub record Rests (e : EndState) : Type 0 where
+  pub empty : is_readable e ≡ false
+  pub armed : e.read_armed ≡ true
+
+-- the wire does not read, and there is something to read, whose report will be passed on to it
+pub record Asleep (e : EndState) (comes : Bool) (wire : Wire) : Type 0 where
+  pub reads : wire.reads ≡ false
+  pub told : wire.told ≡ false
+  pub readable : is_readable e ≡ true
+  pub coming : comes ≡ true
+
+-- nothing is late but while the wire is asleep
+pub data Waits (e : EndState) (comes : Bool) (wire : Wire) (late : List Change) : Type 0 where
+  Prompt : late ≡ [] → Waits e comes wire late
+  Behind : Asleep e comes wire → Waits e comes wire late
 
 -- the socket is e, and x where this is late; `comes` says whether a report is coming
 pub record EndOk (e : EndState) (comes : Bool) (wire : Wire) (late : List Change) (x : EndState) : Type 0 where
-  pub held : Held (near e comes wire) (map as_input late) (record { socket = x; queued = false })
-  pub may : list_all may_come late ≡ true
+  pub due : Settles x late e
+  pub waits : Waits e comes wire late
+  pub rests : wire.reads ≡ false → wire.told ≡ false → Rests x
 
--- as `readiness` keeps it, where more comes
-pub eased : {e x : EndState} {b c q : Bool} {wire : Wire} {late : List Input} → (is_readable e ≡ true → b ≡ true → c ≡ true)
-    → Held (near e b wire) late (record { socket = x; queued = q }) → Held (near e c wire) late (record { socket = x; queued = false })
-eased more h = record {
-  due = h.due;
-  waits = elim h.waits [
-    | Prompt none ↦ Prompt none
-    | Behind a ↦ Behind (record { reads = a.reads; told = a.told; readable = a.readable; coming = elim a.coming [ inl was ↦ inl (more a.readable was) | inr never ↦ inr never ] })
-  ];
-  rests = h.rests;
-  queued = λ q. cc;
-  owed = λ o. cc;
-}
+-- what waits still does
+on_still : {e f : EndState} {b c : Bool} {wire next : Wire} {late : List Change} → (Asleep e b wire → Asleep f c next) → Waits e b wire late → Waits f c next late
+on_still on (Prompt none) = Prompt none
+on_still on (Behind asleep) = Behind (on asleep)
+
+-- where more comes
+pub eased : {e x : EndState} {b c : Bool} {wire : Wire} {late : List Change} → (is_readable e ≡ true → b ≡ true → c ≡ true) → EndOk e b wire late x → EndOk e c wire late x
+eased more ok = record { due = ok.due; waits = on_still (λ a. record { reads = a.reads; told = a.told; readable = a.readable; coming = more a.readable a.coming }) ok.waits; rests = ok.rests }
 
 -- the wire reads or has heard: nothing is late
 pub awake : (e : EndState) (b : Bool) (wire : Wire) → (wire.reads ≡ true) ⊎ (wire.told ≡ true) → EndOk e b wire [] e
-awake e b wire up = record {
-  held = record { due = Settled; waits = Prompt refl; rests = λ reads told. elim up [ inl r ↦ cc | inr t ↦ cc ]; queued = λ q. cc; owed = λ o. cc };
-  may = refl;
-}
-
-pub no_inputs : (late : List Change) → map as_input late ≡ [] → late ≡ []
-no_inputs [] is = refl
-no_inputs (c ∷ late) is = cc
-
-pub told_soon : (e : EndState) (b : Bool) (wire : Wire) → WillBeTold (near e b wire) → b ≡ true
-told_soon e b wire (inl is) = is
-told_soon e b wire (inr (k, below, is)) = absurd (omega arith)
+awake e b wire up = record { due = Settled; waits = Prompt refl; rests = λ reads told. elim up [ inl r ↦ cc | inr t ↦ cc ] }
 
 -- nothing is late where the wire reads or has heard, or where there is nothing to read
 pub same_here : {e x : EndState} {b : Bool} {wire : Wire} {late : List Change} → EndOk e b wire late x → (wire.reads ≡ false → wire.told ≡ false → is_readable e ≡ true → ⊥) → (late ≡ []) × (x ≡ e)
-same_here {late = late} ok never =
-    let none : map as_input late ≡ [] = prompt (λ a. never a.reads a.told a.readable) ok.held.waits in
-    (no_inputs late none, same_socket ok.held.due none)
+same_here {e} {x} {b} {wire} {late} ok never = by ok.waits
+  where
+    by : Waits e b wire late → (late ≡ []) × (x ≡ e)
+    by (Prompt none) = (none, same_socket ok.due none)
+    by (Behind a) = absurd (never a.reads a.told a.readable)
+
+-- what is late is told
+pub told_soon : {e x : EndState} {b : Bool} {wire : Wire} {late : List Change} → EndOk e b wire late x → late ≢ [] → b ≡ true
+told_soon ok some = elim ok.waits [ Prompt none ↦ absurd (some none) | Behind a ↦ a.coming ]
+
+-- nothing is missed
+pub missed : {e x : EndState} {b : Bool} {wire : Wire} {late : List Change} → EndOk e b wire late x → wire.reads ≡ false → wire.told ≡ false
+    → (is_readable e ≡ false → e.read_armed ≡ true) × (is_readable e ≡ true → b ≡ true)
+missed {e} {x} {b} {wire} {late} ok reads told = by ok.waits
+  where
+    by : Waits e b wire late → (is_readable e ≡ false → e.read_armed ≡ true) × (is_readable e ≡ true → b ≡ true)
+    by (Prompt none) =
+        let rests = rw (same_socket ok.due none) at (ok.rests reads told) in
+        (λ empty. rests.armed, λ some. (let never = rests.empty in cc))
+    by (Behind a) = (λ empty. (let never = a.readable in cc), λ some. a.coming)
+
+-- after a change that concerns reading there is something to read, and it is reported if the last read would have blocked
+heard_at : (c : Change) (e : EndState) (t : Told EndState Bool) → may_come c ≡ true → effect c e ≡ Some t → Heard e t
+heard_at (Arrive bytes) e t may is = heard (machine.Bytes bytes.items) e t is
+heard_at Fin e t may is = heard machine.Fin e t is
+heard_at Reset e t may is = heard machine.Error e t is
+heard_at Room e t may is = cc
 
 -- a call that does not fail has the same reply there
 pub record Answered (x : EndState) (b : Bool) (wire : Wire) (late : List Change) (f : EndState) (call : Call) (r : Reply) : Type 0 where
   pub there : EndState
   pub is : after_call x call r ≡ Some there
   pub ok : EndOk f b (record wire { reads = reads_after wire.reads call r }) late there
-
-all_push : (p : Change → Bool) (xs : List Change) (c : Change) → list_all p xs ≡ true → p c ≡ true → list_all p (xs ++ c ∷ []) ≡ true
-all_push p [] c all this = rw this refl
-all_push p (x ∷ xs) c all this = let rest = all_push p xs c in grind arith
-
-once : {X : Type 0} (o : Option X) → option_and_then (λ x. Some x) o ≡ o
-once None = refl
-once (Some x) = refl
-
-abbrev pub is_failed : Reply → Bool
-is_failed (reply.Failed kind) = true
-is_failed r = false
-
-at_call_sound : (late : List Input) (call : Call) (r : Reply) → is_failed r ≡ false → at_call late call r ≡ Called call r ∷ []
-at_call_sound late call (reply.Failed kind) sound = cc
-at_call_sound late call r sound = refl
-
-late_call_sound : (late : List Input) (r : Reply) → is_failed r ≡ false → late_call r late ≡ late
-late_call_sound late (reply.Failed kind) sound = cc
-late_call_sound late r sound = refl
 
 -- a change that does not wait comes there too
 pub record Moved (e x : EndState) (b : Bool) (wire : Wire) (late : List Change) (c : Change) (t : Told EndState Bool) : Type 0 where
@@ -271,13 +378,6 @@ pub record Moved (e x : EndState) (b : Bool) (wire : Wire) (late : List Change) 
   pub told : there.told ≡ t.told
   pub ok : EndOk t.value (b || t.told) wire late there.value
 
-held_back : {e x : EndState} {b : Bool} {wire : Wire} {late : List Input} → Held (near e b wire) late (record { socket = x; queued = false }) → (c : Input) (t : Told EndState Bool)
-    → change_of e c ≡ Some t → (not wire.reads && not wire.told) ≡ true → Held (near t.value (b || t.told) wire) (late ++ c ∷ []) (record { socket = x; queued = false })
-held_back {e} {x} {b} {wire} held c t is wait =
-    let g = goes held (record (near e b wire) { socket = t.value; queued = b || t.told }) (machine.Comes c) (rw is refl) in
-    let same : g.next ≡ record { socket = x; queued = false } = some_is (ap (λ x. x.0) (rw wait at (g.shows []))) in
-    rw (wait, same) at g.kept
-
 module _ {e x : EndState} {b : Bool} {wire : Wire} {late : List Change} (ok : EndOk e b wire late x) where
   comes_now : (c : Change) (t : Told EndState Bool) → effect c e ≡ Some t → (not wire.reads && not wire.told) ≡ false → Moved e x b wire late c t
   comes_now c t is up =
@@ -285,44 +385,86 @@ module _ {e x : EndState} {b : Bool} {wire : Wire} {late : List Change} (ok : En
       let awoken : (wire.reads ≡ true) ⊎ (wire.told ≡ true) = grind arith in
       record { there = t; is = rw same.1 is; told = refl; ok = rw same.0 (awake t.value (b || t.told) wire awoken) }
 
+  -- what happens to the other direction alone
+  aside_ok : (a : Aside) (c : Bool) → MayBe a e → (b ≡ true → c ≡ true) → EndOk (aside a e) c wire late (aside a x)
+  aside_ok a c may more = record {
+    due = settle_aside a may ok.due;
+    waits = on_still (λ s. record { reads = s.reads; told = s.told; readable = s.readable; coming = more s.coming }) ok.waits;
+    rests = λ reads told. (let r = ok.rests reads told in record { empty = r.empty; armed = r.armed });
+  }
+
   pub moves : (c : Change) (t : Told EndState Bool) → effect c e ≡ Some t → waits wire c ≡ false → Moved e x b wire late c t
   moves Room t is up =
       let full = guarded (not e.room && not e.err) _ t is in
-      let g = goes ok.held (record (near e b wire) { socket = t.value; queued = b || t.told }) machine.HasRoom (rw is refl) in
-      let after = rw once at (ap (λ x. x.0) (g.shows [])) in
-      mapped _ (new_room x) g.next after (λ u there next.
-      let armed : x.write_armed ≡ e.write_armed = (is_beside ok.held.due).write_armed (both_down e.room e.err full.0).1 in
-      let told : u.told ≡ t.told = (ap (λ (v : Told EndState Bool). v.told) (guarded _ _ u there).1) ∙ (armed ∙ sym (ap (λ (v : Told EndState Bool). v.told) full.1)) in
-      record { there = u; is = there; told = told; ok = record { held = eased (λ _ h. h) (rw next at g.kept); may = ok.may } })
+      let none = both_down e.room e.err full.0 in
+      let beside = is_beside ok.due in
+      let armed = beside.write_armed none.1 in
+      let room = beside.room ∙ none.0 in
+      let err = beside.err none.1 in
+      rw full.1 (record {
+        there = record { value = aside roomy x; told = x.write_armed };
+        is = allowed _ _ (rw (room, err) refl);
+        told = armed;
+        ok = aside_ok roomy _ (inl refl) (or_left b e.write_armed);
+      })
   moves c t is up = comes_now c t is up
 
   -- one that waits is late
   pub waited : (c : Change) (t : Told EndState Bool) → effect c e ≡ Some t → is_short c ≡ true → waits wire c ≡ true → EndOk t.value (b || t.told) wire (late ++ c ∷ []) x
   waited c t is fit wait =
       let parts = and_parts (is_input c) (not wire.reads && not wire.told) wait in
+      let may : may_come c ≡ true = rw (parts.0, fit) refl in
+      let asleep = both_down wire.reads wire.told parts.1 in
+      let h = heard_at c e t may is in
+      let coming : (b || t.told) ≡ true = elim ok.waits [
+        | Prompt none ↦ or_right b t.told (h.told (rw (same_socket ok.due none) at (ok.rests asleep.0 asleep.1).armed))
+        | Behind a ↦ or_left b t.told a.coming
+      ] in
       record {
-        held = rw (map-append as_input late (c ∷ [])) (held_back ok.held (as_input c) t (sym (same_effect c e parts.0) ∙ is) parts.1);
-        may = all_push may_come late c ok.may (rw (parts.0, fit) refl);
+        due = settle_more c t ok.due may is;
+        waits = Behind (record { reads = asleep.0; told = asleep.1; readable = h.readable; coming = coming });
+        rests = ok.rests;
       }
 
+  -- a read: the wire reads, so nothing is late
+  reads_now : (f : EndState) (most : ℕ) (r : Reply) → wire.reads ≡ true → after_call e (machine.Read most) r ≡ Some f → (reads_after wire.reads (machine.Read most) r ≡ false → Rests f)
+      → Answered x b wire late f (machine.Read most) r
+  reads_now f most r up is rests =
+      let same = same_here ok (λ reads told some. cc) in
+      record { there = f; is = rw same.1 is; ok = rw same.0 (record { due = Settled; waits = Prompt refl; rests = λ reads told. rests reads }) }
+
+  same_aside : (f : EndState) (a : Aside) (call : Call) (r : Reply) → reads_after wire.reads call r ≡ wire.reads → f ≡ aside a e → MayBe a e
+      → EndOk f b (record wire { reads = reads_after wire.reads call r }) late (aside a x)
+  same_aside f a call r same here may = rw (here, same) (aside_ok a b may (λ h. h))
+
+  other_call : (f : EndState) (call : Call) (r : Reply) → may_call false call ≡ true → after_call e call r ≡ Some f → is_failed r ≡ false → reads_after wire.reads call r ≡ wire.reads
+      → Answered x b wire late f call r
+  other_call f call r other is sound same =
+      let both = both_do call r other sound (is_beside ok.due) is in
+      record { there = aside both.a x; is = both.there; ok = same_aside f both.a call r same both.here both.may }
+
   pub answers : (f : EndState) (call : Call) (r : Reply) → may_call wire.reads call ≡ true → after_call e call r ≡ Some f → is_failed r ≡ false → Answered x b wire late f call r
-  answers f call r asks is sound =
-      let g = goes ok.held (record (near e b wire) { socket = f; reads = reads_after wire.reads call r }) (machine.Calls call r) (rw (is, asks) refl) in
-      let after = rw once at (rw (at_call_sound (map as_input late) call r sound) at (ap (λ x. x.0) (g.shows []))) in
-      let kept = rw (late_call_sound (map as_input late) r sound) at g.kept in
-      mapped _ (after_call x call r) g.next after (λ u there next. record { there = u; is = there; ok = record { held = eased (λ _ h. h) (rw next at kept); may = ok.may } })
+  answers f (machine.Read most) reply.Blocked up is sound =
+      let g = guarded (not (is_readable e)) _ f is in
+      reads_now f most reply.Blocked up is (λ asleep. rw g.1 (record { empty = not-true (is_readable e) g.0; armed = refl }))
+  answers f call (reply.Failed kind) up is sound = cc
+  answers f (machine.Read most) r up is sound = reads_now f most r up is (λ asleep. cc)
+  answers f (machine.Write offer) r up is sound = other_call f (machine.Write offer) r refl is sound refl
+  answers f machine.Join r up is sound = other_call f machine.Join r refl is sound refl
+  answers f machine.Shut r up is sound = other_call f machine.Shut r refl is sound refl
 
   -- a read that the wire answers by itself would block there
   pub would_block : (most : ℕ) → wire.reads ≡ false → wire.told ≡ false → after_call x (machine.Read most) reply.Blocked ≡ Some x
   would_block most reads told =
-      let rests = ok.held.rests reads told in
+      let rests = ok.rests reads told in
       rw (rests.empty, ap (λ a. record x { read_armed = a }) (sym rests.armed)) refl
 
   pub looks : EndOk e b (record { reads = wire.reads || wire.told; told = false }) late x
-  looks =
-      let g = goes ok.held (record (near e b wire) { reads = wire.reads || wire.told; told = false }) machine.Looks refl in
-      let same : g.next ≡ record { socket = x; queued = false } = some_is (ap (λ x. x.0) (g.shows [])) in
-      record { held = eased (λ _ h. h) (rw same at g.kept); may = ok.may }
+  looks = record {
+    due = ok.due;
+    waits = on_still (λ a. record { reads = rw (a.reads, a.told) refl; told = refl; readable = a.readable; coming = a.coming }) ok.waits;
+    rests = λ reads told. (let none = or_parts wire.reads wire.told reads in ok.rests none.0 none.1);
+  }
 
 -- One end becomes another, and of the other end no less is coming
 pub changed_end : (g : ℕ) (queue : List Name) (poll : Option Polling) (next : List Name) (after : Option Polling) (side : Side) {f s : Side → EndState} {wires : Side → Wire}
@@ -331,8 +473,8 @@ pub changed_end : (g : ℕ) (queue : List Name) (poll : Option Polling) (next : 
     → ((j : Side) → EndOk (f j) (coming queue poll (End (token g j))) (wires j) (late j) (s j))
     → (j : Side) → EndOk (on side e f j) (coming next after (End (token g j))) (on side wire wires j) (on side more late j) (on side x s j)
 changed_end g queue poll next after Client e x wire more here beside all Client = here
-changed_end g queue poll next after Client e x wire more here beside all Target = record { held = eased (beside Target (λ is. cc)) (all Target).held; may = (all Target).may }
-changed_end g queue poll next after Target e x wire more here beside all Client = record { held = eased (beside Client (λ is. cc)) (all Client).held; may = (all Client).may }
+changed_end g queue poll next after Client e x wire more here beside all Target = eased (beside Target (λ is. cc)) (all Target)
+changed_end g queue poll next after Target e x wire more here beside all Client = eased (beside Client (λ is. cc)) (all Client)
 changed_end g queue poll next after Target e x wire more here beside all Target = here
 
 -- What is kept
@@ -394,12 +536,6 @@ known_reported {o} n t queue here all = record { each = λ m h. elim (has_report
 pub known_filter : {o : Option ℕ} (p : Name → Bool) (queue : List Name) → AllNamed o queue → AllNamed o (filter p queue)
 known_filter p queue all = record { each = λ m h. all.each m (has_filter m p queue h).0 }
 
-pub way_filter : (p : Name → Bool) (real q : List Name) (also : Name → Bool) → ((m : Name) → has m q ≡ true → (has m real || also m) ≡ true)
-    → (m : Name) → has m (filter p q) ≡ true → (has m (filter p real) || also m) ≡ true
-way_filter p real q also way m h =
-    let had = has_filter m p q h in
-    more_or (has m real) (has m (filter p real)) (also m) (λ was. still_has m p real was had.1) (way m had.0)
-
 -- what is reported is coming
 pub coming_told : (n : Name) (t : Bool) (queue : List Name) (poll : Option Polling) → (coming queue poll n || t) ≡ true → coming (reported queue n t) poll n ≡ true
 coming_told n t queue poll h = elim (or_cases (coming queue poll n) t h) [
@@ -409,9 +545,6 @@ coming_told n t queue poll h = elim (or_cases (coming queue poll n) t h) [
 
 pub coming_still : (n m : Name) (t : Bool) (queue : List Name) (poll : Option Polling) → coming queue poll m ≡ true → coming (reported queue n t) poll m ≡ true
 coming_still n m t queue poll = more_or (has m queue) (has m (reported queue n t)) (soon poll m) (has_reported m n t queue)
-
-pub easier : {e x : EndState} {b c : Bool} {wire : Wire} {late : List Change} → (b ≡ true → c ≡ true) → EndOk e b wire late x → EndOk e c wire late x
-easier more ok = record { held = eased (λ _. more) ok.held; may = ok.may }
 
 -- Reports without cause, and polls
 
@@ -529,7 +662,7 @@ came_way {g = g} {side = side} {late = late} {e = e} {wire = wire} queue polls o
   | inl none ↦ way m (rw (c.none none) at h)
   | inr some ↦ elim (c.more.back m h) [
     | inl was ↦ way m was
-    | inr is ↦ rw is (coming_way queue (End (token g side)) polls (told_soon e _ wire (will_be_told ok.held.waits (λ e. some (no_inputs late e)))))
+    | inr is ↦ rw is (coming_way queue (End (token g side)) polls (told_soon ok some))
   ]
 ]
 
@@ -545,8 +678,8 @@ not_it n m other is = let never = rw (is, same_self n) at other in cc
 pub all_come : (g : ℕ) {late : Side → List Change} {wires : Side → Wire} {coming : Side → Bool} (st : System) (q b : List Name) (f s : Side → EndState) → st.ends ≡ Some two
     → ((side : Side) → EndOk (f side) (coming side) (wires side) (late side) (s side)) → All_come st g f s q b late
 all_come g {late} st q b f s ends oks =
-    let c1 = comes_at st g s q b Client (f Client) (late Client) ends (oks Client).may (oks Client).held.due in
-    let c2 = comes_at st g (on Client (f Client) s) c1.queue b Target (f Target) (late Target) ends (oks Target).may (oks Target).held.due in
+    let c1 = comes_at st g s q b Client (f Client) (late Client) ends (oks Client).due in
+    let c2 = comes_at st g (on Client (f Client) s) c1.queue b Target (f Target) (late Target) ends (oks Target).due in
     record {
       queue = c2.queue;
       leads = rw (append-nil (map (Network Target) (late Target))) (run_on (map (Network Client) (late Client)) _ _ _ c1.leads ∙ c2.leads);
