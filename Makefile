@@ -78,8 +78,9 @@ $(PROGRAM):
 DOCUMENTS = share/doc/relayd
 MANUALS = FORMATS GLOSSARY MODEL OPERATIONS PROMISES
 space = $(subst ,, )
-INSTALLED = bin:$(PROGRAM) bin:packaging/relayd-drain lib/systemd/system:packaging/relayd.service \
-  share/man/man1:man/relayd.1 share/man/man1:man/relayd-drain.1 share/man/man5:man/relayd.toml.5 \
+INSTALLED = $(addprefix bin:,$(PROGRAM) packaging/relayd-drain packaging/relayd-trace) \
+  lib/systemd/system:packaging/relayd.service \
+  $(addprefix share/man/man1:man/,relayd.1 relayd-drain.1 relayd-trace.1) share/man/man5:man/relayd.toml.5 \
   $(patsubst %,$(DOCUMENTS):docs/%.md,$(MANUALS)) \
   $(addprefix $(DOCUMENTS):,README.md CHANGELOG.md SECURITY.md LICENSE-APACHE LICENSE-MIT packaging/copyright) \
   $(addprefix $(DOCUMENTS)/examples:,$(wildcard examples/*) \

@@ -8,7 +8,9 @@ r"""Reads the rows of this folder: what each run of the program is given, and wh
                         and then Ctrl-D). Where there are several commands, each gives the same
     < TEXT              a line of standard input
     NAME: TEXT          a line of the file NAME, which lies where the program runs; so does the folder `examples`
-    > TEXT              a line of standard output
+    > TEXT              a line of standard output; in both ` | ` stands for a line feed
+    ~ EVENTS            of a picture that `relayd-trace`, in place of `relayd`, has there, these events after those before, in
+                        short: PROCESS.TRACK PHASE TIME NAME each, of an arrow its number, of a slice TIME+LENGTH
     ! TEXT              a line of standard error
     settings KEY=VALUE  standard output is every setting, and these differ from their defaults
     options --NAME=TEXT standard output is a page of help with these options, and their defaults
@@ -48,6 +50,7 @@ in the next. Lines that begin with `#` are comments.
 """
 
 import functools
+import json
 import os
 import re
 import shlex
@@ -65,6 +68,7 @@ class Row:
     an output and errors whether they will do."""
 
     name: str
+    tool: str = ""
     words: list = field(default_factory=list)
     given: bytes = b""
     files: dict = field(default_factory=dict)
@@ -142,21 +146,37 @@ def has_options(wanted, status, output, errors):
     return (status, had, errors) == (0, f" {wanted}", b"")
 
 
+def is_drawn(events, status, output, errors):
+    """Whether a picture of these events is written, each but for the names of processes in short."""
+    if status or errors:
+        return False
+    begins, *lines, ends = output.decode().split("\n")[:-1]
+    had = []
+    for event in map(json.loads, (line.removesuffix(",") for line in lines)):
+        said = event.get("id", event["args"]["name"] if event["ph"] == "M" else event["name"])
+        at = "" if event["ph"] == "M" else f" {event['ts']}" + (f"+{event['dur']}" if "dur" in event else "")
+        had.append(f"{event['pid']}.{event.get('tid')} {event['ph']}{at} {said}")
+    return (begins, ends) == ('{"traceEvents":[', "]}") and had[3:] == events
+
+
 def transcript(lines):
     runs = []
     for number, line in named(lines):
         mark, _, text = line.partition(" ")
-        command = re.fullmatch(r"relayd(| .*?)(?: < (\S+))?(?: > (\S+))?(?: 2> (\S+))?", text)
+        command = re.fullmatch(r"relayd(-trace)?(| .*?)(?: < (\S+))?(?: > (\S+))?(?: 2> (\S+))?", text)
         if mark == "==":
-            runs.append((Row(text), []))
+            runs.append((Row(text), [], []))
             continue
-        row, commands = runs[-1]
+        row, commands, drawn = runs[-1]
         if mark == "$" and command:
             commands.append(command)
         elif mark == "<":
             row.given += line_of(text)
         elif mark == ">":
             row.output += line_of(text.replace(" | ", "\n"))
+        elif mark == "~":
+            drawn += text.split(" | ")
+            row.will_do = functools.partial(is_drawn, drawn)
         elif mark == "!":
             row.errors += line_of(text)
         elif mark == "settings":
@@ -166,13 +186,14 @@ def transcript(lines):
         elif mark == "status":
             row.status = int(text)
         elif mark.endswith(":"):
-            row.files[mark[:-1]] = row.files.get(mark[:-1], b"") + line_of(text)
+            row.files[mark[:-1]] = row.files.get(mark[:-1], b"") + line_of(text.replace(" | ", "\n"))
         else:
             raise ValueError(f"line {number}")
-    for row, commands in runs:
+    for row, commands, _ in runs:
         for command in commands:
-            words = [bytes_of(word) for word in shlex.split(command[1])]
-            yield replace(row, name=f"{row.name}: {command[0]}", words=words, streams=command.groups()[1:])
+            tool, told, *streams = command.groups()
+            words = [bytes_of(word) for word in shlex.split(told)]
+            yield replace(row, name=f"{row.name}: {command[0]}", tool=tool, words=words, streams=tuple(streams))
 
 
 def choices(line):

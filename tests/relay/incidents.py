@@ -4,9 +4,10 @@ import collections
 import json
 import re
 import socket
+import subprocess
 import time
 
-from loopback import Relay, read_all, replay, unanswered, until
+from loopback import TESTS, Relay, read_all, replay, unanswered, until
 from shared import by_time, fill, needs
 
 TIMES = r" opened_us=(\d+) connect_us=(\d+|-) first_us=(\d+|-),(\d+|-) silence_us=(\d+) moved_us=(\d+)"
@@ -26,7 +27,8 @@ def drawn(relay):
     """The names on each track of its trace, in order. Times do not fall along a track, a slice lies in the one around it, and
     each arrow leads from a slice to one that is not earlier. Times are tenths of a microsecond."""
     named, tracks, arrows = {}, collections.defaultdict(list), collections.defaultdict(list)
-    for event in json.loads(replay(relay.record, "--trace"))["traceEvents"]:
+    words = [f"{TESTS}/../packaging/relayd-trace", relay.record]
+    for event in json.loads(subprocess.run(words, check=True, stdout=subprocess.PIPE).stdout)["traceEvents"]:
         track = event["pid"], event.get("tid")
         if event["ph"] == "M":
             named[track] = event["args"]["name"]

@@ -15,8 +15,6 @@ pub enum Wanted {
     Ends,
     /// The records of the connection of this slot and generation, and what waits in its rings after each.
     Timeline(usize, u64),
-    /// A picture of all records, for a viewer of traces.
-    Trace,
     /// The script of the connection of this slot and generation.
     Script(usize, u64),
 }
@@ -25,7 +23,7 @@ pub enum Wanted {
 #[derive(Clone, Copy, PartialEq, Eq)]
 pub enum Judged {
     /// What was played is of runs: each slot and each listener, or with `Script` its slot alone, and nothing with
-    /// `Ends`, `Timeline` and `Trace`. What was wanted is written.
+    /// `Ends` and `Timeline`. What was wanted is written.
     Run,
     /// A slot or a listener is not of runs. Written are the first record that fits nowhere, and the script up to
     /// there.

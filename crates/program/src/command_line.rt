@@ -49,8 +49,6 @@ pub struct Replayed<'a> {
     /// Whether the end of each connection is wanted, and whether what happened on the machine is.
     pub ends: bool,
     pub steps: bool,
-    /// Whether a picture of all is.
-    pub trace: bool,
     /// Whether the relay must have come to rest, with nothing left to do.
     pub rests: bool,
 }
@@ -114,7 +112,6 @@ fn replay_of<'a>(path: &'a str, matches: &ArgMatches<'a>) -> Replayed<'a> {
         timeline: matches.get_str("timeline"),
         ends: matches.get_flag("ends"),
         steps: matches.get_flag("steps"),
-        trace: matches.get_flag("trace"),
         rests: matches.get_flag("rest"),
     }
 }
@@ -263,7 +260,7 @@ const EACH: ArgumentRow = ArgumentRow {
     help: "Print each step, and what it changes in the report",
 };
 /// The arguments of `replay`.
-const RECORDING: [ArgumentRow; 7] = [
+const RECORDING: [ArgumentRow; 6] = [
     ArgumentRow {
         name: "script",
         form: Form::ValueAlone(&["SLOT.GEN"], &["ends", "timeline"]),
@@ -278,11 +275,6 @@ const RECORDING: [ArgumentRow; 7] = [
         name: "timeline",
         form: Form::ValueAlone(&["SLOT.GEN"], &["rest"]),
         help: "Print the records of this connection in order, and what its rings hold after each",
-    },
-    ArgumentRow {
-        name: "trace",
-        form: Form::FlagAlone(&["script", "ends", "timeline", "steps", "rest"]),
-        help: "Print a picture of all records as JSON, for viewers of traces, as ui.perfetto.dev",
     },
     ArgumentRow {
         name: "steps",
@@ -354,7 +346,7 @@ static COMMANDS: [CommandRow; 5] = [
     CommandRow {
         name: "replay",
         about: "Checks a recording of a relay against the modelled machine",
-        details: "Plays what each connection did on the machine of `relayd sim`. If each is a run of it, prints how many connections there were, and how many bytes the relay read and wrote. If not, prints the first record that can stand nowhere, and what could stand there, and the status is 1. With `--ends`, `--timeline` and `--trace` nothing is played, so nothing is checked.\n\nExamples:\n  relayd replay relay.record\n  relayd replay --ends relay.record\n  relayd replay --trace relay.record > trace.json\n  relayd replay --script 0.1 relay.record | relayd sim --each\n\nSee relayd(1) for recordings.",
+        details: "Plays what each connection did on the machine of `relayd sim`. If each is a run of it, prints how many connections there were, and how many bytes the relay read and wrote. If not, prints the first record that can stand nowhere, and what could stand there, and the status is 1. With `--ends` and `--timeline` nothing is played, so nothing is checked.\n\nExamples:\n  relayd replay relay.record\n  relayd replay --ends relay.record\n  relayd replay --script 0.1 relay.record | relayd sim --each\n\nSee relayd(1) for recordings.",
         settings: false,
         arguments: &RECORDING,
     },

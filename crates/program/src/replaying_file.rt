@@ -175,8 +175,6 @@ fn find_wanted(log: &impl Log, replayed: Replayed<'_>) -> Result<Wanted, Program
 fn wanted_of_all(replayed: Replayed<'_>) -> Wanted {
     if replayed.ends {
         Wanted::Ends
-    } else if replayed.trace {
-        Wanted::Trace
     } else if replayed.steps {
         Wanted::Steps
     } else {

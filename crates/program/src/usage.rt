@@ -263,7 +263,7 @@ impl fmt::Display for Tip<'_> {
 }
 
 /// What the parser refuses, as it shows that in quotes, and what to type or do instead.
-static TIPS: [(&str, &str); 11] = [
+static TIPS: [(&str, &str); 12] = [
     ("version", VERSION),
     ("--version", VERSION),
     ("-V", VERSION),
@@ -281,6 +281,7 @@ static TIPS: [(&str, &str); 11] = [
     ("reload", REPLACE),
     ("restart", REPLACE),
     ("--proxy <BOOL>", "--proxy true, or --proxy false"),
+    ("--trace", "relayd-trace FILE > trace.json"),
 ];
 
 const VERSION: &str = "relayd --version";

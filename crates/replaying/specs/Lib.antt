@@ -1,3 +1,2 @@
 -- The crate's definitions.
-pub mod Lines
 pub mod Traces

@@ -6,7 +6,7 @@
 //! (`action`). `results` has what came of it, which `writing` writes.
 //!
 //! `ends` and `timeline` play nothing: they follow each connection, or one, by its records alone (`entry`), up to its
-//! line (`live`), each act with its time (`moments`). A picture is of `picture`.
+//! line (`live`), each act with its time (`moments`).
 #![tactic(auto)]
 
 mod action;

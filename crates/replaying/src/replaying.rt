@@ -12,7 +12,6 @@ use crate::slot_replay::{Findings, SlotReplay};
 use crate::timeline::write_timeline;
 use crate::writing::{flush, write_flaw, write_results};
 use input::{Judged, Replay, ReplayFault, Wanted};
-use picture::write_picture;
 use recorded::{
     Clock, Last, Recording, check_reads, check_rounds, check_threads, find_posts, put_in_order,
     read, times_of,
@@ -27,7 +26,7 @@ use world::{Lead, Limits};
 pub struct OnMachine;
 
 impl Replay for OnMachine {
-    /// Reads a recording, and replays it; for `Ends`, `Timeline` and `Trace` it reads it alone. With `rests`, or after
+    /// Reads a recording, and replays it; for `Ends` and `Timeline` it reads it alone. With `rests`, or after
     /// the record `end`, no slot may have anything left to do. This is not asked after a failed wait for reports, which
     /// ends a relay early; nor by `rests` alone, if records are missing or were left out: they may have done the rest.
     /// Refuses with `Read` if the reader gives an error, `Broken` if a line is malformed or no relay acts in that
@@ -46,7 +45,6 @@ impl Replay for OnMachine {
             Wanted::Timeline(slot, generation) => {
                 write_timeline(alloc, input, slot, generation, output)?;
             }
-            Wanted::Trace => write_picture(alloc, input, output)?,
             _ => return replay_read(alloc, input, wanted, rests, output),
         }
         Ok(Judged::Run)

@@ -1,4 +1,0 @@
--- The crate's lemmas.
-mod Drawing
-mod Pictures
-mod Times

@@ -1,4 +1,0 @@
--- The crate's definitions.
-pub mod Events
-pub mod Json
-pub mod Times
