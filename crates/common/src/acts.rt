@@ -12,9 +12,9 @@ use std::sync::Wait;
 use token::Token;
 
 /// The acts of a thread at a slot's word, and those that hand on the slot or its ticket. Each act but `enter` is one
-/// call on what all threads share. Turns, rounds and openings are generic over this trait, so that their clauses can say
-/// which acts they make, in which order: a proof has `made ..` only from a call. The server's `()` makes each act and
-/// nothing else.
+/// call on what all threads share. Turns, rounds and openings are generic over this trait, so that their clauses can
+/// say which acts they make, in which order: a proof has `made ..` only from a call. The server's `()` makes each act
+/// and nothing else.
 pub trait Acts {
     ghost use Rattle.std.specs.Prelude.{◌≡◌, ◌↔◌, ◌<◌, ℕ, [], ◌∷◌, length, slice_set, IfErr, OnOk, OnErr};
     ghost use Rattle.claims.specs.{Seats.{Holds, Adds}, Calls.{PostChange, ClaimChange, ReleaseChange, AdoptChange}};
@@ -204,8 +204,8 @@ pub trait Moves<F: Front>: Acts {
         ensures { counted slot event self.now };
 }
 
-/// The act of a turn that its gate hears of. Code over any acts does not know that `G` is a [`Gate`], so it tells the gate
-/// nothing but by this act.
+/// The act of a turn that its gate hears of. Code over any acts does not know that `G` is a [`Gate`], so it tells the
+/// gate nothing but by this act.
 pub trait Gated<F: Front, G>: Moves<F> {
     ghost use Rattle.std.specs.Prelude.{◌≡◌, ◌≤◌, ℕ};
     ghost use Rattle.engine.specs.Turns.{outcome_of, IsServed, IsTurn};
@@ -214,7 +214,7 @@ pub trait Gated<F: Front, G>: Moves<F> {
     // The gate heard that a turn at a slot began, and that it ended.
     ghost heard: { G → ℕ → Type 0 };
 
-    /// [`Gate::before_turn`], then [`turn_with`] of a slot's connection, on its two wires, and then [`Gate::after_turn`].
+    /// [`Gate::before_turn`], then [`turn_with`] of a slot's connection, on its two wires, then [`Gate::after_turn`].
     fn play(
         &mut self,
         gate: &G,

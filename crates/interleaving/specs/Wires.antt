@@ -26,7 +26,7 @@ pub record Polling : Type 0 where
   pub reading : Name → Bool
   pub left : List Name
 
--- the threads, over the real kernel; the wires, with the words by which they are told; and the poll that is in progress
+-- the threads, over the real kernel; the wires, with the words by which they hear of reports; and the poll that is in progress
 pub record Wired : Type 0 where
   pub system : System
   pub wires : Side → Wire
@@ -79,7 +79,7 @@ asks st i = option_and_then (λ (t : Thread). asked_by t t.todo) (slice_get st.t
 
 -- Steps
 
--- the wires of a new connection: what was told of an earlier one may still stand
+-- the wires of a new connection: what was heard of an earlier one may still stand
 abbrev pub fresh : (Side → Wire) → Side → Wire
 fresh wires side = record (wires side) { reads = true }
 
@@ -115,7 +115,7 @@ polled w names reading =
     })
     (kernel.poll w.system.kernel names.items))
 
--- the word of its side is told, whichever connection has it now
+-- the word of its side is set, whichever connection has it now
 abbrev pub told : Polling → Name → (Side → Wire) → Side → Wire
 told p (End n) wires = if p.reading (End n) then on n.side (record (wires n.side) { told = true }) wires else wires
 told p n wires = wires
@@ -132,7 +132,7 @@ abbrev pub blocked : System → ℕ → Asked → System
 blocked st i a = with_thread st i (planned st a.thread (a.thread.left - 1)
     (record a.connection { pair = after st.second a.connection.pair a.asks answer.Blocked }))
 
--- only a read is answered so, by a wire that does not read and was not told
+-- only a read is answered so, by a wire that does not read and has heard nothing
 abbrev pub unasked : Wired → ℕ → Asked → Option Wired
 unasked w i a =
     let it : Wire = w.wires (side_of a.asks) in
@@ -172,7 +172,7 @@ is_close todo = false
 abbrev pub closes : System → ℕ → Bool
 closes st i = unwrap_or (option_map (λ (t : Thread). is_close t.todo) (slice_get st.threads i)) false
 
--- the sides whose late changes come before a step: a wire is told, or is given an error, or both sockets are closed
+-- the sides whose late changes come before a step: a wire hears of a report, or is given an error, or both sockets are closed
 abbrev pub sides_told : Polling → List Name → List Side
 sides_told p (End n ∷ rest) = if p.reading (End n) then n.side ∷ [] else []
 sides_told p left = []
@@ -255,7 +255,7 @@ abbrev pub in_poll : Bool → Option Polling → Name → Bool
 in_poll false (Some p) n = has n p.names.items
 in_poll early poll n = false
 
--- An end, of which this is late: what is late is told. Nothing is missed
+-- An end, of which this is late: what is late is reported. Nothing is missed
 pub record EndHolds (w : Wired) (side : Side) (late : List Change) (r : Registered) : Type 0 where
   pub coming : late ≢ [] → WillBeTold (way w side r)
   pub nothing_missed : MissesNothing (way w side r)

@@ -109,8 +109,8 @@ pub fn open<F: Front + Counting, A: Moves<F>, R: Wait + Logs>(
     }
 }
 
-/// Takes the oldest free slot in hand, and names the ends of its next connection. None if it can have none: it is another
-/// poller's, the table or the names lack it, or its generation is the last.
+/// Takes the oldest free slot in hand, and names the ends of its next connection. None if it can have none: it is
+/// another poller's, the table or the names lack it, or its generation is the last.
 fn next_names<F: Front>(hand: &mut Hand, poller: &Poller<F>) -> Option<Names>
     requires { 1 ≤ length hand.old.slots }
     ensures left { hand.new ≡ record hand.old { slots = drop 1 hand.old.slots } }
@@ -126,8 +126,8 @@ fn next_names<F: Front>(hand: &mut Hand, poller: &Poller<F>) -> Option<Names>
     names_at(poller.table(), slot)
 }
 
-/// Starts the connection to the target, and makes the berth. If that fails, both sockets are closed, the log may name the
-/// client, the drop is logged or counted, the front is told if memory was lacking, and the slot is in hand again.
+/// Starts the connection to the target, and makes the berth. If that fails, both sockets are closed, the log may name
+/// the client, the drop is logged or counted, the front hears of it if memory was lacking, and the slot is in hand again.
 fn prepare<F: Front, A: Moves<F>, N: Log>(
     rt: &N,
     alloc: Global,
@@ -342,8 +342,8 @@ fn find_via<W: Settle>(rt: &impl Log, clients: ClientsAt, target: &W) -> Option<
     }
 }
 
-/// Discards a held slot's notes, puts its connection into place, posts the note that starts it, and releases the slot. If
-/// that answers Wake, the ticket is in hand.
+/// Discards a held slot's notes, puts its connection into place, posts the note that starts it, and releases the slot.
+/// If that answers Wake, the ticket is in hand.
 fn start<F: Front, A: Moves<F>, R: Wait>(
     rt: &R,
     acts: &mut A,

@@ -43,8 +43,8 @@ impl Unwritten {
 }
 
 impl Write for LogLine {
-    /// Adds a text. If not all of it fits, the line is cut, and nothing more is added. Never fails: a value that does not
-    /// fit is still printed to its end.
+    /// Adds a text. If not all of it fits, the line is cut, and nothing more is added. Never fails: a value that does
+    /// not fit is still printed to its end.
     fn write_str(&mut self, text: &str) -> fmt::Result {
         if !self.is_cut && self.text.try_push_str(text).is_err() {
             let end = text.floor_char_boundary(self.text.remaining_capacity());
