@@ -127,7 +127,7 @@ fn next_names<F: Front>(hand: &mut Hand, poller: &Poller<F>) -> Option<Names>
 }
 
 /// Starts the connection to the target, and makes the berth. If that fails, both sockets are closed, the log may name
-/// the client, the drop is logged or counted, the front hears of it if memory was lacking, and the slot is in hand again.
+/// the client, the drop is logged or counted, the front hears of a lack of memory, and the slot is in hand again.
 fn prepare<F: Front, A: Moves<F>, N: Log>(
     rt: &N,
     alloc: Global,
