@@ -229,7 +229,7 @@ class Relay:
         """What comes meanwhile it finds all at once, when it goes on."""
         self.process.send_signal(signal.SIGSTOP)
         yield
-        time.sleep(0.05)
+        time.sleep(0.1)
         self.process.send_signal(signal.SIGCONT)
 
     def limit(self, which, most):

@@ -204,12 +204,14 @@ def statistics_add_up():
 
 # refuses moved_is_not_counted: the bytes of a connection that is still open are not in the statistics
 def statistics_tell_of_open_connections():
-    relay = Relay(target(answer_and_read), options=("--stats", "1"), typed=True, log="warn")
+    relay, wanted = Relay(target(answer_and_read), options=("--stats", "1"), typed=True, log="warn"), {"open": 1, "slots": 1024}
+    wanted |= {"opened": 1, "up": 3, "down": 1}
     with relay.connect() as client:
         client.sendall(b"one")
         assert client.recv(3) == b"o"
-        line = {name: number for name, number in numbers_in(relay.process.stderr.readline()).items() if number}
-    assert line == {"open": 1, "slots": 1024, "opened": 1, "up": 3, "down": 1}
+        # The first line may come before all of it.
+        lines = (numbers_in(relay.process.stderr.readline()) for _ in range(5))
+        assert any({name: number for name, number in line.items() if number} == wanted for line in lines)
 
 
 def writes_each_log_line_at_once_and_goes_on_without_its_log():
@@ -254,11 +256,16 @@ def serves_on_when_nobody_reads_its_log():
         for _ in range(5_000):
             ask_once(relay)
 
+    def end_at_rest():
+        with contextlib.suppress(AssertionError):
+            relay.come_to_rest()
+        relay.process.terminate()
+
     at_once(*[serve_some] * 4)
     # Each connection has its two lines, but for those that are counted as left out.
     with os.fdopen(reader) as log:
         time.sleep(0.1)
-        in_thread(lambda: (time.sleep(2), relay.process.terminate()))
+        in_thread(end_at_rest)
         lines = log.read().splitlines()[1:]
     numbers = [re.fullmatch(r"\[WARN  relayd\] log: (\d+) lines left out", line) for line in lines]
     # A pipe has some 2,000 lines, and the queue 4,096.

@@ -97,7 +97,7 @@ def reset(connection):
 def fill(connection):
     """Sends until nobody takes more."""
     connection.setsockopt(socket.SOL_SOCKET, socket.SO_SNDBUF, 1 << 15)
-    connection.settimeout(0.5)
+    connection.settimeout(1)
     with contextlib.suppress(socket.timeout, ConnectionError):
         while connection.send(bytes(1 << 15)):
             pass
