@@ -1,6 +1,6 @@
 -- Ends of parts, in order.
-use Rattle.std.{proofs.Common.{◌≡◌, Bool, true, List, [], ◌∷◌, ◌++◌, length, map, refl, ap, arith}, specs.Prelude.{Option, None}}
-use Rattle.threads.specs.{declared.{context.ThreadEnd.ThreadEnd, faults.Few.Few}, Divided.OfFirst, Served.RanToEnds}
+use Rattle.std.{proofs.Common.{◌≡◌, List, [], ◌∷◌, ◌++◌, length, map, refl, ap, arith}, specs.Prelude.{Option, None}}
+use Rattle.threads.specs.{declared.{context.ThreadEnd.ThreadEnd, faults.Few.Few}, Divided.OfFirst, Served.{AreStarted, RanToEnds}}
 
 -- the next one
 pub next_of_first : {P E : Type 0} (is : P → E → Type 0) (parts : List P) (ends : List E) (part : P) (left : List P) (end : E) → OfFirst is parts ends (part ∷ left) → is part end
@@ -25,9 +25,9 @@ of_map f runs [] (e ∷ es) left these = absurd these
 of_map f runs (p ∷ ps) (e ∷ es) left these = (these.0, of_map f runs ps es left these.1)
 
 -- threads were started, all or the first, and joined
-pub ran_to_ends : {P Q H : Type 0} (f : P → Q) (of : P → H → Type 0) (kept : H → ThreadEnd → Type 0) (runs : Q → ThreadEnd → Type 0) (few : Option Few) (all : Bool)
-    (parts : List P) (handles : List H) (ends : List ThreadEnd) → ((p : P) (h : H) (e : ThreadEnd) → of p h → kept h e → runs (f p) e) → (few ≡ None → all ≡ true)
-    → (left : List P) × OfFirst of parts handles left × (all ≡ true → left ≡ []) → OfFirst kept handles ends [] → RanToEnds runs few (map f parts) ends
+pub ran_to_ends : {P Q H : Type 0} (f : P → Q) (of : P → H → Type 0) (kept : H → ThreadEnd → Type 0) (runs : Q → ThreadEnd → Type 0) (few : Option Few) (all : Type 0)
+    (parts : List P) (handles : List H) (ends : List ThreadEnd) → ((p : P) (h : H) (e : ThreadEnd) → of p h → kept h e → runs (f p) e) → (few ≡ None → all)
+    → AreStarted of parts handles all → OfFirst kept handles ends [] → RanToEnds runs few (map f parts) ends
 ran_to_ends f of kept runs few all parts handles ends so enough (left, started, whole) joined = (
   map f left,
   of_map f runs parts ends left (through of kept (λ p e. runs (f p) e) so parts handles ends left started joined),

@@ -66,3 +66,7 @@ pub record AllRan {P W : Type 0} (poller_runs : P → ThreadEnd → Type 0) (wor
 -- this promise is of this part, and of what its thread is handed
 abbrev pub IsOf : {P X : Type 0} → X → P → X → P → Type 0
 IsOf context part handed promised = (handed ≡ context) × (promised ≡ part)
+
+-- threads were started of the first of these parts, in order; of all, if `all`
+abbrev pub AreStarted : {P H : Type 0} → (P → H → Type 0) → List P → List H → Type 0 → Type 0
+AreStarted {P} of parts handles all = (left : List P) × OfFirst of parts handles left × (all → left ≡ [])

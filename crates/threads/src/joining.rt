@@ -1,6 +1,6 @@
 //! The threads of parts that have one each: how they are started, and joined.
-ghost use Rattle.std.specs.Prelude.{◌≡◌, ◌≤◌, [], IfOk, true, vec_capacity, vec_len};
-ghost use Rattle.threads.specs.{Divided.OfFirst, Served.IsOf};
+ghost use Rattle.std.specs.Prelude.{◌≡◌, ◌≤◌, [], IfOk, None, true, vec_capacity, vec_len};
+ghost use Rattle.threads.specs.{Divided.OfFirst, Served.{AreStarted, IsOf}};
 
 use crate::context::ThreadEnd;
 use std::alloc::{AllocError, Global};
@@ -67,8 +67,9 @@ impl<'s, P: Part<X>, X> Joins<'s, P, X> {
         X: Sync,
         requires none { self.old.handles.items ≡ [] }
         requires room { (vec_len parts ≤ vec_capacity self.old.handles) × (vec_len parts ≤ vec_capacity self.old.ends) }
-        ensures started { (left : _) × OfFirst (λ part handle. IsOf context.now part handle.promise.context.now handle.promise.part.value)
-            parts.items self.new.handles.items left × (result ≡ true → left ≡ []) }
+        ensures started { AreStarted
+            (λ part handle. IsOf context.now part handle.promise.context.now handle.promise.part.value)
+            parts.items self.new.handles.items (result ≡ true) }
         ensures others { result ≡ true → so_far ≡ true }
     {
         if !so_far {
@@ -99,5 +100,85 @@ impl<'s, P: Part<X>, X> Joins<'s, P, X> {
             ends.push_reserved(handle.join(rt));
         }
         ends
+    }
+}
+
+/// The threads beside the one that serves: of the pollers `P`, and of the workers `W`.
+#[derive(Drop)]
+pub(crate) struct Crew<'s, P: Part<X>, W: Part<X>, X> {
+    pollers: Joins<'s, P, X>,
+    workers: Joins<'s, W, X>,
+}
+
+/// Fewer threads were started than are wanted.
+pub(crate) struct Lack {
+    pub(crate) started: usize,
+    pub(crate) wanted: usize,
+}
+
+impl<'s, P: Part<X>, W: Part<X>, X> Crew<'s, P, W, X> {
+    /// Room for the threads of so many parts.
+    pub(crate) fn for_parts(
+        alloc: Global,
+        pollers: usize,
+        workers: usize,
+    ) -> Result<Crew<'s, P, W, X>, AllocError>
+        ensures none { IfOk result (λ crew. (crew.pollers.handles.items ≡ []) × (crew.workers.handles.items ≡ [])) }
+        ensures pollers { IfOk result (λ crew. (pollers ≤ vec_capacity crew.pollers.handles)
+            × (pollers ≤ vec_capacity crew.pollers.ends)) }
+        ensures workers { IfOk result (λ crew. (workers ≤ vec_capacity crew.workers.handles)
+            × (workers ≤ vec_capacity crew.workers.ends)) }
+    {
+        let workers = Joins::for_parts(alloc, workers)?;
+        let pollers = Joins::for_parts(alloc, pollers)?;
+        Ok(Crew { pollers, workers })
+    }
+
+    /// Starts a thread for each part, the workers' first. Once one cannot be started, no more are.
+    pub(crate) fn start<E>(
+        &mut self,
+        scope: &'s Scope<'s, E>,
+        context: &'s X,
+        pollers: Vec<P>,
+        workers: Vec<W>,
+    ) -> Option<Lack>
+    where
+        P: Drop + Send + 's,
+        W: Drop + Send + 's,
+        X: Sync,
+        requires none { (self.old.pollers.handles.items ≡ []) × (self.old.workers.handles.items ≡ []) }
+        requires room_for_pollers { (vec_len pollers ≤ vec_capacity self.old.pollers.handles)
+            × (vec_len pollers ≤ vec_capacity self.old.pollers.ends) }
+        requires room_for_workers { (vec_len workers ≤ vec_capacity self.old.workers.handles)
+            × (vec_len workers ≤ vec_capacity self.old.workers.ends) }
+        ensures pollers { AreStarted
+            (λ part handle. IsOf context.now part handle.promise.context.now handle.promise.part.value)
+            pollers.items self.new.pollers.handles.items (result ≡ None) }
+        ensures workers { AreStarted
+            (λ part handle. IsOf context.now part handle.promise.context.now handle.promise.part.value)
+            workers.items self.new.workers.handles.items (result ≡ None) }
+    {
+        let wanted = pollers.len().saturating_add(workers.len());
+        let so_far = self.workers.start(scope, context, workers, true);
+        if self.pollers.start(scope, context, pollers, so_far) {
+            return None;
+        }
+        let started = self.pollers.len().saturating_add(self.workers.len());
+        Some(Lack { started, wanted })
+    }
+
+    /// Waits until each has ended.
+    pub(crate) fn join(self, rt: &impl Threads) -> (Vec<ThreadEnd>, Vec<ThreadEnd>)
+    where
+        P: Drop,
+        W: Drop,
+        ensures pollers { OfFirst (λ handle end. P.runs handle.promise.context.now handle.promise.part.value end)
+            self.entry.pollers.handles.items result.0.items [] }
+        ensures workers { OfFirst (λ handle end. W.runs handle.promise.context.now handle.promise.part.value end)
+            self.entry.workers.handles.items result.1.items [] }
+    {
+        let Crew { pollers, workers } = self;
+        let pollers = pollers.join(rt);
+        (pollers, workers.join(rt))
     }
 }

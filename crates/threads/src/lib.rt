@@ -2,7 +2,7 @@
 //! ([`run_threads`]).
 //!
 //! What a thread does in a round and in a turn is in `rounds` and `turns`. Here the parts of a server are divided among
-//! the threads ([`divide`]), and each thread makes its rounds, or takes its tickets, until all is over.
+//! the threads (`divide`), and each thread makes its rounds, or takes its tickets, until all is over.
 //!
 //! # Inside
 //!
@@ -21,8 +21,8 @@
 //!
 //! Each round, turn and taking of a ticket requires a look of its own that found no fault (`NoFault`); a worker's
 //! turn requires a look after the taking (`Cleared`). A poller counts its sweeps from a second that the clock gave
-//! (`begin`: `begun`). If it finds that no more connections may be opened, it wakes every poller (`stop_if_asked`:
-//! `woken`). Each thread's array is its own by its type (a `Box`).
+//! (`PollerThread::run`: `made`). If it finds that no more connections may be opened, it wakes every poller
+//! (`stop_if_asked`: `woken`). Each thread's array is its own by its type (a `Box`).
 #![tactic(auto)]
 
 mod context;
@@ -34,10 +34,6 @@ mod polling;
 mod running;
 mod working;
 
-pub use context::{Context, StopFlag, Told};
-pub use dividing::{Rest, ServerThreads, divide};
-pub use ending::{Ended, Ending, Why};
-pub use faults::{Found, Outcome, Recorded};
-pub use polling::PollerThread;
+pub use context::StopFlag;
+pub use faults::Outcome;
 pub use running::{Server, run_threads};
-pub use working::{Owned, Worker};

@@ -28,7 +28,7 @@ pub struct PollerThread<F: Front> {
 }
 
 impl<F: Front + Drop> PollerThread<F> {
-    /// Makes its steps until one ends the thread.
+    /// Makes its steps until one ends the thread. The poller's sweeps are counted from the clock's second on.
     pub fn run<'c, G: Gate, C: Clock, R: Wait + Log, S: StopFlag>(
         &mut self,
         context: &'c Context<'_, G, C, R, S>,
@@ -42,25 +42,13 @@ impl<F: Front + Drop> PollerThread<F> {
         ensures ran { PollerRan self.old.own self.new.own }
     {
         let number = self.number;
-        self.begin(context);
+        self.poller.begin_at(context.timing.moment().second);
         let ended = self.run_rounds(context);
         self.finish(context, number, ended)
     }
 
-    /// The poller's sweeps are counted from the clock's second on.
-    pub fn begin<G: Gate, C: Clock, R: Wait + Log, S: StopFlag>(
-        &mut self,
-        context: &Context<'_, G, C, R, S>,
-    )
-        ensures own { self.new.own ≡ self.old.own }
-        ensures begun { (second : ℕ) × C.tells context.now.timing.clock.now second
-            × (self.new.poller ≡ record self.old.poller { swept = second }) }
-    {
-        self.poller.begin_at(context.timing.moment().second);
-    }
-
     /// The thread has ended, as [`Context::end`] and [`Context::leave`] say. Drops that are still counted are logged.
-    pub fn finish<'c, G: Gate, C: Clock, R: Wait + Log, S: StopFlag>(
+    fn finish<'c, G: Gate, C: Clock, R: Wait + Log, S: StopFlag>(
         &mut self,
         context: &'c Context<'_, G, C, R, S>,
         number: usize,
@@ -78,7 +66,7 @@ impl<F: Front + Drop> PollerThread<F> {
     }
 
     /// Makes steps until the poller is over, or a fault is recorded or met.
-    pub fn run_rounds<G: Gate, C: Clock, R: Wait + Log, S: StopFlag>(
+    fn run_rounds<G: Gate, C: Clock, R: Wait + Log, S: StopFlag>(
         &mut self,
         context: &Context<'_, G, C, R, S>,
     ) -> Ended
@@ -99,7 +87,7 @@ impl<F: Front + Drop> PollerThread<F> {
     /// Refused if the thread ends: the poller is over, a fault was recorded before the round or before one of the
     /// turns, or this step met a fault.
     #[tactic(auto, using(crate::proofs::Loops::ran_none))]
-    pub fn step<G: Gate, C: Clock, R: Wait + Log, S: StopFlag>(
+    fn step<G: Gate, C: Clock, R: Wait + Log, S: StopFlag>(
         &mut self,
         context: &Context<'_, G, C, R, S>,
     ) -> Result<(), Ended>

@@ -9,7 +9,7 @@ use crate::context::{Context, StopFlag, ThreadEnd};
 use crate::dividing::{Rest, ServerThreads, divide};
 use crate::ending::Ending;
 use crate::faults::{Few, Outcome, Recorded};
-use crate::joining::{Joins, Part};
+use crate::joining::{Crew, Lack, Part};
 use crate::polling::PollerThread;
 use crate::working::Worker;
 use common::{Clock, Front, Gate, Parts, ServerFault, Shared, Split, Timing};
@@ -194,21 +194,15 @@ where
         workers,
     } = threads;
     let first = pollers.pop();
-    let wanted = pollers.len().saturating_add(workers.len());
-    let mut of_workers = Joins::for_parts(context.alloc, workers.len())?;
-    let mut of_pollers = Joins::for_parts(context.alloc, pollers.len())?;
-    let so_far = of_workers.start(scope, context, workers, true);
-    let all = of_pollers.start(scope, context, pollers, so_far);
-    let started = of_workers.len().saturating_add(of_pollers.len());
-    let few = few_started(context, all, started, wanted);
-    if !context.ending.is_recorded() {
-        context.gate.all_started();
-    }
+    let mut crew = Crew::for_parts(context.alloc, pollers.len(), workers.len())?;
+    let lack = crew.start(scope, context, pollers, workers);
+    let few = few_started(context, lack);
     let first = run_first(context, first);
+    let (pollers, workers) = crew.join(context.rt);
     Ok(Served {
         few,
-        pollers: of_pollers.join(context.rt),
-        workers: of_workers.join(context.rt),
+        pollers,
+        workers,
         first,
     })
 }
@@ -229,29 +223,32 @@ fn run_first<F: Front + Drop, G: Gate, C: Clock, R: Wait + Log, S: StopFlag>(
     }
 }
 
-/// If not all threads could be started, that is recorded, before the faults of all threads.
-fn few_started<G, C, R: Wait + Log, S>(
+/// If not all threads could be started, that is recorded, before the faults of all threads. The gate is told that all
+/// were, unless a fault is recorded.
+fn few_started<G: Gate, C, R: Wait + Log, S>(
     context: &Context<'_, G, C, R, S>,
-    all: bool,
-    started: usize,
-    wanted: usize,
+    lack: Option<Lack>,
 ) -> Option<Few>
-    ensures { result ≡ None → all ≡ true }
+    ensures { result ≡ None → lack ≡ None }
 {
-    if all {
-        return None;
+    let few = match lack {
+        Some(lack) => Some(not_started(context, lack).few()),
+        None => None,
+    };
+    if !context.ending.is_recorded() {
+        context.gate.all_started();
     }
-    Some(not_started(context, started, wanted).few())
+    few
 }
 
 /// Fewer threads were started beside the first than are wanted. The fault is logged, and recorded under number 0.
 fn not_started<'a, G, C, R: Wait + Log, S>(
     context: &Context<'a, G, C, R, S>,
-    started: usize,
-    wanted: usize,
+    lack: Lack,
 ) -> Recorded<'a>
     ensures { result ≡ announced context.now.ending.now (0, ServerFault.Threads) }
 {
+    let Lack { started, wanted } = lack;
     let fault = log_few_threads(
         context.rt,
         started.saturating_add(1),

@@ -47,31 +47,17 @@ impl<F: Front + Drop> Worker<F> {
         let number = self.number;
         for _turn in context.rt.forever() {
             if let Err(ended) = self.step(context) {
-                return self.finish(context, number, ended);
+                return context.end(&self.shared, number, &mut self.owned.own.ready, ended);
             }
         }
         unreachable!()
-    }
-
-    /// The thread has ended, as [`Context::end`] says.
-    pub fn finish<'c, G: Gate, C: Clock, R: Wait + Log, S>(
-        &mut self,
-        context: &'c Context<'_, G, C, R, S>,
-        number: usize,
-        ended: Ended,
-    ) -> Told<'c>
-        ensures owned { self.new.owned ≡ self.old.owned }
-        ensures told { IsTold context.now.ending.now number ended.why result.recorded result.closed }
-        ensures of { (result.number ≡ number) × (result.why ≡ ended.why) }
-    {
-        context.end(&self.shared, number, &mut self.owned.own.ready, ended)
     }
 
     /// One step of the thread: it puts the tickets in hand, which the queue refused before, takes a ticket, for which
     /// it may sleep, and runs its turn. Without room in hand it takes none. Refused if the thread ends: the queue of
     /// tickets is closed and empty; or a fault was recorded before the taking, or after it, which leaves the ticket in
     /// hand; or this step met a fault.
-    pub fn step<G: Gate, C: Clock, R: Wait + Log, S>(
+    fn step<G: Gate, C: Clock, R: Wait + Log, S>(
         &mut self,
         context: &Context<'_, G, C, R, S>,
     ) -> Result<(), Ended>

@@ -14,4 +14,5 @@ returns-in-Err-clause-acts g c = registered_drop (Naming g.A.Moves.named g.A.Act
 
 pub returns-in-Err-clause-cause : goal.returns-in-Err-clause-cause
 returns-in-Err-clause-cause g c =
-    rw c.log_dropped.ensures.cause (drops_by (g.F.Front.may_refuse c.args.client) (g.F.Front.may_tell c.args.client) _ _ _ c.reach-reached.ensures.cause c.reach-reached.ensures.lead c.in-Err.ensures.refused)
+    let reached = c.reach-reached.ensures in
+    rw c.log_dropped.ensures.cause (drops_by (g.F.Front.may_refuse c.args.client) (g.F.Front.may_tell c.args.client) _ _ _ reached.cause reached.lead c.in-Err.ensures.refused)

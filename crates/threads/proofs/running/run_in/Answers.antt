@@ -12,9 +12,9 @@ returns g c =
       first = map (λ p. poller_part p.number p.poller p.own) (option_to_list c.pop-first.result);
       pollers_are = sym (map-append _ _ _) ∙ ap (map (λ p. poller_part p.number p.poller p.own)) (sym c.pop-first.ensures.items);
       workers_ran = ran_to_ends (λ w. worker_part w.number w.owned) _ _ _ _ _ _ _ _ (λ w h e is kept. rw (is.0, is.1) at kept)
-          (λ none. c.start-all.ensures.others (enough none)) c.start-so_far.ensures.started c.join-2.ensures;
+          enough c.start-lack.ensures.workers c.join-pollers.ensures.workers;
       others_ran = ran_to_ends (λ p. poller_part p.number p.poller p.own) _ _ _ _ _ _ _ _ (λ p h e is kept. rw (is.0, is.1) at kept)
-          enough c.start-all.ensures.started c.join.ensures;
+          enough c.start-lack.ensures.pollers c.join-pollers.ensures.pollers;
       first_ran = first.ran;
       has_first = λ none. ap (map (λ p. poller_part p.number p.poller p.own))
           (nil_from_length c.args.threads.pollers.items (let gone = rw (first.none none) at c.pop-first.ensures.cases in omega (arith, gone.0, c.args.threads.pollers.ok.0)));
