@@ -343,7 +343,7 @@ same_here {e} {x} {b} {wire} {late} ok never = by ok.waits
     by (Prompt none) = (none, same_socket ok.due none)
     by (Behind a) = absurd (never a.reads a.told a.readable)
 
--- what is late is told
+-- what is late is reported
 pub told_soon : {e x : EndState} {b : Bool} {wire : Wire} {late : List Change} → EndOk e b wire late x → late ≢ [] → b ≡ true
 told_soon ok some = elim ok.waits [ Prompt none ↦ absurd (some none) | Behind a ↦ a.coming ]
 
