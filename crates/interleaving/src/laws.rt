@@ -8,6 +8,7 @@ use relay_core::laws;
 /// after the other from the machine's opening, that leads to a like state. Calls and replies, exchanges of the slot's
 /// word with their answers, and what clock, network, kernel, listener and polls do are the same, in the same order,
 /// but that the machine may be ahead in an opening. And no act of a thread is in vain.
+#[tactic(auto, using(crate::proofs::Runs::every_interleaving))]
 pub fn every_interleaving_is_a_run()
     ensures { EveryInterleavingIsARun }
 {
@@ -18,6 +19,7 @@ pub fn every_interleaving_is_a_run()
 /// Step by step: threads and machine begin alike, and from like states each step of the threads is followed by events
 /// of the machine that lead to like states. So the events for a longer list of steps continue those for a shorter one,
 /// and calls, outside events and, but within an opening, exchanges keep their order among each other.
+#[tactic(auto, using(crate::proofs::Runs::every_step))]
 pub fn every_step_is_followed()
     ensures { EveryStepIsFollowed }
 {
@@ -34,6 +36,7 @@ pub fn programs_are_these()
 /// Left alone, the threads come to rest. From any state to which steps lead, each step of the relay's own makes the
 /// state's weight smaller, whoever makes it: so no more of them can follow, in any order, than the state weighs. A turn
 /// must begin with at least four calls.
+#[tactic(auto, using(crate::proofs::Rest::comes_to_rest))]
 pub fn left_alone_it_ends()
     ensures { LeftAloneItEnds }
 {
@@ -54,6 +57,7 @@ pub fn left_alone_it_rests()
 /// any split of them among its pollers, and for each slot: what it has seen of these steps is a run of the threads at
 /// one slot, which leads to that slot as it is. So it is a run of the machine, where each connection has its own lead.
 /// And while a client waits, each poller that listens has its accept flag up, or a report of the listener coming.
+#[tactic(auto, using(crate::proofs::Slots::every_slot))]
 pub fn slots_stand_apart()
     ensures { SlotsStandApart }
 {
@@ -63,6 +67,7 @@ pub fn slots_stand_apart()
 /// The same of a whole server, whose weight is a sum over its slots and pollers: from any state to which steps lead, no
 /// more of its own steps can follow, in any order and by any of its threads, than it weighs, but for two for each
 /// report of the waker that a poll gives.
+#[tactic(auto, using(crate::proofs::Whole::every_server))]
 pub fn servers_come_to_rest()
     ensures { ServersComeToRest }
 {
@@ -75,6 +80,7 @@ pub fn servers_come_to_rest()
 /// on to it. What comes meanwhile is late in the other run: it comes just before the wire hears of it or is given an
 /// error, or before the sockets are closed. So acts, calls with their replies, and the exchanges of the slot's word are
 /// the same, in order (`happened`). And no wire misses anything: what is late, or will come, is reported to it.
+#[tactic(auto, using(crate::proofs::Wires::wires_come_late))]
 pub fn wires_come_late()
     ensures { WiresComeLate }
 {
