@@ -2,7 +2,7 @@
 use Rattle.std.{proofs.{Common.{◌≡◌, ◌⊎◌, Bool, true, false, ◌||◌, List, [], ◌∷◌, ◌++◌, ℕ, None, Option, Some, refl, ◌∙◌, inl, inr, not, ◌&&◌, zero, suc, length, Contains, option_map, sym, length-append, lt-ltb, ltb-true, arith}, lemmas.{Bool.{or_left, not-true, or_parts, or_right}, List.Elements.Contains-push, Option.option_and_then_some}}, specs.Cmp.{first_so, second_so}}
 use Rattle.kernel_model.specs.{Ends.{EndState, is_readable, is_nonempty, is_writable, new_room}, Outcome.{Told, guard}, declared.reply.Reply.Reply}
 use Rattle.readiness.specs.Machine.{Bytes, Call, Calls, Change, Comes, Error, Fin, HasRoom, IsCovered, Join, Looks, MissesNothing, Old, Polled, Read, Shut, Spurious, Step, Tells, Unasked, Vanished, Way, WillBeTold, WiresMissNothing, Write, after_call, change_of, is_quiet, may_call, opening, reads_after, run, step, tells}
-use Rattle.token.specs.declared.{side.Side.Side, kind.Kind.Kind}
+use Rattle.token.specs.declared.{kind.Kind.Kind}
 use Rattle.kernel_model.specs.declared.reply.Reply.TheVariants as reply
 
 -- what a test let through
