@@ -68,7 +68,6 @@ class Row:
     an output and errors whether they will do."""
 
     name: str
-    tool: str = ""
     words: list = field(default_factory=list)
     given: bytes = b""
     files: dict = field(default_factory=dict)
@@ -77,6 +76,7 @@ class Row:
     output: bytes = b""
     errors: bytes = b""
     will_do: object = None
+    tool: str = ""
 
 
 def lines_of(path):
