@@ -116,14 +116,41 @@ pub fn open_all<'r, R: Net + Log>(
     ensures wakers { IfOk result (λ made. (arc_value made.1).split ≡ split) }
     ensures refused { IfErr result (λ fault. (fault ≡ ServerFault.Poll) ⊎ (fault ≡ ServerFault.NoMemory)) }
 {
-    let told = Arc::new(alloc, Reports::new(alloc, split.slots())?)?;
     let mut listener = bound.listener;
     let (polls, each) = watched_by_all(rt, alloc, &mut listener, split.pollers())?;
-    let loads = Arc::new(alloc, Loads::new(alloc, split)?)?;
-    let fronts = fronts_of(rt, alloc, listener, &told, &loads, polls, forwarding)?;
+    let shared = shared_of(alloc, listener, split)?;
+    let fronts = fronts_of(rt, alloc, &shared, polls, forwarding)?;
+    Ok((fronts, wakers_of(alloc, split, each, stop)?))
+}
+
+/// What all fronts share.
+#[derive(Drop)]
+struct Shared {
+    listener: Arc<TcpListener>,
+    told: Arc<Reports>,
+    loads: Arc<Loads>,
+}
+
+fn shared_of(alloc: Global, listener: TcpListener, split: Split) -> Result<Shared, AllocError> {
+    Ok(Shared {
+        listener: Arc::new(alloc, listener)?,
+        told: Arc::new(alloc, Reports::new(alloc, split.slots())?)?,
+        loads: Arc::new(alloc, Loads::new(alloc, split)?)?,
+    })
+}
+
+/// The wakers, which the stop has, too.
+fn wakers_of(
+    alloc: Global,
+    split: Split,
+    each: Vec<Waker>,
+    stop: &Stop,
+) -> Result<Arc<Wakers>, AllocError>
+    ensures { IfOk result (λ wakers. (arc_value wakers).split ≡ split) }
+{
     let wakers = Arc::new(alloc, Wakers { split, each })?;
     stop.reach(wakers.clone()?);
-    Ok((fronts, wakers))
+    Ok(wakers)
 }
 
 /// Makes a poll for each poller, which reports on the listening socket, and the poller's waker.
@@ -149,37 +176,50 @@ fn watched_by_all<R: Net + Log>(
 fn fronts_of<'r, R>(
     rt: &'r R,
     alloc: Global,
-    listener: TcpListener,
-    told: &Arc<Reports>,
-    loads: &Arc<Loads>,
+    shared: &Shared,
     mut polls: Vec<Poll>,
     forwarding: Forwarding,
 ) -> Result<Vec<Sockets<'r, R>>, AllocError>
     ensures { IfOk result (λ fronts. fronts.items ≡ replicate (vec_len polls) (fresh_front forwarding (vec_len polls))) }
 {
-    let listener = Arc::new(alloc, listener)?;
     let count = polls.len();
-    let longest = longest_of(count);
     let mut fronts = Vec::with_capacity(alloc, count)?;
     polls.reverse();
     for poller in 0..count {
         match polls.pop() {
-            Some(poll) => fronts.push_reserved(Sockets {
-                rt,
-                listener: Some(Arc::try_clone(&listener)?),
-                forwarding,
-                told: Arc::try_clone(told)?,
-                waiter: Waiter::new(alloc, poll, longest)?,
-                loads: Arc::try_clone(loads)?,
-                poller,
-                left: 0,
-                lacking: 0,
-                busy: 0,
-            }),
+            Some(poll) => {
+                fronts.push_reserved(front_of(rt, alloc, shared, forwarding, poll, poller, count)?)
+            }
             None => unreachable!(),
         }
     }
     Ok(fronts)
+}
+
+/// The front of this poller, one of this many.
+fn front_of<'r, R>(
+    rt: &'r R,
+    alloc: Global,
+    shared: &Shared,
+    forwarding: Forwarding,
+    poll: Poll,
+    poller: usize,
+    pollers: usize,
+) -> Result<Sockets<'r, R>, AllocError>
+    ensures { IfOk result (λ front. front ≡ fresh_front forwarding pollers) }
+{
+    Ok(Sockets {
+        rt,
+        waiter: Waiter::new(alloc, poll, longest_of(pollers))?,
+        listener: Some(Arc::try_clone(&shared.listener)?),
+        told: Arc::try_clone(&shared.told)?,
+        loads: Arc::try_clone(&shared.loads)?,
+        forwarding,
+        poller,
+        left: 0,
+        lacking: 0,
+        busy: 0,
+    })
 }
 
 /// Lets other threads run after enough busy polls (sched_yield(2)). Returns the new count. A poller under load never
