@@ -13,7 +13,7 @@ OUT ?= build
 
 PROGRAM = crates/relayd/out/relayd
 # The version stands with the program that prints it.
-VERSION = $(shell sed -n 's/^pub const VERSION: &str = "\(.*\)";$$/\1/p' crates/program/src/constants.rt)
+VERSION = $(shell sed -n 's/^pub const VERSION: &str = "\(.*\)";$$/\1/p' crates/commands/src/command_line.rt)
 ARCHIVE = $(OUT)/relayd-$(VERSION)-linux-x86_64.tar.gz
 PACKAGE = $(OUT)/relayd_$(VERSION)_amd64.deb
 # The date of what is in these: that of the commit, or without git(1) that of the file that names each version.

@@ -1,24 +1,22 @@
 //! What the program does, from its arguments to its status.
-ghost use Rattle.std.specs.Prelude.{◌≡◌, ◌⊎◌, false, IsTrue, IfSome, IfOk, IfErr, Ok};
+ghost use Rattle.std.specs.Prelude.{◌≡◌, ◌≢◌, ◌⊎◌, false, IsTrue, IfSome, IfOk, IfErr, Ok};
+ghost use Rattle.clap.specs.Values.{kind_of};
 ghost use Rattle.program.specs.Faults.{IsCarriedOut, status_of};
 
-use crate::command_line::{Command, Relay, Source, read_command};
 use crate::config;
-use crate::constants::{DONE, FAULT, USAGE};
-use crate::extras::{Extras, extras_of};
-use crate::faults::{ArgumentsFault, ProgramFault};
-use crate::logging::{direct_log, starting_filter};
-use crate::recording_file::{RecordFiles, create, find_place};
+use crate::faults::{ArgumentsFault, DONE, FAULT, ProgramFault, USAGE};
+use crate::logging::direct_log;
 use crate::replaying_file::replay;
-use crate::starting::{foresee, look_at_addresses, prepare, warn_of_short_time, warn_of_silence};
-use crate::stats_file::find_file;
-use crate::streams::{LoggedCauses, Stream, log_error};
-use crate::usage::answer_usage;
+use crate::running::{Given, run};
+use crate::starting::{foresee, look_at_addresses};
+use crate::streams::{LoggedCauses, log_error, stream_named, write};
+use clap::Error;
+use clap::error::ErrorKind;
+use commands::{Command, print_answer, print_refused, read_command};
 use common::ServerFault;
 use input::{Outcome, Replay, Simulate};
 use log::{LevelFilter, Log};
 use settings::Settings;
-use sockets::{Bound, bind};
 use std::alloc::{AllocError, Global};
 use std::env::{Env, FillError};
 use std::io::{Eprint, IsTerminal, Read, Write};
@@ -70,9 +68,8 @@ fn find_no_text(rt: &impl Env) -> Option<usize> {
 /// from `reader` or written to `writer`. The same holds if `is_closed`, standard output is closed: no command is
 /// carried out then, and nothing listens.
 ///
-/// `serve` serves on a bound socket, with the process's own handle: only this handle can start a thread. It is given
-/// the other options and the files to record into, if there are any, and returns true if it could print where the relay
-/// listens. `player` plays a recording, and `simulator` runs a script.
+/// `serve` serves with what it is given and the process's own handle: only this handle can start a thread. It returns
+/// true if it could print where the relay listens. `player` plays a recording, and `simulator` runs a script.
 pub fn act<R, S, P: Replay, M: Simulate, I: Read + IsTerminal, O: Write, E: Write>(
     rt: &R,
     arguments: &[String],
@@ -87,7 +84,7 @@ pub fn act<R, S, P: Replay, M: Simulate, I: Read + IsTerminal, O: Write, E: Writ
 where
     R: AllocGlobal + Env + Files + Eprint + Net + Copy + Drop,
     R::File: AsRawFd,
-    S: Fn(Settings, Bound, Extras, Option<RecordFiles<R>>) -> Result<bool, ServerFault>,
+    S: Fn(Given<R>) -> Result<bool, ServerFault>,
     requires { S.IsAlwaysCallable serve.now }
     ensures status { IsCarriedOut result ⊎ (result ≡ 2) }
     ensures unread { result ≡ 2 → I.remaining reader.new ≡ I.remaining reader.old }
@@ -101,30 +98,28 @@ where
             drop(command);
             refuse_closed(&log, errors)
         }
-        Err(error) if is_closed && !error.use_stderr() => refuse_closed(&log, errors),
         Ok(command) => {
-            if matches!(command, Command::Simulate { .. }) {
-                tell_if_typed(reader, errors);
-            }
+            tell_if_typed(&command, reader, errors);
             match carry_out(rt, &log, command, reader, writer, serve, player, simulator) {
                 Ok(status) => status,
                 Err(fault) => report_fault(errors, fault),
             }
         }
-        Err(error) => answer_usage(rt.alloc(), &log, arguments, &error, writer, errors),
+        Err(error) => answer_usage(
+            rt.alloc(),
+            &log,
+            arguments,
+            &error,
+            is_closed,
+            writer,
+            errors,
+        ),
     }
 }
 
-/// Refuses to do anything, since standard output is closed.
-fn refuse_closed<E: Write>(log: &impl Log, errors: &mut E) -> u8
-    ensures { result ≡ 1 }
-{
-    log_error(log, &"output", &"is closed; give it one, as > /dev/null");
-    report_fault(errors, ProgramFault::Write)
-}
-
-fn tell_if_typed<I: IsTerminal, E: Write>(reader: &I, errors: &mut E) {
-    if reader.is_terminal() {
+/// Says that a script is waited for, if one is typed.
+fn tell_if_typed<I: IsTerminal, E: Write>(command: &Command<'_>, reader: &I, errors: &mut E) {
+    if matches!(command, Command::Simulate { .. }) && reader.is_terminal() {
         // If this line cannot be written, the script is read all the same.
         let _ = writeln!(
             errors,
@@ -148,7 +143,7 @@ fn carry_out<R, S, P: Replay, M: Simulate, L: Log, I: Read, O: Write>(
 where
     R: AllocGlobal + Env + Files + Eprint + Net + Copy + Drop,
     R::File: AsRawFd,
-    S: Fn(Settings, Bound, Extras, Option<RecordFiles<R>>) -> Result<bool, ServerFault>,
+    S: Fn(Given<R>) -> Result<bool, ServerFault>,
     requires { S.IsAlwaysCallable serve.now }
     ensures done { IfOk result (λ status. IsCarriedOut status) }
     ensures unread { IfErr result (λ fault. status_of fault ≡ 2 → I.remaining reader.new ≡ I.remaining reader.old) }
@@ -156,29 +151,12 @@ where
 {
     match command {
         Command::Simulate { each } => {
-            let mut reader = stream("input", reader, log);
-            let mut writer = stream("output", writer, log);
-            simulate(rt.alloc(), log, each, simulator, &mut reader, &mut writer)
+            simulate_on(rt.alloc(), log, each, simulator, reader, writer)
         }
         Command::Check(path) => check(rt, log, path, writer),
         Command::Serve(relay) => run(rt, log, &relay, serve),
         Command::Replay(replayed) => replay(rt, log, replayed, writer, player),
     }
-}
-
-fn settings_of<R: AllocGlobal + Files, L: Log>(
-    rt: &R,
-    log: &L,
-    source: &Source<'_>,
-) -> Result<Settings, ProgramFault> {
-    let settings = match source {
-        Source::File(path, level) => {
-            let settings = config::load(rt, log, path)?;
-            config::at_level(log, rt.alloc(), settings, *level)
-        }
-        Source::Arguments(text) => config::parse_arguments(log, rt.alloc(), text.as_bytes()),
-    };
-    settings.map_err(ProgramFault::of_arguments)
 }
 
 fn check<R, L: Log, O: Write>(
@@ -195,16 +173,28 @@ where
     let settings = config::load(rt, log, path)?;
     look_at_addresses(log, &settings)?;
     foresee(rt, log, &settings)?;
-    print(rt.alloc(), &settings, &mut stream("output", writer, log))
+    print(
+        rt.alloc(),
+        &settings,
+        &mut stream_named("output", writer, log),
+    )
 }
 
-/// A stream of this name whose errors are logged.
-pub(crate) fn stream<'a, S, L>(
-    name: &'static str,
-    inner: S,
-    log: &'a L,
-) -> Stream<'a, S, &'static str, L> {
-    Stream { name, inner, log }
+/// Runs a script on streams whose errors are logged.
+fn simulate_on<M: Simulate, L: Log, I: Read, O: Write>(
+    alloc: Global,
+    log: &L,
+    each: bool,
+    simulator: &M,
+    reader: &mut I,
+    writer: &mut O,
+) -> Result<u8, ProgramFault>
+    ensures done { IfOk result (λ status. IsCarriedOut status) }
+    ensures fault { IfErr result (λ fault. status_of fault ≡ 1) }
+{
+    let mut reader = stream_named("input", reader, log);
+    let mut writer = stream_named("output", writer, log);
+    simulate(alloc, log, each, simulator, &mut reader, &mut writer)
 }
 
 /// Returns 0 if the report was written, or if `each` what each step changed. Returns 1, and logs the cause, if the line
@@ -242,48 +232,53 @@ fn print(alloc: Global, settings: &Settings, writer: &mut impl Write) -> Result<
     Ok(DONE)
 }
 
-/// Looks at what can be found before anything listens, listens, looks at what the settings need, makes the file to
-/// record into, and serves.
-fn run<R, S, L: Log>(rt: &R, log: &L, relay: &Relay<'_>, serve: &S) -> Result<u8, ProgramFault>
-where
-    R: AllocGlobal + Env + Files + Eprint + Net + Copy + Drop,
-    R::File: AsRawFd,
-    S: Fn(Settings, Bound, Extras, Option<RecordFiles<R>>) -> Result<bool, ServerFault>,
-    requires { S.IsAlwaysCallable serve.now }
-    ensures { IfOk result (λ status. status ≡ 0) }
+/// Prints what the parser answers in place of a command: help and the version to `writer`, unless standard output
+/// `is_closed`, and to `errors` why the arguments are refused, with what to type instead. Returns the exit status.
+fn answer_usage<L: Log, O: Write, E: Write>(
+    alloc: Global,
+    log: &L,
+    arguments: &[String],
+    error: &Error,
+    is_closed: bool,
+    writer: &mut O,
+    errors: &mut E,
+) -> u8
+    ensures memory { kind_of error.now ≡ ErrorKind.OutOfMemory → result ≡ 1 }
+    ensures refused { kind_of error.now ≢ ErrorKind.OutOfMemory → kind_of error.now ≢ ErrorKind.DisplayHelp → kind_of error.now
+        ≢ ErrorKind.DisplayVersion → result ≡ 2 }
+    ensures status { IsCarriedOut result ⊎ (result ≡ 2) }
+    ensures unwritten { result ≡ 2 → O.contents writer.new ≡ O.contents writer.old }
+    ensures kept { kind_of error.now ≢ ErrorKind.DisplayHelp → kind_of error.now ≢ ErrorKind.DisplayVersion
+        → O.contents writer.new ≡ O.contents writer.old }
+    ensures closed { IsTrue is_closed → O.contents writer.new ≡ O.contents writer.old }
 {
-    let mut extras = extras_of(log, relay.extras)?;
-    let settings = settings_of(rt, log, &relay.settings)?;
-    warn_of_silence(log, settings.log, &extras, relay.stats_file.is_some());
-    let log = direct_log(rt, starting_filter(settings.log));
-    warn_of_short_time(&log, settings.idle, extras.patience);
-    look_at_addresses(&log, &settings)?;
-    let in_parts = extras.record_size.is_some();
-    let place = find_place(rt, &log, relay.record, in_parts)?;
-    extras.stats_file = find_file(rt, &log, relay.stats_file)?;
-    let bound = match bind(&log, &settings) {
-        Ok(bound) => bound,
-        Err(fault) => return Err(ProgramFault::Server(fault)),
-    };
-    let more = u64::from(relay.record.is_some())
-        + u64::from(in_parts)
-        + u64::from(relay.stats_file.is_some());
-    let settings = prepare(rt, &log, settings, more)?;
-    let files = create(rt, &log, relay.record, place, in_parts)?;
-    match serve(settings, bound, extras, files) {
-        Ok(true) => Ok(DONE),
-        Ok(false) => Err(ProgramFault::Write),
-        Err(fault) => Err(ProgramFault::Server(fault)),
+    if error.kind() == ErrorKind::OutOfMemory {
+        return report_fault(errors, ProgramFault::from(AllocError));
+    }
+    if error.use_stderr() {
+        print_refused(alloc, arguments, error, errors);
+        return USAGE;
+    }
+    if is_closed {
+        return refuse_closed(log, errors);
+    }
+    match print_answer(alloc, error, &mut stream_named("output", writer, log)) {
+        Ok(true) => DONE,
+        Ok(false) => report_fault(errors, ProgramFault::Write),
+        Err(error) => report_fault(errors, ProgramFault::from(error)),
     }
 }
 
-/// Writes all of a text, and flushes it. Returns true if both succeed.
-pub(crate) fn write(writer: &mut impl Write, text: &str) -> bool {
-    writer.write_all(text.as_bytes()).is_ok() && writer.flush().is_ok()
+/// Refuses to do anything, since standard output is closed.
+fn refuse_closed<E: Write>(log: &impl Log, errors: &mut E) -> u8
+    ensures { result ≡ 1 }
+{
+    log_error(log, &"output", &"is closed; give it one, as > /dev/null");
+    report_fault(errors, ProgramFault::Write)
 }
 
 /// Writes a fault to `errors`, and returns its status.
-pub(crate) fn report_fault(errors: &mut impl Write, fault: ProgramFault) -> u8
+fn report_fault(errors: &mut impl Write, fault: ProgramFault) -> u8
     ensures { result ≡ status_of fault }
 {
     // If this fails, too, only the status is left to report the fault.

@@ -3,10 +3,9 @@ ghost use Rattle.std.specs.Prelude.{◌≡◌, ◌<◌, ◌≤◌, Ok, Err, None
 ghost use Rattle.settings.specs.{Table.level_name, Document.IsSettingsOf};
 ghost use Rattle.program.specs.Faults.{FileSets, HasFault};
 
-use crate::constants::MAX_CONFIG_BYTES;
 use crate::faults::ConfigFault;
-use crate::forwarding::setting_text;
 use crate::streams::{FileName, Stream, Unopened, log_error};
+use commands::setting_text;
 use input::{InputFault, read_at_most};
 use log::Log;
 use settings::{Key, LogLevel, Settings, SettingsFault};
@@ -14,6 +13,9 @@ use std::alloc::Global;
 use std::fs::{self, File};
 use std::io::Read;
 use std::rt::Files;
+
+/// The most bytes of a settings file.
+const MAX_CONFIG_BYTES: usize = 65_536;
 
 /// The settings of the file at a path. The file is closed in each case. Refuses with `Read` if it cannot be opened or
 /// read, and otherwise as [`read`] does. Logs the cause: what the system or the parser says.

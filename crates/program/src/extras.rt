@@ -3,22 +3,18 @@ ghost use Rattle.std.specs.Prelude.{◌≡◌, ◌⊎◌, ◌≤◌, IfOk, IfErr
 ghost use Rattle.program.specs.{Starting.{least, most, most_of_part}, Faults.status_of};
 
 use crate::faults::ProgramFault;
-use crate::forwarding::whole_number;
-use crate::stats_file::StatsFile;
 use crate::streams::log_error;
-use clap::ArgMatches;
+use commands::{TypedExtras, whole_number};
 use log::Log;
 use settings::{TypedWord, Unit, has_leading_zero};
 use sockets::Patience;
 use std::fmt;
 
 /// What a relay does beside what its settings say.
-#[derive(Drop)]
+#[derive(Clone, Copy)]
 pub struct Extras {
     /// The seconds between two lines of statistics, 1 to 86,400. None: there is no line.
     pub stats: Option<u32>,
-    /// Where a monitor finds the statistics. None: nowhere. If there is no `stats` either, nothing is counted.
-    pub stats_file: Option<StatsFile>,
     /// The relay opens no more connections once standard input has ended.
     pub until_eof: bool,
     /// How long the relay waits for a peer that does not answer: up to 3,600 seconds to connect, and 32,767 of
@@ -38,30 +34,6 @@ impl Extras {
         match self.record_size {
             Some(size) => u64::from(size) / 2,
             None => u64::MAX,
-        }
-    }
-}
-
-/// The options that [`Extras`] is made of, as they were typed.
-#[derive(Clone, Copy)]
-pub(crate) struct TypedExtras<'a> {
-    stats: Option<&'a str>,
-    until_eof: bool,
-    connect_timeout: Option<&'a str>,
-    keepalive: Option<&'a str>,
-    log_clients: bool,
-    record_size: Option<&'a str>,
-}
-
-impl<'a> TypedExtras<'a> {
-    pub(crate) fn of(matches: &ArgMatches<'a>) -> TypedExtras<'a> {
-        TypedExtras {
-            stats: matches.get_str(NumberOption::Stats.name()),
-            record_size: matches.get_str(NumberOption::RecordSize.name()),
-            until_eof: matches.get_flag("until-eof"),
-            connect_timeout: matches.get_str(NumberOption::ConnectTimeout.name()),
-            keepalive: matches.get_str(NumberOption::Keepalive.name()),
-            log_clients: matches.get_flag("log-clients"),
         }
     }
 }
@@ -119,7 +91,7 @@ impl fmt::Display for NumberOption {
     }
 }
 
-/// The options without the statistics' file. Refuses, and logs the cause, if a value is no whole number, or one that is
+/// The options. Refuses, and logs the cause, if a value is no whole number, or one that is
 /// not in its option's range.
 pub(crate) fn extras_of(log: &impl Log, typed: TypedExtras<'_>) -> Result<Extras, ProgramFault>
     ensures stats { IfOk result (λ extras. IfSome extras.stats (λ n. (1 ≤ n) × (n ≤ 86400))) }
@@ -134,7 +106,6 @@ pub(crate) fn extras_of(log: &impl Log, typed: TypedExtras<'_>) -> Result<Extras
     let record_size = number_of(log, NumberOption::RecordSize, typed.record_size)?;
     Ok(Extras {
         stats,
-        stats_file: None,
         until_eof: typed.until_eof,
         patience: Patience { connect, keepalive },
         log_clients: typed.log_clients,

@@ -1,7 +1,6 @@
 ghost use Rattle.std.specs.{Prelude.◌≡◌, IoError.error_kind};
 ghost use Rattle.program.specs.{Faults.{settings_fault, argument_fault, status_of, arguments_fault}, declared.faults.{ConfigFault.TheVariants.NoMemory, ProgramFault.TheVariants.Config}};
 
-use crate::constants::{FAULT, USAGE};
 use crate::extras::NumberOption;
 use common::ServerFault;
 use input::{ReplayFault, ScriptFault};
@@ -10,6 +9,13 @@ use std::alloc::AllocError;
 use std::env::{self, Env};
 use std::io;
 use thiserror::Error;
+
+/// The statuses after a command was carried out, after a fault, and after a usage error.
+pub(crate) const DONE: u8 = 0;
+
+pub(crate) const FAULT: u8 = 1;
+
+pub(crate) const USAGE: u8 = 2;
 
 /// A fault of the program. Its text is what a person sees after `relayd: `.
 #[derive(Debug, Drop, Error)]

@@ -2,39 +2,37 @@
 //! standard input and output, and replays recordings.
 //!
 //! [`act`] does all of that: it gets the arguments ([`arguments`]), a reader, two writers and a closure that serves,
-//! and returns a status. `command_line` reads the command; `forwarding` the settings, and `extras` the other options,
-//! that arguments give; `usage` prints help, and why words are refused. Before a relay serves, [`config`] reads its
-//! settings, and `starting` looks at what they need. [`logging`] has the relay's log, [`telling`] its statistics, which
-//! `stats_file` writes for a monitor, and [`until_eof`] the end of its standard input. `streams` logs what is wrong
-//! with an input, an output, a file or a script.
+//! and returns a status. The crate `commands` reads which command the arguments name. `running` makes what a relay
+//! serves with ([`Given`]): [`config`] reads its settings, `extras` the other options, and `starting` looks at what
+//! these need. [`logging`] has the relay's log, [`telling`] its statistics, which `stats_file` writes for a monitor,
+//! and [`until_eof`] the end of its standard input. `streams` logs what is wrong with an input, an output, a file or a
+//! script.
 //!
 //! `report_fault` (`status_of` of `specs/Faults.antt`) and `answer_usage` give the statuses that `relayd(1)` names
 //! (EXIT STATUS); `simulate` says by the status whether the report or a fault's line was written (`report`, `refused`).
 #![tactic(auto)]
 
 mod acting;
-mod command_line;
 pub mod config;
-mod constants;
 mod extras;
 mod faults;
-mod forwarding;
 pub mod logging;
 mod recording_file;
 mod replaying_file;
+mod running;
 mod standard_streams;
 mod starting;
 mod stats_file;
 mod streams;
 pub mod telling;
 pub mod until_eof;
-mod usage;
 
 pub use acting::{act, report_arguments_fault};
 pub use extras::{Extras, NumberOption};
 pub use faults::{ArgumentsFault, ConfigFault, ProgramFault, arguments};
 pub use logging::starting_filter;
 pub use recording_file::RecordFiles;
+pub use running::Given;
 pub use standard_streams::{hold_closed, report_unheld};
 pub use starting::{foresee, log_start, prepare, print_listening};
 pub use stats_file::{Replacing, StatsFile};

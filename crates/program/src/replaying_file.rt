@@ -1,12 +1,10 @@
 ghost use Rattle.std.specs.Prelude.{◌≡◌, ◌⊎◌, IfOk, IfErr};
 ghost use Rattle.program.specs.Faults.{IsCarriedOut, status_of};
 
-use crate::acting::stream;
-use crate::command_line::Replayed;
-use crate::constants::{DONE, FAULT};
-use crate::faults::ProgramFault;
+use crate::faults::{DONE, FAULT, ProgramFault};
 use crate::recording_file::{FIRST_WORDS, first_bytes};
-use crate::streams::{FileName, Stream, Unopened, log_error, log_text};
+use crate::streams::{FileName, Stream, Unopened, log_error, log_text, stream_named};
+use commands::Replayed;
 use input::{Judged, MAX_SCRIPT, Replay, ReplayFault, Wanted};
 use log::{Level, Log};
 use settings::has_leading_zero;
@@ -31,7 +29,7 @@ pub(crate) fn replay<R: AllocGlobal + Files, L: Log, O: Write, P: Replay>(
     let inner = open(rt, log, replayed.path)?;
     let mut file = Stream { name, inner, log };
     let mut writer = Counted {
-        writer: stream("output", writer, log),
+        writer: stream_named("output", writer, log),
         bytes: 0,
     };
     match player.replay(rt.alloc(), &mut file, wanted, replayed.rests, &mut writer) {

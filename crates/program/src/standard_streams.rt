@@ -3,7 +3,7 @@
 ghost use Rattle.std.specs.Prelude.{◌≡◌, IfOk, IfSome};
 ghost use Rattle.program.specs.Starting.{number, StandsIn};
 
-use crate::constants::FAULT;
+use crate::faults::FAULT;
 use std::fmt;
 use std::fs::OpenOptions;
 use std::io::{self, ErrorKind, Write};

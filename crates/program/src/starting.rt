@@ -2,12 +2,11 @@
 ghost use Rattle.std.specs.Prelude.{◌≡◌, ◌≤◌, ◌↔◌, IsTrue, IsOk, IsSome, IfOk, IfErr, ◌<◌, ◌+◌};
 ghost use Rattle.program.specs.{Faults.status_of, Starting.{Meets, IsOfMany, HasFor, needed}};
 
-use crate::acting::{stream, write};
-use crate::constants::VERSION;
 use crate::extras::Extras;
 use crate::faults::ProgramFault;
 use crate::logging::direct_log;
-use crate::streams::log_text;
+use crate::streams::{log_text, stream_named, write};
+use commands::VERSION;
 use common::ServerFault;
 use log::{Level, LevelFilter, Log};
 use settings::{Address, LEAST_CALLS, LogLevel, Settings, pollers_for};
@@ -183,7 +182,8 @@ fn warn_of_short_idle(log: &impl Log, idle: u32) {
 fn warn_of_small_budget(log: &impl Log, budget: u32) {
     if (budget as usize) < LEAST_CALLS {
         let text = format_args!(
-            "budget: {LEAST_CALLS} is used in place of {budget}, since with fewer calls a silent connection is tried without end"
+            "budget: {LEAST_CALLS} is used in place of {budget}, since with fewer calls a silent connection is tried \
+             without end"
         );
         log_text(log, Level::Warn, &text);
     }
@@ -191,7 +191,8 @@ fn warn_of_small_budget(log: &impl Log, budget: u32) {
 
 fn warn_of_few(log: &impl Log, slots: usize, set: usize, most: u64, needs: u64) {
     let text = format_args!(
-        "slots: at most {slots} of {set} connections are served at a time, since the limit is {most} descriptors and {needs} are needed (ulimit -n)"
+        "slots: at most {slots} of {set} connections are served at a time, since the limit is {most} descriptors and \
+             {needs} are needed (ulimit -n)"
     );
     log_text(log, Level::Warn, &text);
 }
@@ -263,7 +264,7 @@ where
 
 fn print_line(alloc: Global, log: &impl Log, address: SocketAddr, output: &mut impl Write) -> bool {
     match format!(in alloc; "listening {address}\n") {
-        Ok(line) => write(&mut stream("output", output, log), line.as_str()),
+        Ok(line) => write(&mut stream_named("output", output, log), line.as_str()),
         Err(_) => false,
     }
 }

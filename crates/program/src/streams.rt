@@ -18,6 +18,15 @@ pub struct Stream<'a, S, N, L> {
     pub log: &'a L,
 }
 
+/// A stream of this name whose errors are logged.
+pub(crate) fn stream_named<'a, S, L>(
+    name: &'static str,
+    inner: S,
+    log: &'a L,
+) -> Stream<'a, S, &'static str, L> {
+    Stream { name, inner, log }
+}
+
 impl<R: Read, N: fmt::Display, L: Log> Read for Stream<'_, R, N, L> {
     ghost remaining = { λ stream. R.remaining stream.inner };
 
@@ -48,6 +57,11 @@ impl<W: Write, N: fmt::Display, L: Log> Write for Stream<'_, W, N, L> {
         }
         answer
     }
+}
+
+/// Writes all of a text, and flushes it. Returns true if both succeed.
+pub(crate) fn write(writer: &mut impl Write, text: &str) -> bool {
+    writer.write_all(text.as_bytes()).is_ok() && writer.flush().is_ok()
 }
 
 pub(crate) fn log_text<D: fmt::Display>(log: &impl Log, level: Level, text: &D) {

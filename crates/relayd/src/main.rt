@@ -4,24 +4,18 @@
 #![tactic(auto)]
 
 mod lent;
+mod serving;
 
-use lent::{Announcing, MonotonicClock};
-use log::Logged;
-use program::logging::{self, Errors, Until};
-use program::{Extras, RecordFiles, report_unheld, telling, until_eof};
+use program::logging::{self, Errors};
+use program::{Given, report_unheld};
 use replaying::OnMachine;
 use script::Simulator;
-use server::{Bound, Lent, ServerFault};
-use settings::Settings;
+use server::ServerFault;
 use std::cell::Cell;
 use std::process::ExitCode;
-use std::sync::atomic::AtomicBool;
-use std::sync::atomic::Ordering::SeqCst;
-use writer_queue::Queued;
 
 fn main(rt: HostRuntime) -> ExitCode {
-    let mut input = rt.stdin();
-    let mut output = rt.stdout();
+    let (mut input, mut output) = (rt.stdin(), rt.stdout());
     // First: a file opened before would get the number of a closed stream.
     let held = match program::hold_closed(&rt, &input, &output, &rt.stderr()) {
         Ok(held) => held,
@@ -32,51 +26,12 @@ fn main(rt: HostRuntime) -> ExitCode {
         inner: rt.stderr(),
         is_stuck: &is_stuck,
     };
-    let serve = |settings: Settings, bound: Bound, extras: Extras, files: Option<
-        RecordFiles<HostRuntime>,
-    >| -> Result<bool, ServerFault> {
-        let most = extras.most_of_part();
+    let serve = |given: Given<HostRuntime>| -> Result<bool, ServerFault> {
         let queue = logging::start(rt)?;
-        // Set at level off once all threads run: only the cause of a fault that ends the relay is logged then.
-        let is_off = AtomicBool::new(false);
-        let lines = Until {
-            inner: Queued { rt, queue: &queue },
-            is_off: &is_off,
-        };
-        let logged = Logged::new(rt, program::starting_filter(settings.log), lines);
-        program::log_start(&logged, bound.text(), &settings);
-        let stop = until_eof::watch(rt, rt.stdin(), settings.log, extras.until_eof, &queue)?;
-        let teller = telling::start(rt, &settings, extras.stats, extras.stats_file, &queue)?;
-        let teller = teller.as_ref();
-        let gate = Announcing {
-            rt,
-            address: bound.text(),
-            level: settings.log,
-            is_off: &is_off,
-            stop: &stop,
-            is_unprinted: AtomicBool::new(false),
-        };
-        let lent = Lent {
-            gate: &gate,
-            clock: &MonotonicClock,
-            stop: &stop,
-            statistics: teller.map(|teller| &teller.statistics),
-            patience: extras.patience,
-            log_clients: extras.log_clients,
-        };
-        let served = server::serve_recorded(
-            &logged,
-            rt.alloc(),
-            &settings,
-            bound,
-            lent,
-            files,
-            most,
-        );
-        telling::tell_last(rt, teller, &queue);
+        let is_printed = serving::serve(rt, rt, given, &queue);
+        // A write to standard error may not end once the log could not be written.
         is_stuck.set(!logging::finish(&rt, &queue));
-        served.into_result()?;
-        Ok(!gate.is_unprinted.load(SeqCst))
+        is_printed
     };
     let status = match program::arguments(&rt) {
         Ok(arguments) => program::act(

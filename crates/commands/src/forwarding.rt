@@ -7,7 +7,10 @@ use std::alloc::{AllocError, Global};
 use std::fmt;
 
 /// Adds an argument for each setting.
-pub fn add_settings<'a>(alloc: Global, arguments: &mut Vec<Arg<'a>>) -> Result<(), AllocError> {
+pub(crate) fn add_settings<'a>(
+    alloc: Global,
+    arguments: &mut Vec<Arg<'a>>,
+) -> Result<(), AllocError> {
     for row in all_arguments() {
         arguments.push(argument(alloc, *row))?;
     }
@@ -34,12 +37,22 @@ fn without_default<'a>(alloc: Global, row: Row) -> Arg<'a> {
     }
 }
 
-pub(crate) fn all_arguments() -> &'static [Row] {
+fn all_arguments() -> &'static [Row] {
     &ROWS
 }
 
+/// Whether the option of this name is a setting.
+pub(crate) fn is_setting(option: &str) -> bool {
+    for row in all_arguments() {
+        if row.option == Some(option) {
+            return true;
+        }
+    }
+    false
+}
+
 /// The text of a settings file that says the same as the arguments.
-pub fn settings_text(alloc: Global, matches: &ArgMatches<'_>) -> Result<String, AllocError> {
+pub(crate) fn settings_text(alloc: Global, matches: &ArgMatches<'_>) -> Result<String, AllocError> {
     let mut text = String::new(alloc);
     for row in all_arguments() {
         if let Some(value) = matches.get_str(row.key.name()) {
@@ -88,7 +101,7 @@ impl fmt::Display for Assignment<'_> {
 }
 
 /// The whole number that an argument is, if it is one without leading zeros.
-pub(crate) fn whole_number(value: &str) -> Option<i64> {
+pub fn whole_number(value: &str) -> Option<i64> {
     if has_leading_zero(value) {
         return None;
     }
