@@ -2,14 +2,238 @@
 pub mod Leaves
 pub mod Views
 pub mod Steps
-pub mod Shared
-use Rattle.std.{proofs.{Common.{Bool, List, Some, [], ap, arith, false, replicate, slice_get, suc, zero, not, refl, true, ℕ, ◌&&◌, ◌||◌, ◌++◌, ◌+◌, ◌==◌, ◌∙◌, ◌∷◌, ◌≡◌, ◌<◌}, lemmas.{Bool.Decides.nat_tests, Option.{option_and_then_some, same_Some}}}, specs.List.list_any}
-use Rattle.world.proofs.Headline.Ends.Pairs.Holders.Events.Lists.{kept_at}
-use Rattle.interleaving.specs.{Threads.{System, resting, rests_at}, Likeness.EveryInterleavingIsARun, Slots.{AllStandApart, Sees, SeesAll, Many, Server, SlotsStandApart, Step, is_listener, one_slot, rank, run, slot_of, start, step}}
-use Steps.{Apart, Between, FrontsHold, Next}
-use Shared.{next}
+use Rattle.std.proofs.Common.{Bool, List, None, Some, Vec, [], ap, append-nil, arith, eq-eqb, eqb-true, false, if◌then◌else◌, inl, inr, le-leb, leb-true, length, nat_le, nat_lt, ne_eqb, not, refl, replicate, slice_get, suc, sym, true, zero, ℕ, ◌&&◌, ◌++◌, ◌+◌, ◌-◌, ◌<◌, ◌==◌, ◌||◌, ◌∙◌, ◌∷◌, ◌≡◌, ◌≢◌, ◌≤◌, ◌⊎◌}
+use Rattle.std.proofs.lemmas.Bool.Decides.{nat_tests}
+use Rattle.std.proofs.lemmas.Option.{option_and_then_some, same_Some}
+use Rattle.std.specs.List.{list_any}
+use Rattle.world.proofs.Headline.Ends.Pairs.Holders.Events.Lists.{Kept, kept_at, kept_guard, kept_map, kept_none, kept_some, kept_when}
+use Rattle.interleaving.specs.Threads.{System, resting, rests_at}
+use Rattle.interleaving.specs.Likeness.{EveryInterleavingIsARun}
+use Rattle.interleaving.specs.Slots.{Accept, Acts, AllStandApart, Begin, Calls, Connect, Deliver, Drop, Front, Listener, Many, Network, Of, Open, Poll, Put, Refuse, Report, Retract, Rumour, Sees, SeesAll, Server, SlotsStandApart, Spurious, Step, Stop, Sweep, Taken, Tick, Vanish, Waker, answered, are_queued, delivering, first_of, is_listener, makes, may, may_accept, names_at, one_slot, polled, rank, rank_at, rests, run, shared, slot_of, start, step, suits, tickets_at, told, unqueued, with_front}
 use Rattle.interleaving.proofs.Runs.{run_on}
+use Rattle.std.proofs.lemmas.Bool.{and_parts, cases_eq, ltb-true}
+use Rattle.std.proofs.lemmas.List.{nil_from_length}
+use Rattle.std.specs.Cmp.{second_so}
+use Rattle.std.specs.Global.{Global}
+use denote.RawPtr.{null_ptr}
+use Rattle.kernel_model.specs.declared.accepting.Accepting.{Accepting}
+use Rattle.kernel_model.specs.declared.accepting.Accepting.TheVariants.{Accepted, Again, Blocked, Starved}
+use Rattle.token.specs.declared.name.Name.{Name}
+use Rattle.interleaving.proofs.Slots.Leaves.{leaves_acting, leaves_calling, leaves_network, leaves_spurious, leaves_sweep, leaves_tick, leaves_vanish}
+use Rattle.interleaving.proofs.Slots.Views.{Alone, AreOwn, fewer_names, framed, own_reports, queued, rank_first, taken_here, taken_there, tickets_append}
+use Rattle.interleaving.proofs.Slots.Steps.{Apart, AtSlot, Between, FrontHolds, FrontsHold, Next, at_each, begins, by_still, by_thread, count, delivers_end, opens, same_names}
 use Rattle.interleaving.specs.Threads as alone
+use Rattle.world.specs.declared.event.Reported.TheVariants as reported
+
+-- What a front holds by: whether it listens, its flag, its arm, whether nobody waits, and whether a report is queued or in its batch
+
+abbrev Holds : Bool → Bool → Bool → Bool → Bool → Bool → Type 0
+Holds listens flag armed none queued batch = ((not listens || flag) || ((armed && none) || (queued || batch))) ≡ true
+
+some_wait : (listens flag armed now queued batch : Bool) → Holds listens flag armed false queued batch → Holds listens flag armed now queued batch
+some_wait listens flag armed now queued batch h = grind arith
+
+none_wait : (listens flag armed none queued batch : Bool) → Holds listens flag armed none queued batch → Holds listens flag armed true queued batch
+none_wait listens flag armed none queued batch h = grind arith
+
+told_holds : (listens flag armed none now queued batch : Bool) → Holds listens flag armed none queued batch → Holds listens flag false now (queued || armed) batch
+told_holds listens flag armed none now queued batch h = grind arith
+
+polled_holds : (x y queued batch : Bool) → (x || (y || (queued || false))) ≡ true → (x || (y || ((queued && not batch) || batch))) ≡ true
+polled_holds x y queued batch h = grind arith
+
+-- once a client waits, a front holds by what is on its way; the backlog may have any size then
+with_backlog : (server : Server) (b c p : ℕ) (f : Front) → nat_lt 0 b ≡ true → FrontHolds server b p f → FrontHolds server c p f
+with_backlog server b c p f some h =
+    let more : 0 < b = ltb-true 0 b some in
+    let none : (b == 0) ≡ false = ne_eqb b 0 (λ e. absurd (omega arith)) in
+    let was : ((not f.listens || f.flag) || ((f.armed && false) || (f.reported || list_any is_listener f.batch))) ≡ true = rw none at h.listener in
+    record { listener = some_wait f.listens f.flag f.armed (c == 0) f.reported (list_any is_listener f.batch) was; share = h.share; own = h.own }
+
+-- names as a poll gives them
+vec_of : (names : List Name) → length names ≤ 256 → (v : Vec Name Global) × (v.items ≡ names)
+vec_of names few =
+    let alloc : Global = record { memory = record { seal = tt } } in
+    (record { ptr = null_ptr; len = length names; cap = length names; alloc = alloc; items = names; ok = (refl, omega arith); small = omega arith }, refl)
+
+module _ (m : Many) (between : Between m) where
+  -- a step that is at no slot
+  quiet : (x : Step) (n : Many) → n.server ≡ m.server → ((s : ℕ) → Sees m s x []) → ((s : ℕ) → slot_of n s ≡ slot_of m s) → Apart n → FrontsHold n → Next m x n
+  quiet x n server is same apart fronts = record { server = server; each = λ s. record { own = []; sees = is s; leads = ap Some (sym (same s)) }; apart = apart; fronts = fronts }
+
+  -- it changes one front and the backlog
+  front_next : (x : Step) (p : ℕ) (new : Front) (b : ℕ) → ((s : ℕ) → Sees m s x []) → ((s : ℕ) → names_at s new.batch ≡ names_at s (m.fronts p).batch)
+      → ((i : ℕ) → FrontHolds m.server b i (m.fronts i)) → FrontHolds m.server b p new
+      → Next m x (record (with_front m p new) { backlog = b })
+  front_next x p new b is names others front =
+      let n : Many = record (with_front m p new) { backlog = b } in
+      quiet x n refl is (λ s. framed m n s refl refl (same_names m.fronts p new s (m.server.owner s) (λ e. names s)) refl) between.apart
+      (λ i. at_each (FrontHolds m.server b) m.fronts p new i (others i) (λ e. front))
+
+  -- it changes what one front knows of the listener
+  hears_of : (x : Step) (p : ℕ) (listens flag armed reported : Bool) → ((s : ℕ) → Sees m s x []) → let f = m.fronts p in
+      ((not listens || flag) || ((armed && m.backlog == 0) || (reported || list_any is_listener f.batch))) ≡ true
+      → Next m x (with_front m p (record f { listens = listens; flag = flag; armed = armed; reported = reported }))
+  hears_of x p listens flag armed reported is holds = let f = m.fronts p in
+      front_next x p (record f { listens = listens; flag = flag; armed = armed; reported = reported }) m.backlog is (λ s. refl) between.fronts
+      (record { listener = holds; share = (between.fronts p).share; own = (between.fronts p).own })
+
+  connects : Kept (Next m Connect) (shared m Connect)
+  connects = kept_some (quiet Connect (record m { backlog = m.backlog + 1; fronts = λ p. told (m.fronts p) }) refl (λ s. refl) (λ s. refl) between.apart (λ p. let f = m.fronts p in
+      record {
+        listener = told_holds f.listens f.flag f.armed (m.backlog == 0) (m.backlog + 1 == 0) f.reported (list_any is_listener f.batch) (between.fronts p).listener;
+        share = (between.fronts p).share;
+        own = (between.fronts p).own;
+      }))
+
+  rumours : (p : ℕ) → Kept (Next m (Rumour p)) (shared m (Rumour p))
+  rumours p = let f = m.fronts p in
+      kept_some (hears_of (Rumour p) p f.listens f.flag f.armed true (λ s. refl) (grind arith))
+
+  retracts : (p : ℕ) → Kept (Next m (Retract p)) (shared m (Retract p))
+  retracts p = let f = m.fronts p in
+      kept_guard _ _ (λ h.
+      let none : (m.backlog == 0) ≡ true = second_so f.reported _ h in
+      hears_of (Retract p) p f.listens f.flag true false (λ s. refl) (rw none (grind arith)))
+
+  drops : (p : ℕ) → Kept (Next m (Drop p)) (shared m (Drop p))
+  drops p = let f = m.fronts p in
+      kept_guard _ _ (λ h.
+      let least : f.opened + count f.accepted ≤ m.server.share p = (between.fronts p).share in
+      front_next (Drop p) p (record f { accepted = false }) m.backlog (λ s. refl) (λ s. refl) between.fronts
+      (record { listener = (between.fronts p).listener; share = omega arith; own = (between.fronts p).own }))
+
+  stops : (p : ℕ) → Kept (Next m (Stop p)) (shared m (Stop p))
+  stops p = kept_some (hears_of (Stop p) p false (m.fronts p).flag false false (λ s. refl) refl)
+
+  refuses : Kept (Next m Refuse) (shared m Refuse)
+  refuses = kept_some (quiet Refuse (record m { backlog = 0 }) refl (λ s. refl) (λ s. refl) between.apart (λ p. let f = m.fronts p in
+      let h = between.fronts p in
+      record { listener = none_wait f.listens f.flag f.armed (m.backlog == 0) f.reported (list_any is_listener f.batch) h.listener; share = h.share; own = h.own }))
+
+  -- a report of the listener or of the waker
+  hears : (p : ℕ) (r : Report) (rest : List Report) (flag : Bool) → (m.fronts p).batch ≡ r ∷ rest → ((s : ℕ) → names_at s (r ∷ rest) ≡ names_at s rest)
+      → AreOwn m.server.owner p rest → ((s : ℕ) → Sees m s (Deliver p) [])
+      → ((not (m.fronts p).listens || flag) || (((m.fronts p).armed && m.backlog == 0) || ((m.fronts p).reported || list_any is_listener rest))) ≡ true
+      → Next m (Deliver p) (with_front m p (record (m.fronts p) { flag = flag; batch = rest }))
+  hears p r rest flag is names own at_none holds =
+      front_next (Deliver p) p (record (m.fronts p) { flag = flag; batch = rest }) m.backlog at_none (λ s. rw is (sym (names s))) between.fronts
+      (record { listener = holds; share = (between.fronts p).share; own = own })
+
+  delivers : (p : ℕ) (batch : List Report) → (m.fronts p).batch ≡ batch → Kept (Next m (Deliver p)) (makes m (Deliver p) (delivering p batch))
+  delivers p [] is = rw is kept_none
+  delivers p (Listener ∷ rest) is = rw is (kept_some (hears p Listener rest true is (λ s. refl) (rw is at (between.fronts p).own) (λ s. rw is refl) (grind arith)))
+  delivers p (Waker ∷ rest) is = rw is (kept_some (hears p Waker rest (m.fronts p).flag is (λ s. refl) (rw is at (between.fronts p).own) (λ s. rw is refl) (rw is at (between.fronts p).listener)))
+  delivers p (Of s name ∷ rest) is = delivers_end m between p s name rest is
+
+  answers : (p : ℕ) (reply : Accepting) → may_accept m.server p (m.fronts p) ≡ true
+      → Kept (Next m (Accept p reply)) (answered m p reply)
+  answers p Accepted may =
+      let f = m.fronts p in
+      let less : f.opened < m.server.share p = ltb-true f.opened (m.server.share p) (second_so (not f.accepted) _ (second_so (f.listens && f.flag) _ may)) in
+      let flag_up : f.flag ≡ true = second_so f.listens f.flag (and_parts (f.listens && f.flag) _ may).0 in
+      kept_guard _ _ (λ some. front_next (Accept p Accepted) p (record f { accepted = true }) (m.backlog - 1) (λ s. refl) (λ s. refl)
+      (λ i. with_backlog m.server m.backlog (m.backlog - 1) i (m.fronts i) some (between.fronts i))
+      (record { listener = rw flag_up (grind arith); share = omega arith; own = (between.fronts p).own }))
+  answers p Blocked may = let f = m.fronts p in
+      kept_guard _ _ (λ none. hears_of (Accept p Blocked) p f.listens false true f.reported (λ s. refl)
+      (rw none (grind arith)))
+  answers p Again may = kept_some (quiet (Accept p Again) m refl (λ s. refl) (λ s. refl) between.apart between.fronts)
+  answers p Starved may = kept_some (quiet (Accept p Starved) m refl (λ s. refl) (λ s. refl) between.apart between.fronts)
+
+  puts : (i s : ℕ) → Kept (Next m (Put i s)) (shared m (Put i s))
+  puts i s = kept_map _ (first_of (suits i (Some s)) m.tickets) (λ c is.
+      let n : Many = record m { tickets = c.rest ++ record c.ticket { hand = None } ∷ [] } in
+      quiet (Put i s) n refl (λ t. refl) (λ t. framed m n t refl refl refl (same c is t (cases_eq t c.ticket.slot))) between.apart between.fronts)
+    where
+      same : (c : Taken) → first_of (suits i (Some s)) m.tickets ≡ Some c → (t : ℕ) → (t ≡ c.ticket.slot) ⊎ (t ≢ c.ticket.slot)
+          → tickets_at t (c.rest ++ record c.ticket { hand = None } ∷ []) ≡ tickets_at t m.tickets
+      same c is t (inl here) =
+          let it : Alone t m.tickets c = taken_here (suits i (Some s)) m.tickets c is t (sym here) (between.one_ticket t) in
+          tickets_append t c.rest _ ∙ rw (it.rest, eq-eqb c.ticket.slot t (sym here)) (sym it.whole)
+      same c is t (inr other) = tickets_append t c.rest _ ∙ rw (ne_eqb c.ticket.slot t (λ e. other (sym e))) (append-nil (tickets_at t c.rest))
+          ∙ taken_there (suits i (Some s)) m.tickets c is t other
+
+  -- a poll
+
+  same_threads : (b : Bool) (place : System) (names : List Name) → (if b then unqueued place names else place).threads ≡ place.threads
+  same_threads b place names = grind arith
+
+  module _ (p : ℕ) (reports : List Report) (rested : rests m p ≡ true) (few : length reports ≤ 256) (empty : (m.fronts p).batch ≡ []) (asked : are_queued m p reports ≡ true) where
+    -- the poller has no program at its slots
+    idle : (s : ℕ) → m.server.owner s ≡ p → (s ≡ m.busy_at p) ⊎ (s ≢ m.busy_at p) → rests_at (slice_get (m.places s).threads 0) ≡ true
+    idle s own (inl here) =
+        let first : rank (m.server.owner (m.busy_at p)) p ≡ 0 = rw (← here, own) (rank_first p) in
+        let now = rw first at (second_so (nat_lt p m.server.limits.workers) _ rested) in
+        rw here now
+    idle s own (inr other) =
+        let first : rank (m.server.owner s) p ≡ 0 = rw own (rank_first p) in
+        let some : p < m.server.limits.workers = rw own at (between.inside s) in
+        let now = rw first at (between.apart p s some other) in
+        now
+
+    polls_at : (s : ℕ) → (m.server.owner s ≡ p) ⊎ (m.server.owner s ≢ p) → AtSlot m (Poll p reports) (polled m p reports) s
+    polls_at s (inl own) =
+        let least = fewer_names s reports in
+        let fewer : length (names_at s reports) ≤ 256 = omega arith in
+        let q = queued m p s reports asked in
+        let idle_now = idle s own (cases_eq s (m.busy_at p)) in
+        let given = vec_of (names_at s reports) fewer in
+        record {
+          own = alone.Poll given.0 ∷ [];
+          sees = rw (eq-eqb (m.server.owner s) p own) (given.0, given.1, refl);
+          leads = rw (own, empty, idle_now, given.1, le-leb (length (names_at s reports)) 256 fewer, q.among, q.once, eq-eqb p p refl) refl;
+        }
+    polls_at s (inr other) = record {
+      own = [];
+      sees = rw (ne_eqb (m.server.owner s) p other) refl;
+      leads = ap Some (sym (framed m (polled m p reports) s refl (rw (ne_eqb (m.server.owner s) p other) refl)
+          (same_names m.fronts p _ s (m.server.owner s) (λ e. absurd (other e))) refl));
+    }
+
+    polled_next : Next m (Poll p reports) (polled m p reports)
+    polled_next =
+        let f = m.fronts p in
+        let was = rw empty at (between.fronts p).listener in
+        record {
+          server = refl;
+          each = λ s. polls_at s (cases_eq (m.server.owner s) p);
+          apart = λ i s some other. rw (same_threads (m.server.owner s == p) (m.places s) (names_at s reports)) (between.apart i s some other);
+          fronts = λ i. at_each (FrontHolds m.server m.backlog) m.fronts p _ i (between.fronts i) (λ e. record {
+            listener = polled_holds (not f.listens || f.flag) (f.armed && m.backlog == 0) f.reported (list_any is_listener reports) was;
+            share = (between.fronts p).share;
+            own = own_reports m p reports asked;
+          });
+        }
+
+  polls : (p : ℕ) (reports : List Report) → rests m p ≡ true → Kept (Next m (Poll p reports)) (shared m (Poll p reports))
+  polls p reports rested = kept_guard _ _ (λ h.
+      let few = and_parts (nat_le (length reports) 256) _ h in
+      let parts = and_parts (length (m.fronts p).batch == 0) (are_queued m p reports) few.1 in
+      polled_next p reports rested (leb-true (length reports) 256 few.0) (nil_from_length (m.fronts p).batch (eqb-true (length (m.fronts p).batch) 0 parts.0)) parts.1)
+
+  -- any step
+
+  pub next : (x : Step) → Kept (Next m x) (step m x)
+  next (Tick s n) = by_still m between (Tick s n) _ (λ t own e. e) (leaves_tick (slot_of m s) n)
+  next (Network s side change) = by_still m between (Network s side change) _ (λ t own e. e) (leaves_network (slot_of m s) side change)
+  next (Spurious s side) = by_still m between (Spurious s side) _ (λ t own e. e) (leaves_spurious (slot_of m s) (reported.End 0 side))
+  next (Vanish s side) = by_still m between (Vanish s side) _ (λ t own e. e) (leaves_vanish (slot_of m s) (reported.End 0 side))
+  next Connect = connects
+  next (Rumour p) = rumours p
+  next (Retract p) = retracts p
+  next (Poll p reports) = kept_when (rests m p) _ (λ rested. polls p reports rested)
+  next (Deliver p) = kept_when (rests m p) _ (λ rested. delivers p (m.fronts p).batch refl)
+  next (Sweep p s) = kept_when (may m (Sweep p s)) _ (λ h. by_still m between (Sweep p s) _ (λ t own e. e) (leaves_sweep (slot_of m s)))
+  next (Accept p reply) = kept_when (rests m p) _ (λ rested. kept_when _ _ (λ h. answers p reply h))
+  next Refuse = refuses
+  next (Stop p) = kept_when (rests m p) _ (λ rested. stops p)
+  next (Drop p) = kept_when (rests m p) _ (λ rested. drops p)
+  next (Open p s) = kept_when _ _ (λ h. opens m between p s h)
+  next (Begin i from most) = kept_when (rests m i) _ (λ rested. begins m between i from most rested (first_of (suits i from) m.tickets) refl)
+  next (Put i s) = puts i s
+  next (Acts i) = by_thread m between (Acts i) i _ (λ t own e. e) (leaves_acting (slot_of m (m.busy_at i)) (rank_at m (m.busy_at i) i) refl)
+  next (Calls i r) = by_thread m between (Calls i r) i _ (λ t own e. e) (leaves_calling (slot_of m (m.busy_at i)) (rank_at m (m.busy_at i) i) r)
 
 -- a state that steps lead to
 pub record Reached (server : Server) (m : Many) : Type 0 where

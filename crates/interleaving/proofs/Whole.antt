@@ -5,7 +5,7 @@ use Rattle.kernel_model.specs.{Kernel.reported, Names.{has, without_names}, decl
 use Rattle.token.specs.declared.name.Name.{Name, TheVariants.Listener as listener_name}
 use Rattle.world.{proofs.Headline.Ends.Pairs.Holders.Events.Lists.{Kept, kept_at, kept_guard, kept_map, kept_none, kept_over, kept_some, kept_when, total_le, total_push}, specs.{Calls.when, States.numbers_below, Support.total}}
 use Rattle.interleaving.specs.{Threads.{System}, Likeness.EveryInterleavingIsARun, Rest.{LeftAloneItEnds, client_weight, most}, Slots.{Deed, Front, Many, Report, Of, Listener, Waker, Server, Taken, Ticket, Step, Poll, Deliver, Accept, Drop, Open, Begin, Put, Acts, Calls, Sees, answered, are_queued, besides, deed, delivering, first_of, in_hand, is_listener, makes, may, may_accept, names_at, one_slot, opening, polled, rank_at, rests, run, set, shared, slot_of, start, step, steps_at, suits, tickets_at, with_front, written}, Whole.{ServersComeToRest, accepted_weight, front_weight, hand_weight, is_own, is_waker, report_weight, weight, wakes}}
-use Rattle.interleaving.proofs.{Runs.{run_on}, Slots.{Reached, between, first, goes, reach, Shared.{next}, Steps.{Next}, Views.{Found, found, queued, set_here, set_there}}, Rest.Weights.{most_at, not_so, polled as left_queue}}
+use Rattle.interleaving.proofs.{Runs.{run_on}, Slots.{Reached, between, first, goes, next, reach, Steps.{Next}, Views.{Found, found, queued, set_here, set_there}}, Rest.Weights.{most_at, not_so, polled as left_queue}}
 use Rattle.interleaving.specs.Threads as alone
 use Rattle.interleaving.specs.Rest as slot
 use Rattle.kernel_model.specs.Kernel as kernel
