@@ -5,7 +5,7 @@ use crate::rows::takes_value;
 use clap::error::ErrorKind;
 use std::fmt;
 
-/// What to type or do: these words, one behind the other.
+/// What to type or do: these words, one after the other.
 #[derive(Clone, Copy)]
 pub(crate) struct Tip<'a>([&'a str; 5]);
 

@@ -223,7 +223,7 @@ fn run_first<F: Front + Drop, G: Gate, C: Clock, R: Wait + Log, S: StopFlag>(
     }
 }
 
-/// If not all threads could be started, that is recorded, before the faults of all threads. The gate is told that all
+/// If not all threads could be started, that is recorded, before the faults of all threads. The gate hears that all
 /// were, unless a fault is recorded.
 fn few_started<G: Gate, C, R: Wait + Log, S>(
     context: &Context<'_, G, C, R, S>,
