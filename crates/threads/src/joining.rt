@@ -39,7 +39,7 @@ pub(crate) struct Joins<'s, P: Part<X>, X> {
 }
 
 impl<'s, P: Part<X>, X> Joins<'s, P, X> {
-    /// Room for the threads of these numbers of parts.
+    /// Room for the threads of `count` parts.
     pub(crate) fn for_parts(alloc: Global, count: usize) -> Result<Joins<'s, P, X>, AllocError>
         ensures none { IfOk result (λ joins. joins.handles.items ≡ []) }
         ensures room { IfOk result (λ joins. (count ≤ vec_capacity joins.handles) × (count ≤ vec_capacity joins.ends)) }
