@@ -1,61 +1,21 @@
 -- Left alone, the threads come to rest: each step leaves a sound state, which the relay's own steps make lighter.
 pub mod Weights
 pub mod Acts
-use Rattle.std.proofs.Common.{Bool, List, None, Option, Some, Vec, [], ap, arith, drop, false, get_or, if◌then◌else◌, inl, inr, le-leb, length, lt-ltb, ltb-true, nat_le, nat_lt, not, option_map, refl, replicate, slice_get, slice_set, subst, suc, sym, true, zero, ℕ, ◌&&◌, ◌*◌, ◌++◌, ◌+◌, ◌-◌, ◌<◌, ◌==◌, ◌∙◌, ◌∷◌, ◌≡◌, ◌≢◌, ◌≤◌, ◌⊎◌}
-use Rattle.std.proofs.lemmas.Bool.{and_parts}
-use Rattle.std.proofs.lemmas.Option.{option_and_then_some, slice_get-get_or}
-use Rattle.std.proofs.lemmas.List.{length-replicate, length-set}
-use Rattle.std.specs.Cmp.{first_so, second_so}
-use Rattle.std.specs.List.{list_all, list_any}
+use Rattle.std.{proofs.{Common.{Bool, List, None, Option, Some, Vec, [], ap, arith, drop, false, get_or, if◌then◌else◌, inl, inr, le-leb, length, lt-ltb, ltb-true, nat_le, nat_lt, not, option_map, refl, replicate, slice_get, slice_set, subst, suc, sym, true, zero, ℕ, ◌&&◌, ◌*◌, ◌++◌, ◌+◌, ◌-◌, ◌<◌, ◌==◌, ◌∙◌, ◌∷◌, ◌≡◌, ◌≢◌, ◌≤◌, ◌⊎◌}, lemmas.{Bool.{Decides.{nat_tests}, and_parts}, List.{length-replicate, length-set}, Option.{option_and_then_some, slice_get-get_or}}}, specs.{Cmp.{first_so, second_so}, Global.{Global}, List.{list_all, list_any}, Option.{option_flatten}}}
 use Rattle.claims.specs.Words.{one}
-use Rattle.kernel_model.specs.Names.{are_among, are_distinct, without_names}
-use Rattle.kernel_model.specs.declared.accepting.Accepting.TheVariants.{Accepted, Again, Blocked, Starved}
-use Rattle.token.specs.Names.{last_generation}
-use Rattle.token.specs.declared.name.Name.{Name}
-use Rattle.world.proofs.Headline.Ends.Pairs.Holders.{SlotOk, Turns, facts, turns_after, worker_closes, worker_holds}
-use Rattle.world.proofs.Headline.Ends.Pairs.Holders.Events.Lists.{Kept, get-replicate, get-set_other, kept_at, kept_bind, kept_guard, kept_map, kept_none, kept_over, kept_some, kept_when, total_none}
-use Rattle.world.specs.Calls.{OpenConnection, descriptor}
-use Rattle.world.specs.CoreLaws.{CoreLaws}
-use Rattle.world.specs.Due.{due, due_place, has_ticket, movable}
-use Rattle.world.specs.Steps.{change_at, token_of}
-use Rattle.world.specs.declared.limits.Limits.{Limits}
-use Rattle.interleaving.specs.Likeness.{EveryInterleavingIsARun, IsARun, IsHalfOpen, IsSettled, Like, NoActInVain, Settled, machine_of}
-use Rattle.interleaving.specs.Threads.{Accept, Act, Begin, Calls, Connect, Deliver, Drop, Network, Open, Poll, Spurious, Step, Sweep, System, Thread, Tick, Vanish, acts, delivers, ended, goes_on, is_over, open_slot, poller_rests, posted, registering, resting, rests, run, start, step, watched_of}
-use Rattle.interleaving.specs.Rest.{HasStopped, LeftAloneItEnds, LeftAloneItRests, is_own, weight}
-use Rattle.interleaving.proofs.Runs.{run_on, stage_acts}
-use Rattle.interleaving.proofs.Rest.Acts.{Calling, Ending, Fine, Known, Nothing, Opening, Sound, acts_fine, begins_fine, calls_fine, goes, known, posted_weighs}
-use Rattle.interleaving.proofs.Rest.Weights.{polled, same_self}
-use Rattle.std.proofs.lemmas.Bool.Decides.{nat_tests}
-use Rattle.std.specs.Global.{Global}
-use Rattle.std.specs.Option.{option_flatten}
+use Rattle.kernel_model.specs.{Ends.{is_nonempty}, Kernel.{KernelState, Registered, end_at}, Names.{are_among, are_distinct, without_names}, declared.{accepting.{Accepting.{TheVariants.{Accepted, Again, Blocked, Starved}}}, both.{Descriptors.{Descriptors}}}}
+use Rattle.token.specs.{Names.{last_generation}, declared.{kind.{Kind.{TheVariants.{Reset}}}, name.{Name.{Name}}, side.{Side.{TheVariants.{Client, Target}, Side}}}}
+use Rattle.world.{proofs.{Headline.{Ends.{Pairs.{Holders.{Events.{Lists.{Kept, get-replicate, get-set_other, kept_at, kept_bind, kept_guard, kept_map, kept_none, kept_over, kept_some, kept_when, total_none}, Happens, Ticks, holds_after}, SlotOk, Turns, facts, turns_after, worker_closes, worker_holds}}}}}, specs.{Calls.{OpenConnection, descriptor}, CoreLaws.{CoreLaws}, Due.{due, due_place, has_ticket, movable}, Headline.{ListenerHolds}, Slots.{SlotState, WorkerState, is_by_worker, is_held}, States.{State, opening, resting as idle_worker}, Steps.{change_at, token_of}, Support.{one as one_if, total, worker_tickets}, declared.{actors.{Holder.{TheVariants.{By, Free, Nobody}, Holder}}, connection.{Connection.{Connection}}, event.{Event.{Event}}, limits.{Limits.{Limits}}}}}
+use Rattle.interleaving.{proofs.{Rest.{Acts.{Calling, Ending, Fine, Known, Nothing, Opening, Sound, acts_fine, begins_fine, calls_fine, goes, known, posted_weighs}, Weights.{polled, same_self}}, Runs.{Programs.{rests_like, some_there}, run_on, stage_acts}}, specs.{Likeness.{EveryInterleavingIsARun, IsARun, IsHalfOpen, IsSettled, Like, NoActInVain, Settled, machine_of}, Rest.{HasStopped, LeftAloneItEnds, LeftAloneItRests, is_own, weight}, Threads.{Accept, Act, Acts as DoesAct, Begin, Calls, Connect, Deliver, Drop, Network, Open, Poll, Spurious, Step, Sweep, System, Thread, Tick, Vanish, acts, delivers, ended, goes_on, is_over, open_slot, poller_rests, posted, registering, resting, rests, run, start, step, watched_of}}}
 use denote.RawPtr.{null_ptr}
-use Rattle.token.specs.declared.kind.Kind.TheVariants.{Reset}
-use Rattle.token.specs.declared.side.Side.{Side}
-use Rattle.token.specs.declared.side.Side.TheVariants.{Client, Target}
-use Rattle.kernel_model.specs.Ends.{is_nonempty}
-use Rattle.kernel_model.specs.Kernel.{KernelState, Registered, end_at}
-use Rattle.kernel_model.specs.declared.both.Descriptors.{Descriptors}
-use Rattle.relay_core.specs.Calls.{side_of}
-use Rattle.relay_core.specs.Order.{next_call}
-use Rattle.relay_core.specs.declared.call.Call.TheVariants.{Read}
-use Rattle.world.proofs.Headline.Ends.Pairs.Holders.Events.{Happens, Ticks, holds_after}
-use Rattle.world.specs.Headline.{ListenerHolds}
-use Rattle.world.specs.Slots.{SlotState, WorkerState, is_by_worker, is_held}
-use Rattle.world.specs.States.{State, opening}
-use Rattle.world.specs.Support.{one as one_if, total, worker_tickets}
-use Rattle.world.specs.declared.actors.Holder.{Holder}
-use Rattle.world.specs.declared.actors.Holder.TheVariants.{By, Free, Nobody}
-use Rattle.world.specs.declared.connection.Connection.{Connection}
-use Rattle.world.specs.declared.event.Event.{Event}
+use Rattle.relay_core.specs.{Calls.{side_of}, Order.{next_call}, declared.{call.{Call.{TheVariants.{Read}, Call as PairCall}}}}
 unfoldable use Rattle.world.specs.Calls.{called}
-use Rattle.interleaving.proofs.Runs.Programs.{rests_like, some_there}
-use Rattle.interleaving.specs.Threads.{Acts as DoesAct}
 use Rattle.kernel_model.specs.Kernel as kernel
 use Rattle.token.specs.declared.name.Name.TheVariants as name
-use Rattle.relay_core.specs.declared.call.Call.{Call as PairCall}
-use Rattle.world.specs.States.{resting as idle_worker}
 use Rattle.kernel_model.specs.declared.reply.Reply.TheVariants as reply
 use Rattle.world.specs.Runs as machine_runs
+
+-- Where no step of the relay's own can be made, nothing is half way, and nothing is left to do
 
 -- A program that is half way can go on
 
@@ -214,6 +174,8 @@ module _ {l : Limits} (st : System) (sound : Sound l st) (over : (i : ℕ) (t : 
   still w (IsSettled p workers is set) turns listens count = rw is (settled_still p workers set (rw is at turns) (rw is at listens) (rw is at count))
   -- an opening that is half way has a program
   still w (IsHalfOpen t c workers is half) turns listens count = absurd (let none = ap is_over (over 0 t half.first) in cc (stage_acts half.stage))
+
+-- Each step leaves a sound state, which the relay's own steps make lighter
 
 over_is : (acts : List Act) → is_over acts ≡ true → acts ≡ []
 over_is acts over = grind arith

@@ -2,26 +2,12 @@
 pub mod Leaves
 pub mod Views
 pub mod Steps
-use Rattle.std.proofs.Common.{Bool, List, None, Some, Vec, [], ap, append-nil, arith, eq-eqb, eqb-true, false, if◌then◌else◌, inl, inr, le-leb, leb-true, length, nat_le, nat_lt, ne_eqb, not, refl, replicate, slice_get, suc, sym, true, zero, ℕ, ◌&&◌, ◌++◌, ◌+◌, ◌-◌, ◌<◌, ◌==◌, ◌||◌, ◌∙◌, ◌∷◌, ◌≡◌, ◌≢◌, ◌≤◌, ◌⊎◌}
-use Rattle.std.proofs.lemmas.Bool.Decides.{nat_tests}
-use Rattle.std.proofs.lemmas.Option.{option_and_then_some, same_Some}
-use Rattle.std.specs.List.{list_any}
+use Rattle.std.{proofs.{Common.{Bool, List, None, Some, Vec, [], ap, append-nil, arith, eq-eqb, eqb-true, false, if◌then◌else◌, inl, inr, le-leb, leb-true, length, nat_le, nat_lt, ne_eqb, not, refl, replicate, slice_get, suc, sym, true, zero, ℕ, ◌&&◌, ◌++◌, ◌+◌, ◌-◌, ◌<◌, ◌==◌, ◌||◌, ◌∙◌, ◌∷◌, ◌≡◌, ◌≢◌, ◌≤◌, ◌⊎◌}, lemmas.{Bool.{Decides.{nat_tests}, and_parts, cases_eq, ltb-true}, List.{nil_from_length}, Option.{option_and_then_some, same_Some}}}, specs.{Cmp.{second_so}, Global.{Global}, List.{list_any}}}
 use Rattle.world.proofs.Headline.Ends.Pairs.Holders.Events.Lists.{Kept, kept_at, kept_guard, kept_map, kept_none, kept_some, kept_when}
-use Rattle.interleaving.specs.Threads.{System, resting, rests_at}
-use Rattle.interleaving.specs.Likeness.{EveryInterleavingIsARun}
-use Rattle.interleaving.specs.Slots.{Accept, Acts, AllStandApart, Begin, Calls, Connect, Deliver, Drop, Front, Listener, Many, Network, Of, Open, Poll, Put, Refuse, Report, Retract, Rumour, Sees, SeesAll, Server, SlotsStandApart, Spurious, Step, Stop, Sweep, Taken, Tick, Vanish, Waker, answered, are_queued, delivering, first_of, is_listener, makes, may, may_accept, names_at, one_slot, polled, rank, rank_at, rests, run, shared, slot_of, start, step, suits, tickets_at, told, unqueued, with_front}
-use Rattle.interleaving.proofs.Runs.{run_on}
-use Rattle.std.proofs.lemmas.Bool.{and_parts, cases_eq, ltb-true}
-use Rattle.std.proofs.lemmas.List.{nil_from_length}
-use Rattle.std.specs.Cmp.{second_so}
-use Rattle.std.specs.Global.{Global}
+use Rattle.interleaving.{proofs.{Runs.{run_on}, Slots.{Leaves.{leaves_acting, leaves_calling, leaves_network, leaves_spurious, leaves_sweep, leaves_tick, leaves_vanish}, Steps.{Apart, AtSlot, Between, FrontHolds, FrontsHold, Next, at_each, begins, by_still, by_thread, count, delivers_end, opens, same_names}, Views.{Alone, AreOwn, fewer_names, framed, own_reports, queued, rank_first, taken_here, taken_there, tickets_append}}}, specs.{Likeness.{EveryInterleavingIsARun}, Slots.{Accept, Acts, AllStandApart, Begin, Calls, Connect, Deliver, Drop, Front, Listener, Many, Network, Of, Open, Poll, Put, Refuse, Report, Retract, Rumour, Sees, SeesAll, Server, SlotsStandApart, Spurious, Step, Stop, Sweep, Taken, Tick, Vanish, Waker, answered, are_queued, delivering, first_of, is_listener, makes, may, may_accept, names_at, one_slot, polled, rank, rank_at, rests, run, shared, slot_of, start, step, suits, tickets_at, told, unqueued, with_front}, Threads.{System, resting, rests_at}}}
 use denote.RawPtr.{null_ptr}
-use Rattle.kernel_model.specs.declared.accepting.Accepting.{Accepting}
-use Rattle.kernel_model.specs.declared.accepting.Accepting.TheVariants.{Accepted, Again, Blocked, Starved}
+use Rattle.kernel_model.specs.declared.accepting.Accepting.{TheVariants.{Accepted, Again, Blocked, Starved}, Accepting}
 use Rattle.token.specs.declared.name.Name.{Name}
-use Rattle.interleaving.proofs.Slots.Leaves.{leaves_acting, leaves_calling, leaves_network, leaves_spurious, leaves_sweep, leaves_tick, leaves_vanish}
-use Rattle.interleaving.proofs.Slots.Views.{Alone, AreOwn, fewer_names, framed, own_reports, queued, rank_first, taken_here, taken_there, tickets_append}
-use Rattle.interleaving.proofs.Slots.Steps.{Apart, AtSlot, Between, FrontHolds, FrontsHold, Next, at_each, begins, by_still, by_thread, count, delivers_end, opens, same_names}
 use Rattle.interleaving.specs.Threads as alone
 use Rattle.world.specs.declared.event.Reported.TheVariants as reported
 
@@ -234,6 +220,8 @@ module _ (m : Many) (between : Between m) where
   next (Put i s) = puts i s
   next (Acts i) = by_thread m between (Acts i) i _ (λ t own e. e) (leaves_acting (slot_of m (m.busy_at i)) (rank_at m (m.busy_at i) i) refl)
   next (Calls i r) = by_thread m between (Calls i r) i _ (λ t own e. e) (leaves_calling (slot_of m (m.busy_at i)) (rank_at m (m.busy_at i) i) r)
+
+-- What a slot has seen
 
 -- a state that steps lead to
 pub record Reached (server : Server) (m : Many) : Type 0 where
