@@ -351,9 +351,10 @@ def send_and_shut(connection, data):
 
 
 def until(is_so):
-    """Whether something is so within 10 seconds."""
-    for _ in range(200):
-        if is_so():
-            return True
+    """Whether something comes to be so."""
+    ends = time.monotonic() + WAIT
+    while not is_so():
+        if time.monotonic() > ends:
+            return False
         time.sleep(0.05)
-    return False
+    return True

@@ -19,7 +19,7 @@ def has_all_options(is_typed):
     file = tempfile.NamedTemporaryFile(suffix=".prom")
     options += ["--stats-file", file.name]
     settings = {"ring": 100, "budget": 5, "workers": 2, "slots": 128, "idle": 4, "proxy": True, "stop_after": most}
-    listener, pairs = unheard(), []
+    listener, pairs, started = unheard(), [], time.monotonic()
     listener.listen(0)
     relay = Relay(port_of(listener), options=options, typed=is_typed, stdin=subprocess.PIPE, **settings)
     begun = time.monotonic()
@@ -47,12 +47,12 @@ def has_all_options(is_typed):
         relay.process.stdin = None
         time.sleep(1)
     assert not is_open(relay.port) and is_closed_soon(pairs[2][0], 9) and relay.process.wait(WAIT) == 0
-    taken, lines, sent = time.monotonic() - begun, relay.ended(), [len(line) for _, _, line in pairs]
+    ended, lines, sent = time.monotonic(), relay.ended(), [len(line) for _, _, line in pairs]
     assert having(lines, "] input: ") == [] if is_typed else len(having(lines, "] input: has ended")) == 1
     counts = [numbers_in(line) for line in having(lines, "[INFO  relayd] stats ")]
     wanted = {"open": 0, "slots": 128, "opened": 4, "done": 1, "failed": 3, "dropped": 0, "client": 1, "target": 1, "refused": 0}
     assert counts[-1] == wanted | {"reset": 1, "timedout": 1, "idle": 1, "up": sum(sent) + 3, "down": 5}
-    assert abs(len(counts) - 1 - taken / seconds) <= 1.5, (len(counts), taken)
+    assert (ended - begun) / seconds - 1.5 <= len(counts) - 1 <= (ended - started) / seconds + 1.5, (len(counts), ended - begun)
     assert as_line(read(file.name)) == counts[-1]
     assert len(having(lines, "[INFO  relayd] peer ")) == len(having(lines, "[INFO  relayd] gone ")) == 4
     for name, cause in zip(names, ("cause=done", "cause=idle", "cause=Connection timed out (os error 110)")):
