@@ -1,11 +1,10 @@
 -- A whole server, left alone, comes to rest: each of its own steps makes it lighter.
-use Rattle.std.{proofs.{Common.{Bool, List, None, Option, Some, [], ap, arith, drop, false, if◌then◌else◌, inl, inr, length, map, nat_lt, not, option_map, refl, suc, sym, true, zero, ℕ, ◌&&◌, ◌++◌, ◌+◌, ◌-◌, ◌*◌, ◌==◌, ◌∙◌, ◌∷◌, ◌≡◌, ◌≢◌, ◌≤◌, ◌<◌, ◌⊎◌, eq-eqb, length-append, ltb-true, nat_le, ne_eqb}, lemmas.{Bool.{and_parts, cases_eq}, List.length-drop, Option.{option_and_then_some, same_Some}}}, specs.{Cmp.second_so, List.{list_all, list_any}}}
+use Rattle.std.{proofs.{Common.{Bool, List, None, Option, Some, [], ap, arith, drop, eq-eqb, false, if◌then◌else◌, inl, inr, length, length-append, ltb-true, map, nat_le, nat_lt, ne_eqb, not, option_map, refl, suc, sym, true, zero, ℕ, ◌&&◌, ◌*◌, ◌++◌, ◌+◌, ◌-◌, ◌<◌, ◌==◌, ◌∙◌, ◌∷◌, ◌≡◌, ◌≢◌, ◌≤◌, ◌⊎◌}, lemmas.{Bool.{and_parts, cases_eq}, List.length-drop, Option.{option_and_then_some, same_Some}}}, specs.{Cmp.second_so, List.{list_all, list_any}}}
 use Rattle.claims.specs.Words.{one}
-use Rattle.kernel_model.specs.{Kernel.reported, Names.{has, without_names}, declared.accepting.Accepting.{Accepting, TheVariants.{Accepted, Blocked, Again, Starved}}}
-use Rattle.token.specs.declared.name.Name.{Name, TheVariants.Listener as listener_name}
+use Rattle.kernel_model.specs.{Kernel.reported, Names.{has, without_names}, declared.accepting.Accepting.{TheVariants.{Accepted, Again, Blocked, Starved}, Accepting}}
+use Rattle.token.specs.declared.name.Name.{TheVariants.{Listener as listener_name}, Name}
 use Rattle.world.{proofs.Headline.Ends.Pairs.Holders.Events.Lists.{Kept, kept_at, kept_guard, kept_map, kept_none, kept_over, kept_some, kept_when, total_le, total_push}, specs.{Calls.when, States.numbers_below, Support.total}}
-use Rattle.interleaving.specs.{Threads.{System}, Likeness.EveryInterleavingIsARun, Rest.{LeftAloneItEnds, client_weight, most}, Slots.{Deed, Front, Many, Report, Of, Listener, Waker, Server, Taken, Ticket, Step, Poll, Deliver, Accept, Drop, Open, Begin, Put, Acts, Calls, Sees, answered, are_queued, besides, deed, delivering, first_of, in_hand, is_listener, makes, may, may_accept, names_at, one_slot, opening, polled, rank_at, rests, run, set, shared, slot_of, start, step, steps_at, suits, tickets_at, with_front, written}, Whole.{ServersComeToRest, accepted_weight, front_weight, hand_weight, is_own, is_waker, report_weight, weight, wakes}}
-use Rattle.interleaving.proofs.{Runs.{run_on}, Slots.{Reached, between, first, goes, next, reach, Steps.{Next}, Views.{Found, found, queued, set_here, set_there}}, Rest.Weights.{most_at, not_so, polled as left_queue}}
+use Rattle.interleaving.{proofs.{Rest.{Weights.{most_at, not_so, polled as left_queue}}, Runs.run_on, Slots.{Steps.{Found, Next, found, queued, set_here, set_there}, Reached, between, first, goes, next, reach}}, specs.{Likeness.EveryInterleavingIsARun, Rest.{LeftAloneItEnds, client_weight, most}, Slots.{Accept, Acts, Begin, Calls, Deed, Deliver, Drop, Front, Listener, Many, Of, Open, Poll, Put, Report, Sees, Server, Step, Taken, Ticket, Waker, answered, are_queued, besides, deed, delivering, first_of, in_hand, is_listener, makes, may, may_accept, names_at, one_slot, opening, polled, rank_at, rests, run, set, shared, slot_of, start, step, steps_at, suits, tickets_at, with_front, written}, Threads.System, Whole.{ServersComeToRest, accepted_weight, front_weight, hand_weight, is_own, is_waker, report_weight, wakes, weight}}}
 use Rattle.interleaving.specs.Threads as alone
 use Rattle.interleaving.specs.Rest as slot
 use Rattle.kernel_model.specs.Kernel as kernel
