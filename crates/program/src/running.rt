@@ -83,8 +83,7 @@ where
     R::File: AsRawFd,
 {
     let in_parts = extras.record_size.is_some();
-    let place = find_place(rt, log, relay.record, in_parts)?;
-    let stats_file = find_file(rt, log, relay.stats_file)?;
+    let (place, stats_file) = find_files(rt, log, relay, in_parts)?;
     let (settings, bound) = listen(rt, log, settings, relay, in_parts)?;
     let files = create(rt, log, relay.record, place, in_parts)?;
     Ok(Given {
@@ -94,6 +93,19 @@ where
         stats_file,
         files,
     })
+}
+
+fn find_files<R: AllocGlobal + Files>(
+    rt: &R,
+    log: &impl Log,
+    relay: &Relay<'_>,
+    in_parts: bool,
+) -> Result<(Place<R::File>, Option<StatsFile>), ProgramFault>
+where
+    R::File: AsRawFd,
+{
+    let place = find_place(rt, log, relay.record, in_parts)?;
+    Ok((place, find_file(rt, log, relay.stats_file)?))
 }
 
 /// Listens, and looks at what is needed beside the files that are opened then.

@@ -263,27 +263,33 @@ fn quotes_of(written: &str, key: Key) -> Option<Wanted<'_>> {
 impl fmt::Display for Wanted<'_> {
     fn fmt<W: fmt::Write>(&self, f: &mut fmt::Formatter<W>) -> fmt::Result {
         match *self {
-            Wanted::Number(low, high) => {
-                write!(f, "a whole number from {low} to {high} is wanted")
-            }
+            Wanted::Number(low, high) => write_range(f, low, high),
             Wanted::Port(lowest) => write!(f, "a port from {lowest} up is wanted"),
-            Wanted::Quotes(key, text) => {
-                f.write_str("a text stands in quotes: ")?;
-                write_quoted(f, key, text)
-            }
-            Wanted::NoQuote(quote, key, text) => {
-                write!(f, "{quote} is no quote of TOML: ")?;
-                write_quoted(f, key, text)
-            }
+            Wanted::Quotes(key, text) => write_quoted(f, key, text),
+            Wanted::NoQuote(quote, key, text) => write_no_quote(f, quote, key, text),
             Wanted::Bare(bare) => bare.fmt(f),
             Wanted::Words(before, part, after) => write_words(f, before, part, after),
         }
     }
 }
 
+fn write_range<W: fmt::Write>(f: &mut fmt::Formatter<W>, low: u32, high: u32) -> fmt::Result {
+    write!(f, "a whole number from {low} to {high} is wanted")
+}
+
 fn write_quoted<W: fmt::Write>(f: &mut fmt::Formatter<W>, key: Key, text: &str) -> fmt::Result {
     let text = OneLine(text);
-    write!(f, "{key} = \"{text}\"")
+    write!(f, "a text stands in quotes: {key} = \"{text}\"")
+}
+
+fn write_no_quote<W: fmt::Write>(
+    f: &mut fmt::Formatter<W>,
+    quote: char,
+    key: Key,
+    text: &str,
+) -> fmt::Result {
+    let text = OneLine(text);
+    write!(f, "{quote} is no quote of TOML: {key} = \"{text}\"")
 }
 
 fn write_words<W: fmt::Write>(
