@@ -41,14 +41,9 @@ pub(crate) fn write_ends<R: Read, W: Write>(
         moments: None,
         failed: None,
     };
-    let rest = read_each(alloc, input, &mut ends)?;
-    write_left_out(output, alloc, "", rest.left_out)?;
-    let (failed, now) = (ends.failed, ends.now());
-    for place in ends.places.as_mut_slice().iter_mut() {
-        place.close(failed, now)?;
-        write_text(output, place.past.as_str())?;
-    }
-    flush(output)
+    let outcome = ends.follow(input, output);
+    drop(ends);
+    outcome
 }
 
 impl Place {
@@ -118,6 +113,21 @@ impl Take for Ends {
 }
 
 impl Ends {
+    fn follow<R: Read, W: Write>(
+        &mut self,
+        input: &mut R,
+        output: &mut W,
+    ) -> Result<(), ReplayFault> {
+        let rest = read_each(self.alloc, input, self)?;
+        write_left_out(output, self.alloc, "", rest.left_out)?;
+        let (failed, now) = (self.failed, self.now());
+        for place in self.places.as_mut_slice().iter_mut() {
+            place.close(failed, now)?;
+            write_text(output, place.past.as_str())?;
+        }
+        flush(output)
+    }
+
     /// The time of an act at this slot.
     fn at(&self, slot: usize) -> u64 {
         match &self.moments {

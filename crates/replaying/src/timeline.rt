@@ -51,16 +51,9 @@ pub(crate) fn write_timeline<R: Read, W: Write>(
         moments: None,
         failed: None,
     };
-    let rest = read_each(alloc, input, &mut course)?;
-    if course.records.is_empty() {
-        let there = course.first.zip(course.last);
-        return Err(not_there(alloc, course.slots, slot, generation, there));
-    }
-    write_left_out(output, alloc, "", rest.left_out)?;
-    course
-        .records
-        .sort_by_key(|timed: &(Record, u64)| timed.0.before)?;
-    course.write(alloc, output)
+    let outcome = course.follow(input, output);
+    drop(course);
+    outcome
 }
 
 impl Take for Course {
@@ -103,6 +96,22 @@ impl Take for Course {
 }
 
 impl Course {
+    fn follow<R: Read, W: Write>(
+        &mut self,
+        input: &mut R,
+        output: &mut W,
+    ) -> Result<(), ReplayFault> {
+        let rest = read_each(self.alloc, input, self)?;
+        if self.records.is_empty() {
+            let there = self.first.zip(self.last);
+            return Err(not_there(self.alloc, self.slots, self.slot, self.generation, there));
+        }
+        write_left_out(output, self.alloc, "", rest.left_out)?;
+        self.records
+            .sort_by_key(|timed: &(Record, u64)| timed.0.before)?;
+        self.write(output)
+    }
+
     /// The time of a record that follows those before it.
     fn time_of(&mut self, record: &Record) -> u64 {
         let Some(moments) = &mut self.moments else {
@@ -121,7 +130,7 @@ impl Course {
         slot == self.slot && generation == self.generation
     }
 
-    fn write<W: Write>(&self, alloc: Global, output: &mut W) -> Result<(), ReplayFault> {
+    fn write<W: Write>(&self, output: &mut W) -> Result<(), ReplayFault> {
         let now = match &self.moments {
             Some(moments) => moments.last(),
             None => None,
@@ -132,7 +141,7 @@ impl Course {
         };
         let mut entry = Entry::new(self.slot, self.generation, self.has_lead, opened);
         for records in self.records.as_slice().chunks(AT_ONCE) {
-            let mut text = String::new(alloc);
+            let mut text = String::new(self.alloc);
             for (record, at) in records {
                 add_record(&mut text, &mut entry, record, *at)?;
                 match now {
@@ -142,7 +151,7 @@ impl Course {
             }
             write_text(output, text.as_str())?;
         }
-        let mut text = String::new(alloc);
+        let mut text = String::new(self.alloc);
         entry.tell(self.failed, now, &mut text)?;
         write_text(output, text.as_str())?;
         flush(output)
