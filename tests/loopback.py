@@ -179,7 +179,7 @@ class Relay:
             file.seek(size)
             text = file.read()
         if not text:
-            return collections.deque(open(self.record), 1)[0].endswith(" full\n")
+            return "".join(collections.deque(open(self.record), 1)).endswith(" full\n")
         polls = collections.Counter(re.findall(r" (p\d+) poll 0$", text, re.M))
         return AT_REST.fullmatch(text) and max(polls.values(), default=0) <= 5 * seconds + 2
 
