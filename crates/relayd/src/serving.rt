@@ -1,9 +1,9 @@
 //! A relay that serves: into what it logs, what stops it, and who tells its statistics.
 use crate::lent::{Announcing, MonotonicClock};
-use log::{Log, Logged};
+use log::Logged;
 use program::logging::Until;
 use program::{Given, Replacing, telling, until_eof};
-use server::{Lent, ServerFault};
+use server::{Lent, ServerFault, System};
 use sockets::Dial;
 use std::alloc::AllocGlobal;
 use std::io::Eprint;
@@ -57,12 +57,14 @@ fn serve_counting<R, L>(
 ) -> Result<(), ServerFault>
 where
     R: AllocGlobal + Eprint + Clock + Threads + Wait + Replacing + Send + Copy + Drop + 'static,
-    L: Net + Dial + Wait + Threads + Log + Clock + Sync,
+    L: System,
 {
     let (settings, extras) = (given.settings, given.extras);
     let teller = telling::start(rt, &settings, extras.stats, given.stats_file, queue)?;
     let teller = teller.as_ref();
     let lent = Lent {
+        rt: log,
+        alloc: rt.alloc(),
         gate,
         clock: &MonotonicClock,
         stop: gate.stop,
@@ -72,7 +74,7 @@ where
     };
     let most = extras.most_of_part();
     let (bound, files) = (given.bound, given.files);
-    let served = server::serve_recorded(log, rt.alloc(), &settings, bound, lent, files, most);
+    let served = server::serve_recorded(&settings, bound, lent, files, most);
     telling::tell_last(rt, teller, queue);
     served.into_result()
 }

@@ -11,6 +11,6 @@ mod serving;
 
 pub use common::{Clock, Gate, ServerFault};
 pub use making::{build, split_of};
-pub use serving::{Lent, serve, serve_recorded};
+pub use serving::{Lent, System, serve, serve_recorded};
 pub use sockets::{Bound, Stop};
 pub use threads::Outcome;

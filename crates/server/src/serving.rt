@@ -1,6 +1,6 @@
 //! A server over the system's sockets, from its settings to its end, which may record what its threads do.
 ghost use Rattle.std.specs.Prelude.{◌≡◌, length};
-ghost use Rattle.common.specs.Splits.{parts_of};
+ghost use Rattle.settings.specs.Pollers.{pollers_for};
 
 use crate::making::{build, split_of};
 use common::{ClientsAt, Clock, Front, Gate, ServerFault, Split, Timing};
@@ -21,8 +21,15 @@ use std::thread::{self, Threads};
 use std::time;
 use threads::{Outcome, Server, run_threads};
 
+/// A handle of the system on which a server runs.
+pub trait System: Net + Dial + Wait + Threads + Log + time::Clock + Sync {}
+
+impl<R: Net + Dial + Wait + Threads + Log + time::Clock + Sync> System for R {}
+
 /// What a server is lent while it serves.
-pub struct Lent<'a, G, C> {
+pub struct Lent<'a, R, G, C> {
+    pub rt: &'a R,
+    pub alloc: Global,
     /// Called once all threads have been started, and before and after each turn.
     pub gate: &'a G,
     /// The idle limit goes by this clock.
@@ -37,13 +44,13 @@ pub struct Lent<'a, G, C> {
     pub log_clients: bool,
 }
 
-impl<G, C> Clone for Lent<'_, G, C> {
+impl<R, G, C> Clone for Lent<'_, R, G, C> {
     fn clone(&self) -> Result<Self, AllocError> {
         Ok(*self)
     }
 }
 
-impl<G, C> Copy for Lent<'_, G, C> {}
+impl<R, G, C> Copy for Lent<'_, R, G, C> {}
 
 /// Serves on the bound socket: accepts connections and forwards each one to the settings' target. Beside the settings'
 /// number of workers there are as many pollers' threads, but at most one for each 64 slots, and at least one. The
@@ -57,12 +64,12 @@ impl<G, C> Copy for Lent<'_, G, C> {}
 /// The fault is `NoMemory` if there is not enough to begin with, `Poll` if the system cannot report on sockets,
 /// `Threads` if a thread cannot be started, and `Worn` if a thread has posted 2^56 notes. Of several it is `Threads`,
 /// or else the first poller's, or the next thread's: pollers come before workers.
-pub fn serve<
-    G: Gate + Sync,
-    C: Clock + Sync,
-    R: Net + Dial + Wait + Threads + Log + time::Clock + Sync,
->(rt: &R, alloc: Global, settings: &Settings, bound: Bound, lent: Lent<'_, G, C>) -> Outcome {
-    serve_into(rt, alloc, settings, bound, lent, None)
+pub fn serve<R: System, G: Gate + Sync, C: Clock + Sync>(
+    settings: &Settings,
+    bound: Bound,
+    lent: Lent<'_, R, G, C>,
+) -> Outcome {
+    lent.serve(settings, bound, None)
 }
 
 /// Serves as [`serve`] does. If there are files, what each thread does is recorded into them until the server ends,
@@ -70,40 +77,30 @@ pub fn serve<
 /// call returns once all is written. If records come faster than that thread writes, a warning is logged, and the
 /// recording ends, or goes on in the next file if `most` is below 2^64 - 1. If a file cannot be written, it ends. The
 /// server serves on. The recording may also refuse to begin, with `NoMemory` or `Threads`.
-pub fn serve_recorded<
-    G: Gate + Sync,
-    C: Clock + Sync,
-    P: Parts + Send,
-    R: Net + Dial + Wait + Threads + Log + time::Clock + Sync,
->(
-    rt: &R,
-    alloc: Global,
+pub fn serve_recorded<R: System, G: Gate + Sync, C: Clock + Sync, P: Parts + Send>(
     settings: &Settings,
     bound: Bound,
-    lent: Lent<'_, G, C>,
+    lent: Lent<'_, R, G, C>,
     files: Option<P>,
     most: u64,
 ) -> Outcome {
     let Some(files) = files else {
-        return serve(rt, alloc, settings, bound, lent);
+        return serve(settings, bound, lent);
     };
     let split = split_of(settings);
-    let queue = match RecordQueue::new(rt, alloc, split, most < u64::MAX) {
+    let queue = match RecordQueue::new(lent.rt, lent.alloc, split, most < u64::MAX) {
         Ok(queue) => queue,
         Err(AllocError) => return Outcome::refused(ServerFault::NoMemory),
     };
     let recording = Recording {
-        rt,
+        rt: lent.rt,
         queue,
         header: header_of(settings, split),
         most,
         files: Mutex::new(Some(files)),
     };
     let queue = &recording.queue;
-    serve_beside(
-        &recording,
-        move || serve_into(rt, alloc, settings, bound, lent, Some(queue)),
-    )
+    serve_beside(&recording, move || lent.serve(settings, bound, Some(queue)))
 }
 
 #[derive(Drop)]
@@ -150,89 +147,97 @@ where
     )
 }
 
-fn serve_into<
-    G: Gate + Sync,
-    C: Clock + Sync,
-    R: Net + Dial + Wait + Threads + Log + time::Clock + Sync,
->(
-    rt: &R,
-    alloc: Global,
-    settings: &Settings,
-    bound: Bound,
-    lent: Lent<'_, G, C>,
-    queue: Option<&RecordQueue>,
-) -> Outcome {
-    let split = split_of(settings);
-    let forwarding = Forwarding::of(settings, lent.patience);
-    match open_all(rt, alloc, bound, forwarding, split, lent.stop) {
-        Ok((fronts, wakers)) => match queue {
-            None => run_on(rt, alloc, settings, split, fronts, wakers, lent),
-            Some(queue) => run_recorded(rt, alloc, settings, split, fronts, wakers, lent, queue),
-        },
-        Err(fault) => Outcome::refused(fault),
-    }
-}
-
-/// Makes a server with these fronts, one for each poller, and runs it.
-fn run_on<F, G: Gate + Sync, C: Clock + Sync, R: Wait + Threads + Log + Sync>(
-    rt: &R,
-    alloc: Global,
-    settings: &Settings,
-    split: Split,
-    fronts: Vec<F>,
-    waker: F::Waker,
-    lent: Lent<'_, G, C>,
-) -> Outcome
-where
-    F: Front + Drop + Send,
-    F::Client: Send,
-    F::Target: Send,
-    F::Waker: Send + Sync,
-    requires slots { split.slots ≡ settings.now.slots }
-    requires fronts { length fronts.items ≡ parts_of split.slots split.size }
-{
-    match server_of(rt, alloc, settings, split, fronts, waker, &lent) {
-        Ok(server) => {
-            let timing = timing_of(settings, lent.clock);
-            run_threads(rt, alloc, lent.gate, timing, lent.stop.flag(), server)
+impl<R: System, G: Gate + Sync, C: Clock + Sync> Lent<'_, R, G, C> {
+    /// Serves on the bound socket. If there is a queue, what is done is recorded into it.
+    fn serve(self, settings: &Settings, bound: Bound, queue: Option<&RecordQueue>) -> Outcome {
+        let split = split_of(settings);
+        let forwarding = Forwarding::of(settings, self.patience);
+        match open_all(self.rt, self.alloc, bound, forwarding, split, self.stop) {
+            Ok((fronts, waker)) => match queue {
+                None => self.run(settings, fronts, waker),
+                Some(queue) => self.run_recorded(settings, fronts, waker, queue),
+            },
+            Err(fault) => Outcome::refused(fault),
         }
-        Err(fault) => Outcome::refused(fault),
     }
-}
 
-/// Runs a server with these fronts, one for each poller, and records what they, the gate and the clock do.
-fn run_recorded<F, G: Gate + Sync, C: Clock + Sync, R: Wait + Threads + Log + time::Clock + Sync>(
-    rt: &R,
-    alloc: Global,
-    settings: &Settings,
-    split: Split,
-    fronts: Vec<F>,
-    waker: F::Waker,
-    lent: Lent<'_, G, C>,
-    queue: &RecordQueue,
-) -> Outcome
-where
-    F: Front + Drop + Send,
-    F::Client: Send,
-    F::Target: Send,
-    F::Waker: Send + Sync,
-    requires slots { split.slots ≡ settings.now.slots }
-    requires fronts { length fronts.items ≡ parts_of split.slots split.size }
-{
-    let recorder = Recorder::new(QueueSink::new(rt, queue));
-    let fronts = match record_all(alloc, fronts, &recorder) {
-        Ok(fronts) => fronts,
-        Err(AllocError) => return Outcome::refused(ServerFault::NoMemory),
-    };
-    let lent = Lent {
-        gate: &RecordedGate::new(lent.gate, recorder.another()),
-        clock: &RecordedClock::new(lent.clock, recorder.another(), settings.idle > 0),
-        stop: lent.stop,
-        statistics: lent.statistics,
-        patience: lent.patience,
-        log_clients: lent.log_clients,
-    };
-    run_on(rt, alloc, settings, split, fronts, waker, lent)
+    /// Makes a server with these fronts, one for each poller, and runs it.
+    fn run<F>(self, settings: &Settings, fronts: Vec<F>, waker: F::Waker) -> Outcome
+    where
+        F: Front + Drop + Send,
+        F::Client: Send,
+        F::Target: Send,
+        F::Waker: Send + Sync,
+        requires { length fronts.items ≡ pollers_for settings.now.slots settings.now.workers }
+    {
+        match self.server(settings, fronts, waker) {
+            Ok(server) => {
+                let timing = timing_of(settings, self.clock);
+                run_threads(
+                    self.rt,
+                    self.alloc,
+                    self.gate,
+                    timing,
+                    self.stop.flag(),
+                    server,
+                )
+            }
+            Err(fault) => Outcome::refused(fault),
+        }
+    }
+
+    /// Runs a server with these fronts, one for each poller, and records what they, the gate and the clock do.
+    fn run_recorded<F>(
+        self,
+        settings: &Settings,
+        fronts: Vec<F>,
+        waker: F::Waker,
+        queue: &RecordQueue,
+    ) -> Outcome
+    where
+        F: Front + Drop + Send,
+        F::Client: Send,
+        F::Target: Send,
+        F::Waker: Send + Sync,
+        requires { length fronts.items ≡ pollers_for settings.now.slots settings.now.workers }
+    {
+        let recorder = Recorder::new(QueueSink::new(self.rt, queue));
+        let fronts = match record_all(self.alloc, fronts, &recorder) {
+            Ok(fronts) => fronts,
+            Err(AllocError) => return Outcome::refused(ServerFault::NoMemory),
+        };
+        let lent = Lent {
+            rt: self.rt,
+            alloc: self.alloc,
+            gate: &RecordedGate::new(self.gate, recorder.another()),
+            clock: &RecordedClock::new(self.clock, recorder.another(), settings.idle > 0),
+            stop: self.stop,
+            statistics: self.statistics,
+            patience: self.patience,
+            log_clients: self.log_clients,
+        };
+        lent.run(settings, fronts, waker)
+    }
+
+    /// A server as the settings say, with the statistics that are lent, which logs clients at level info if asked. It
+    /// takes its share of the statistics first, so no server has to be dropped if there is no memory for the share.
+    fn server<F: Front + Drop>(
+        self,
+        settings: &Settings,
+        fronts: Vec<F>,
+        waker: F::Waker,
+    ) -> Result<Server<F>, ServerFault>
+        requires { length fronts.items ≡ pollers_for settings.now.slots settings.now.workers }
+    {
+        let statistics = another(self.statistics)?;
+        let split = split_of(settings);
+        let mut server = build(self.rt, self.alloc, settings, split, fronts, waker)?;
+        server.shared.statistics = statistics;
+        if self.log_clients {
+            server.shared.clients = ClientsAt::Info;
+        }
+        Ok(server)
+    }
 }
 
 /// The header of a recording: the server's sizes.
@@ -256,29 +261,6 @@ fn timing_of<'a, C>(settings: &Settings, clock: &'a C) -> Timing<'a, C>
         clock,
         limit: u64::from(settings.idle),
     }
-}
-
-/// A server as the settings say, with the statistics that are lent, which logs clients at level info if asked. It takes
-/// its share of the statistics first, so no server has to be dropped if there is no memory for the share.
-fn server_of<F: Front + Drop, G, C, R: Wait>(
-    rt: &R,
-    alloc: Global,
-    settings: &Settings,
-    split: Split,
-    fronts: Vec<F>,
-    waker: F::Waker,
-    lent: &Lent<'_, G, C>,
-) -> Result<Server<F>, ServerFault>
-    requires slots { split.slots ≡ settings.now.slots }
-    requires fronts { length fronts.items ≡ parts_of split.slots split.size }
-{
-    let statistics = another(lent.statistics)?;
-    let mut server = build(rt, alloc, settings, split, fronts, waker)?;
-    server.shared.statistics = statistics;
-    if lent.log_clients {
-        server.shared.clients = ClientsAt::Info;
-    }
-    Ok(server)
 }
 
 fn another(statistics: Option<&Arc<Statistics>>) -> Result<Option<Arc<Statistics>>, AllocError> {
