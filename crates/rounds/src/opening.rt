@@ -19,7 +19,7 @@ use log::Log;
 use ready::Ticket;
 use relay_core::{Pair, proxy_line};
 use relay_log::{Gone, Known, Logs, Why, log_gone, log_open, log_peer, logs_gone};
-use std::alloc::Global;
+use std::alloc::{AllocError, Global};
 use std::net::SocketAddr;
 use std::sync::Wait;
 use token::{Side, Token, next_gen};
@@ -179,10 +179,13 @@ fn berth_of<C: Drop, T: Drop>(
         client,
         target,
     };
-    match Box::new(alloc, berth) {
-        Ok(boxed) => Ok(boxed),
-        Err(_) => Err(Cause::Memory),
-    }
+    Ok(moved_to_heap(alloc, berth)?)
+}
+
+fn moved_to_heap<T: Drop>(alloc: Global, value: T) -> Result<Box<T>, AllocError>
+    ensures { IfOk result (λ boxed. boxed.value ≡ value) }
+{
+    Ok(Box::new(alloc, value)?)
 }
 
 /// The names of the ends of a slot's next connection. None if the table or the names lack the slot, or its generation
