@@ -14,6 +14,7 @@ from shared import (
 )
 
 
+# refuses idle_told_as_reset: a connection that moved nothing is logged as one that was reset
 @by_time
 def ends_connections_once_they_are_silent():
     # Seconds are counted whole, so a limit of 2 leaves a client at least one. A sweep finds it within another limit.

@@ -15,8 +15,6 @@ mod putting;
 #[cfg(test)]
 mod queues;
 #[cfg(test)]
-mod record_lines;
-#[cfg(test)]
 mod replays;
 #[cfg(test)]
 mod session;

@@ -1,53 +1,24 @@
-// The texts of messages, a line that is too long, and a message of a level that is off.
+// A line that is too long, a fault's text, and a message of a level that is off.
 use crate::all_well;
 use common::{ClientsAt, ServerFault};
 use log::sink::Discard;
 use log::{Level, Logged};
-use relay_core::Fault;
-use relay_log::{Done, Failed, log_peer};
+use relay_log::log_peer;
 use std::alloc::{AllocError, Global};
 use std::cell::Cell;
 use std::fmt::{self, Write};
 use std::test::Fail;
 use writer_queue::LogLine;
 
-fn is(text: Result<String, AllocError>, wanted: &str) -> Result<bool, AllocError> {
-    Ok(text?.as_str() == wanted)
-}
-
-fn are_texts(alloc: Global) -> Result<bool, AllocError> {
-    let done = Done {
-        slot: 3,
-        generation: 1,
-        up: 12,
-        down: 4,
-    };
-    let failed = Failed {
-        slot: 3,
-        generation: 1,
-        fault: Fault::Idle,
-    };
-    Ok(
-        is(format!(in alloc; "{done}"), "done s=3 g=1 up=12 down=4")?
-            && is(format!(in alloc; "{failed}"), "fail s=3 g=1 idle")?
-            && is(format!(in alloc; "{}", ServerFault::Worn), "claims worn")?,
-    )
-}
-
-// refuses idle_told_as_reset: a connection that moved nothing is logged as one that was reset
-#[test]
-fn texts_are_made(rt: HostRuntime) -> Result<(), Fail> {
-    all_well(are_texts(rt.alloc()))
-}
-
-/// Whether a line that is longer than any line of the program is cut at its limit.
+/// Whether a line that is longer than any line of the program is cut at its limit, and before a character that would
+/// have one byte there.
 fn is_cut(alloc: Global) -> Result<bool, AllocError> {
     let mut line = LogLine::new();
     for _ in 0..40 {
-        let _added = line.write_str("1234567");
+        let _added = line.write_str("1\u{e4}4567");
     }
     let text = format!(in alloc; "{line}")?;
-    Ok(text.len() == 243 && text.ends_with("712..."))
+    Ok(text.len() == 242 && text.ends_with("671..."))
 }
 
 // refuses line_is_cut_too_early: a long line is cut before it is full
@@ -55,6 +26,16 @@ fn is_cut(alloc: Global) -> Result<bool, AllocError> {
 #[test]
 fn a_line_is_cut_where_it_is_full(rt: HostRuntime) -> Result<(), Fail> {
     all_well(is_cut(rt.alloc()))
+}
+
+/// Whether the fault that no run of a test makes has its text.
+fn is_told(alloc: Global) -> Result<bool, AllocError> {
+    Ok(format!(in alloc; "{}", ServerFault::Worn)?.as_str() == "claims worn")
+}
+
+#[test]
+fn a_worn_seat_is_told(rt: HostRuntime) -> Result<(), Fail> {
+    all_well(is_told(rt.alloc()))
 }
 
 /// An address that records that it was printed.

@@ -1,8 +1,8 @@
 // What a wire in memory plays, which no clause says. In a session each side gives some bytes and then its end, and
-// takes what the other side gave. And what no program does with a pair.
+// takes what the other side gave.
 use crate::{all_well, no_row};
-use engine::{Class, Play, PlayList, ScriptWire, Turn, Wire, class_of, pending, turn};
-use relay_core::{Answer, Call, CallKind, Fault, Kind, Pair, Side, Verdict};
+use engine::{Play, PlayList, ScriptWire, Wire, turn};
+use relay_core::{CallKind, Fault, Kind, Pair, Side, Verdict};
 use std::alloc::{AllocError, Global};
 use std::io::ErrorKind;
 use std::test::Fail;
@@ -106,44 +106,4 @@ fn answers(wire: &mut ScriptWire) -> bool {
 fn answers_without_a_play_that_fits(rt: HostRuntime) -> Result<(), Fail> {
     let mut wire = unfit(rt.alloc())?;
     all_well(Ok(answers(&mut wire)))
-}
-
-/// Whether a pair that was made at second 9, with an idle limit of 9 seconds, stays quiet in a turn at second 0 over
-/// silent wires, and its write, which offers nothing, cannot take a byte.
-fn is_patient(
-    alloc: Global,
-    mut client: ScriptWire,
-    mut target: ScriptWire,
-) -> Result<bool, AllocError> {
-    let mut pair = Pair::new(alloc, 0, 1, 4, 9, b"")?;
-    let outcome = turn(&mut pair, &mut client, &mut target, 64, 0, 9);
-    Ok(outcome == Turn::Quiet && !pair.fits(Call::Write(Side::Target), Answer::Wrote(1)))
-}
-
-fn silent(alloc: Global, joined: bool) -> Result<ScriptWire, AllocError> {
-    ScriptWire::new(
-        alloc,
-        joined,
-        Vec::new(alloc),
-        Vec::new(alloc),
-        Vec::new(alloc),
-    )
-}
-
-/// Whether a broken pipe is a failure of that kind, and a pending `NotConnected` becomes `Other`.
-fn are_failures() -> bool {
-    let shut = Call::Shut(Side::Client);
-    class_of(&shut, ErrorKind::BrokenPipe, true) == Class::Failed(Kind::Pipe)
-        && pending(ErrorKind::NotConnected) == ErrorKind::Other
-}
-
-// refuses class_swaps_two_kinds: two kinds of failure are exchanged
-// refuses clock_going_back_expires: a connection expires when the clock goes back
-// refuses fits_more_than_offered: a write may take more than it was offered
-// refuses pending_may_be_not_connected: a pending error may be reported as not connected, which is no failure
-#[test]
-fn what_no_program_does(rt: HostRuntime) -> Result<(), Fail> {
-    let (client, target) = (silent(rt.alloc(), true)?, silent(rt.alloc(), false)?);
-    let is_well = is_patient(rt.alloc(), client, target)? && are_failures();
-    all_well(Ok(is_well))
 }

@@ -1,31 +1,11 @@
 // Facts about single values that no row and no clause shows.
 use crate::all_well;
-use kernel_model::{End, Reply};
-use readiness::{Attention, Reports, Told};
 use relay_core::Verdict;
 use statistics::{AtomicGauge, Count, Counts, Event, Memory, Statistics};
 use std::alloc::{AllocError, Global};
 use std::cell::Cell;
 use std::test::Fail;
 use token::{Name, Side, Token, TokenFault, next_gen, unpack};
-
-/// Whether a refused arrival leaves both arms of an end, and an error clears both. A read and a write that would block
-/// set them.
-fn an_error_alone_clears(alloc: Global) -> Result<bool, AllocError> {
-    let mut end = End::new(alloc, Side::Target);
-    let blocked = end.read(4, Reply::Blocked).is_ok() && end.write(b"a", Reply::Blocked).is_ok();
-    let _refused = end.arrive(b"");
-    let armed = end.is_read_armed() && end.is_write_armed();
-    let _told = end.reset();
-    Ok(blocked && armed && !end.is_read_armed() && !end.is_write_armed())
-}
-
-// refuses refused_arrival_clears_the_arm: a refused arrival clears the arm for reads
-// refuses reset_leaves_an_arm: an error leaves the arm for writes
-#[test]
-fn an_error_clears_both_arms(rt: HostRuntime) -> Result<(), Fail> {
-    all_well(an_error_alone_clears(rt.alloc()))
-}
 
 /// Two connections: the first is done, the second is open. The first sent 2^32 bytes, more than 32 bits can count.
 static EVENTS: [Event; 5] = [
@@ -142,42 +122,4 @@ fn are_refused() -> bool {
 #[test]
 fn numbers(_rt: HostRuntime) -> Result<(), Fail> {
     all_well(Ok(are_numbers() && are_refused()))
-}
-
-fn looks(reports: &Reports, slot: usize, side: Side) -> Result<[bool; 2], AllocError> {
-    match Told::new(reports, slot, side)? {
-        Some(told) => Ok([told.take(), told.take()]),
-        None => Ok([true, true]),
-    }
-}
-
-/// Whether what is reported of the target's end of slot 1,024 is found there once, and nowhere else.
-fn is_taken_once(alloc: Global) -> Result<bool, AllocError> {
-    let reports = Reports::new(alloc, 1_025)?;
-    let before = looks(&reports, 1_024, Side::Target)?;
-    let _heard = reports.tell(1_024, Side::Target);
-    Ok(
-        before == [false, false]
-            && looks(&reports, 1_024, Side::Client)? == [false, false]
-            && looks(&reports, 0, Side::Target)? == [false, false]
-            && looks(&reports, 1_024, Side::Target)? == [true, false]
-            && reads_at_first_and_after_a_failure(),
-    )
-}
-
-/// Whether a new wire reads its socket, and so does a wire after a failed call.
-fn reads_at_first_and_after_a_failure() -> bool {
-    let mut attention = Attention::new();
-    let at_first = attention.reads();
-    attention.rest();
-    attention.wake();
-    at_first && attention.reads()
-}
-
-// refuses bits_begin_down: a new wire does not read until a report reaches it
-// refuses failed_call_wakes_nothing: a failed call does not make a wire read again
-// refuses words_by_slot_modulo_1024: reports of slots that differ by 1,024 are kept in one word
-#[test]
-fn what_is_told_is_taken_once_and_there_alone(rt: HostRuntime) -> Result<(), Fail> {
-    all_well(is_taken_once(rt.alloc()))
 }
