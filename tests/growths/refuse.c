@@ -5,8 +5,8 @@
  * of the file GROWTHS_COUNT, also where the program ends by a signal.
  *
  * With MOST_THREADS so many threads can be started, and no more. With TIMES_FASTER clocks go so many times as fast. With
- * POLL_FAILS the call of epoll_wait(2) with this number fails, counted from 1 over all threads. With CONNECTS_LACK so many
- * calls of connect(2) fail for want of the system's memory, and then none. */
+ * POLL_FAILS the call of epoll_wait(2) with this number fails, counted from 1 over all threads, and with REGISTER_FAILS that
+ * call of epoll_ctl(2). With CONNECTS_LACK so many calls of connect(2) fail for want of the system's memory, and then none. */
 #define _GNU_SOURCE
 #include <dlfcn.h>
 #include <errno.h>
@@ -90,6 +90,14 @@ int epoll_wait(int poll, struct epoll_event *events, int most, int timeout) {
   const char *fails = getenv("POLL_FAILS");
   if (!fails || ++made != atoi(fails)) return syscall(SYS_epoll_pwait, poll, events, most, timeout, NULL, 0);
   errno = EIO;
+  return -1;
+}
+
+int epoll_ctl(int poll, int operation, int file, struct epoll_event *event) {
+  static atomic_int made;
+  const char *fails = getenv("REGISTER_FAILS");
+  if (!fails || ++made != atoi(fails)) return syscall(SYS_epoll_ctl, poll, operation, file, event);
+  errno = EPERM;
   return -1;
 }
 
