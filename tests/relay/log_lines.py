@@ -153,6 +153,7 @@ def end_as_asked(connection):
 # refuses event_is_not_kept: an event is not kept in the statistics
 # refuses ended_bytes_are_forgotten: the bytes of a slot's earlier connections are not in the statistics
 # refuses idle_ones_have_not_failed: those that the idle limit ended are not counted as failed
+# refuses stats_in_another_order: two numbers of the line of the statistics stand in each other's place
 # refuses metrics_have_each_others_numbers: two metrics for a monitor have each other's numbers
 @by_time
 def statistics_add_up():
@@ -187,6 +188,9 @@ def statistics_add_up():
         errors.seek(0)
         lines, monitored = errors.read().splitlines(), as_line(read(path))
     each = [numbers_in(line) for line in having(lines, "[INFO  relayd] stats ")]
+    names = "open slots opened done failed dropped client target refused reset timedout idle up down".split()
+    numbers = " ".join(f"{name}={each[-1][name]}" for name in names)
+    assert having(lines, "] stats ")[-1] == f"[INFO  relayd] stats {numbers}"
     wanted = {"open": 0, "slots": 256, "dropped": drops_in(lines)}
     words = {"opened": "] open s=", "done": "] done s=", "failed": "] fail s=", "client": "side=client", "target": "side=target"}
     words |= {kind: f"kind={kind}" for kind in ("refused", "reset", "timedout")}
