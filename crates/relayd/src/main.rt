@@ -4,15 +4,19 @@
 #![tactic(auto)]
 
 mod lent;
-mod serving;
 
-use program::logging::{self, Errors};
-use program::{Given, report_unheld};
+use lent::{Announcing, MonotonicClock};
+use log::Logged;
+use program::logging::{self, Errors, Until};
+use program::{Given, report_unheld, telling, until_eof};
 use replaying::OnMachine;
 use script::Simulator;
-use server::ServerFault;
+use server::{Lent, ServerFault};
 use std::cell::Cell;
 use std::process::ExitCode;
+use std::sync::atomic::AtomicBool;
+use std::sync::atomic::Ordering::SeqCst;
+use writer_queue::Queued;
 
 fn main(rt: HostRuntime) -> ExitCode {
     let (mut input, mut output) = (rt.stdin(), rt.stdout());
@@ -27,11 +31,44 @@ fn main(rt: HostRuntime) -> ExitCode {
         is_stuck: &is_stuck,
     };
     let serve = |given: Given<HostRuntime>| -> Result<bool, ServerFault> {
+        let (settings, extras, address) = (given.settings, given.extras, given.bound.text());
         let queue = logging::start(rt)?;
-        let is_printed = serving::serve(rt, rt, given, &queue);
+        // Set at level off once all threads run: only the cause of a fault that ends the relay is logged then.
+        let is_off = AtomicBool::new(false);
+        let lines = Until {
+            inner: Queued { rt, queue: &queue },
+            is_off: &is_off,
+        };
+        let log = Logged::new(rt, program::starting_filter(settings.log), lines);
+        program::log_start(&log, address, &settings);
+        let stop = until_eof::watch(rt, rt.stdin(), settings.log, extras.until_eof, &queue)?;
+        let teller = telling::start(rt, &settings, extras.stats, given.stats_file, &queue)?;
+        let teller = teller.as_ref();
+        let gate = Announcing {
+            rt,
+            address,
+            level: settings.log,
+            is_off: &is_off,
+            stop: &stop,
+            is_unprinted: AtomicBool::new(false),
+        };
+        let lent = Lent {
+            rt: &log,
+            alloc: rt.alloc(),
+            gate: &gate,
+            clock: &MonotonicClock,
+            stop: &stop,
+            statistics: teller.map(|teller| &teller.statistics),
+            patience: extras.patience,
+            log_clients: extras.log_clients,
+        };
+        let most = extras.most_of_part();
+        let served = server::serve_recorded(&settings, given.bound, lent, given.files, most);
+        telling::tell_last(rt, teller, &queue);
         // A write to standard error may not end once the log could not be written.
         is_stuck.set(!logging::finish(&rt, &queue));
-        is_printed
+        served.into_result()?;
+        Ok(!gate.is_unprinted.load(SeqCst))
     };
     let status = match program::arguments(&rt) {
         Ok(arguments) => program::act(
