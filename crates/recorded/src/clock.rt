@@ -84,28 +84,6 @@ impl Clock {
         None
     }
 
-    /// When the count had this value, in nanoseconds, by a clock of microseconds (`times_of`). Between two readings the
-    /// values stand a microsecond apart, or closer if that is too long.
-    pub fn nanosecond(&self, count: u64) -> u64 {
-        let readings = self.after.as_slice();
-        let next = count_below(readings, count.saturating_add(1));
-        let (from, micros) = match next.checked_sub(1) {
-            Some(last) => readings.get(last).copied().unwrap_or((0, 0)),
-            None => (0, 0),
-        };
-        let (values, apart) = (count.saturating_sub(from), 1_000u64);
-        let most = match readings.get(next) {
-            Some((to, later)) => later
-                .saturating_sub(micros)
-                .saturating_mul(apart)
-                .saturating_mul(values)
-                / to.saturating_sub(from).max(1),
-            None => u64::MAX,
-        };
-        let since = values.saturating_mul(apart).min(most);
-        micros.saturating_mul(apart).saturating_add(since)
-    }
-
     /// The latest second that was read before the count had this value, if one was.
     fn last_read(&self, count: u64) -> Option<u64> {
         let readings = self.after.as_slice();
