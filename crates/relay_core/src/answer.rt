@@ -5,7 +5,7 @@ ghost use Rattle.relay_core.specs.Replies.{reply_of, moves};
 use token::Kind;
 
 /// What a socket answered to a call.
-#[derive(Clone, Copy, PartialEq, Eq)]
+#[derive(Clone, Copy)]
 pub enum Answer<'a> {
     /// A read gave these bytes, at least one.
     Bytes(&'a [u8]),

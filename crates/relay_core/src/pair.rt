@@ -1,6 +1,6 @@
 //! One connection: which call comes next, and what its answer does.
 ghost use Rattle.std.specs.Prelude.{◌≡◌, ◌≤◌, ◌<◌, ◌&&◌, true, false, Some, length, slice_index, ◌↔◌, IfOk, IfSome, OnSome};
-ghost use Rattle.token.specs.{Sides.{destination, inward}, declared.direction.Direction.Direction};
+ghost use Rattle.token.specs.{Sides.{destination}, declared.direction.Direction.Direction};
 ghost use Rattle.relay_core.specs.{Calls.side_of, Pairs.{fresh, stream_of, flags_of, with_flags, is_joined, mark_joined, noted, verdict, is_live}, Order.{is_waiting, call_for, next_call, offer}, Replies.{Interrupted, fits, after, count_more, without_flag, reply_of}, Idle.{is_overdue, expired}, Laws.{IsPossible, IsOverdue, KeepsOrder, PassesEndLast, TellsOf}, declared.verdict.Fault.Fault};
 
 use crate::answer::Answer;
@@ -127,7 +127,9 @@ impl Pair {
         match (call, answer) {
             (_, Answer::Interrupted | Answer::Failed(_)) => true,
             (Call::Read(_, most), Answer::Bytes(bytes)) => !bytes.is_empty() && bytes.len() <= most,
-            (Call::Write(side), Answer::Wrote(n)) => n > 0 && n <= self.bound_for(side).front_len(),
+            (Call::Write(_), Answer::Wrote(n)) => {
+                n > 0 && n <= self.flow(call.direction()).front_len()
+            }
             (Call::Read(_, _), Answer::End | Answer::Blocked)
             | (Call::Write(_), Answer::Blocked)
             | (Call::Join(_), Answer::Joined | Answer::Blocked)
@@ -137,7 +139,7 @@ impl Pair {
     }
 
     /// Takes the answer that the next call got at the second `now`.
-    #[tactic(auto, using(crate::proofs::Pairs::asked_is_possible, crate::proofs::Pairs::answers_keep_order, crate::proofs::Pairs::answers_pass_end_last, crate::proofs::Pairs::failures_are_told))]
+    #[tactic(auto, using(crate::proofs::Pairs::asked_is_possible))]
     #[inline(always)]
     pub fn answer(&mut self, call: Call, answer: Answer<'_>, now: u64)
         requires next { next_call self.old ≡ Some call }
@@ -363,15 +365,6 @@ impl Pair {
         match direction {
             Direction::Up => &mut self.up,
             Direction::Down => &mut self.down,
-        }
-    }
-
-    fn bound_for(&self, side: Side) -> &Flow
-        ensures { result.now ≡ stream_of self.now (inward side) }
-    {
-        match side {
-            Side::Client => &self.down,
-            Side::Target => &self.up,
         }
     }
 

@@ -1,5 +1,5 @@
 //! The line of the PROXY protocol that a target may be sent first.
-ghost use Rattle.std.specs.Prelude.{◌≡◌, ◌≤◌, ◌+◌, ◌++◌, length, decimal, IfOk, OnOk};
+ghost use Rattle.std.specs.Prelude.{◌≡◌, ◌≤◌, ◌+◌, ◌++◌, codes, length, decimal, IfOk, OnOk};
 ghost use Rattle.relay_core.specs.Proxy.{dotted, proxy_line};
 
 use itoa::Buffer;
@@ -25,44 +25,42 @@ pub fn proxy_line(
     let mut line = Vec::with_capacity(alloc, LONGEST)?;
     line.extend_from_slice(b"PROXY TCP4 ")?;
     append_address(&mut line, source)?;
-    line.extend_from_slice(b" ")?;
     append_address(&mut line, dest)?;
-    line.extend_from_slice(b" ")?;
-    append_port(&mut line, source_port)?;
-    line.extend_from_slice(b" ")?;
-    append_port(&mut line, dest_port)?;
-    line.extend_from_slice(b"\r\n")?;
+    append_port(&mut line, source_port, b" ")?;
+    append_port(&mut line, dest_port, b"\r\n")?;
     Ok(line)
 }
 
+/// Appends an address and a space.
 fn append_address(line: &mut Vec<u8>, address: [u8; 4]) -> Result<(), AllocError>
-    ensures text { OnOk result (line.new.items ≡ line.old.items ++ dotted address) }
-    ensures least { OnOk result (length line.old.items + 7 ≤ length line.new.items) }
-    ensures most { OnOk result (length line.new.items ≤ length line.old.items + 15) }
+    ensures text { OnOk result (line.new.items ≡ line.old.items ++ (dotted address ++ codes " ")) }
+    ensures least { OnOk result (length line.old.items + 8 ≤ length line.new.items) }
+    ensures most { OnOk result (length line.new.items ≤ length line.old.items + 16) }
 {
-    append_number(line, address[0])?;
-    line.extend_from_slice(b".")?;
-    append_number(line, address[1])?;
-    line.extend_from_slice(b".")?;
-    append_number(line, address[2])?;
-    line.extend_from_slice(b".")?;
-    append_number(line, address[3])
+    append_number(line, address[0], b".")?;
+    append_number(line, address[1], b".")?;
+    append_number(line, address[2], b".")?;
+    append_number(line, address[3], b" ")
 }
 
+/// Appends a number and one byte.
 #[tactic(auto, using(std::proofs::lemmas::Fmt::decimal_nonempty))]
-fn append_number(line: &mut Vec<u8>, n: u8) -> Result<(), AllocError>
-    ensures text { OnOk result (line.new.items ≡ line.old.items ++ decimal n) }
-    ensures least { OnOk result (length line.old.items + 1 ≤ length line.new.items) }
-    ensures most { OnOk result (length line.new.items ≤ length line.old.items + 3) }
+fn append_number(line: &mut Vec<u8>, n: u8, after: &[u8; 1]) -> Result<(), AllocError>
+    ensures text { OnOk result (line.new.items ≡ line.old.items ++ (decimal n ++ after.now)) }
+    ensures least { OnOk result (length line.old.items + 2 ≤ length line.new.items) }
+    ensures most { OnOk result (length line.new.items ≤ length line.old.items + 4) }
 {
-    line.extend_from_slice(Buffer::new().format(n).as_bytes())
+    line.extend_from_slice(Buffer::new().format(n).as_bytes())?;
+    line.extend_from_slice(after)
 }
 
+/// Appends a port, and what follows it.
 #[tactic(auto, using(std::proofs::lemmas::Fmt::decimal_nonempty))]
-fn append_port(line: &mut Vec<u8>, port: u16) -> Result<(), AllocError>
-    ensures text { OnOk result (line.new.items ≡ line.old.items ++ decimal port) }
-    ensures least { OnOk result (length line.old.items + 1 ≤ length line.new.items) }
-    ensures most { OnOk result (length line.new.items ≤ length line.old.items + 5) }
+fn append_port(line: &mut Vec<u8>, port: u16, after: &[u8]) -> Result<(), AllocError>
+    ensures text { OnOk result (line.new.items ≡ line.old.items ++ (decimal port ++ after.now)) }
+    ensures least { OnOk result (length line.old.items + 1 + length after.now ≤ length line.new.items) }
+    ensures most { OnOk result (length line.new.items ≤ length line.old.items + 5 + length after.now) }
 {
-    line.extend_from_slice(Buffer::new().format(port).as_bytes())
+    line.extend_from_slice(Buffer::new().format(port).as_bytes())?;
+    line.extend_from_slice(after)
 }
