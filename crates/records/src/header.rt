@@ -3,8 +3,8 @@ ghost use Rattle.std.specs.Prelude.{Some};
 ghost use Rattle.records.specs.Texts.{from_text, header_text};
 
 use crate::act::yes_or_no;
-use crate::reading::{Wrong, end, number_after, one_of, said, word};
-use input::{Pieces, number};
+use crate::reading::{Words, Wrong, number_after};
+use input::number;
 use std::fmt::{self, Display};
 
 /// The sizes of the relay that was recorded.
@@ -76,13 +76,12 @@ static PROXY: [(&str, bool); 2] = [("proxy=yes", true), ("proxy=no", false)];
 /// workers, a ring of 0 or over 65,536 bytes, a budget of 0 or over 1,024 calls, and an idle limit of over 86,400
 /// seconds; and another word than `from=N` after the sizes, where N is any number below 2^64.
 pub fn read_header(line: &[u8]) -> Result<Header, Wrong<'_>> {
-    let words = &mut Pieces::new(line, b' ');
-    begin(words)?;
-    let [slots, pollers, workers, ring, budget, idle] = sizes(words)?;
-    let proxy = one_of(words, &PROXY, "proxy=yes or proxy=no is wanted")?;
-    let from = from(words)?;
-    end(words)?;
-    Ok(Header {
+    let words = &mut Words::new(line, b' ');
+    begin(words);
+    let [slots, pollers, workers, ring, budget, idle] = sizes(words);
+    let proxy = words.one_of(&PROXY, "proxy=yes or proxy=no is wanted", false);
+    let from = from(words);
+    words.end(Header {
         slots,
         pollers,
         workers,
@@ -99,42 +98,36 @@ pub fn is_header(line: &[u8]) -> bool {
     line.starts_with(b"relayd recording ")
 }
 
-fn from<'a>(words: &mut Pieces<'a>) -> Result<Option<u64>, Wrong<'a>> {
-    let Some(word) = words.next() else {
-        return Ok(None);
-    };
-    match number_after("from=", word) {
-        Some(from) => Ok(Some(from as u64)),
-        None => said(None, word, "from=N is wanted, or the end of the line"),
-    }
+fn from(words: &mut Words<'_>) -> Option<u64> {
+    let word = words.pieces.next()?;
+    let from = number_after("from=", word);
+    let wanted = "from=N is wanted, or the end of the line";
+    Some(words.said(from, word, wanted, 0) as u64)
 }
 
 /// The words with which every recording begins.
-fn begin<'a>(words: &mut Pieces<'a>) -> Result<(), Wrong<'a>> {
+fn begin(words: &mut Words<'_>) {
     let wanted = "a recording begins with relayd recording 1";
-    one_of(words, &[("relayd", ())], wanted)?;
-    one_of(words, &[("recording", ())], wanted)?;
-    let version = word(words, wanted)?;
-    match number(version) {
-        Some(1) => Ok(()),
-        Some(later) if later > 1 => said(
-            None,
-            version,
-            "a newer relayd made it, and this one knows 1 alone",
-        ),
-        _ => said(None, version, wanted),
-    }
+    words.one_of(&[("relayd", ())], wanted, ());
+    words.one_of(&[("recording", ())], wanted, ());
+    let version = words.word(wanted);
+    let wanted = match number(version) {
+        Some(1) => return,
+        Some(later) if later > 1 => "a newer relayd made it, and this one knows 1 alone",
+        _ => wanted,
+    };
+    words.refuse(Some(version), wanted);
 }
 
-fn sizes<'a>(words: &mut Pieces<'a>) -> Result<[usize; 6], Wrong<'a>> {
+fn sizes(words: &mut Words<'_>) -> [usize; 6] {
     let mut sizes = [0; 6];
     for index in 0..6 {
         let (key, least, most, wanted) = SIZES[index];
-        let word = word(words, wanted)?;
-        sizes[index] = match number_after(key, word) {
-            Some(value) if least <= value && value <= most => value,
-            _ => return said(None, word, wanted),
-        };
+        let word = words.word(wanted);
+        match number_after(key, word) {
+            Some(value) if least <= value && value <= most => sizes[index] = value,
+            _ => words.refuse(Some(word), wanted),
+        }
     }
-    Ok(sizes)
+    sizes
 }

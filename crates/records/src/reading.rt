@@ -13,35 +13,84 @@ pub struct Wrong<'a> {
     pub wanted: &'static str,
 }
 
-/// The next word, whatever it is.
-pub(crate) fn word<'a>(
-    words: &mut Pieces<'a>,
-    wanted: &'static str,
-) -> Result<&'a [u8], Wrong<'a>> {
-    words.next().ok_or(Wrong { word: None, wanted })
+/// The parts of a text, read from left to right. The first that is wrong is noted, and makes the whole text wrong at its
+/// end, whatever was read after it.
+#[derive(Drop)]
+pub(crate) struct Words<'a> {
+    pub(crate) pieces: Pieces<'a>,
+    wrong: Option<Wrong<'a>>,
 }
 
-fn number<'a>(words: &mut Pieces<'a>, wanted: &'static str) -> Result<usize, Wrong<'a>> {
-    let word = word(words, wanted)?;
-    said(input::number(word), word, wanted)
-}
-
-/// Refuses a word that is left.
-pub(crate) fn end<'a>(words: &mut Pieces<'a>) -> Result<(), Wrong<'a>> {
-    match words.next() {
-        None => Ok(()),
-        Some(word) => said(None, word, "the line should end before this word"),
+impl<'a> Words<'a> {
+    pub(crate) fn new(text: &'a [u8], separator: u8) -> Words<'a> {
+        Words {
+            pieces: Pieces::new(text, separator),
+            wrong: None,
+        }
     }
-}
 
-/// The value. Refuses the word if it has none.
-pub(crate) fn said<'a, T>(
-    value: Option<T>,
-    word: &'a [u8],
-    wanted: &'static str,
-) -> Result<T, Wrong<'a>> {
-    let word = Some(word);
-    value.ok_or(Wrong { word, wanted })
+    /// Notes that this word is wrong, or for None that one is missing.
+    pub(crate) fn refuse(&mut self, word: Option<&'a [u8]>, wanted: &'static str) {
+        if self.wrong.is_none() {
+            self.wrong = Some(Wrong { word, wanted });
+        }
+    }
+
+    /// The next word, whatever it is; empty if none is left.
+    pub(crate) fn word(&mut self, wanted: &'static str) -> &'a [u8] {
+        match self.pieces.next() {
+            Some(word) => word,
+            None => {
+                self.refuse(None, wanted);
+                &[]
+            }
+        }
+    }
+
+    fn number(&mut self, wanted: &'static str) -> usize {
+        let word = self.word(wanted);
+        self.said(input::number(word), word, wanted, 0)
+    }
+
+    /// The value. If there is none, refuses the word, and returns the other.
+    pub(crate) fn said<T: Copy>(
+        &mut self,
+        value: Option<T>,
+        word: &'a [u8],
+        wanted: &'static str,
+        other: T,
+    ) -> T {
+        match value {
+            Some(value) => value,
+            None => {
+                self.refuse(Some(word), wanted);
+                other
+            }
+        }
+    }
+
+    /// What the next word stands for in a table. If it is not there, refuses the word, and returns the other.
+    pub(crate) fn one_of<T: Copy>(
+        &mut self,
+        table: &[(&'static str, T)],
+        wanted: &'static str,
+        other: T,
+    ) -> T {
+        let word = self.word(wanted);
+        self.said(named(word, table), word, wanted, other)
+    }
+
+    /// What was read, if no word was wrong and none is left.
+    pub(crate) fn end<T: Copy>(&mut self, read: T) -> Result<T, Wrong<'a>> {
+        let left = self.pieces.next();
+        if left.is_some() {
+            self.refuse(left, "the line should end before this word");
+        }
+        match self.wrong {
+            Some(wrong) => Err(wrong),
+            None => Ok(read),
+        }
+    }
 }
 
 /// What a word stands for in a table.
@@ -52,16 +101,6 @@ fn named<T: Copy>(word: &[u8], table: &[(&'static str, T)]) -> Option<T> {
         }
     }
     None
-}
-
-/// What the next word stands for in a table.
-pub(crate) fn one_of<'a, T: Copy>(
-    words: &mut Pieces<'a>,
-    table: &[(&'static str, T)],
-    wanted: &'static str,
-) -> Result<T, Wrong<'a>> {
-    let word = word(words, wanted)?;
-    said(named(word, table), word, wanted)
 }
 
 /// The calls that a wire answers.
@@ -166,40 +205,29 @@ static UNANSWERED: [(&str, Made); 2] = [("settle", Made::Settle), ("drop", Made:
 /// of another form, with the first word from the left that is wrong. Numbers are below 2^64 and have no leading zeros.
 pub fn read_line(line: &[u8]) -> Result<Record, Wrong<'_>> {
     let wanted = "the count before the act and the one after it are wanted";
-    let mut words = Pieces::new(line, b' ');
-    let before = number(&mut words, wanted)? as u64;
-    let after = number(&mut words, wanted)? as u64;
-    match act(&mut words) {
-        Ok(act) => {
-            end(&mut words)?;
-            Ok(Record { before, after, act })
-        }
-        Err(wrong) => Err(wrong),
-    }
+    let words = &mut Words::new(line, b' ');
+    let before = words.number(wanted) as u64;
+    let after = words.number(wanted) as u64;
+    let act = act(words);
+    words.end(Record { before, after, act })
 }
 
 /// Reads an act, by its first word.
-fn act<'a>(words: &mut Pieces<'a>) -> Result<Act, Wrong<'a>> {
+fn act(words: &mut Words<'_>) -> Act {
     let wanted = "pP, second, S, S.G.SIDE, end or full is wanted";
-    let word = word(words, wanted)?;
-    if is(word, "end") {
-        Ok(Act::Ended)
-    } else if is(word, "full") {
-        Ok(Act::Full)
-    } else if is(word, "second") {
-        Ok(Act::Second(number(words, "a number of seconds is wanted")? as u64))
-    } else if let Some(token) = end_named(word) {
-        Ok(Act::Wire(token, made(words)?))
+    let word = words.word(wanted);
+    if let Some(token) = end_named(word) {
+        Act::Wire(token, made(words))
     } else if let Some(poller) = number_after("p", word) {
-        match polling(words) {
-            Ok(did) => Ok(Act::Poller(poller, did)),
-            Err(wrong) => Err(wrong),
-        }
+        Act::Poller(poller, polling(words))
     } else if let Some(slot) = input::number(word) {
         let turns = [("begin", Act::Begin(slot)), ("end", Act::End(slot))];
-        one_of(words, &turns, "begin or end is wanted")
+        words.one_of(&turns, "begin or end is wanted", Act::Full)
+    } else if is(word, "second") {
+        Act::Second(words.number("a number of seconds is wanted") as u64)
     } else {
-        said(None, word, wanted)
+        let ends = [("end", Act::Ended), ("full", Act::Full)];
+        words.said(named(word, &ends), word, wanted, Act::Full)
     }
 }
 
@@ -209,119 +237,110 @@ pub(crate) fn number_after(text: &str, word: &[u8]) -> Option<usize> {
 }
 
 /// The slot and the generation at the front of `S.G` or `S.G.SIDE`.
-fn place(words: &mut Pieces<'_>) -> Option<(usize, u64)> {
-    let slot = input::number(words.next()?)?;
-    let generation = input::number(words.next()?)?;
-    Some((slot, generation as u64))
+fn place(parts: &mut Words<'_>) -> (usize, u64) {
+    (parts.number(""), parts.number("") as u64)
 }
 
 /// The end that `S.G.SIDE` names.
 fn end_named(word: &[u8]) -> Option<Token> {
-    let mut parts = Pieces::new(word, b'.');
-    let (slot, generation) = place(&mut parts)?;
-    let side = Side::named(parts.next()?)?;
-    if parts.next().is_some() {
-        return None;
+    let parts = &mut Words::new(word, b'.');
+    let (slot, generation) = place(parts);
+    let side = Side::named(parts.word(""))?;
+    match parts.end(()) {
+        Ok(()) => Token::pack(slot, side, generation).ok(),
+        Err(_) => None,
     }
-    Token::pack(slot, side, generation).ok()
 }
 
-fn polling<'a>(words: &mut Pieces<'a>) -> Result<Polling, Wrong<'a>> {
-    match one_of(
-        words,
-        &TASKS,
-        "poll, time, report, accept or open is wanted",
-    )? {
+fn polling(words: &mut Words<'_>) -> Polling {
+    let wanted = "poll, time, report, accept or open is wanted";
+    match words.one_of(&TASKS, wanted, Task::Poll) {
         Task::Poll => polled(words),
-        Task::Time => Ok(Polling::Time(
-            number(words, "a number of microseconds is wanted")? as u64,
-        )),
+        Task::Time => Polling::Time(words.number("a number of microseconds is wanted") as u64),
         Task::Report => reported(words),
         Task::Accept => {
             let wanted = "one of again, blocked, ok and starved is wanted";
-            Ok(Polling::Accept(one_of(words, &ACCEPTED, wanted)?))
+            Polling::Accept(words.one_of(&ACCEPTED, wanted, Accepted::Taken))
         }
         Task::Open => opened(words),
     }
 }
 
-fn polled<'a>(words: &mut Pieces<'a>) -> Result<Polling, Wrong<'a>> {
+fn polled(words: &mut Words<'_>) -> Polling {
     let wanted = "a number of reports, interrupted or failed is wanted";
-    let word = word(words, wanted)?;
+    let word = words.word(wanted);
     let failures = [
         ("interrupted", Polling::Interrupted),
         ("failed", Polling::Failed),
     ];
     match input::number(word) {
-        Some(count) => Ok(Polling::Gave(count)),
-        None => said(named(word, &failures), word, wanted),
+        Some(count) => Polling::Gave(count),
+        None => words.said(named(word, &failures), word, wanted, Polling::Failed),
     }
 }
 
-fn reported<'a>(words: &mut Pieces<'a>) -> Result<Polling, Wrong<'a>> {
+fn reported(words: &mut Words<'_>) -> Polling {
     let wanted = "listener, waker or S.G.SIDE is wanted";
-    let word = word(words, wanted)?;
-    let names = [
-        ("listener", Polling::Reported(Name::Listener)),
-        ("waker", Polling::Reported(Name::Waker)),
-    ];
-    match end_named(word) {
-        Some(token) => Ok(Polling::Reported(Name::End(token))),
-        None => said(named(word, &names), word, wanted),
-    }
+    let word = words.word(wanted);
+    let names = [("listener", Name::Listener), ("waker", Name::Waker)];
+    Polling::Reported(match end_named(word) {
+        Some(token) => Name::End(token),
+        None => words.said(named(word, &names), word, wanted, Name::Waker),
+    })
 }
 
 /// Reads where a connection was opened, or why not.
-fn opened<'a>(words: &mut Pieces<'a>) -> Result<Polling, Wrong<'a>> {
+fn opened(words: &mut Words<'_>) -> Polling {
     let wanted = "a slot and a generation as S.G are wanted";
-    let word = word(words, wanted)?;
-    let (slot, generation) = said(place_named(word), word, wanted)?;
-    let opening = one_of(
-        words,
-        &OPENINGS,
-        "one of ok, connect and register is wanted",
-    )?;
-    Ok(Polling::Open(slot, generation, opening))
+    let word = words.word(wanted);
+    let (slot, generation) = words.said(place_named(word), word, wanted, (0, 0));
+    let wanted = "one of ok, connect and register is wanted";
+    Polling::Open(
+        slot,
+        generation,
+        words.one_of(&OPENINGS, wanted, Opening::Opened),
+    )
 }
 
 /// The slot and the generation that `S.G` names.
 fn place_named(word: &[u8]) -> Option<(usize, u64)> {
-    let mut parts = Pieces::new(word, b'.');
-    let place = place(&mut parts)?;
-    parts.next().is_none().then_some(place)
+    let parts = &mut Words::new(word, b'.');
+    let place = place(parts);
+    parts.end(place).ok()
 }
 
-fn made<'a>(words: &mut Pieces<'a>) -> Result<Made, Wrong<'a>> {
+fn made(words: &mut Words<'_>) -> Made {
     let wanted = "one of drop, join, read, settle, shut and write is wanted";
-    let word = word(words, wanted)?;
+    let word = words.word(wanted);
     let Some(answers) = named(word, &CALLS) else {
-        return said(named(word, &UNANSWERED), word, wanted);
+        return words.said(named(word, &UNANSWERED), word, wanted, Made::Drop);
     };
     let bytes = match answers.bytes {
-        Some(wanted) => number(words, wanted)?,
+        Some(wanted) => words.number(wanted),
         None => 0,
     };
-    let answer = answered(words, &answers)?;
-    Ok(match answers.call {
+    let answer = answered(words, &answers);
+    match answers.call {
         Call::Read => Made::Read(bytes, answer),
         Call::Write => Made::Write(bytes, answer),
         Call::Join => Made::Join(answer),
         Call::Shut => Made::Shut(answer),
-    })
+    }
 }
 
-fn answered<'a>(words: &mut Pieces<'a>, answers: &Answers) -> Result<Answer, Wrong<'a>> {
-    let word = word(words, answers.wanted)?;
+fn answered(words: &mut Words<'_>, answers: &Answers) -> Answer {
+    let wanted = answers.wanted;
+    let word = words.word(wanted);
     if is(word, "failed") {
-        return Ok(Answer::Failed(kind(words)?));
+        return Answer::Failed(kind(words));
     }
     match input::number(word) {
-        Some(count) if answers.bytes.is_some() => Ok(Answer::Moved(count)),
-        _ => said(named(word, answers.named), word, answers.wanted),
+        Some(count) if answers.bytes.is_some() => Answer::Moved(count),
+        _ => words.said(named(word, answers.named), word, wanted, Answer::End),
     }
 }
 
-fn kind<'a>(words: &mut Pieces<'a>) -> Result<Kind, Wrong<'a>> {
-    let word = word(words, KIND_WANTED)?;
-    said(Kind::named(word), word, KIND_WANTED)
+fn kind(words: &mut Words<'_>) -> Kind {
+    let word = words.word(KIND_WANTED);
+    words.said(Kind::named(word), word, KIND_WANTED, Kind::Other)
 }
