@@ -1,7 +1,7 @@
 // What the calls answer.
 
 /// What a post found.
-#[derive(Clone, Copy, PartialEq, Eq)]
+#[derive(Clone, Copy)]
 pub enum Posted {
     /// No note waited, and the slot was neither held nor free. The caller has to put a ticket for the slot.
     Wake,
@@ -12,7 +12,7 @@ pub enum Posted {
 }
 
 /// What a claim found.
-#[derive(Clone, Copy, PartialEq, Eq)]
+#[derive(Clone, Copy)]
 pub enum Claimed {
     /// The caller's seat now holds the slot.
     Held,
@@ -21,7 +21,7 @@ pub enum Claimed {
 }
 
 /// What a release found.
-#[derive(Clone, Copy, PartialEq, Eq)]
+#[derive(Clone, Copy)]
 pub enum Released {
     /// Notes wait. The caller has to put a ticket for the slot.
     Wake,

@@ -15,10 +15,10 @@ use thiserror::Error;
 #[derive(Debug, Drop, Error)]
 pub enum OpenFault {
     /// The number of slots is 0 or over 32,768. It is checked first.
-    #[error("the number of slots is not from 1 to {max}", max = MAX_SLOTS)]
+    #[error("the number of slots is not from 1 to 32768")]
     SlotRange,
     /// The number of seats is 0 or over 32.
-    #[error("the number of seats is not from 1 to {max}", max = MAX_SEATS)]
+    #[error("the number of seats is not from 1 to 32")]
     SeatRange,
     /// Memory ran out for the words or for the seats.
     #[error("out of memory")]
@@ -65,7 +65,9 @@ fn words_and_seats(
     ensures { IfOk result (λ made. (made.0.words ≡ slots) × (made.1.items ≡ replicate seats (fresh_seat made.0))) }
 {
     let words = vec![in alloc; UNUSED; slots]?;
-    let (table, first) = Table::of_words(alloc, words.as_slice(), &(slots, seats))?;
+    let made = Table::of_words(alloc, words.as_slice(), &(slots, seats));
+    drop(words);
+    let (table, first) = made?;
     let all = all_seats(alloc, &table, first, slots, seats)?;
     Ok((Claims { table }, all))
 }
@@ -86,9 +88,9 @@ fn all_seats(
     let mut all = Vec::with_capacity(alloc, seats)?;
     for _made in 1..seats {
         let next = table.shared.split_seat::<NextSeat>(&mut first);
-        all.push(seat_of(alloc, next, slots)?)?;
+        all.push_reserved(seat_of(alloc, next, slots)?);
     }
-    all.push(seat_of(alloc, first, slots)?)?;
+    all.push_reserved(seat_of(alloc, first, slots)?);
     Ok(all)
 }
 

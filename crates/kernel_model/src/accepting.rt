@@ -1,5 +1,5 @@
 /// What the listening socket replies to accept(2).
-#[derive(Clone, Copy, PartialEq, Eq)]
+#[derive(Clone, Copy)]
 pub enum Accepting {
     /// The connection that waited longest.
     Accepted,

@@ -61,7 +61,7 @@ pub fn place(alloc: Global, ends: &mut Vec<Option<Open>>, token: Token) -> usize
     if descriptor < ends.len() {
         ends[descriptor] = Some(open);
     } else {
-        ends.push(Some(open)).unwrap();
+        ends.push_reserved(Some(open));
     }
     descriptor
 }

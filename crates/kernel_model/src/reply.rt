@@ -2,7 +2,7 @@
 use token::Kind;
 
 /// What a socket replies to a call: counts stand for the bytes (`specs/Replies.antt`).
-#[derive(Clone, Copy, PartialEq, Eq)]
+#[derive(Clone, Copy)]
 pub enum Reply {
     /// To a read: this many bytes, at least one (read(2)).
     Bytes(usize),

@@ -144,7 +144,7 @@ fn tell(registered: &mut Open, queue: &mut Vec<Name>, change: Change<'_>) -> Res
     }
     registered.socket.change(change)?;
     if is_new {
-        queue.push(name).unwrap();
+        queue.push_reserved(name);
     }
     Ok(())
 }

@@ -12,5 +12,7 @@ loop-made-preserved c =
     let same = c.loop-made.invariant.0 in (
       c.split_seat-next.ensures.0 ∙ same,
       spare_used c.args.slots c.args.seats c.loop-made._made _ _ (ap (λ me. me.0) c.split_seat-next.ensures.2) c.loop-made.invariant.1,
-      one_seat_more _ _ c.loop-made._made _ _ _ (omega arith) c.loop-made.invariant.2 c.in_ok-seat_of.ensures (c.split_seat-next.ensures.3 ∙ same) c.in_ok-push.ensures.items,
+      one_seat_more _ _ c.loop-made._made _ _ _ (omega arith) c.loop-made.invariant.2 c.in_ok-seat_of.ensures (c.split_seat-next.ensures.3 ∙ same) c.push_reserved.ensures.items,
+      omega arith,
+      omega arith,
     )
