@@ -38,16 +38,17 @@ impl Memory for Atomics {
     /// Reads `opened` last, so that each connection that was read as ended is in it.
     fn load(&self) -> Counts {
         let mut counts = Counts::NONE;
-        for (number, atomic) in counts.numbers.iter_mut().zip(self.0.iter()) {
-            *number = atomic.load(Ordering::SeqCst);
+        for place in 0..COUNTS {
+            counts.numbers[place] = self.0[place].load(Ordering::SeqCst);
         }
         counts
     }
 
     /// Stores `opened` first, for the same reason.
     fn store(&self, counts: Counts) {
-        for (number, atomic) in counts.numbers.iter().zip(self.0.iter()).rev() {
-            put(atomic, *number);
+        for stored in 0..COUNTS {
+            let place = COUNTS - 1 - stored;
+            put(&self.0[place], counts.numbers[place]);
         }
     }
 }

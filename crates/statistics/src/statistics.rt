@@ -54,10 +54,11 @@ impl<M: Memory, G: Gauge> Statistics<M, G> {
         ensures counted { IfSome (slice_get self.now.places slot) (λ place. IsCounted M.did event place) }
         ensures gauged { slot < length self.now.places → IsGauged G.did event self.now.gauge }
     {
-        if let Some(place) = self.places.get(slot) {
-            place::count(place, event);
-            gauge::keep(&self.gauge, event);
-        }
+        let Some(place) = self.places.get(slot) else {
+            return;
+        };
+        place::count(place, event);
+        gauge::keep(&self.gauge, event);
     }
 
     /// Adds a second to those with all slots taken, if they are now.

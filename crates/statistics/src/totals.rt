@@ -104,7 +104,7 @@ impl Totals {
 
 impl Display for Totals {
     fn fmt<W: fmt::Write>(&self, f: &mut fmt::Formatter<W>) -> fmt::Result {
-        write!(f, "stats")?;
+        f.write_str("stats")?;
         for (name, figure) in &COLUMNS {
             let number = self.number(*figure);
             write!(f, " {name}={number}")?;
