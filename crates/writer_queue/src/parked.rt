@@ -124,10 +124,7 @@ impl<T: Drop, const QUEUES: usize> ParkedQueue<T, QUEUES> {
     pub fn put(&self, rt: &impl Wait, at: usize, item: T) -> Option<Spent>
         requires { at < QUEUES }
     {
-        match self.ends.put(rt, &mut Back(&self.queues[at]), item) {
-            Ok(spent) => Some(spent),
-            Err(Full(_item)) => None,
-        }
+        self.ends.put(rt, &mut Back(&self.queues[at]), item).ok()
     }
 
     /// Counts an item that was left out, and wakes the writer if it sleeps.
