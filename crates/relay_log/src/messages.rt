@@ -7,7 +7,7 @@ ghost use Rattle.log.specs.declared.level.Level.TheVariants as level;
 
 use crate::Gone;
 use common::{Cause, ClientsAt, ServerFault};
-use log::{Level, Log, error, log_enabled};
+use log::{Level, Log, log_enabled};
 use relay_core::{Fault, Pair, Verdict};
 use std::fmt::{self, Display};
 use std::io;
@@ -15,9 +15,6 @@ use std::io;
 /// Why a thread is not started: "resource temporarily unavailable" (EAGAIN of pthread_create(3)). The call's other
 /// errors are of attributes that no thread here has, and the number is not handed on.
 const NO_THREAD: i32 = 11;
-
-/// What to do about it.
-const RAISE: &str = "raise ulimit -u, TasksMax= or ulimit -v";
 
 /// A log that the relay's messages are passed to.
 ///
@@ -61,15 +58,10 @@ pub fn log_peer<L: Logs, D: Display>(
     ensures { L.logged rt.now (client_level clients) (peer_text slot generation (D.output from.now) (option_map D.output via.now)) }
 {
     let level = clients.level();
+    let peer = format_args!("peer s={slot} g={generation} from={from}");
     match via {
-        Some(via) => {
-            let peer = format_args!("peer s={slot} g={generation} from={from} via={via}");
-            rt.message(level, &peer);
-        }
-        None => rt.message(
-            level,
-            &format_args!("peer s={slot} g={generation} from={from}"),
-        ),
+        Some(via) => rt.message(level, &format_args!("{peer} via={via}")),
+        None => rt.message(level, &peer),
     }
 }
 
@@ -188,16 +180,24 @@ pub fn logs_gone(rt: &impl Log, clients: ClientsAt) -> bool {
 pub fn log_no_thread(rt: &impl Log) -> ServerFault
     ensures { result ≡ ServerFault.Threads }
 {
-    let error = io::Error::from_raw_os_error(NO_THREAD);
-    error!(rt; target: "relayd", "threads: {error}; {RAISE}");
-    ServerFault::Threads
+    log_threads(rt, &"")
 }
 
 /// As [`log_no_thread`], of a server that has started some of its threads.
 pub fn log_few_threads(rt: &impl Log, started: usize, wanted: usize) -> ServerFault
     ensures { result ≡ ServerFault.Threads }
 {
+    log_threads(rt, &format_args!("{started} of {wanted} started: "))
+}
+
+/// Logs what was started, if it is given, why no more was, and what to do about it.
+fn log_threads(rt: &impl Log, started: &impl Display) -> ServerFault
+    ensures { result ≡ ServerFault.Threads }
+{
     let error = io::Error::from_raw_os_error(NO_THREAD);
-    error!(rt; target: "relayd", "threads: {started} of {wanted} started: {error}; {RAISE}");
+    rt.message(
+        Level::Error,
+        &format_args!("threads: {started}{error}; raise ulimit -u, TasksMax= or ulimit -v"),
+    );
     ServerFault::Threads
 }
