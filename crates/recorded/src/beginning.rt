@@ -17,13 +17,16 @@ pub struct LeftOut {
     pub connections: u64,
 }
 
-/// What decides which records of such a file stay.
+/// What decides which records of such a file stay, and counts the others.
 #[derive(Drop)]
 pub(crate) struct Beginning {
     from: u64,
     /// Of each poller whether a wait stays, and of each slot whether an opening does.
     waited: Vec<bool>,
     opened: Vec<bool>,
+    /// What is left out so far, and the last connection of each slot that is counted there: its generation, or 0.
+    pub left_out: LeftOut,
+    last: Vec<u64>,
 }
 
 impl Beginning {
@@ -36,6 +39,12 @@ impl Beginning {
             from,
             waited: vec![in alloc; false; sizes.header.pollers]?,
             opened: vec![in alloc; false; sizes.header.slots]?,
+            left_out: LeftOut {
+                from,
+                records: 0,
+                connections: 0,
+            },
+            last: vec![in alloc; 0; sizes.header.slots]?,
         })
     }
 
@@ -80,6 +89,22 @@ impl Beginning {
             _ => {}
         }
     }
+
+    /// Counts a record that is left out.
+    pub(crate) fn leave_out(&mut self, record: &Record) {
+        self.left_out.records = self.left_out.records.saturating_add(1);
+        let (slot, generation) = match record.act {
+            Act::Poller(_, Polling::Open(slot, generation, Opening::Opened)) => (slot, generation),
+            Act::Wire(token, _) => (token.slot(), token.generation()),
+            _ => return,
+        };
+        if let Some(last) = self.last.get_mut(slot) {
+            if *last != generation {
+                *last = generation;
+                self.left_out.connections = self.left_out.connections.saturating_add(1);
+            }
+        }
+    }
 }
 
 fn is_wait(did: Polling) -> bool
@@ -106,42 +131,5 @@ fn set(flags: &mut [bool], at: usize)
 {
     if at < flags.len() {
         flags[at] = true;
-    }
-}
-
-/// Counts what is left out.
-#[derive(Drop)]
-pub(crate) struct Omitted {
-    pub so_far: LeftOut,
-    /// The last connection of each slot that is counted: its generation, or 0.
-    last: Vec<u64>,
-}
-
-impl Omitted {
-    pub(crate) fn new(alloc: Global, sizes: Sizes, from: u64) -> Result<Omitted, AllocError> {
-        Ok(Omitted {
-            so_far: LeftOut {
-                from,
-                records: 0,
-                connections: 0,
-            },
-            last: vec![in alloc; 0; sizes.header.slots]?,
-        })
-    }
-
-    /// This record is left out.
-    pub(crate) fn count(&mut self, record: &Record) {
-        self.so_far.records = self.so_far.records.saturating_add(1);
-        let (slot, generation) = match record.act {
-            Act::Poller(_, Polling::Open(slot, generation, Opening::Opened)) => (slot, generation),
-            Act::Wire(token, _) => (token.slot(), token.generation()),
-            _ => return,
-        };
-        if let Some(last) = self.last.get_mut(slot) {
-            if *last != generation {
-                *last = generation;
-                self.so_far.connections = self.so_far.connections.saturating_add(1);
-            }
-        }
     }
 }

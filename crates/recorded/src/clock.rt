@@ -1,7 +1,7 @@
 //! Which seconds the clock showed, as far as it was read.
-use crate::recording::{Numbered, Recording};
+use crate::recording::{Numbered, Recording, sort};
 use input::ReplayFault;
-use records::{Act, Polling};
+use records::{Act, Polling, Record};
 use std::alloc::{AllocError, Global};
 use std::mem;
 
@@ -11,15 +11,6 @@ use std::mem;
 pub struct Clock {
     before: Vec<(u64, u64)>,
     after: Vec<(u64, u64)>,
-}
-
-/// Between two counts a turn, a round or the beginning of a poller must have made a reading of its own. `line` has the
-/// act that follows.
-#[derive(Clone, Copy)]
-struct Window {
-    from: u64,
-    to: u64,
-    line: u64,
 }
 
 impl Clock {
@@ -51,7 +42,7 @@ impl Clock {
         let windows = windows_of(recording)?;
         let mut left = vec![in recording.alloc; true; self.after.len()]?;
         for window in windows.as_slice().iter().rev() {
-            if !self.take_reading(left.as_mut_slice(), window) {
+            if !self.take_reading(left.as_mut_slice(), &window.record) {
                 return Err(recording.broken(window.line, "the clock was not read for this"));
             }
         }
@@ -59,10 +50,10 @@ impl Clock {
     }
 
     /// Takes the last reading that is left in a window. Returns false if none is left.
-    fn take_reading(&self, left: &mut [bool], window: &Window) -> bool {
+    fn take_reading(&self, left: &mut [bool], window: &Record) -> bool {
         let readings = self.after.as_slice();
-        let first = count_below(readings, window.from);
-        for place in (first..count_below(readings, window.to)).rev() {
+        let first = count_below(readings, window.before);
+        for place in (first..count_below(readings, window.after)).rev() {
             if let Some(is_left) = left.get_mut(place) {
                 if mem::take(is_left) {
                     return true;
@@ -134,21 +125,21 @@ fn readings_of(
     Ok(readings)
 }
 
-/// All windows in which a reading must be recorded, by their beginnings.
-fn windows_of(recording: &Recording) -> Result<Vec<Window>, AllocError> {
+/// The windows in which a reading must be recorded, in order: between its two counts a turn, a round or the beginning
+/// of a poller made one of its own. Each has the line and the act that follow.
+fn windows_of(recording: &Recording) -> Result<Vec<Numbered>, AllocError> {
     let mut windows = Vec::new(recording.alloc);
-    if recording.header.idle == 0 {
-        return Ok(windows);
+    if recording.header.idle > 0 {
+        for at in 0..recording.lists.len() {
+            add_windows(&mut windows, recording, recording.list(at))?;
+        }
     }
-    for list in recording.lists.iter() {
-        add_windows(&mut windows, recording, list.as_slice())?;
-    }
-    windows.sort_by_key(|window: &Window| window.from)?;
+    sort(&mut windows)?;
     Ok(windows)
 }
 
 fn add_windows(
-    windows: &mut Vec<Window>,
+    windows: &mut Vec<Numbered>,
     recording: &Recording,
     acts: &[Numbered],
 ) -> Result<(), AllocError> {
@@ -156,11 +147,13 @@ fn add_windows(
     // In a file that follows other parts, what was read before the first act may be in these.
     let mut is_first = recording.header.from.is_none();
     for numbered in acts {
-        let (line, record) = (numbered.line, &numbered.record);
-        let to = record.before;
+        let record = &numbered.record;
         // No record is missing below `whole`, so a reading in such a window is there.
-        if is_read_before(is_first, &record.act) && to < recording.whole {
-            windows.push(Window { from, to, line })?;
+        if is_read_before(is_first, &record.act) && record.before < recording.whole {
+            let mut window = *numbered;
+            window.record.before = from;
+            window.record.after = record.before;
+            windows.push(window)?;
         }
         from = record.after;
         // The next act is the first after the wait.
@@ -194,6 +187,6 @@ fn second_at(readings: &[(u64, u64)], index: usize) -> u64 {
 }
 
 /// How many of these readings, which rise, have a lower count.
-fn count_below(readings: &[(u64, u64)], count: u64) -> usize {
+pub(crate) fn count_below(readings: &[(u64, u64)], count: u64) -> usize {
     readings.partition_point(|reading| reading.0 < count)
 }

@@ -3,7 +3,7 @@ ghost use Rattle.std.specs.Prelude.{◌≡◌, ◌≢◌, ◌-◌, ◌<◌, ◌�
 ghost use Rattle.recorded.specs.Sequences.{IsBegun, IsMissing, Follows, FollowsAt, is_of_wait};
 
 use crate::reading::fault;
-use crate::recording::{Last, Numbered, Recording, begun_before, is_twice, sort};
+use crate::recording::{Last, Numbered, Recording, count_before, is_twice, sort};
 use input::ReplayFault;
 use records::{Act, Made, Polling};
 use std::alloc::AllocError;
@@ -40,15 +40,18 @@ fn find_lost(recording: &mut Recording) -> Result<Option<u64>, ReplayFault> {
     }
     recording.whole = base.saturating_add(first_missing(counts.as_slice()) as u64);
     let begun = begun(recording)?;
-    let lost = first_lost(counts.as_slice(), begun.as_slice());
-    Ok(lost.map(|lost| base.saturating_add(lost)))
+    match first_lost(counts.as_slice(), begun.as_slice()) {
+        Some(lost) => Ok(Some(base.saturating_add(lost))),
+        None => Ok(None),
+    }
 }
 
 /// Refuses two acts at once at a slot, or of a poller, and lines that do not follow their counts.
 fn check_sequences(recording: &Recording) -> Result<(), ReplayFault> {
     let sequences = recording.lists.len().saturating_sub(1);
-    for list in recording.lists.get(..sequences).unwrap_or(&[]) {
-        let place = first_overlap(list.as_slice());
+    for at in 0..sequences {
+        let list = recording.list(at);
+        let place = first_overlap(list);
         if let Some(numbered) = list.get(place) {
             let why = disorder(list.get(place.saturating_sub(1)), numbered);
             return Err(recording.broken(numbered.line, why));
@@ -131,37 +134,35 @@ fn first_missing(counts: &[u64]) -> usize
 fn begun(recording: &Recording) -> Result<Vec<u64>, AllocError> {
     let mut begun = vec![in recording.alloc; u64::MAX; recording.lists.len()]?;
     if !matches!(recording.last, Last::Ended) {
+        // Where a file follows other parts, each worker may be in a turn of a slot of which nothing stays.
+        let mut early = match recording.header.from {
+            Some(_) => recording.header.workers,
+            None => 0,
+        };
         for (at, count) in begun.iter_mut().enumerate() {
-            *count = next_begun(recording, at);
+            *count = next_begun(recording, at, &mut early);
         }
-        begin_early(recording, begun.as_mut_slice());
     }
     begun.sort_unstable();
     Ok(begun)
 }
 
-/// Where a file follows other parts, each worker may be in a turn of a slot of which nothing stays.
-fn begin_early(recording: &Recording, begun: &mut [u64]) {
-    let mut workers = recording.header.workers;
-    for (at, count) in begun.iter_mut().enumerate() {
-        let is_slot = at < recording.header.slots && recording.list(at).is_empty();
-        if recording.header.from.is_some() && is_slot && workers > 0 {
-            *count = 0;
-            workers -= 1;
-        }
-    }
-}
-
 /// The least count that an act of this list without a record can have: after the last act of a poller, which may wait
-/// for reports, or of a turn that has not ended. `u64::MAX` if there is no such act.
-fn next_begun(recording: &Recording, at: usize) -> u64 {
-    let is_poller = at >= recording.header.slots && at < recording.lists.len().saturating_sub(1);
+/// for reports, or of a turn that has not ended; and 0 for the first empty lists of slots, as many as `early` says.
+/// `u64::MAX` if there is no such act.
+fn next_begun(recording: &Recording, at: usize, early: &mut usize) -> u64 {
+    let is_slot = at < recording.header.slots;
+    let is_poller = !is_slot && at < recording.lists.len().saturating_sub(1);
     match recording.list(at).last() {
         Some(last) if is_poller || is_of_turn(&last.record.act) => {
             let next = last.record.after.saturating_add(1);
             next.saturating_sub(recording.base())
         }
         None if is_poller => 0,
+        None if is_slot && *early > 0 => {
+            *early -= 1;
+            0
+        }
         _ => u64::MAX,
     }
 }
@@ -217,7 +218,7 @@ fn is_begun(begun: &[u64], place: u64, count: u64) -> bool
 fn leave_out(recording: &mut Recording, lost: u64) {
     let slots = recording.header.slots;
     for (at, list) in recording.lists.iter_mut().enumerate() {
-        let kept = begun_before(list.as_slice(), lost).len();
+        let kept = count_before(list.as_slice(), lost, false);
         for numbered in list.get(kept..).unwrap_or(&[]) {
             if !is_twice(at < slots, &numbered.record.act) {
                 recording.left_out = recording.left_out.saturating_add(1);

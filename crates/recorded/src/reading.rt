@@ -1,5 +1,5 @@
 //! A recording is read line by line, so that its text is never all in memory.
-use crate::beginning::{Beginning, LeftOut, Omitted};
+use crate::beginning::{Beginning, LeftOut};
 use crate::recording::{Recording, split_of};
 use common::Split;
 use input::ReplayFault;
@@ -56,7 +56,7 @@ struct Lines {
     /// The greatest count so far, also of the parts before.
     greatest: u64,
     /// Of a file that follows other parts.
-    late: Option<(Beginning, Omitted)>,
+    late: Option<Beginning>,
 }
 
 /// Makes a recording of what was read.
@@ -114,6 +114,8 @@ pub fn read_each<R: Read, T: Take>(
     reader: &mut R,
     taker: &mut T,
 ) -> Result<Rest, ReplayFault> {
+    let mut buffer = vec![in alloc; 0u8; CHUNK]?;
+    let mut line = Vec::new(alloc);
     let mut lines = Lines {
         alloc,
         sizes: None,
@@ -122,16 +124,7 @@ pub fn read_each<R: Read, T: Take>(
         greatest: 0,
         late: None,
     };
-    let mut buffer = vec![in alloc; 0u8; CHUNK]?;
-    let mut line = Vec::new(alloc);
-    lines.take_all(reader, buffer.as_mut_slice(), &mut line, taker)?;
-    if lines.sizes.is_none() {
-        return Err(fault_of(alloc, lines.number, wanted(FIRST)));
-    }
-    Ok(Rest {
-        cut: (!line.is_empty()).then_some(lines.number),
-        left_out: lines.left_out(),
-    })
+    lines.take_all(reader, buffer.as_mut_slice(), &mut line, taker)
 }
 
 impl Lines {
@@ -141,7 +134,7 @@ impl Lines {
         buffer: &mut [u8],
         line: &mut Vec<u8>,
         taker: &mut T,
-    ) -> Result<(), ReplayFault> {
+    ) -> Result<Rest, ReplayFault> {
         for _reads in 0..u64::MAX {
             match reader.read(buffer) {
                 Ok(0) => break,
@@ -149,7 +142,21 @@ impl Lines {
                 Err(_) => return Err(ReplayFault::Read),
             }
         }
-        Ok(())
+        self.rest(!line.is_empty())
+    }
+
+    /// What is not handed on, once all is read. `is_cut`: the last line has no end.
+    fn rest(&self, is_cut: bool) -> Result<Rest, ReplayFault> {
+        if self.sizes.is_none() {
+            return Err(fault_of(self.alloc, self.number, wanted(FIRST)));
+        }
+        Ok(Rest {
+            cut: is_cut.then_some(self.number),
+            left_out: match &self.late {
+                Some(late) => Some(late.left_out),
+                None => None,
+            },
+        })
     }
 
     fn take<T: Take>(
@@ -161,6 +168,7 @@ impl Lines {
         for byte in bytes {
             if *byte == b'\n' {
                 self.end_line(line.as_slice(), taker)?;
+                self.number = self.number.saturating_add(1);
                 line.clear();
             } else if line.len() < MAX_LINE {
                 line.push(*byte)?;
@@ -173,74 +181,55 @@ impl Lines {
     }
 
     fn end_line<T: Take>(&mut self, line: &[u8], taker: &mut T) -> Result<(), ReplayFault> {
-        let (alloc, number) = (self.alloc, self.number);
-        match self.sizes {
-            None => match sizes_of(line) {
-                Ok(sizes) => {
-                    self.begin(sizes)?;
-                    taker.begin(sizes)?;
-                }
-                Err(wrong) => return Err(fault_of(alloc, number, wrong)),
-            },
-            Some(sizes) if is_header(line) && !self.is_over => {
-                if let Err(wrong) = self.join(&sizes.header, line) {
-                    return Err(fault_of(alloc, number, wrong));
-                }
-            }
-            Some(sizes) => match record_of(&sizes, self.is_over, line) {
-                Ok(record) => {
-                    self.is_over = matches!(record.act, Act::Ended | Act::Full);
-                    self.hand_on(record, taker)?;
-                }
-                Err(wrong) => return Err(fault_of(alloc, number, wrong)),
-            },
+        let Some(sizes) = self.sizes else {
+            return match sizes_of(line) {
+                Ok(sizes) => Ok(self.begin(sizes, taker)?),
+                Err(wrong) => Err(fault_of(self.alloc, self.number, wrong)),
+            };
+        };
+        let read = if is_header(line) && !self.is_over {
+            self.join(&sizes.header, line)
+        } else {
+            record_of(&sizes, self.is_over, line)
+        };
+        match read {
+            Ok(Some(record)) => Ok(self.hand_on(record, taker)?),
+            Ok(None) => Ok(()),
+            Err(wrong) => Err(fault_of(self.alloc, self.number, wrong)),
         }
-        self.number = number.saturating_add(1);
-        Ok(())
     }
-}
 
-impl Lines {
-    fn begin(&mut self, sizes: Sizes) -> Result<(), AllocError> {
+    fn begin<T: Take>(&mut self, sizes: Sizes, taker: &mut T) -> Result<(), AllocError> {
         self.sizes = Some(sizes);
         if let Some(from) = sizes.header.from {
             self.greatest = from;
-            self.late = Some((
-                Beginning::new(self.alloc, sizes, from)?,
-                Omitted::new(self.alloc, sizes, from)?,
-            ));
+            self.late = Some(Beginning::new(self.alloc, sizes, from)?);
         }
-        Ok(())
+        taker.begin(sizes)
     }
 
-    /// The header of another part, which must follow what was read.
-    fn join<'a>(&self, first: &Header, line: &'a [u8]) -> Result<(), Wrong<'a>> {
+    /// The header of another part, which must follow what was read. It is no record.
+    fn join<'a>(&self, first: &Header, line: &'a [u8]) -> Result<Option<Record>, Wrong<'a>> {
         let header = read_header(line)?;
         if !are_of_one(first, &header) {
             return Err(wanted("a part of the same recording is wanted"));
         }
         match header.from {
-            Some(from) if from == self.greatest => Ok(()),
+            Some(from) if from == self.greatest => Ok(None),
             _ => Err(wanted("this part does not follow the one before it")),
         }
     }
 
     fn hand_on<T: Take>(&mut self, record: Record, taker: &mut T) -> Result<(), AllocError> {
+        self.is_over = matches!(record.act, Act::Ended | Act::Full);
         self.greatest = self.greatest.max(record.after);
-        if let Some((beginning, omitted)) = &mut self.late {
-            if !beginning.keeps(&record) {
-                omitted.count(&record);
+        if let Some(late) = &mut self.late {
+            if !late.keeps(&record) {
+                late.leave_out(&record);
                 return taker.leave_out(record);
             }
         }
         taker.take(self.number, record)
-    }
-
-    fn left_out(&self) -> Option<LeftOut> {
-        match &self.late {
-            Some((_, omitted)) => Some(omitted.so_far),
-            None => None,
-        }
     }
 }
 
@@ -264,7 +253,11 @@ fn sizes_of(line: &[u8]) -> Result<Sizes, Wrong<'_>> {
     }
 }
 
-fn record_of<'a>(sizes: &Sizes, is_over: bool, line: &'a [u8]) -> Result<Record, Wrong<'a>> {
+fn record_of<'a>(
+    sizes: &Sizes,
+    is_over: bool,
+    line: &'a [u8],
+) -> Result<Option<Record>, Wrong<'a>> {
     if is_over {
         return Err(wanted(
             "nothing comes after the record end or full: what does is replayed by itself",
@@ -286,7 +279,7 @@ fn record_of<'a>(sizes: &Sizes, is_over: bool, line: &'a [u8]) -> Result<Record,
     }
     match outside(sizes, &record.act) {
         Some(text) => Err(wanted(text)),
-        None => Ok(record),
+        None => Ok(Some(record)),
     }
 }
 

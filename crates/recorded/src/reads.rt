@@ -3,18 +3,12 @@
 //! report: one whose wait had begun before the read ended, and had not ended before the wire last looked. The report
 //! may be one of an earlier connection in the slot, since its wire left what it did not look at; and it may be older
 //! than the read that would block, since a wire that reads does not look.
+use crate::clock::count_below;
 use crate::recording::{Recording, add, lists};
 use input::ReplayFault;
 use records::{Act, Answer, Made, Polling};
 use std::alloc::AllocError;
 use token::{Name, Side};
-
-/// The counts before and after a wait that reported an end.
-#[derive(Clone, Copy)]
-struct Wait {
-    before: u64,
-    after: u64,
-}
 
 /// What is known of the wires on one side of a slot.
 #[derive(Clone, Copy)]
@@ -51,16 +45,15 @@ fn at(slot: usize, side: Side) -> usize {
     }
 }
 
-/// The waits that reported the client's end of each slot, and the target's. They stand in their order: an end is
-/// reported by one poller.
-fn waits_of(recording: &Recording) -> Result<Vec<Vec<Wait>>, AllocError> {
+/// The counts after and before each wait that reported the client's end of a slot, and the target's. They stand in
+/// their order: an end is reported by one poller.
+fn waits_of(recording: &Recording) -> Result<Vec<Vec<(u64, u64)>>, AllocError> {
     let mut waits = lists(recording.alloc, recording.header.slots.saturating_mul(2))?;
     for poller in 0..recording.header.pollers {
         for numbered in recording.poller(poller) {
             if let Act::Poller(_, Polling::Reported(Name::End(token))) = numbered.record.act {
-                let (before, after) = (numbered.record.before, numbered.record.after);
-                let at = at(token.slot(), token.side());
-                add(waits.as_mut_slice(), at, Wait { before, after })?;
+                let counts = (numbered.record.after, numbered.record.before);
+                add(waits.as_mut_slice(), at(token.slot(), token.side()), counts)?;
             }
         }
     }
@@ -68,7 +61,12 @@ fn waits_of(recording: &Recording) -> Result<Vec<Vec<Wait>>, AllocError> {
 }
 
 /// The line of the first read on this side of a slot of which its wire cannot have heard.
-fn first_unheard(recording: &Recording, slot: usize, side: Side, waits: &[Wait]) -> Option<u64> {
+fn first_unheard(
+    recording: &Recording,
+    slot: usize,
+    side: Side,
+    waits: &[(u64, u64)],
+) -> Option<u64> {
     let mut reader = Reader {
         is_blocked: false,
         looked: 0,
@@ -94,10 +92,9 @@ fn first_unheard(recording: &Recording, slot: usize, side: Side, waits: &[Wait])
 
 impl Reader {
     /// Whether a report can have been passed on since the last look, and before this count.
-    fn may_hear(&self, waits: &[Wait], count: u64) -> bool {
-        let first = waits.partition_point(|wait| wait.after < self.looked);
-        match waits.get(first) {
-            Some(wait) => wait.before < count,
+    fn may_hear(&self, waits: &[(u64, u64)], count: u64) -> bool {
+        match waits.get(count_below(waits, self.looked)) {
+            Some(wait) => wait.1 < count,
             None => false,
         }
     }

@@ -100,14 +100,13 @@ impl Recording {
                 let first = self.failed.unwrap_or(u64::MAX);
                 self.failed = Some(first.min(record.after));
             }
+            Act::Poller(_, Polling::Open(slot, _, _)) => {
+                add(self.lists.as_mut_slice(), slot, Numbered { line, record })?;
+            }
             _ => {}
         }
-        let (first, second) = self.lists_of(&record.act);
-        add(self.lists.as_mut_slice(), first, Numbered { line, record })?;
-        match second {
-            Some(second) => add(self.lists.as_mut_slice(), second, Numbered { line, record }),
-            None => Ok(()),
-        }
+        let at = self.list_of(&record.act);
+        add(self.lists.as_mut_slice(), at, Numbered { line, record })
     }
 
     /// The first count that the file can have all records of: 0, if it follows no other part.
@@ -131,15 +130,13 @@ impl Recording {
         Ok(())
     }
 
-    fn lists_of(&self, act: &Act) -> (usize, Option<usize>) {
-        match act {
-            Act::Poller(poller, Polling::Open(slot, _, _)) => {
-                (*slot, Some(self.at_poller(*poller)))
-            }
-            Act::Poller(poller, _) => (self.at_poller(*poller), None),
-            Act::Begin(slot) | Act::End(slot) => (*slot, None),
-            Act::Wire(token, _) => (token.slot(), None),
-            Act::Second(_) | Act::Ended | Act::Full => (self.at_poller(self.header.pollers), None),
+    /// The list of an act: of an opening, its poller's.
+    fn list_of(&self, act: &Act) -> usize {
+        match *act {
+            Act::Poller(poller, _) => self.at_poller(poller),
+            Act::Begin(slot) | Act::End(slot) => slot,
+            Act::Wire(token, _) => token.slot(),
+            Act::Second(_) | Act::Ended | Act::Full => self.at_poller(self.header.pollers),
         }
     }
 
@@ -215,14 +212,19 @@ pub(crate) fn sort(acts: &mut Vec<Numbered>) -> Result<(), AllocError> {
 
 /// Of these acts, which are in order, those that had begun before this count.
 pub fn begun_before(acts: &[Numbered], count: u64) -> &[Numbered] {
-    let begun = acts.partition_point(|act| act.record.before < count);
-    acts.get(..begun).unwrap_or(&[])
+    acts.get(..count_before(acts, count, false)).unwrap_or(&[])
 }
 
-/// Of these acts, which are in order, those that had ended before this count.
-pub(crate) fn ended_before(acts: &[Numbered], count: u64) -> &[Numbered] {
-    let ended = acts.partition_point(|act| act.record.after < count);
-    acts.get(..ended).unwrap_or(&[])
+/// How many of these acts, which are in order, had begun before this count, or `ended` before it.
+pub(crate) fn count_before(acts: &[Numbered], count: u64, ended: bool) -> usize {
+    acts.partition_point(|act| {
+        let at = if ended {
+            act.record.after
+        } else {
+            act.record.before
+        };
+        at < count
+    })
 }
 
 /// Whether this record is in another list, too: an opening, in its slot's list (`of_slot`).

@@ -1,6 +1,6 @@
 //! What a poller does in a round, one act after the other: it waits for reports once, and then accepts connections,
 //! each of which it opens at once.
-use crate::recording::{Last, Recording, ended_before};
+use crate::recording::{Last, Recording, count_before};
 use common::MAX_ACCEPTS;
 use input::ReplayFault;
 use records::{Accepted, Act, Made, Opening, Polling, Record};
@@ -13,8 +13,9 @@ struct Round<'a> {
     recording: &'a Recording,
     /// The generation of the last connection that the poller opened in each slot, 0 where it opened none.
     opened: Vec<u64>,
-    /// The wait with which the round began, if it has begun, and what the wait has reported so far.
-    poll: Option<Record>,
+    /// The count before the wait with which the round began, whether the wait failed, and what it has reported so far.
+    began: u64,
+    failed: bool,
     reported: Vec<Name>,
     /// Whether the time of the wait may come next.
     may_time: bool,
@@ -30,7 +31,8 @@ pub fn check_rounds(recording: &Recording) -> Result<(), ReplayFault> {
         let mut round = Round {
             recording,
             opened: vec![in recording.alloc; 0; recording.header.slots]?,
-            poll: None,
+            began: 0,
+            failed: false,
             reported: Vec::new(recording.alloc),
             may_time: false,
             accepts: 0,
@@ -64,34 +66,24 @@ impl Round<'_> {
             return Ok(None);
         };
         let may_time = mem::take(&mut self.may_time);
-        match did {
-            Polling::Reported(name) => return self.report(name),
-            Polling::Time(_) if may_time => return Ok(None),
-            Polling::Time(_) => return Ok(Some("a time follows a wait that gave reports")),
-            _ => {}
-        }
-        if let Some(
-            Record {
-                act: Act::Poller(_, Polling::Failed),
-                ..
-            },
-        ) = self.poll
-        {
-            return Ok(Some("a poller ends once its wait for reports has failed"));
-        }
         Ok(match did {
+            Polling::Reported(name) => return self.report(name),
+            Polling::Time(_) if may_time => None,
+            Polling::Time(_) => Some("a time follows a wait that gave reports"),
+            _ if self.failed => Some("a poller ends once its wait for reports has failed"),
             Polling::Accept(answer) => self.accept(answer),
             Polling::Open(slot, generation, opening) => self.open(slot, generation, opening),
-            _ => self.begin(record),
+            _ => self.begin(record.before, did),
         })
     }
 
-    fn begin(&mut self, poll: &Record) -> Option<&'static str> {
+    fn begin(&mut self, count: u64, did: Polling) -> Option<&'static str> {
         if self.accepted {
             return Some("the accepted connection is opened before the next wait");
         }
-        self.poll = Some(*poll);
-        self.may_time = matches!(poll.act, Act::Poller(_, Polling::Gave(count)) if count > 0);
+        self.began = count;
+        self.failed = matches!(did, Polling::Failed);
+        self.may_time = matches!(did, Polling::Gave(count) if count > 0);
         self.reported.clear();
         self.accepts = MAX_ACCEPTS;
         None
@@ -116,11 +108,11 @@ impl Round<'_> {
     /// Whether this end, of the last connection in its slot, was closed when the wait began.
     fn is_closed(&self, token: Token) -> bool {
         let acts = self.recording.slot(token.slot());
-        let began = match &self.poll {
-            Some(poll) => poll.before,
-            None => 0,
-        };
-        for last in ended_before(acts, began).iter().rev().take(2) {
+        let ended = count_before(acts, self.began, true);
+        for back in 1..3 {
+            let Some(last) = acts.get(ended.wrapping_sub(back)) else {
+                return false;
+            };
             match last.record.act {
                 Act::Poller(_, Polling::Open(_, generation, _)) => {
                     return generation > token.generation();

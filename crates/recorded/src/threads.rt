@@ -1,7 +1,7 @@
 //! How many threads were at work at once: a turn is made by the poller of its slot, while the poller does nothing
 //! else, or by a worker.
 use crate::order::first_overlap;
-use crate::recording::{Numbered, Recording, ended_before, sort};
+use crate::recording::{Numbered, Recording, count_before, sort};
 use common::OWN_BUDGET;
 use input::ReplayFault;
 use records::{Act, Made, Record};
@@ -33,10 +33,7 @@ struct Change {
 /// Refuses with `Broken` a turn for which no thread is left.
 pub fn check_threads(recording: &Recording) -> Result<(), ReplayFault> {
     let spans = all_spans(recording)?;
-    let acts = acts_of_pollers(recording, spans.as_slice())?;
-    let changes = changes_of(recording, acts.as_slice(), spans.as_slice())?;
-    let over = first_over(recording, changes.as_slice())?;
-    match first_at_once(acts.as_slice()).or(over) {
+    match first_beyond(recording, spans.as_slice())? {
         Some(line) => Err(recording.broken(line, "more turns at once than threads")),
         None => Ok(()),
     }
@@ -45,28 +42,32 @@ pub fn check_threads(recording: &Recording) -> Result<(), ReplayFault> {
 fn all_spans(recording: &Recording) -> Result<Vec<Span>, AllocError> {
     let mut spans = Vec::new(recording.alloc);
     for slot in 0..recording.header.slots {
-        for span in spans_of(recording, slot)?.as_slice() {
-            // A span that has not ended lasts up to the first count that no record has: its next act may have it.
-            let least = if span.is_over { 0 } else { recording.whole };
-            let to = span.to.max(least);
-            spans.push(Span { to, ..*span })?;
+        add_spans(&mut spans, recording, slot)?;
+    }
+    for span in spans.as_mut_slice().iter_mut() {
+        // A span that has not ended lasts up to the first count that no record has: its next act may have it.
+        if !span.is_over {
+            span.to = span.to.max(recording.whole);
         }
     }
     Ok(spans)
 }
 
-/// What each poller did for certain, in order.
-fn acts_of_pollers(
-    recording: &Recording,
-    spans: &[Span],
-) -> Result<Vec<Vec<Numbered>>, AllocError> {
-    let mut acts = Vec::new(recording.alloc);
+/// The line of the first span for which no thread is left.
+fn first_beyond(recording: &Recording, spans: &[Span]) -> Result<Option<u64>, AllocError> {
+    let mut changes = Vec::new(recording.alloc);
     for poller in 0..recording.header.pollers {
-        acts.push(acts_of_poller(recording, spans, poller)?)?;
+        let acts = acts_of_poller(recording, spans, poller)?;
+        if let Some(numbered) = acts.get(first_overlap(acts.as_slice())) {
+            return Ok(Some(numbered.line));
+        }
+        add_changes(&mut changes, acts.as_slice(), spans, poller)?;
     }
-    Ok(acts)
+    changes.sort_by_key(|change: &Change| change.count)?;
+    first_over(recording, changes.as_slice())
 }
 
+/// What a poller did for certain, in order.
 fn acts_of_poller(
     recording: &Recording,
     spans: &[Span],
@@ -88,33 +89,22 @@ fn acts_of_poller(
     Ok(acts)
 }
 
-fn first_at_once(acts: &[Vec<Numbered>]) -> Option<u64> {
-    for list in acts {
-        if let Some(numbered) = list.get(first_overlap(list.as_slice())) {
-            return Some(numbered.line);
-        }
-    }
-    None
-}
-
-/// The beginnings and ends of all other spans, in order.
-fn changes_of(
-    recording: &Recording,
-    acts: &[Vec<Numbered>],
+/// Adds the beginnings and ends of the other spans at a poller's slots. The poller did these acts.
+fn add_changes(
+    changes: &mut Vec<Change>,
+    acts: &[Numbered],
     spans: &[Span],
-) -> Result<Vec<Change>, AllocError> {
-    let mut changes = Vec::new(recording.alloc);
+    poller: usize,
+) -> Result<(), AllocError> {
     for span in spans {
-        match acts.get(span.poller) {
-            Some(acts) if !span.is_pollers => add(&mut changes, acts.as_slice(), *span)?,
-            _ => {}
+        if !span.is_pollers && span.poller == poller {
+            add(changes, acts, span)?;
         }
     }
-    changes.sort_by_key(|change: &Change| change.count)?;
-    Ok(changes)
+    Ok(())
 }
 
-fn add(changes: &mut Vec<Change>, acts: &[Numbered], span: Span) -> Result<(), AllocError> {
+fn add(changes: &mut Vec<Change>, acts: &[Numbered], span: &Span) -> Result<(), AllocError> {
     let is_own = span.calls <= OWN_BUDGET && !is_busy(acts, span.from, span.to);
     let begins = Change {
         count: span.from,
@@ -132,35 +122,36 @@ fn add(changes: &mut Vec<Change>, acts: &[Numbered], span: Span) -> Result<(), A
 
 /// Whether a poller, which did these acts one after the other, did one between these two counts.
 pub fn is_busy(acts: &[Numbered], from: u64, to: u64) -> bool {
-    match acts.get(ended_before(acts, from).len()) {
+    match acts.get(count_before(acts, from, true)) {
         Some(act) => act.record.before < to,
         None => false,
     }
 }
 
-/// What was done at a slot, as spans. Two are the poller's for certain: a turn that spent the own budget, but not the
+/// Adds what was done at a slot. Two spans are the poller's for certain: a turn that spent the own budget, but not the
 /// workers', and the closing of a connection that came to nothing.
-fn spans_of(recording: &Recording, slot: usize) -> Result<Vec<Span>, AllocError> {
-    let mut spans: Vec<Span> = Vec::new(recording.alloc);
+fn add_spans(spans: &mut Vec<Span>, recording: &Recording, slot: usize) -> Result<(), AllocError> {
+    let mut is_first = true;
     let failed = recording.failed.is_some();
     let poller = recording.split.poller_of(slot);
     let mut last = Act::Ended;
     for numbered in recording.slot(slot) {
         let act = numbered.record.act;
         let begins = begins_span(&last, &act, failed);
-        if let Some(span) = spans.last_mut() {
-            if !begins {
-                span.go_on(&numbered.record);
-            } else if matches!((last, act), (Act::End(_), Act::Begin(_))) {
+        match spans.last_mut() {
+            Some(span) if !is_first && !begins => span.go_on(&numbered.record),
+            Some(span) if !is_first && matches!((last, act), (Act::End(_), Act::Begin(_))) => {
                 span.is_pollers = span.calls == OWN_BUDGET && OWN_BUDGET < recording.header.budget;
             }
+            _ => {}
         }
         if begins {
             spans.push(Span::new(numbered, poller, failed))?;
+            is_first = false;
         }
         last = act;
     }
-    Ok(spans)
+    Ok(())
 }
 
 /// Whether an act begins a span. A drop after a turn's end belongs to that turn, unless the relay failed.
