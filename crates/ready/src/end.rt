@@ -1,11 +1,12 @@
 // One end of the ready queue: what it keeps, and the steps whose clauses name that.
-ghost use Rattle.std.specs.Prelude.{◌≡◌, ◌<◌, ◌↔◌, IfOk, OnOk, IfErr, OnErr, IfSome, IfNone, IsNone, IsTrue, true, false};
-ghost use Rattle.ready.specs.Steps.{HeldOnce, PutOne, TookOne};
+ghost use Rattle.std.specs.Prelude.{◌≡◌, ◌<◌, ◌↔◌, IfOk, OnOk, IfErr, OnErr, IsNone, IsTrue, true, false};
+ghost use Rattle.ready.specs.Steps.{unused, HeldOnce, PutOne, TookOne};
 
 use crate::idle::IdleEnds;
 use crate::rule::LineEnd;
 use crate::steps::{Drained, Put, Spent};
 use crate::ticket::{Full, Ticket};
+use std::alloc::AllocError;
 use std::sync::{Arc, Wait};
 
 #[derive(Drop)]
@@ -19,17 +20,22 @@ pub(crate) struct End {
 }
 
 impl End {
-    pub(crate) fn new(ends: Arc<IdleEnds>, line: LineEnd<Ticket>, number: usize) -> End
+    // A further end, which has done nothing.
+    pub(crate) fn another(
+        ends: &Arc<IdleEnds>,
+        first: &mut LineEnd<Ticket>,
+        number: usize,
+    ) -> Result<End, AllocError>
         requires { number < 32 }
-        ensures line { result.line ≡ line }
-        ensures comes_back { result.comes_back ≡ false }
+        ensures same { first.new.capacity ≡ first.old.capacity }
+        ensures new { IfOk result (λ end. (end.line ≡ unused first.old.capacity) × (end.comes_back ≡ false)) }
     {
-        End {
-            ends,
-            line,
+        Ok(End {
+            ends: Arc::try_clone(ends)?,
+            line: first.another()?,
             number,
             comes_back: false,
-        }
+        })
     }
 
     // Puts a ticket, and wakes an end for it. None: this end will come back for a ticket itself.
@@ -46,14 +52,12 @@ impl End {
         ensures comes_back { OnOk result (self.new.comes_back ≡ false) }
         ensures same { (self.new.line.capacity ≡ self.old.line.capacity) × (self.new.number ≡ self.old.number) }
     {
-        let spent = if self.comes_back {
+        if self.comes_back {
             self.line.put(rt, ticket)?;
-            None
-        } else {
-            Some(self.ends.put(rt, &mut self.line, ticket)?)
-        };
-        self.comes_back = false;
-        Ok(spent)
+            self.comes_back = false;
+            return Ok(None);
+        }
+        Ok(Some(self.ends.put(rt, &mut self.line, ticket)?))
     }
 
     // An error shows that the queue was closed, and then found empty.

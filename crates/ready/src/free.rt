@@ -27,7 +27,6 @@ impl Model for FreeQueue {
 impl FreeQueue {
     /// Makes a queue and its ends. The first end has put `slots` slots, from `first` on, in order. This allocates all
     /// the memory that it ever uses, and fails only if there is not enough.
-    #[tactic(auto, using(crate::proofs::Moves::one_end_more))]
     pub fn new(
         rt: &impl Wait,
         alloc: Global,
@@ -44,10 +43,10 @@ impl FreeQueue {
         // The further ends are made from one that has done nothing.
         let mut next = end.another()?;
         let mut all = Vec::with_capacity(alloc, ends)?;
-        all.push(FreeQueue { end })?;
+        all.push_reserved(FreeQueue { end });
         for _end in 1..ends {
             let end = next.another()?;
-            all.push(FreeQueue { end })?;
+            all.push_reserved(FreeQueue { end });
         }
         Ok(all)
     }

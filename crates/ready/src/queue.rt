@@ -39,8 +39,8 @@ impl ReadyQueue {
         let mut first = LineEnd::first(alloc, capacity)?;
         let mut all = Vec::with_capacity(alloc, ends)?;
         for number in 0..ends {
-            let end = End::new(Arc::try_clone(&shared)?, first.another()?, number);
-            all.push(ReadyQueue { end })?;
+            let end = End::another(&shared, &mut first, number)?;
+            all.push_reserved(ReadyQueue { end });
         }
         Ok(all)
     }
