@@ -7,7 +7,6 @@ use engine::Wire;
 use log::Log;
 use std::io::{self, ErrorKind};
 use std::net::{SocketAddr, SocketAddrV4};
-use thiserror::Error;
 use token::Token;
 
 /// A wire that may hold bytes back.
@@ -64,13 +63,11 @@ pub fn unaccepted_of(kind: ErrorKind) -> Unaccepted
 }
 
 /// Why an accepted connection could not be opened.
-#[derive(Clone, Copy, Debug, PartialEq, Eq, Error)]
+#[derive(Clone, Copy, PartialEq, Eq)]
 pub enum Unopened {
     /// The connection to the target could not be started (socket(2), connect(2)).
-    #[error("connect: failed")]
     Connect,
     /// A socket could not be registered for reports (epoll_ctl(2)).
-    #[error("register: failed")]
     Register,
 }
 
@@ -115,7 +112,7 @@ pub struct Opened<T> {
 }
 
 /// How long a poller waits, if there is no report.
-#[derive(Clone, Copy, PartialEq, Eq)]
+#[derive(Clone, Copy)]
 pub enum Waiting {
     /// Not at all.
     No,

@@ -60,7 +60,7 @@ impl<C, T, A> Places<C, T, A> {
     {
         let mut places = Vec::with_capacity(alloc, slots)?;
         for _slot in 0..slots {
-            places.push(Mutex::new(None))?;
+            places.push_reserved(Mutex::new(None));
         }
         Ok(Places {
             places,

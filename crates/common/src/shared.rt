@@ -155,12 +155,8 @@ impl Parts {
         ensures hand { IfOk result (λ next. IfSome next (λ own. own.hand ≡ empty_hand capacity)) }
         ensures free { IfOk result (λ next. IfSome next (λ own. own.free ≡ free)) }
     {
-        let hand = Hand::new(alloc, capacity)?;
-        let buffer = Box::new(alloc, [0; MAX_READ])?;
-        let Some(seat) = self.seats.pop() else {
-            return Ok(None);
-        };
-        let Some(ready) = self.ready.pop() else {
+        let (hand, buffer) = hand_and_buffer(alloc, capacity)?;
+        let Some((seat, ready)) = self.next_seat(&shared.claims) else {
             return Ok(None);
         };
         Ok(Some(Own {
@@ -171,4 +167,24 @@ impl Parts {
             buffer,
         }))
     }
+
+    fn next_seat(&mut self, _claims: &Claims) -> Option<(ClaimSeat, ReadyQueue)>
+        requires { AreFresh _claims.now self.old.seats.items }
+        ensures left { AreFresh _claims.now self.new.seats.items }
+        ensures next { IfSome result (λ next. next.0 ≡ fresh_seat _claims.now) }
+    {
+        let seat = self.seats.pop()?;
+        let ready = self.ready.pop()?;
+        Some((seat, ready))
+    }
+}
+
+fn hand_and_buffer(
+    alloc: Global,
+    capacity: usize,
+) -> Result<(Hand, Box<[u8; MAX_READ]>), AllocError>
+    ensures { IfOk result (λ both. both.0 ≡ empty_hand capacity) }
+{
+    let hand = Hand::new(alloc, capacity)?;
+    Ok((hand, Box::new(alloc, [0; MAX_READ])?))
 }
