@@ -5,7 +5,7 @@ use std::io::{Read, Write};
 use thiserror::Error;
 
 /// What is wanted of a recording.
-#[derive(Clone, Copy, PartialEq, Eq)]
+#[derive(Clone, Copy)]
 pub enum Wanted {
     /// How many connections and events, and how many bytes; or in people's words the first record that fits nowhere.
     Totals,
@@ -20,7 +20,7 @@ pub enum Wanted {
 }
 
 /// Whether a recording is of runs of the machine.
-#[derive(Clone, Copy, PartialEq, Eq)]
+#[derive(Clone, Copy)]
 pub enum Judged {
     /// What was played is of runs: each slot and each listener, or with `Script` its slot alone, and nothing with
     /// `Ends` and `Timeline`. What was wanted is written.
