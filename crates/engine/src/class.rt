@@ -7,7 +7,7 @@ use relay_core::{Call, CallKind, Kind, Side};
 use std::io::ErrorKind;
 
 /// What an error of a call means.
-#[derive(Clone, Copy, PartialEq, Eq)]
+#[derive(Clone, Copy)]
 pub enum Class {
     /// A signal interrupted the call, and nothing moved (EINTR).
     Interrupted,

@@ -36,7 +36,7 @@ pub enum Play {
 }
 
 /// One of the lists of answers that a [`ScriptWire`] plays.
-#[derive(Clone, Copy, PartialEq, Eq)]
+#[derive(Clone, Copy)]
 pub enum PlayList {
     /// The answers to reads.
     Reads,
@@ -91,7 +91,7 @@ impl ScriptWire {
         }) }
     {
         let writes = VecDeque::from(writes);
-        let room = room_for(&writes, 0)?;
+        let room = room_for(&writes, 0);
         Ok(ScriptWire {
             reads: VecDeque::from(reads),
             taken: Vec::with_capacity(alloc, room)?,
@@ -115,7 +115,7 @@ impl ScriptWire {
             PlayList::Reads => insert(&mut self.reads, index, play),
             PlayList::Closings => insert(&mut self.closings, index, play),
             PlayList::Writes => {
-                let room = room_for(&self.writes, most_taken(&play))?;
+                let room = room_for(&self.writes, most_taken(&play));
                 self.taken.reserve(room)?;
                 insert(&mut self.writes, index, play)
             }
@@ -138,13 +138,13 @@ impl ScriptWire {
     }
 }
 
-/// The bytes of all Takes of a list together, and `more`. Fails if the sum overflows.
-fn room_for(plays: &VecDeque<Play>, more: usize) -> Result<usize, AllocError> {
+/// The bytes of all Takes of a list together, and `more`, up to the largest `usize`, for which there is no memory.
+fn room_for(plays: &VecDeque<Play>, more: usize) -> usize {
     let mut room = more;
     for play in plays {
-        room = room.checked_add(most_taken(play)).ok_or(AllocError)?;
+        room = room.saturating_add(most_taken(play));
     }
-    Ok(room)
+    room
 }
 
 fn most_taken(play: &Play) -> usize {
