@@ -146,14 +146,12 @@ impl Connection {
         ensures memory { IsErrOf result Refusal.NoMemory → IsTrue (needs_memory reply) }
         ensures pair { self.new ≡ self.old }
     {
+        let descriptor = self.descriptor(call.side());
         match call {
-            Call::Read(side, most) => kernel.read(self.descriptor(side), most, reply),
-            Call::Write(side) => {
-                let descriptor = self.descriptor(side);
-                kernel.write(descriptor, self.pair.offer(side), reply)
-            }
-            Call::Join(side) => kernel.join(self.descriptor(side), reply),
-            Call::Shut(side) => kernel.shut(self.descriptor(side), reply),
+            Call::Read(_, most) => kernel.read(descriptor, most, reply),
+            Call::Write(side) => kernel.write(descriptor, self.pair.offer(side), reply),
+            Call::Join(_) => kernel.join(descriptor, reply),
+            Call::Shut(_) => kernel.shut(descriptor, reply),
         }
     }
 }

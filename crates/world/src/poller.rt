@@ -87,11 +87,11 @@ impl World {
         requires inside_table { slot < length self.old.table }
         ensures { Meets (Some (opened_world self.old slot generation (open_both self.old.kernel client target))) self.old self.new result }
     {
-        let pair = self.fresh_pair(slot, generation)?;
         self.hand.reserve(1)?;
         let notes = vec![in self.alloc; generation; 1]?;
+        let pair = self.fresh_pair(slot, generation)?;
         let ends = self.kernel.open_both(client, target)?;
-        self.hand.push(Ticket { slot, generation }).unwrap();
+        self.hand.push_reserved(Ticket { slot, generation });
         self.accepted = false;
         self.free.remove(0);
         self.table[slot] = generation;
@@ -181,7 +181,7 @@ impl World {
         }
         self.hand.reserve(1)?;
         if self.slots[slot].post(generation)? {
-            self.hand.push(Ticket { slot, generation }).unwrap();
+            self.hand.push_reserved(Ticket { slot, generation });
         }
         Ok(())
     }
@@ -206,7 +206,7 @@ impl World {
         }
         self.ready.reserve(1)?;
         let ticket = self.hand.remove(0);
-        self.ready.push(ticket).unwrap();
+        self.ready.push_reserved(ticket);
         Ok(())
     }
 }

@@ -34,32 +34,24 @@ impl World {
             return Err(Refusal::NotAllowed);
         }
         match self.workers[worker].doing() {
-            Doing::Idle => self.act_idle(worker, act),
-            Doing::Tries(ticket) => self.act_trying(worker, ticket, act),
+            Doing::Idle => match act {
+                Act::Put => self.put_by_worker(worker),
+                Act::Pop => self.pop(worker),
+                _ => Err(Refusal::NotAllowed),
+            },
+            Doing::Tries(ticket) => match act {
+                Act::Claim => self.claim(worker, ticket),
+                _ => Err(Refusal::NotAllowed),
+            },
             Doing::Holds(slot, left) => self.act_holding(worker, slot, left, act),
-            Doing::Closed(slot) => self.act_closed(worker, slot, act),
-            Doing::Retired(slot) => self.act_retired(worker, slot, act),
-        }
-    }
-
-    fn act_idle(&mut self, worker: usize, act: Act) -> Result<(), Refusal>
-        requires { option_map (λ (k : WorkerState). k.doing) (slice_get self.old.workers worker) ≡ Some Doing.Idle }
-        ensures { MeetsIn (act_allocates self.old worker act) (worked self.old worker act) self.old self.new result }
-    {
-        match act {
-            Act::Put => self.put_by_worker(worker),
-            Act::Pop => self.pop(worker),
-            _ => Err(Refusal::NotAllowed),
-        }
-    }
-
-    fn act_trying(&mut self, worker: usize, ticket: Ticket, act: Act) -> Result<(), Refusal>
-        requires { slice_get self.old.workers worker ≡ Some (busy (Doing.Tries ticket)) }
-        ensures { MeetsIn (act_allocates self.old worker act) (worked self.old worker act) self.old self.new result }
-    {
-        match act {
-            Act::Claim => self.claim(worker, ticket),
-            _ => Err(Refusal::NotAllowed),
+            Doing::Closed(slot) => match act {
+                Act::Retire => self.retire(worker, slot),
+                _ => Err(Refusal::NotAllowed),
+            },
+            Doing::Retired(slot) => match act {
+                Act::Free => self.free(worker, slot),
+                _ => Err(Refusal::NotAllowed),
+            },
         }
     }
 
@@ -84,26 +76,6 @@ impl World {
         }
     }
 
-    fn act_closed(&mut self, worker: usize, slot: usize, act: Act) -> Result<(), Refusal>
-        requires { slice_get self.old.workers worker ≡ Some (busy (Doing.Closed slot)) }
-        ensures { MeetsIn (act_allocates self.old worker act) (worked self.old worker act) self.old self.new result }
-    {
-        match act {
-            Act::Retire => self.retire(worker, slot),
-            _ => Err(Refusal::NotAllowed),
-        }
-    }
-
-    fn act_retired(&mut self, worker: usize, slot: usize, act: Act) -> Result<(), Refusal>
-        requires { slice_get self.old.workers worker ≡ Some (busy (Doing.Retired slot)) }
-        ensures { MeetsIn (act_allocates self.old worker act) (worked self.old worker act) self.old self.new result }
-    {
-        match act {
-            Act::Free => self.free(worker, slot),
-            _ => Err(Refusal::NotAllowed),
-        }
-    }
-
     fn put_by_worker(&mut self, worker: usize) -> Result<(), Refusal>
         requires { worker < length self.old.workers }
         ensures { Meets (worked self.old worker Act.Put) self.old self.new result }
@@ -113,7 +85,7 @@ impl World {
         };
         self.ready.reserve(1)?;
         self.workers[worker].put();
-        self.ready.push(ticket).unwrap();
+        self.ready.push_reserved(ticket);
         Ok(())
     }
 
@@ -235,7 +207,7 @@ impl World {
             verdict,
             ends,
         };
-        self.past.push(past).unwrap();
+        self.past.push_reserved(past);
         self.slots[slot].clear();
         self.workers[worker].turn_to(Doing::Closed(slot));
         Ok(())
@@ -265,7 +237,7 @@ impl World {
         }
         if self.slots[slot].generation() < MAX_GENERATION {
             self.free.reserve(1)?;
-            self.free.push(slot).unwrap();
+            self.free.push_reserved(slot);
         }
         self.workers[worker].turn_to(Doing::Idle);
         Ok(())

@@ -69,19 +69,19 @@ impl World {
         ensures { IfOk result (λ world. world ≡ opening limits) }
     {
         Ok(World {
+            table: vec![in alloc; limits.generation; limits.slots]?,
+            free: numbers_below(alloc, limits.slots)?,
+            slots: unused_slots(alloc, limits.slots, limits.generation)?,
+            workers: resting_workers(alloc, limits.workers)?,
             alloc,
             limits,
             second: 0,
             kernel: Kernel::new(alloc),
             flag: true,
             accepted: false,
-            table: vec![in alloc; limits.generation; limits.slots]?,
             batch: Vec::new(alloc),
             hand: Vec::new(alloc),
             ready: Vec::new(alloc),
-            free: numbers_below(alloc, limits.slots)?,
-            slots: unused_slots(alloc, limits.slots, limits.generation)?,
-            workers: resting_workers(alloc, limits.workers)?,
             past: Vec::new(alloc),
         })
     }

@@ -1,4 +1,4 @@
-use Rattle.world.proofs.Headline.{◌≡◌, ◌<◌, ℕ, true, [], ◌∷◌, ◌++◌, length, lt-ltb, length-append, lt-leb, Some, slice_get, arith, gets, Retired, busy, SlotState, WorkerState, State, free, grows, free_length}
+use Rattle.world.proofs.Headline.{◌≡◌, ◌<◌, ℕ, true, [], ◌∷◌, ◌++◌, length, lt-ltb, length-append, lt-leb, Some, slice_get, arith, common_steps, gets, Retired, busy, SlotState, WorkerState, State, free, grows, free_length}
 use Rattle.world.proofs.world.World.free.Goals as goal
 
 -- a slot that is not worn goes to the free queue
@@ -13,3 +13,6 @@ returns-in_err-reserve-clause-memory c =
     let there : slice_get c.args.self.now.slots c.args.slot ≡ Some c.index.result.now = grind (arith, gets) in
     let young : c.index.result.now.generation < 140737488355327 = grind (arith, gets) in
     λ _. free_grows c.args.self.now c.args.worker (busy (Retired c.args.slot)) c.args.slot c.index.result.now there young
+
+pub returns-clause-event : goal.returns-clause-event
+returns-clause-event c = grind (arith, common_steps, gets, common_steps)

@@ -1,0 +1,5 @@
+use Rattle.std.proofs.{Common.arith, lemmas.{Grind.common_steps, Option.gets}}
+use Rattle.world.proofs.world.World.pop.Goals as goal
+
+pub returns : goal.returns
+returns c = grind (arith, gets, common_steps)
