@@ -88,9 +88,8 @@ pub fn serve_recorded<R: System, G: Gate + Sync, C: Clock + Sync, P: Parts + Sen
         return serve(settings, bound, lent);
     };
     let split = split_of(settings);
-    let queue = match RecordQueue::new(lent.rt, lent.alloc, split, most < u64::MAX) {
-        Ok(queue) => queue,
-        Err(AllocError) => return Outcome::refused(ServerFault::NoMemory),
+    let Ok(queue) = RecordQueue::new(lent.rt, lent.alloc, split, most < u64::MAX) else {
+        return Outcome::refused(ServerFault::NoMemory);
     };
     let recording = Recording {
         rt: lent.rt,
@@ -160,7 +159,9 @@ impl<R: System, G: Gate + Sync, C: Clock + Sync> Lent<'_, R, G, C> {
             Err(fault) => Outcome::refused(fault),
         }
     }
+}
 
+impl<R: Wait + Threads + Log + Sync, G: Gate + Sync, C: Clock + Sync> Lent<'_, R, G, C> {
     /// Makes a server with these fronts, one for each poller, and runs it.
     fn run<F>(self, settings: &Settings, fronts: Vec<F>, waker: F::Waker) -> Outcome
     where
@@ -172,7 +173,10 @@ impl<R: System, G: Gate + Sync, C: Clock + Sync> Lent<'_, R, G, C> {
     {
         match self.server(settings, fronts, waker) {
             Ok(server) => {
-                let timing = timing_of(settings, self.clock);
+                let timing = Timing {
+                    clock: self.clock,
+                    limit: u64::from(settings.idle),
+                };
                 run_threads(
                     self.rt,
                     self.alloc,
@@ -199,12 +203,12 @@ impl<R: System, G: Gate + Sync, C: Clock + Sync> Lent<'_, R, G, C> {
         F::Client: Send,
         F::Target: Send,
         F::Waker: Send + Sync,
+        R: time::Clock,
         requires { length fronts.items ≡ pollers_for settings.now.slots settings.now.workers }
     {
         let recorder = Recorder::new(QueueSink::new(self.rt, queue));
-        let fronts = match record_all(self.alloc, fronts, &recorder) {
-            Ok(fronts) => fronts,
-            Err(AllocError) => return Outcome::refused(ServerFault::NoMemory),
+        let Ok(fronts) = record_all(self.alloc, fronts, &recorder) else {
+            return Outcome::refused(ServerFault::NoMemory);
         };
         let lent = Lent {
             rt: self.rt,
@@ -218,7 +222,9 @@ impl<R: System, G: Gate + Sync, C: Clock + Sync> Lent<'_, R, G, C> {
         };
         lent.run(settings, fronts, waker)
     }
+}
 
+impl<R: Wait, G, C> Lent<'_, R, G, C> {
     /// A server as the settings say, with the statistics that are lent, which logs clients at level info if asked. It
     /// takes its share of the statistics first, so no server has to be dropped if there is no memory for the share.
     fn server<F: Front + Drop>(
@@ -251,15 +257,6 @@ fn header_of(settings: &Settings, split: Split) -> Header {
         idle: u64::from(settings.idle),
         proxy: settings.proxy,
         from: None,
-    }
-}
-
-fn timing_of<'a, C>(settings: &Settings, clock: &'a C) -> Timing<'a, C>
-    ensures { result.limit ≡ settings.now.idle }
-{
-    Timing {
-        clock,
-        limit: u64::from(settings.idle),
     }
 }
 
