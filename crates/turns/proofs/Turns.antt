@@ -27,11 +27,7 @@ tickets_as t a b c still zero same = rw (still.0, still.2) at same
 tickets_as t a b c still (suc n) put = record { kept = put.kept; tickets = rw (still.0, still.2) at put.tickets }
 
 slots_as : (t : Ticket) (a b c : Own) → Still a b → (r : Answer) → SlotsKept t r b c → SlotsKept t r a c
-slots_as t a b c still (Ok worked.Ended) given = record {
-  kept = given.kept;
-  slots = λ less. rw (still.1, still.2) at (given.slots less);
-  last = λ last. rw (still.1, still.2) at (given.last last);
-}
+slots_as t a b c still (Ok worked.Ended) given = record { kept = given.kept; slots = λ less. rw (still.1, still.2) at (given.slots less); last = λ last. rw (still.1, still.2) at (given.last last) }
 slots_as t a b c still _ same = rw (still.1, still.2) at same
 
 -- some exchanges that made no ticket came before

@@ -34,7 +34,6 @@ pub(crate) fn put_ticket<A: Acts, R: Wait>(rt: &R, acts: &mut A, own: &mut Own, 
 
 /// Gives back the slot of a connection that has ended, once it is retired, unless its generation is the last. If it
 /// were given back before, its poller could find it held, and lose it.
-#[tactic(auto, using(common::proofs::Outgoing::put_inserts, common::proofs::Outgoing::refused_slot))]
 pub(crate) fn give_back<A: Acts, R: Wait>(
     rt: &R,
     acts: &mut A,

@@ -1,5 +1,5 @@
 //! The turns that a poller's thread runs by itself, so that no worker has to be woken for them.
-ghost use Rattle.std.specs.Prelude.{◌≡◌, ◌↔◌, ◌⊎◌, ◌<◌, ◌≤◌, ◌∷◌, ◌++◌, [], length, min, slice_get, Ok, Some, None, IfErr, IfSome, IsSome, false, true};
+ghost use Rattle.std.specs.Prelude.{◌≡◌, ◌↔◌, ◌<◌, ◌∷◌, ◌++◌, [], length, min, slice_get, Ok, Some, None, IfErr, IfSome, IsSome, false, true};
 ghost use Rattle.claims.specs.Seats.{HoldsNothing};
 ghost use Rattle.engine.specs.Turns.{IsServed};
 ghost use Rattle.common.specs.{Heavy.looked_at, Limits.{first_light, own_budget}, Posts.{AtRest, OnlyWorn}};
@@ -63,9 +63,6 @@ fn stays(
     ensures stays { Stays kept heavy.old ticket → IsSome result }
     ensures early { result ≡ Some Stay.Early → kept < first_light }
     ensures alone { result ≡ Some Stay.Alone → shares_light ≡ false }
-    ensures later { asleep.old ≡ true → shares_light ≡ true → first_light ≤ kept → result ≡ None }
-    ensures asleep { (asleep.old ≡ true → asleep.new ≡ true) × (result ≡ None → IsLight heavy.old ticket → asleep.new ≡ true) }
-    ensures found { asleep.new ≡ true → (asleep.old ≡ true) ⊎ (result ≡ None) }
     ensures marks { heavy.new ≡ looked_at ticket.slot heavy.old }
 {
     if !heavy.is_light(ticket.slot) {

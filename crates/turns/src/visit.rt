@@ -110,7 +110,6 @@ impl<F: Front> Visit<F> {
     /// Takes the notes of the slot, which raise the connection's flags, and makes its calls on its two wires, between
     /// the gate's two calls. It is passed neither an allocator nor anything that may wait, so it allocates nothing and
     /// waits for no lock.
-    #[tactic(auto, using(common::proofs::Holding::holds_still))]
     pub(crate) fn play<A: Gated<F, G>, G>(
         &mut self,
         acts: &mut A,
@@ -123,7 +122,8 @@ impl<F: Front> Visit<F> {
         requires same { seat.old.table ≡ shared.now.claims }
         requires inside { self.old.ticket.slot < shared.now.claims.words }
         requires holder { HoldsOnly self.old.ticket.slot seat.old }
-        ensures holder { HoldsOnly self.old.ticket.slot seat.new }
+        ensures held { (seat.new.table ≡ shared.now.claims) × (self.new.ticket.slot < shared.now.claims.words)
+            × HoldsOnly self.new.ticket.slot seat.new }
         ensures ticket { self.new.ticket ≡ self.old.ticket }
         ensures outcome { result ≡ outcome_of self.new.berth.value.pair }
         ensures played { (notes : ℕ) × (taken : A) × A.made act.TakeNotes self.old.ticket.slot acts.old taken

@@ -74,7 +74,6 @@ pub fn worker_turn<F: Front, A: Gated<F, G>, G, C: Clock, R: Wait + Log>(
 
 /// A turn alone: nothing in hand is put before it, and nobody is woken after it. None: the seat had posted 2^56 times
 /// before, so its post was refused.
-#[tactic(auto, using(crate::proofs::Turns::at_work))]
 pub(crate) fn turn_of<F: Front, A: Gated<F, G>, G, C: Clock, R: Wait + Log>(
     rt: &R,
     acts: &mut A,
@@ -120,7 +119,6 @@ pub(crate) fn turn_of<F: Front, A: Gated<F, G>, G, C: Clock, R: Wait + Log>(
 }
 
 /// Throws the notes away and releases a slot without the ticket's connection.
-#[tactic(auto, using(crate::proofs::Turns::still_at_work, common::proofs::Holding::holds_still))]
 fn give_up<F: Front, A: Moves<F>, R: Wait>(
     rt: &R,
     acts: &mut A,
@@ -218,7 +216,6 @@ fn rest<F: Front, A: Moves<F>, R: Wait>(
 }
 
 /// Releases a slot, and puts a ticket if notes wait.
-#[tactic(auto, using(common::proofs::Holding::let_go))]
 fn leave<F: Front, A: Moves<F>, R: Wait>(
     rt: &R,
     acts: &mut A,
@@ -239,7 +236,6 @@ fn leave<F: Front, A: Moves<F>, R: Wait>(
     }
 }
 
-#[tactic(auto, using(common::proofs::Holding::let_go))]
 fn end<F: Front, A: Moves<F>, R: Wait + Log>(
     rt: &R,
     acts: &mut A,

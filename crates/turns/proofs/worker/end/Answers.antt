@@ -1,4 +1,5 @@
-use Rattle.std.proofs.Common.{false, nat_lt}
+use Rattle.std.proofs.Common.{false, nat_lt, refl}
+use Rattle.common.proofs.Holding.{let_go}
 use Rattle.token.specs.Names.{last_generation}
 use Rattle.turns.{specs.Turns.Handling, proofs.Turns.{gives_as}}
 use Rattle.turns.proofs.worker.end.Goals as goal
@@ -28,3 +29,6 @@ returns g c = record {
     );
   });
 }
+
+pub give_back-requires-clause-retired : goal.give_back-requires-clause-retired
+give_back-requires-clause-retired g c = let_go _ _ _ _ c.retire.ensures.change refl

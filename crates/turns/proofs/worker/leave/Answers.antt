@@ -1,4 +1,5 @@
 use Rattle.std.proofs.{Common.{false, refl, sym, true}, lemmas.Bool.false≢true}
+use Rattle.common.proofs.Holding.{let_go}
 use Rattle.turns.proofs.worker.leave.Goals as goal
 
 pub returns-in-Wake : goal.returns-in-Wake
@@ -25,3 +26,6 @@ returns-in-Quiet g c = record {
     acts = (_, c.in-Quiet.ensures.made, refl);
   };
 }
+
+pub put_ticket-requires-clause-released : goal.put_ticket-requires-clause-released
+put_ticket-requires-clause-released g c = let_go _ _ _ _ c.in-Wake.ensures.change refl

@@ -1,7 +1,7 @@
 use Rattle.std.proofs.Common.{[], ◌∷◌, ◌∙◌, None, Some, ap, arith, false, refl}
 use Rattle.claims.{specs.declared.view.Exchange.TheVariants.{Busy}, proofs.Seats.{adds_none}}
 use Rattle.relay_core.specs.Pairs.{PairState}
-use Rattle.turns.{specs.Turns.{Handled, Handling}, proofs.Turns.{held_made, own_made, rests}}
+use Rattle.turns.{specs.Turns.{Handled, Handling}, proofs.Turns.{at_work, held_made, own_made, rests}}
 use Rattle.turns.proofs.worker.turn_of.Goals as goal
 
 pub returns-then-ticket-slots-clause-made : goal.returns-then-ticket-slots-clause-made
@@ -31,7 +31,13 @@ returns-in-Busy-clause-made g c = (
 pub returns-in-Busy-clause-rest : goal.returns-in-Busy-clause-rest
 returns-in-Busy-clause-rest g c = rests c.requires.rest (returns-in-Busy-clause-made g c).0
 
+pub take_out-requires-clause-holder : goal.take_out-requires-clause-holder
+take_out-requires-clause-holder g c = (at_work c.requires.rest c.requires.room (omega arith) c.in-Held.ensures.change.1).holder
+
 -- the place has the ticket's own connection
+
+pub run-requires-clause-work : goal.run-requires-clause-work
+run-requires-clause-work g c = rw c.in-Ok.ensures.out (at_work c.requires.rest c.requires.room (omega arith) c.in-Held.ensures.change.1)
 
 pub returns-in-Ok-clause-made : goal.returns-in-Ok-clause-made
 returns-in-Ok-clause-made g c =
@@ -43,6 +49,12 @@ pub returns-in-Ok-clause-rest : goal.returns-in-Ok-clause-rest
 returns-in-Ok-clause-rest g c = rests c.requires.rest (returns-in-Ok-clause-made g c).0
 
 -- it has another, which is put back
+
+pub put_in-back-requires-clause-holder : goal.put_in-back-requires-clause-holder
+put_in-back-requires-clause-holder g c = rw c.in-Ok.ensures.out (at_work c.requires.rest c.requires.room (omega arith) c.in-Held.ensures.change.1).holder
+
+pub give_up-requires-clause-work : goal.give_up-requires-clause-work
+give_up-requires-clause-work g c = at_work c.requires.rest c.requires.room (omega arith) c.in-Held.ensures.change.1
 
 pub returns-in-Ok-2-clause-made : goal.returns-in-Ok-2-clause-made
 returns-in-Ok-2-clause-made g c =
@@ -66,6 +78,9 @@ pub returns-in-Ok-2-clause-rest : goal.returns-in-Ok-2-clause-rest
 returns-in-Ok-2-clause-rest g c = rests c.requires.rest (returns-in-Ok-2-clause-made g c).0
 
 -- it is empty
+
+pub give_up-requires-in-Err-clause-work : goal.give_up-requires-in-Err-clause-work
+give_up-requires-in-Err-clause-work g c = at_work c.requires.rest c.requires.room (omega arith) c.in-Held.ensures.change.1
 
 pub returns-in-Err-clause-made : goal.returns-in-Err-clause-made
 returns-in-Err-clause-made g c =
