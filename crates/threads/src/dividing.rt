@@ -6,6 +6,7 @@ ghost use Rattle.threads.specs.Divided.{hand_of_poller, numbered, IsEndOf, AreLe
 ghost use Rattle.threads.specs.Served.{IsDivided, poller_part, worker_part};
 
 use crate::polling::PollerThread;
+use crate::running::Server;
 use crate::working::{Owned, Worker};
 use common::{Front, MAX_BATCH, Own, Parts, ServerFault, Shared};
 use ready::FreeQueue;
@@ -14,17 +15,8 @@ use std::alloc::Global;
 use std::marker::Model;
 use std::sync::Arc;
 
-/// How many tickets, and how many slots, fit into a worker's hand. Nothing stays there for long: the queues have room
-/// for all.
+/// How many tickets, and how many slots, fit into a worker's hand. Few stay there: the queues have room for all.
 const WORKER_HAND: usize = 2;
-
-/// The threads of a server that have not begun.
-#[derive(Drop)]
-pub struct ServerThreads<F: Front> {
-    /// The first is the last one here.
-    pub pollers: Vec<PollerThread<F>>,
-    pub workers: Vec<Worker<F>>,
-}
 
 /// What no thread has been given yet.
 #[derive(Drop)]
@@ -43,27 +35,33 @@ impl Model for Rest {
     ghost view = { λ r. record { parts = r.parts; free = map (λ ends. ends.items) r.free.items } };
 }
 
-/// Makes a thread for each poller, with an end of the poller's free queue, and this many workers, each with an end of
-/// every such queue, the first poller's first. A poller's thread has the poller's number. The workers have the numbers
-/// after those.
+/// Makes a thread for each poller, with an end of the poller's free queue, and as many workers as are wanted, each with
+/// an end of every such queue, the first poller's first. A poller's thread has the poller's number, and the first is
+/// the last one here. The workers have the numbers after those.
 ///
 /// Refuses with `NoMemory` if memory or parts run out, or if a poller's table is not as long as there are slots.
 pub fn divide<F: Front + Drop>(
     alloc: Global,
-    shared: &Arc<Shared<F>>,
-    mut rest: Rest,
-    pollers: Vec<Poller<F>>,
-    workers: usize,
-) -> Result<ServerThreads<F>, ServerFault>
-    requires { AreFresh (arc_value shared.now).claims rest.parts.seats.items }
-    ensures { IfOk result (λ made. IsDivided (fresh_seat (arc_value shared.now).claims) rest.free pollers.items workers
-        (map (λ p. poller_part p.number p.poller p.own) made.pollers.items)
-        (map (λ w. worker_part w.number w.owned) made.workers.items)) }
+    server: Server<F>,
+) -> Result<(Vec<PollerThread<F>>, Vec<Worker<F>>), ServerFault>
+    ensures { IfOk result (λ made. IsDivided (fresh_seat server.shared.claims) (map (λ ends. ends.items) server.free.items)
+        server.pollers.items server.workers (map (λ p. poller_part p.number p.poller p.own) made.0.items)
+        (map (λ w. worker_part w.number w.owned) made.1.items)) }
 {
+    let Server {
+        shared,
+        parts,
+        free,
+        pollers,
+        workers,
+        ..
+    } = server;
+    let shared = Arc::new(alloc, shared)?;
+    let mut rest = Rest { parts, free };
     let first = pollers.len();
-    let pollers = pollers_of(alloc, shared, &mut rest, pollers)?;
-    let workers = workers_of(alloc, shared, &mut rest, first, workers)?;
-    Ok(ServerThreads { pollers, workers })
+    let pollers = pollers_of(alloc, &shared, &mut rest, pollers)?;
+    let workers = workers_of(alloc, &shared, &mut rest, first, workers)?;
+    Ok((pollers, workers))
 }
 
 /// The threads of the pollers, the last poller's first.
@@ -83,7 +81,7 @@ fn pollers_of<F: Front + Drop>(
     let mut threads = Vec::with_capacity(alloc, pollers.len())?;
     while let Some(poller) = pollers.pop() {
         let thread = thread_of(alloc, shared, rest, pollers.len(), poller)?;
-        threads.push(thread)?;
+        threads.push_reserved(thread);
     }
     Ok(threads)
 }
@@ -138,12 +136,12 @@ fn workers_of<F: Front + Drop>(
     ensures own { IfOk result (λ made. All (λ worker. (worker.owned.own.seat ≡ fresh_seat (arc_value shared.now).claims)
         × HasOneOfEach rest.old.free (ends_of worker.owned)) made.items) }
 {
+    // The parts run out long before the numbers do.
+    if usize::MAX - first < workers {
+        return Err(ServerFault::NoMemory);
+    }
     let mut made = Vec::with_capacity(alloc, workers)?;
     for index in 0..workers {
-        // The parts run out long before the numbers do.
-        if usize::MAX - first < index {
-            return Err(ServerFault::NoMemory);
-        }
         let others = rest.other_ends(alloc)?;
         let (shared, own) = rest.next_own(alloc, shared, 0, WORKER_HAND)?;
         let worker = Worker {
@@ -151,7 +149,7 @@ fn workers_of<F: Front + Drop>(
             number: first + index,
             owned: Owned { own, others },
         };
-        made.push(worker)?;
+        made.push_reserved(worker);
     }
     Ok(made)
 }
@@ -173,10 +171,14 @@ impl Rest {
         ensures slots { IfOk result (λ made. IsEndOf self.old.free poller made.1.free) }
         ensures left { OnOk result (AreLeft self.old.free self.new.free) }
     {
-        let free = self.next_end(poller).ok_or(ServerFault::NoMemory)?;
+        let Some(free) = self.next_end(poller) else {
+            return Err(ServerFault::NoMemory);
+        };
         let same = Arc::try_clone(shared)?;
-        let own = self.parts.next_own(alloc, shared, capacity, free)?;
-        Ok((same, own.ok_or(ServerFault::NoMemory)?))
+        match self.parts.next_own(alloc, shared, capacity, free)? {
+            Some(own) => Ok((same, own)),
+            None => Err(ServerFault::NoMemory),
+        }
     }
 
     /// An end of each queue but the first poller's, in order.

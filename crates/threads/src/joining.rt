@@ -3,6 +3,8 @@ ghost use Rattle.std.specs.Prelude.{◌≡◌, ◌≤◌, [], IfOk, None, true, 
 ghost use Rattle.threads.specs.{Divided.OfFirst, Served.{AreStarted, IsOf}};
 
 use crate::context::ThreadEnd;
+use crate::faults::Few;
+use os::set_thread_name;
 use std::alloc::{AllocError, Global};
 use std::snapshot::Snapshot;
 use std::thread::{Promise, PromisedHandle, Scope, Threads};
@@ -14,8 +16,23 @@ pub(crate) trait Part<X>: Sized {
     // It was run to this end.
     ghost runs: { X → Self → ThreadEnd → Type 0 };
 
-    fn run_to_end(self, context: &X) -> ThreadEnd
-        ensures { runs context.now self result };
+    fn run_to_end(&mut self, context: &X) -> ThreadEnd
+        ensures { runs context.now self.old result };
+}
+
+/// Runs the part in a thread of its own. Tools such as top(1) show the thread by its name.
+fn run_named<P: Part<X> + Drop, X>(name: &[u8], mut part: P, context: &X) -> ThreadEnd
+    ensures { P.runs context.now part result }
+{
+    set_thread_name(name);
+    part.run_to_end(context)
+}
+
+/// What all threads are handed.
+pub(crate) trait Handed {
+    /// If not all threads could be started, that is recorded, before the faults of all threads.
+    fn few_started(&self, lack: Option<Lack>) -> Option<Few>
+        ensures { result ≡ None → lack ≡ None };
 }
 
 /// A thread's promise: it runs this part to its end.
@@ -53,12 +70,13 @@ impl<'s, P: Part<X>, X> Joins<'s, P, X> {
         self.handles.len()
     }
 
-    /// Starts a thread for each part, in order, and moves the part into it, if all others `so_far` were started. False:
-    /// one could not be started, and no more were.
+    /// Starts a thread of this name for each part, in order, and moves the part into it, if all others `so_far` were
+    /// started. False: one could not be started, and no more were.
     pub(crate) fn start<E>(
         &mut self,
         scope: &'s Scope<'s, E>,
         context: &'s X,
+        name: &'static [u8],
         parts: Vec<P>,
         so_far: bool,
     ) -> bool
@@ -80,7 +98,7 @@ impl<'s, P: Part<X>, X> Joins<'s, P, X> {
                 part: Snapshot::of(&part),
                 context,
             };
-            match scope.spawn_with(promise, move || part.run_to_end(context)) {
+            match scope.spawn_with(promise, move || run_named(name, part, context)) {
                 Ok(handle) => self.handles.push_reserved(handle),
                 Err(_) => return false,
             }
@@ -159,8 +177,11 @@ impl<'s, P: Part<X>, W: Part<X>, X> Crew<'s, P, W, X> {
             workers.items self.new.workers.handles.items (result ≡ None) }
     {
         let wanted = pollers.len().saturating_add(workers.len());
-        let so_far = self.workers.start(scope, context, workers, true);
-        if self.pollers.start(scope, context, pollers, so_far) {
+        let so_far = self.workers.start(scope, context, b"worker", workers, true);
+        if self
+            .pollers
+            .start(scope, context, b"poller", pollers, so_far)
+        {
             return None;
         }
         let started = self.pollers.len().saturating_add(self.workers.len());

@@ -48,7 +48,7 @@ impl<F: Front + Drop> PollerThread<F> {
     }
 
     /// The thread has ended, as [`Context::end`] and [`Context::leave`] say. Drops that are still counted are logged.
-    fn finish<'c, G: Gate, C: Clock, R: Wait + Log, S: StopFlag>(
+    fn finish<'c, G, C, R: Wait + Log, S>(
         &mut self,
         context: &'c Context<'_, G, C, R, S>,
         number: usize,
@@ -113,10 +113,7 @@ impl<F: Front + Drop> PollerThread<F> {
     }
 
     /// If the flag is set, a poller that might open more opens no more, and wakes all pollers, which then see it, too.
-    fn stop_if_asked<G: Gate, C: Clock, R: Wait + Log, S: StopFlag>(
-        &mut self,
-        context: &Context<'_, G, C, R, S>,
-    )
+    fn stop_if_asked<G, C, R: Wait, S: StopFlag>(&mut self, context: &Context<'_, G, C, R, S>)
         ensures own { self.new.own ≡ self.old.own }
         ensures asked { Asked (S.said context.now.is_stopped.now) self.old.poller self.new.poller }
         ensures woken { (self.new.poller ≡ self.old.poller) ⊎ AllWoken (F.woke (arc_value self.old.shared).waker) context.now.split }
@@ -128,7 +125,7 @@ impl<F: Front + Drop> PollerThread<F> {
     }
 
     /// Makes a round. If no more connections may be opened, the poller opens none in it.
-    fn poll<G: Gate, C: Clock, R: Wait + Log, S: StopFlag>(
+    fn poll<G, C: Clock, R: Wait + Log, S: StopFlag>(
         &mut self,
         context: &Context<'_, G, C, R, S>,
         _seen: NoFault,
@@ -156,7 +153,7 @@ impl<F: Front + Drop> PollerThread<F> {
     }
 
     /// Puts the tickets for workers, and runs those that stay, until a fault is recorded.
-    fn run_turns<G: Gate, C: Clock, R: Wait + Log, S: StopFlag>(
+    fn run_turns<G: Gate, C: Clock, R: Wait + Log, S>(
         &mut self,
         context: &Context<'_, G, C, R, S>,
     ) -> Result<(), Ended>
@@ -184,7 +181,7 @@ impl<F: Front + Drop> PollerThread<F> {
     /// Runs the turn of the oldest ticket in hand. None if there is no ticket, or no room in hand for a slot. If the
     /// turn ends the connection, and this poller has opened all that it may, the slot's poller is woken.
     #[tactic(auto, using(crate::proofs::Loops::own_ran))]
-    fn turn<G: Gate, C: Clock, R: Wait + Log, S: StopFlag>(
+    fn turn<G: Gate, C: Clock, R: Wait + Log, S>(
         &mut self,
         context: &Context<'_, G, C, R, S>,
         _seen: NoFault,

@@ -35,7 +35,6 @@ pub struct Owned {
 
 impl<F: Front + Drop> Worker<F> {
     /// Makes its steps until one ends the thread: the queue of tickets is closed and empty, or there is a fault.
-    #[tactic(auto, using(crate::proofs::Loops::worker_same, crate::proofs::Loops::worker_both))]
     pub fn run<'c, G: Gate, C: Clock, R: Wait + Log, S>(
         &mut self,
         context: &'c Context<'_, G, C, R, S>,

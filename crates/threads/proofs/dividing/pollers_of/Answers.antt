@@ -12,12 +12,14 @@ loop-poller-init g c =
       numbered = rw none;
       own = λ k d below. absurd (omega (arith, ap length none));
       ends = all_left _;
+      left = omega (arith, c.in_ok-threads.ensures.len);
+      room = rw c.len.ensures at c.in_ok-threads.ensures.capacity;
     }
 
 pub loop-poller-preserved : goal.loop-poller-preserved
 loop-poller-preserved g c =
     let was = c.loop-poller.invariant in
-    let pushed = c.in_ok-push.ensures.items in
+    let pushed = c.push_reserved.ensures.items in
     let made = c.in_ok-thread.ensures in
     record {
       fresh = made.fresh;
@@ -27,6 +29,8 @@ loop-poller-preserved g c =
       own = all_pushed (λ thread. (thread.own.seat ≡ fresh_seat (arc_value c.args.shared.now).claims) × IsEndOf c.args.rest.now.free thread.number thread.own.free)
           _ pushed was.own (made.seat, end_of_left _ _ _ _ was.ends made.slots);
       ends = left_of_left was.ends made.left;
+      left = omega (arith, c.push_reserved.ensures.len, c.in-Some.ensures.cases, was.left);
+      room = rw c.push_reserved.ensures.capacity was.room;
     }
 
 pub thread_of-requires : goal.thread_of-requires

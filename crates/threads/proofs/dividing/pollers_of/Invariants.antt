@@ -1,4 +1,4 @@
-use Rattle.std.{proofs.Common.{◌≡◌, ◌++◌, map, All}, specs.{Prelude.vec_len, Arc.arc_value}}
+use Rattle.std.{proofs.Common.{◌≡◌, ◌+◌, ◌≤◌, ◌++◌, map, All}, specs.{Prelude.{vec_len, vec_capacity}, Arc.arc_value}}
 use Rattle.claims.specs.Seats.{fresh_seat}
 use Rattle.common.specs.Posts.{AreFresh}
 use Rattle.threads.specs.Divided.{numbered, IsEndOf, AreLeft}
@@ -10,6 +10,8 @@ invariant-loop-poller g l = record {
   numbered : map (λ thread. (thread.number, thread.poller)) l.threads.items ++ numbered l.pollers.items ≡ numbered l.fn.pollers.items;
   own : All (λ thread. (thread.own.seat ≡ fresh_seat (arc_value l.shared).claims) × IsEndOf l.fn.rest.free thread.number thread.own.free) l.threads.items;
   ends : AreLeft l.fn.rest.free l.rest.free;
+  left : vec_len l.threads + vec_len l.pollers ≡ vec_len l.fn.pollers;
+  room : vec_len l.fn.pollers ≤ vec_capacity l.threads;
 }
 
 abbrev pub decreases-loop-poller : goal.decreases-loop-poller

@@ -11,7 +11,7 @@ invariant_of-worker g c =
 pub loop-index-preserved : goal.loop-index-preserved
 loop-index-preserved g c =
     let was = c.loop-index.invariant in
-    let pushed = c.in_ok-push.ensures.items in
+    let pushed = c.push_reserved.ensures.items in
     let others = c.in_ok-others.ensures in
     let owned = c.in_ok-shared.ensures in
     let ends = left_of_left was.ends others.left in
@@ -21,6 +21,8 @@ loop-index-preserved g c =
       own = all_pushed (λ worker. (worker.owned.own.seat ≡ fresh_seat (arc_value c.args.shared.now).claims) × HasOneOfEach c.args.rest.now.free (ends_of worker.owned))
           _ pushed was.own (owned.own, one_of_all was.ends (c.in_ok-shared.own.free ∷ c.in_ok-others.others.items) (one_of_each _ _ others.ends others.left owned.slots));
       ends = left_of_left ends owned.left;
+      len = rw (c.push_reserved.ensures.len, was.len);
+      room = rw c.push_reserved.ensures.capacity was.room;
     }
 
 pub loop-index-init : goal.loop-index-init
@@ -31,6 +33,8 @@ loop-index-init g c =
       numbers = rw none;
       own = λ k d below. absurd (omega (arith, ap length none));
       ends = all_left _;
+      len = c.in_ok-made.ensures.len;
+      room = c.in_ok-made.ensures.capacity;
     }
 
 pub returns : goal.returns

@@ -1,6 +1,6 @@
-use Rattle.std.proofs.{Common.{◌∙◌, ap, arith, map, sym}, lemmas.List.{map-append, nil_from_length}}
+use Rattle.std.proofs.{Common.{arith, sym}, lemmas.List.{nil_from_length}}
 use Rattle.std.specs.Prelude.{option_to_list}
-use Rattle.threads.{specs.Served.{poller_part, worker_part}, proofs.Served.{ran_to_ends}}
+use Rattle.threads.proofs.Served.{ran_to_ends}
 use Rattle.threads.proofs.running.run_in.Goals as goal
 
 pub returns : goal.returns
@@ -8,14 +8,12 @@ returns g c =
     let enough = c.few_started-few.ensures in
     let first = c.run_first-first.ensures in
     record {
-      others = map (λ p. poller_part p.number p.poller p.own) c.pop-first.new.self.items;
-      first = map (λ p. poller_part p.number p.poller p.own) (option_to_list c.pop-first.result);
-      pollers_are = sym (map-append _ _ _) ∙ ap (map (λ p. poller_part p.number p.poller p.own)) (sym c.pop-first.ensures.items);
-      workers_ran = ran_to_ends (λ w. worker_part w.number w.owned) _ _ _ _ _ _ _ _ (λ w h e is kept. rw (is.0, is.1) at kept)
-          enough c.start-lack.ensures.workers c.join-pollers.ensures.workers;
-      others_ran = ran_to_ends (λ p. poller_part p.number p.poller p.own) _ _ _ _ _ _ _ _ (λ p h e is kept. rw (is.0, is.1) at kept)
-          enough c.start-lack.ensures.pollers c.join-pollers.ensures.pollers;
+      others = c.pop-first.new.self.items;
+      first = option_to_list c.pop-first.result;
+      pollers_are = sym c.pop-first.ensures.items;
+      workers_ran = ran_to_ends _ _ _ _ _ _ _ _ (λ w h e is kept. rw (is.0, is.1) at kept) enough c.start-lack.ensures.workers c.join-pollers.ensures.workers;
+      others_ran = ran_to_ends _ _ _ _ _ _ _ _ (λ p h e is kept. rw (is.0, is.1) at kept) enough c.start-lack.ensures.pollers c.join-pollers.ensures.pollers;
       first_ran = first.ran;
-      has_first = λ none. ap (map (λ p. poller_part p.number p.poller p.own))
-          (nil_from_length c.args.threads.pollers.items (let gone = rw (first.none none) at c.pop-first.ensures.cases in omega (arith, gone.0, c.args.threads.pollers.ok.0)));
+      has_first = λ none. nil_from_length c.args.pollers.items
+          (let gone = rw (first.none none) at c.pop-first.ensures.cases in omega (arith, gone.0, c.args.pollers.ok.0));
     }

@@ -1,5 +1,14 @@
-use denote.Param.Send.{sendable}
+use Rattle.std.proofs.Common.{map}
+use Rattle.threads.{specs.Served.{poller_part, worker_part}, proofs.Served.{all_of_map}}
 use Rattle.threads.proofs.running.run_threads.Goals as goal
 
-pub scoped-served-requires : goal.scoped-served-requires
-scoped-served-requires g c = let bounds = c.type_bounds in record { at = λ arg. search sendable }
+pub returns-in-Ok-served-clause-ran : goal.returns-in-Ok-served-clause-ran
+returns-in-Ok-served-clause-ran g c =
+    let made = c.in-Ok.threads in
+    rw c.outcome.ensures.served (
+      c.new-ending.result,
+      map (λ p. poller_part p.number p.poller p.own) made.0.items,
+      map (λ w. worker_part w.number w.owned) made.1.items,
+      c.in-Ok.ensures,
+      all_of_map _ _ _ _ _ _ _ c.in-Ok-served.ensures,
+    )
