@@ -98,18 +98,12 @@ impl Machine {
     }
 
     fn call(&mut self, asked: Asked, reply: Reply) -> Result<(), Flaw> {
-        if !self.is_next(asked) {
-            return Err(Flaw::NextCall);
+        match self.next_call() {
+            Some(next) if next.call == asked.call && next.bytes == asked.bytes => {}
+            _ => return Err(Flaw::NextCall),
         }
         self.bring(asked, reply)?;
         self.put(Event::Work(0, Act::Call(reply)))
-    }
-
-    fn is_next(&self, asked: Asked) -> bool {
-        match self.next_call() {
-            Some(next) => next.call == asked.call && next.bytes == asked.bytes,
-            None => false,
-        }
     }
 
     /// The network does what a reply shows: bytes arrive, or an end of input, an error or room is there.

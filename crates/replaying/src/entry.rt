@@ -4,13 +4,14 @@ ghost use Rattle.std.specs.Prelude.{true, false};
 ghost use Rattle.records.specs.declared.act.Act.{Act, TheVariants.Ended};
 ghost use Rattle.recorded.specs.{Accounts.{IsAccount}, Moments.{IsTimes, Moment}};
 
-use crate::live::{Live, TimesText};
+use crate::live::{put_live, put_times};
 use recorded::{Account, Times};
-use records::{Act, Record};
+use records::{Act, Opening, Polling, Record};
 use relay_core::Fault;
 use relay_log::{Done, Failed};
-use std::alloc::AllocError;
-use token::Side;
+use std::alloc::{AllocError, Global};
+use token::{Name, Side};
+use world_text::{Page, Piece};
 
 /// A connection that was opened, and what has become of it.
 #[derive(Clone, Copy)]
@@ -45,8 +46,19 @@ impl Entry {
         }
     }
 
+    /// A report of it follows, or an act of its turns or of its ends, at this time.
+    pub(crate) fn add(&mut self, record: &Record, at: u64) {
+        match record.act {
+            Act::Poller(_, Polling::Reported(Name::End(token))) => {
+                self.report(token.side(), record, at);
+            }
+            Act::Poller(_, _) => {}
+            _ => self.act(record, at),
+        }
+    }
+
     /// An act of its turns or of its ends follows, at this time.
-    pub(crate) fn act(&mut self, record: &Record, at: u64)
+    fn act(&mut self, record: &Record, at: u64)
         ensures told { (acts : List Act) → IsAccount acts self.old.account
             → IsAccount (acts ++ record.now.act ∷ []) self.new.account }
         ensures times { (opened : ℕ) → (moments : List Moment) → IsTimes opened moments self.old.times
@@ -65,7 +77,7 @@ impl Entry {
     }
 
     /// An end was reported, at this time.
-    pub(crate) fn report(&mut self, side: Side, record: &Record, at: u64)
+    fn report(&mut self, side: Side, record: &Record, at: u64)
         ensures times { (opened : ℕ) → (moments : List Moment) → IsTimes opened moments self.old.times
             → IsTimes opened (moments ++ record { at = at; act = record.now.act } ∷ []) self.new.times }
         ensures account { self.new.account ≡ self.old.account }
@@ -79,26 +91,26 @@ impl Entry {
         }
     }
 
-    /// Adds what has become of it as a line: as the log says it, or that it is open, and its times. One that was closed
+    /// What has become of it, as a line: as the log says it, or that it is open, and its times. One that was closed
     /// without a turn has none. `failed` is the count after the first wait for reports that failed, and `now` the last
     /// time in the recording. None: it has no times.
-    pub(crate) fn tell(
+    pub(crate) fn line(
         &self,
+        alloc: Global,
         failed: Option<u64>,
         now: Option<u64>,
-        text: &mut String,
-    ) -> Result<(), AllocError> {
+    ) -> Result<String, AllocError> {
         if self.account.dropped && !self.account.had_turn {
-            return Ok(());
+            return Ok(String::new(alloc));
         }
-        self.add_end(failed, text)?;
-        match now {
-            None => writeln!(text),
-            Some(now) => {
-                let times = TimesText(self.times_by(now));
-                writeln!(text, " {times}")
-            }
+        let end = self.end_text(alloc, failed)?;
+        let mut page = Page::new(alloc);
+        page.put(&[Piece::Text(end.as_str())]);
+        if let Some(now) = now {
+            put_times(&mut page, &self.times_by(now));
         }
+        page.put(&[Piece::Text("\n")]);
+        page.finish()
     }
 
     /// Its times: if it is open, the silence lasts up to this time.
@@ -114,22 +126,29 @@ impl Entry {
         }
     }
 
-    fn add_end(&self, failed: Option<u64>, text: &mut String) -> Result<(), AllocError> {
+    fn end_text(&self, alloc: Global, failed: Option<u64>) -> Result<String, AllocError> {
+        let (slot, generation) = (self.slot, self.generation);
         if let Some(fault) = self.fault(failed) {
-            let (slot, generation) = (self.slot, self.generation);
             let failed = Failed {
                 slot,
                 generation,
                 fault,
             };
-            return write!(text, "{failed}");
+            return format!(in alloc; "{failed}");
         }
+        let (up, down) = (self.account.target.written, self.account.client.written);
         if self.account.client.shut && self.account.target.shut {
-            let done = self.done();
-            return write!(text, "{done}");
+            let done = Done {
+                slot,
+                generation,
+                up,
+                down,
+            };
+            return format!(in alloc; "{done}");
         }
-        let live = self.live();
-        write!(text, "{live}")
+        let mut page = Page::new(alloc);
+        put_live(&mut page, self);
+        page.finish()
     }
 
     /// Why it failed. One that a turn closed without a failed call was past the idle limit.
@@ -145,28 +164,35 @@ impl Entry {
         Some(Fault::Idle)
     }
 
-    fn done(&self) -> Done {
-        Done {
-            slot: self.slot,
-            generation: self.generation,
-            up: self.account.target.written,
-            down: self.account.client.written,
-        }
-    }
-
-    fn live(&self) -> Live {
-        Live {
-            slot: self.slot,
-            generation: self.generation,
-            due: self.last > self.begun,
-            connected: self.is_connected(),
-            account: self.account,
-        }
+    /// Whether a report has come since its last turn.
+    pub(crate) fn is_due(&self) -> bool {
+        self.last > self.begun
     }
 
     /// Whether its target is connected: a call has shown it, or a turn that began after a report of the target ended
     /// quiet. epoll reports a socket that was not connected only if the connect has completed or failed.
-    fn is_connected(&self) -> bool {
+    pub(crate) fn is_connected(&self) -> bool {
         self.account.is_shown() || self.account.is_quiet && self.first_of_target < self.begun
+    }
+}
+
+/// The slot and the generation of a connection that an act opened.
+pub(crate) fn opened(act: &Act) -> Option<(usize, u64)> {
+    match *act {
+        Act::Poller(_, Polling::Open(slot, generation, Opening::Opened)) => Some((
+            slot, generation,
+        )),
+        _ => None,
+    }
+}
+
+/// The slot of which an act is, if it is a report of an end, or of a turn or an end; and its generation, if it has one.
+pub(crate) fn whose(act: &Act) -> Option<(usize, Option<u64>)> {
+    match *act {
+        Act::Poller(_, Polling::Reported(Name::End(token))) | Act::Wire(token, _) => {
+            Some((token.slot(), Some(token.generation())))
+        }
+        Act::Begin(slot) | Act::End(slot) => Some((slot, None)),
+        _ => None,
     }
 }

@@ -1,34 +1,33 @@
-//! The line of a connection that is open, and the times of any.
+//! What is written of a connection that is open, and of the times of any.
 
-use recorded::{Account, Half, Times, Waits};
-use std::fmt::{self, Display};
+use crate::entry::Entry;
+use recorded::{Half, Times, Waits};
+use world_text::{Page, Piece};
 
-/// An open connection. It prints as its line of `relayd replay --ends`.
-#[derive(Clone, Copy)]
-pub(crate) struct Live {
-    pub slot: usize,
-    pub generation: u64,
-    /// Whether a report has come since its last turn, and whether its target is connected.
-    pub due: bool,
-    pub connected: bool,
-    pub account: Account,
-}
-
-impl Display for Live {
-    fn fmt<W: fmt::Write>(&self, f: &mut fmt::Formatter<W>) -> fmt::Result {
-        let (slot, generation, account) = (self.slot, self.generation, &self.account);
-        let connected = if self.connected { "yes" } else { "no" };
-        let (up, down) = (account.target.written, account.client.written);
-        write!(
-            f,
-            "live s={slot} g={generation} connected={connected} up={up} down={down} "
-        )?;
-        let (up, down) = (account.ring_up(), account.ring_down());
-        let client = end_text(&account.client, &account.target);
-        let target = end_text(&account.target, &account.client);
-        let waits = waits_text(account.waits(self.due, self.connected));
-        write!(f, "ring={up},{down} ended={client},{target} waits={waits}")
-    }
+/// Puts an open connection, as its line of `relayd replay --ends` begins.
+pub(crate) fn put_live(page: &mut Page, entry: &Entry) {
+    let account = &entry.account;
+    let is_connected = entry.is_connected();
+    let connected = if is_connected {
+        " connected=yes up="
+    } else {
+        " connected=no up="
+    };
+    let waits = waits_text(account.waits(entry.is_due(), is_connected));
+    page.put(&[
+        Piece::Named("live s=", entry.slot as u64),
+        Piece::Named(" g=", entry.generation),
+        Piece::Named(connected, account.target.written),
+        Piece::Named(" down=", account.client.written),
+        Piece::Named(" ring=", account.ring_up()),
+        Piece::Named(",", account.ring_down()),
+        Piece::Text(" ended="),
+        Piece::Text(end_text(&account.client, &account.target)),
+        Piece::Text(","),
+        Piece::Text(end_text(&account.target, &account.client)),
+        Piece::Text(" waits="),
+        Piece::Text(waits),
+    ]);
 }
 
 fn end_text(own: &Half, other: &Half) -> &'static str {
@@ -54,42 +53,25 @@ fn waits_text(waits: Waits) -> &'static str {
     }
 }
 
-/// Prints when things happened to a connection.
-#[derive(Clone, Copy)]
-pub(crate) struct TimesText(pub Times);
-
-impl Display for TimesText {
-    fn fmt<W: fmt::Write>(&self, f: &mut fmt::Formatter<W>) -> fmt::Result {
-        let Times {
-            opened,
-            answered,
-            client,
-            target,
-            moved,
-            silence,
-        } = self.0;
-        let answered = Span(opened, answered);
-        let client = Span(opened, client);
-        let target = Span(opened, target);
-        write!(
-            f,
-            "opened_us={opened} connect_us={answered} first_us={client},{target} silence_us={silence} moved_us={moved}"
-        )
-    }
+/// Puts when things happened to a connection.
+pub(crate) fn put_times(page: &mut Page, times: &Times) {
+    page.put(&[
+        Piece::Named(" opened_us=", times.opened),
+        Piece::Text(" connect_us="),
+        span(times.opened, times.answered),
+        Piece::Text(" first_us="),
+        span(times.opened, times.client),
+        Piece::Text(","),
+        span(times.opened, times.target),
+        Piece::Named(" silence_us=", times.silence),
+        Piece::Named(" moved_us=", times.moved),
+    ]);
 }
 
 /// The time from the first to the second, if that came.
-#[derive(Clone, Copy)]
-struct Span(u64, Option<u64>);
-
-impl Display for Span {
-    fn fmt<W: fmt::Write>(&self, f: &mut fmt::Formatter<W>) -> fmt::Result {
-        match self.1 {
-            Some(at) => {
-                let span = at.saturating_sub(self.0);
-                write!(f, "{span}")
-            }
-            None => f.write_str("-"),
-        }
+fn span(from: u64, to: Option<u64>) -> Piece<'static> {
+    match to {
+        Some(at) => Piece::Number(at.saturating_sub(from)),
+        None => Piece::Text("-"),
     }
 }

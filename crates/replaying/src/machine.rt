@@ -69,10 +69,12 @@ impl Machine {
     pub(crate) fn put(&mut self, event: Event) -> Result<(), Flaw> {
         match self.history.put(event) {
             Ok(()) => Ok(()),
-            Err((Refusal::NoMemory, _)) => Err(Flaw::NoMemory),
-            Err((Refusal::NotAllowed, event)) => {
+            Err((refusal, event)) => {
                 self.refused = Some(event);
-                Err(Flaw::Refused)
+                match refusal {
+                    Refusal::NoMemory => Err(Flaw::NoMemory),
+                    Refusal::NotAllowed => Err(Flaw::Refused),
+                }
             }
         }
     }

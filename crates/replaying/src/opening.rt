@@ -5,6 +5,7 @@ ghost use Rattle.world.specs.States.{IsWithinLimits};
 use crate::machine::{Flaw, Machine};
 use crate::results::Results;
 use crate::slot_replay::{Phase, SlotReplay, State};
+use crate::turns::dropped_next;
 use recorded::{Numbered, Recording, begun_before};
 use records::{Act, Header, Made, Opening, Polling, Record};
 use std::mem;
@@ -34,7 +35,8 @@ impl SlotReplay<'_> {
         if !matches!(opening, Opening::Opened) {
             return Ok(());
         }
-        if is_void(self.next, generation) {
+        // An end of it is dropped before its first turn: then the connection came to nothing.
+        if dropped_next(self.next) == Some(generation) {
             self.state.void = generation;
             self.state.free_from = record.after;
             self.state.phase = Phase::Void(None);
@@ -97,17 +99,6 @@ fn machine_before(
     match limits_of(&recording.header, generation, lead) {
         Some(limits) => Ok(Machine::new(recording.alloc, limits)?),
         None => Err(Flaw::Because("no connection has such a generation")),
-    }
-}
-
-/// Whether an end of the connection is dropped before its first turn: then the connection came to nothing.
-fn is_void(next: &[Numbered], generation: u64) -> bool {
-    match next {
-        [first, ..] => match first.record.act {
-            Act::Wire(token, Made::Drop) => token.generation() == generation,
-            _ => false,
-        },
-        [] => false,
     }
 }
 

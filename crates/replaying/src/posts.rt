@@ -58,12 +58,6 @@ impl Queue<'_> {
         None
     }
 
-    /// Passes over the sweeps that came before the last turn took its notes. They stand in their order.
-    fn pass_over(&mut self, state: &State) {
-        let before = self.0.partition_point(|sweep| sweep.to <= state.taken_from);
-        self.0 = self.0.get(before..).unwrap_or(&[]);
-    }
-
     fn take(&mut self) -> Option<Post> {
         let (first, next) = self.0.split_first()?;
         self.0 = next;
@@ -90,7 +84,6 @@ impl Posts<'_> {
             _ if has_notes => return None,
             _ => {}
         }
-        self.sweeps.pass_over(state);
         match (report, self.sweeps.first(state, before)) {
             (None, None) => None,
             (Some(report), Some(sweep)) if sweep.to < report.to => self.sweeps.take(),
@@ -106,8 +99,7 @@ impl Posts<'_> {
     }
 
     /// The first report, or else sweep, that was certainly posted after the last turn took its notes.
-    pub(crate) fn rest(&mut self, state: &State) -> Option<Post> {
-        self.sweeps.pass_over(state);
+    pub(crate) fn rest(&self, state: &State) -> Option<Post> {
         let report = self.reports.first_after(state);
         report.or(self.sweeps.first_after(state))
     }

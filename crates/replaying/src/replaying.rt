@@ -13,8 +13,8 @@ use crate::timeline::write_timeline;
 use crate::writing::{flush, write_flaw, write_results};
 use input::{Judged, Replay, ReplayFault, Wanted};
 use recorded::{
-    Clock, Last, Recording, check_reads, check_rounds, check_threads, find_posts, put_in_order,
-    read, times_of,
+    Clock, Last, Numbered, Post, Recording, check_reads, check_rounds, check_threads, find_posts,
+    put_in_order, read, times_of,
 };
 use records::Header;
 use std::alloc::Global;
@@ -41,13 +41,12 @@ impl Replay for OnMachine {
         output: &mut W,
     ) -> Result<Judged, ReplayFault> {
         match wanted {
-            Wanted::Ends => write_ends(alloc, input, output)?,
+            Wanted::Ends => write_ends(alloc, input, output),
             Wanted::Timeline(slot, generation) => {
-                write_timeline(alloc, input, slot, generation, output)?;
+                write_timeline(alloc, input, slot, generation, output)
             }
-            _ => return replay_read(alloc, input, wanted, rests, output),
+            _ => replay_read(alloc, input, wanted, rests, output),
         }
-        Ok(Judged::Run)
     }
 }
 
@@ -74,9 +73,12 @@ fn replay_recording<W: Write>(
     results: &mut Results,
 ) -> Result<Judged, ReplayFault> {
     let flaw = find_flaw(recording, rests, results)?;
-    let outcome = write_outcome(output, recording, results, flaw)?;
-    flush(output)?;
-    Ok(outcome)
+    write_outcome(output, recording, results, flaw)?;
+    let judged = match flaw {
+        Some(_) => Judged::NoRun,
+        None => Judged::Run,
+    };
+    flush(output, judged)
 }
 
 /// Returns why the replay stops. None if it does not.
@@ -85,39 +87,52 @@ fn find_flaw(
     rests: bool,
     results: &mut Results,
 ) -> Result<Option<Flaw>, ReplayFault> {
-    let clock = read_clock(recording)?;
-    check_rounds(recording)?;
-    check_threads(recording)?;
-    let posts = find_posts(recording, &clock)?;
-    check_reads(recording)?;
+    let clock = clock_of(recording, recording.others())?;
+    let posts = posts_of(recording, &clock)?;
     let findings = Findings {
         recording,
         clock: &clock,
         posts: posts.as_slice(),
-        rests: recording.failed.is_none()
-            && match recording.last {
-                Last::Ended => true,
-                Last::Stopped => rests && recording.left_out == 0,
-                // What the record that found no room would have said is not known.
-                Last::Full => false,
-            },
+        rests: has_to_rest(recording, rests),
     };
     Ok(replay_all(findings, results).err())
 }
 
-/// Refuses a clock that goes back, or was not read where threads read it.
-fn read_clock(recording: &Recording) -> Result<Clock, ReplayFault> {
-    let clock = Clock::new(recording.alloc, recording.others())?;
-    if let Some(back) = clock.first_back(recording.others()) {
-        return Err(recording.broken(back.line, "the clock does not go back"));
+/// Whether nothing may be left to do.
+fn has_to_rest(recording: &Recording, rests: bool) -> bool {
+    match recording.last {
+        _ if recording.failed.is_some() => false,
+        Last::Ended => true,
+        Last::Stopped => rests && recording.left_out == 0,
+        // What the record that found no room would have said is not known.
+        Last::Full => false,
     }
-    clock.check_readings(recording)?;
-    let times = times_of(recording)?;
-    let readings = Clock::new(recording.alloc, times.as_slice())?;
-    match readings.first_back(times.as_slice()) {
+}
+
+/// The clock that these records read. Refuses one that goes back.
+fn clock_of(recording: &Recording, records: &[Numbered]) -> Result<Clock, ReplayFault> {
+    let clock = Clock::new(recording.alloc, records)?;
+    match clock.first_back(records) {
         Some(back) => Err(recording.broken(back.line, "the clock does not go back")),
         None => Ok(clock),
     }
+}
+
+/// Refuses what no relay does, and returns what was posted.
+fn posts_of(recording: &Recording, clock: &Clock) -> Result<Vec<Vec<Post>>, ReplayFault> {
+    clock.check_readings(recording)?;
+    check_times(recording)?;
+    check_rounds(recording)?;
+    check_threads(recording)?;
+    let posts = find_posts(recording, clock)?;
+    check_reads(recording)?;
+    Ok(posts)
+}
+
+fn check_times(recording: &Recording) -> Result<(), ReplayFault> {
+    let times = times_of(recording)?;
+    drop(clock_of(recording, times.as_slice())?);
+    Ok(())
 }
 
 fn write_outcome<W: Write>(
@@ -125,17 +140,13 @@ fn write_outcome<W: Write>(
     recording: &Recording,
     results: &Results,
     flaw: Option<Flaw>,
-) -> Result<Judged, ReplayFault> {
+) -> Result<(), ReplayFault> {
     match (flaw, &results.flawed, &results.machine) {
-        (None, _, _) => {
-            write_results(output, results, recording)?;
-            Ok(Judged::Run)
-        }
+        (None, _, _) => write_results(output, results, recording),
         (Some(Flaw::NoMemory), _, _) | (_, None, _) | (_, _, None) => Err(ReplayFault::NoMemory),
         (Some(flaw), Some(flawed), Some(machine)) => {
             let left_out = recording.rest.left_out;
-            write_flaw(output, results.wanted, flawed, flaw, machine, left_out)?;
-            Ok(Judged::NoRun)
+            write_flaw(output, results.wanted, flawed, flaw, machine, left_out)
         }
     }
 }
@@ -186,15 +197,10 @@ fn replay_slot(findings: Findings<'_>, results: &mut Results, slot: usize) -> Re
     let flawed = replay.flawed();
     let SlotReplay { machine, .. } = replay;
     match result {
-        Ok(()) => {
-            results.take(slot, machine);
-            Ok(())
-        }
-        Err(flaw) => {
-            results.end(flawed, machine);
-            Err(flaw)
-        }
+        Ok(()) => results.take(slot, machine),
+        Err(_) => results.end(flawed, machine),
     }
+    result
 }
 
 /// The limits of the world that a slot has before anything is opened there.

@@ -61,19 +61,23 @@ fn moved(client: &End, target: &End) -> Moved {
 
 impl Became {
     fn of(world: &World) -> Option<Became> {
-        if let Some(connection) = world.connection(0) {
-            let client = world.kernel().end(connection.ends.client)?;
-            let target = world.kernel().end(connection.ends.target)?;
-            return Some(Became {
+        let Some(connection) = world.connection(0) else {
+            return match world.past().last() {
+                Some(past) => Some(Became {
+                    generation: past.generation,
+                    moved: moved(&past.ends.client, &past.ends.target),
+                }),
+                None => None,
+            };
+        };
+        let (kernel, ends) = (world.kernel(), connection.ends);
+        match (kernel.end(ends.client), kernel.end(ends.target)) {
+            (Some(client), Some(target)) => Some(Became {
                 generation: connection.pair.generation(),
                 moved: moved(&client.socket, &target.socket),
-            });
+            }),
+            _ => None,
         }
-        let past = world.past().last()?;
-        Some(Became {
-            generation: past.generation,
-            moved: moved(&past.ends.client, &past.ends.target),
-        })
     }
 }
 

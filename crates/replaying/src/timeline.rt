@@ -1,13 +1,12 @@
 //! What was done for one connection, record by record, and what its rings held.
-use crate::entry::Entry;
+use crate::entry::{Entry, opened, whose};
 use crate::moments::Moments;
-use crate::writing::{flush, not_there, write_left_out, write_text};
-use input::ReplayFault;
+use crate::writing::{flush, not_there, with_opened, write, write_left_out};
+use input::{Judged, ReplayFault};
 use recorded::{Sizes, Take, read_each};
-use records::{Act, Opening, Polling, Record};
+use records::{Act, Record};
 use std::alloc::{AllocError, Global};
 use std::io::{Read, Write};
-use token::Name;
 
 /// How many lines are written at once.
 const AT_ONCE: usize = 256;
@@ -18,16 +17,12 @@ struct Course {
     alloc: Global,
     slot: usize,
     generation: u64,
-    has_lead: bool,
-    slots: usize,
-    /// The generations of the first connection and of the last one that were opened in the slot.
-    first: Option<u64>,
-    last: Option<u64>,
+    /// Whether it is the last connection that was opened in the slot; the generations of the first one and of that.
+    is_last: bool,
+    there: Option<(u64, u64)>,
     /// Each record, and its time.
     records: Vec<(Record, u64)>,
-    moments: Option<Moments>,
-    /// The count after the first wait for reports that failed.
-    failed: Option<u64>,
+    moments: Moments,
 }
 
 /// Writes the records of a connection in the order of their counts, each with the bytes that its rings hold then, and
@@ -38,18 +33,15 @@ pub(crate) fn write_timeline<R: Read, W: Write>(
     slot: usize,
     generation: u64,
     output: &mut W,
-) -> Result<(), ReplayFault> {
+) -> Result<Judged, ReplayFault> {
     let mut course = Course {
         alloc,
         slot,
         generation,
-        has_lead: false,
-        slots: 0,
-        first: None,
-        last: None,
+        is_last: false,
+        there: None,
         records: Vec::new(alloc),
-        moments: None,
-        failed: None,
+        moments: Moments::new(alloc),
     };
     let outcome = course.follow(input, output);
     drop(course);
@@ -58,39 +50,24 @@ pub(crate) fn write_timeline<R: Read, W: Write>(
 
 impl Take for Course {
     fn begin(&mut self, sizes: Sizes) -> Result<(), AllocError> {
-        self.slots = sizes.header.slots;
-        self.has_lead = sizes.header.proxy;
-        self.moments = Some(Moments::new(self.alloc, sizes)?);
-        Ok(())
+        self.moments.begin(sizes)
     }
 
     fn take(&mut self, _line: u64, record: Record) -> Result<(), AllocError> {
-        let at = self.time_of(&record);
-        let is_its = match &record.act {
-            Act::Poller(_, Polling::Open(slot, generation, Opening::Opened)) => {
-                self.open(*slot, *generation)
-            }
-            Act::Poller(_, Polling::Reported(Name::End(token))) | Act::Wire(token, _) => {
-                token.slot() == self.slot && token.generation() == self.generation
-            }
-            Act::Poller(_, Polling::Failed) => {
-                let first = self.failed.unwrap_or(u64::MAX);
-                self.failed = Some(first.min(record.after));
-                false
-            }
-            Act::Begin(slot) | Act::End(slot) => {
-                *slot == self.slot && self.last == Some(self.generation)
-            }
-            _ => false,
+        self.moments.take(&record);
+        let is_its = match opened(&record.act) {
+            Some((slot, generation)) => slot == self.slot && self.open(generation),
+            None => !self.records.is_empty() && self.has(&record.act),
         };
-        if is_its && (self.last == Some(self.generation) || !self.records.is_empty()) {
+        if is_its {
+            let at = self.moments.at(self.slot);
             self.records.push((record, at))?;
         }
         Ok(())
     }
 
     fn leave_out(&mut self, record: Record) -> Result<(), AllocError> {
-        self.time_of(&record);
+        self.moments.take(&record);
         Ok(())
     }
 }
@@ -100,78 +77,72 @@ impl Course {
         &mut self,
         input: &mut R,
         output: &mut W,
-    ) -> Result<(), ReplayFault> {
+    ) -> Result<Judged, ReplayFault> {
         let rest = read_each(self.alloc, input, self)?;
         if self.records.is_empty() {
-            let there = self.first.zip(self.last);
-            return Err(not_there(self.alloc, self.slots, self.slot, self.generation, there));
+            let slots = self.moments.slots;
+            return Err(not_there(self.alloc, slots, self.slot, self.generation, self.there));
         }
-        write_left_out(output, self.alloc, "", rest.left_out)?;
+        write_left_out(output, self.alloc, rest.left_out)?;
         self.records
             .sort_by_key(|timed: &(Record, u64)| timed.0.before)?;
         self.write(output)
     }
 
-    /// The time of a record that follows those before it.
-    fn time_of(&mut self, record: &Record) -> u64 {
-        let Some(moments) = &mut self.moments else {
-            return 0;
-        };
-        moments.take(record);
-        moments.at(self.slot)
+    /// A connection is opened in the slot. Returns whether it is the one.
+    fn open(&mut self, generation: u64) -> bool {
+        self.there = Some(with_opened(self.there, generation));
+        self.is_last = generation == self.generation;
+        self.is_last
     }
 
-    /// Whether the connection itself is opened.
-    fn open(&mut self, slot: usize, generation: u64) -> bool {
-        if slot == self.slot {
-            self.first = self.first.or(Some(generation));
-            self.last = Some(generation);
+    /// Whether an act is one of its turns or of its ends, or a report of these.
+    fn has(&self, act: &Act) -> bool {
+        match whose(act) {
+            Some((slot, Some(generation))) => slot == self.slot && generation == self.generation,
+            Some((slot, None)) => slot == self.slot && self.is_last,
+            None => false,
         }
-        slot == self.slot && generation == self.generation
     }
 
-    fn write<W: Write>(&self, output: &mut W) -> Result<(), ReplayFault> {
-        let now = match &self.moments {
-            Some(moments) => moments.last(),
-            None => None,
-        };
+    fn write<W: Write>(&self, output: &mut W) -> Result<Judged, ReplayFault> {
         let opened = match self.records.as_slice() {
             [(_, at), ..] => *at,
             [] => 0,
         };
-        let mut entry = Entry::new(self.slot, self.generation, self.has_lead, opened);
+        let mut entry = Entry::new(self.slot, self.generation, self.moments.has_lead, opened);
         for records in self.records.as_slice().chunks(AT_ONCE) {
-            let mut text = String::new(self.alloc);
-            for (record, at) in records {
-                add_record(&mut text, &mut entry, record, *at)?;
-                match now {
-                    Some(_) => writeln!(text, " at_us={at}")?,
-                    None => writeln!(text)?,
-                }
-            }
-            write_text(output, text.as_str())?;
+            write(output, self.lines(&mut entry, records))?;
         }
+        write(
+            output,
+            entry.line(self.alloc, self.moments.failed, self.moments.last()),
+        )?;
+        flush(output, Judged::Run)
+    }
+
+    /// The lines of the next records, each with what the rings hold then.
+    fn lines(&self, entry: &mut Entry, records: &[(Record, u64)]) -> Result<String, AllocError> {
+        let has_times = self.moments.last().is_some();
         let mut text = String::new(self.alloc);
-        entry.tell(self.failed, now, &mut text)?;
-        write_text(output, text.as_str())?;
-        flush(output)
+        for (record, at) in records {
+            entry.add(record, *at);
+            add_line(&mut text, record, entry, has_times.then_some(*at))?;
+        }
+        Ok(text)
     }
 }
 
-/// Adds the next record of a connection, and what its rings hold then.
-fn add_record(
+fn add_line(
     text: &mut String,
-    entry: &mut Entry,
     record: &Record,
-    at: u64,
+    entry: &Entry,
+    at: Option<u64>,
 ) -> Result<(), AllocError> {
-    match record.act {
-        Act::Poller(_, Polling::Reported(Name::End(token))) => {
-            entry.report(token.side(), record, at);
-        }
-        Act::Poller(_, _) => {}
-        _ => entry.act(record, at),
-    }
     let (up, down) = (entry.account.ring_up(), entry.account.ring_down());
-    write!(text, "{record} ring={up},{down}")
+    write!(text, "{record} ring={up},{down}")?;
+    match at {
+        Some(at) => writeln!(text, " at_us={at}"),
+        None => writeln!(text),
+    }
 }

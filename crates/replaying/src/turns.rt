@@ -52,7 +52,7 @@ impl SlotReplay<'_> {
         if self.machine.next_call().is_some() {
             return self.end_due(calls);
         }
-        if is_drop_next(self.next) {
+        if dropped_next(self.next).is_some() {
             self.pass_to(self.state.latest)?;
             self.state.phase = Phase::Closing(None);
             return self.machine.put(Event::Work(0, Act::Expire));
@@ -138,35 +138,41 @@ impl State {
         has_failed: bool,
         acts: &[Numbered],
     ) -> Result<bool, Flaw> {
-        let phase = self.phase;
-        match phase {
+        let (first, by_turn) = match self.phase {
+            Phase::Closing(first) => (first, true),
+            Phase::Void(first) => (first, false),
             Phase::Open if has_failed => {
                 self.void = self.generation;
-                self.phase = Phase::Void(Some(side));
+                (None, false)
             }
-            Phase::Void(None)
-                if !has_failed && is_busy(acts, self.free_from.saturating_add(1), count) => {
-                return Err(Flaw::Because("its poller did something else before it closed this"));
+            _ => return Err(Flaw::Because("the connection has not ended")),
+        };
+        match first {
+            Some(other) if side == other => {
+                return Err(Flaw::Because("the same end is dropped twice"));
             }
-            Phase::Void(None) => self.phase = Phase::Void(Some(side)),
-            Phase::Closing(None) => {
+            Some(_) if by_turn => return Ok(true),
+            Some(_) => self.phase = Phase::Free,
+            None if by_turn => {
                 self.phase = Phase::Closing(Some(side));
                 self.taken_by = count;
             }
-            Phase::Void(Some(other)) | Phase::Closing(Some(other)) if side == other => {
-                return Err(Flaw::Because("the same end is dropped twice"));
+            None if !has_failed && is_busy(acts, self.free_from.saturating_add(1), count) => {
+                return Err(Flaw::Because("its poller did something else before it closed this"));
             }
-            Phase::Void(Some(_)) => self.phase = Phase::Free,
-            Phase::Closing(Some(_)) => return Ok(true),
-            _ => return Err(Flaw::Because("the connection has not ended")),
+            None => self.phase = Phase::Void(Some(side)),
         }
         Ok(false)
     }
 }
 
-fn is_drop_next(next: &[Numbered]) -> bool {
+/// The generation of the connection of which the next act drops an end, if it does.
+pub(crate) fn dropped_next(next: &[Numbered]) -> Option<u64> {
     match next {
-        [first, ..] => matches!(first.record.act, Recorded::Wire(_, Made::Drop)),
-        [] => false,
+        [first, ..] => match first.record.act {
+            Recorded::Wire(token, Made::Drop) => Some(token.generation()),
+            _ => None,
+        },
+        [] => None,
     }
 }
