@@ -13,8 +13,8 @@ pub struct Wrong<'a> {
     pub wanted: &'static str,
 }
 
-/// The parts of a text, read from left to right. The first that is wrong is noted, and makes the whole text wrong at its
-/// end, whatever was read after it.
+/// The parts of a text, read from left to right. The first that is wrong is noted, and no matter what is read after it,
+/// the text is refused at its end.
 #[derive(Drop)]
 pub(crate) struct Words<'a> {
     pub(crate) pieces: Pieces<'a>,
@@ -236,20 +236,13 @@ pub(crate) fn number_after(text: &str, word: &[u8]) -> Option<usize> {
     input::number(word.strip_prefix(text.as_bytes())?)
 }
 
-/// The slot and the generation at the front of `S.G` or `S.G.SIDE`.
-fn place(parts: &mut Words<'_>) -> (usize, u64) {
-    (parts.number(""), parts.number("") as u64)
-}
-
 /// The end that `S.G.SIDE` names.
 fn end_named(word: &[u8]) -> Option<Token> {
     let parts = &mut Words::new(word, b'.');
-    let (slot, generation) = place(parts);
+    let (slot, generation) = (parts.number(""), parts.number("") as u64);
     let side = Side::named(parts.word(""))?;
-    match parts.end(()) {
-        Ok(()) => Token::pack(slot, side, generation).ok(),
-        Err(_) => None,
-    }
+    parts.end(()).ok()?;
+    Token::pack(slot, side, generation).ok()
 }
 
 fn polling(words: &mut Words<'_>) -> Polling {
@@ -295,17 +288,14 @@ fn opened(words: &mut Words<'_>) -> Polling {
     let word = words.word(wanted);
     let (slot, generation) = words.said(place_named(word), word, wanted, (0, 0));
     let wanted = "one of ok, connect and register is wanted";
-    Polling::Open(
-        slot,
-        generation,
-        words.one_of(&OPENINGS, wanted, Opening::Opened),
-    )
+    let opening = words.one_of(&OPENINGS, wanted, Opening::Opened);
+    Polling::Open(slot, generation, opening)
 }
 
 /// The slot and the generation that `S.G` names.
 fn place_named(word: &[u8]) -> Option<(usize, u64)> {
     let parts = &mut Words::new(word, b'.');
-    let place = place(parts);
+    let place = (parts.number(""), parts.number("") as u64);
     parts.end(place).ok()
 }
 

@@ -1,8 +1,8 @@
 -- What follows for every pair: that its next call is possible, and what an answer, a report, the idle limit and any
 -- list of them do to it.
-use Rattle.std.{proofs.{Common.{Bool, List, None, Option, Some, [], append-nil, append_assoc, arith, inl, inr, length, option_and_then, refl, sym, take, take-append-drop, true, ℕ, ◌++◌, ◌↔◌, ◌∙◌, ◌∷◌, ◌≡◌, ◌≤◌, ◌⊎◌}, Math.Seq.drop-nil, lemmas.{Grind.common_steps, Option.{cond_some, option_and_then_some}}}, specs.{Option.{option_or}, Prelude.{IfSome, OnSome, if◌then◌else◌, option_map}}}
+use Rattle.std.{proofs.{Common.{Bool, List, None, Option, Some, [], append-nil, append_assoc, arith, inl, inr, length, option_and_then, refl, sym, take, take-append-drop, true, ℕ, ◌++◌, ◌↔◌, ◌∙◌, ◌∷◌, ◌≡◌, ◌≤◌, ◌⊎◌}, Math.Seq.drop-nil, lemmas.{Grind.common_steps, Option.{cond_some, option_and_then_some}}}, specs.{Option.{option_or}, Prelude.{IfSome, if◌then◌else◌, option_map}}}
 use Rattle.flow.{proofs.Front.{front_offers, take-front, waiting-dropped}, specs.Stream.{waiting}}
-use Rattle.relay_core.specs.{Runs.{brought, Answered, Event, Expired, Reported, brought_by, carried_by, ever_brought, ever_carried, happened, through, carried, or_nothing, answered}, Idle.{is_overdue, timed_out}, Laws.{IsRunOf, IsClosedLast, AnswersNext, AnswersAreEvents, AnswersAreToNextCalls, AnswersKeepOrder, AnswersKeepPlace, AnswersPassEndLast, ExpiriesChangeVerdictAlone, FailuresAreTold, IsAtRest, IsOverdue, IsPossible, KeepsOrder, LivePairsRest, OnlyOverduePairsExpire, PassesEndLast, RunsKeepOrder, RunsKeepPlace, RunsPassEndLast, TellsOf, place_of}, Order.{call_for, next_call, offer}, Pairs.{PairState, is_live, noted, stream_of, verdict}, Replies.{AnswerValue, Interrupted, after, fits}, declared.{call.Call.{Call}, verdict.Fault.{Fault}}}
+use Rattle.relay_core.specs.{Runs.{brought, Answered, Event, Expired, Reported, brought_by, carried_by, ever_brought, ever_carried, happened, through, carried, or_nothing, answered}, Idle.{is_overdue, timed_out}, Laws.{IsRunOf, IsClosedLast, AnswersNext, AnswersAreEvents, AnswersAreToNextCalls, AnswersKeepOrder, AnswersKeepPlace, AnswersPassEndLast, ExpiriesChangeVerdictAlone, FailuresAreTold, IsAtRest, IsOverdue, IsPossible, LivePairsRest, OnlyOverduePairsExpire, PassesEndLast, RunsKeepOrder, RunsKeepPlace, RunsPassEndLast, TellsOf, place_of}, Order.{call_for, next_call, offer}, Pairs.{PairState, is_live, noted, stream_of, verdict}, Replies.{AnswerValue, after, fits}, declared.{call.Call.{Call}, verdict.Fault.{Fault}}}
 use Rattle.token.specs.{Sides.{inward, opposite}, declared.{direction.Direction.{Direction}, side.Side.{Side}}}
 use Rattle.relay_core.specs.declared.verdict.Verdict.TheVariants as verdict
 
@@ -16,15 +16,6 @@ either P b o p this that = grind (arith, common_steps)
 
 pub asked_is_possible : (p : PairState) (call : Call) → next_call p ≡ Some call → IsPossible p call
 asked_is_possible p call e = rw e at (either (IsPossible p) (is_live (verdict p)) _ _ (call_is_possible p p.turn) (call_is_possible p (opposite p.turn)))
-
--- what is asked is possible, and asked of a live pair alone
-pub asked : (p : PairState) (o : Option Call) → o ≡ next_call p → IfSome o (IsPossible p)
-asked p None is = tt
-asked p (Some call) is = asked_is_possible p call (sym is)
-
-pub asked_live : (p : PairState) (o : Option Call) → o ≡ next_call p → OnSome o (verdict p ≡ verdict.Live)
-asked_live p None is = tt
-asked_live p (Some call) is = grind (arith, common_steps)
 
 -- ---- one answer
 
@@ -51,21 +42,6 @@ tells now p call reply fault none = grind (arith, common_steps)
 
 pub failures_are_told : FailuresAreTold
 failures_are_told now p call reply fault a = tells now p call reply fault (faultless p call a.next)
-
--- what an answer to the next call does
-module _ (now : ℕ) (p q : PairState) (call : Call) (reply : AnswerValue) (is : q ≡ after now p call reply) where
-  pub order : KeepsOrder p call reply q
-  order = rw is (answers_keep_order now p call reply)
-
-  pub turned : reply ≡ Interrupted → q ≡ record p { turn = q.turn }
-  turned e = rw (is, e) refl
-
-  module _ (next : next_call p ≡ Some call) (fit : fits p call reply ≡ true) where
-    pub end_last : (d : Direction) → PassesEndLast (stream_of p d) (stream_of q d)
-    end_last = rw is (answers_pass_end_last now p call reply (record { next = next; fit = fit }))
-
-    pub failed : (fault : Fault) → (verdict q ≡ verdict.Failed fault) ↔ TellsOf call reply fault
-    failed fault = rw is (failures_are_told now p call reply fault (record { next = next; fit = fit }))
 
 pub answers_keep_place : AnswersKeepPlace
 answers_keep_place now p call reply = grind (arith, common_steps)

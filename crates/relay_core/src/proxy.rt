@@ -31,7 +31,6 @@ pub fn proxy_line(
     Ok(line)
 }
 
-/// Appends an address and a space.
 fn append_address(line: &mut Vec<u8>, address: [u8; 4]) -> Result<(), AllocError>
     ensures text { OnOk result (line.new.items ≡ line.old.items ++ (dotted address ++ codes " ")) }
     ensures least { OnOk result (length line.old.items + 8 ≤ length line.new.items) }
@@ -43,7 +42,6 @@ fn append_address(line: &mut Vec<u8>, address: [u8; 4]) -> Result<(), AllocError
     append_number(line, address[3], b" ")
 }
 
-/// Appends a number and one byte.
 #[tactic(auto, using(std::proofs::lemmas::Fmt::decimal_nonempty))]
 fn append_number(line: &mut Vec<u8>, n: u8, after: &[u8; 1]) -> Result<(), AllocError>
     ensures text { OnOk result (line.new.items ≡ line.old.items ++ (decimal n ++ after.now)) }
@@ -54,7 +52,6 @@ fn append_number(line: &mut Vec<u8>, n: u8, after: &[u8; 1]) -> Result<(), Alloc
     line.extend_from_slice(after)
 }
 
-/// Appends a port, and what follows it.
 #[tactic(auto, using(std::proofs::lemmas::Fmt::decimal_nonempty))]
 fn append_port(line: &mut Vec<u8>, port: u16, after: &[u8]) -> Result<(), AllocError>
     ensures text { OnOk result (line.new.items ≡ line.old.items ++ (decimal port ++ after.now)) }
