@@ -155,11 +155,8 @@ impl RecordQueue {
 
     /// The last record. `_drained`: the queues were closed and then found empty.
     pub(crate) fn last(&self, _drained: Drained) -> Record {
-        if self.is_over() {
-            self.record_of(Act::Full)
-        } else {
-            self.record_of(Act::Ended)
-        }
+        let is_over = self.is_over();
+        self.record_of(if is_over { Act::Full } else { Act::Ended })
     }
 
     /// A record with the next two counts.

@@ -44,10 +44,11 @@ struct Counts {
 }
 
 impl Counts {
-    fn of<W: Wire>(wire: &W) -> Counts
-        ensures faults { result.faults ≡ (W.told wire.now).faults }
-        ensures blocks { result.blocks ≡ (W.told wire.now).blocks }
+    fn of<W: Wire>(inner: &Inner<W>) -> Counts
+        ensures faults { result.faults ≡ (W.told inner.now).faults }
+        ensures blocks { result.blocks ≡ (W.told inner.now).blocks }
     {
+        let wire = inner.wire();
         Counts {
             faults: wire.faults(),
             blocks: wire.blocks(),
@@ -55,9 +56,10 @@ impl Counts {
     }
 
     /// What the error of a call means, by the count of the wire that has risen. A turn goes by the same rule.
-    fn refused<W: Wire>(self, wire: &W, error: &io::Error) -> Answer
-        ensures { result ≡ refused (counts_alone self.faults self.blocks) (W.told wire.now) (error_kind error.now) }
+    fn refused<W: Wire>(self, inner: &Inner<W>, error: &io::Error) -> Answer
+        ensures { result ≡ refused (counts_alone self.faults self.blocks) (W.told inner.now) (error_kind error.now) }
     {
+        let wire = inner.wire();
         if wire.faults() != self.faults {
             Answer::Failed(kind_of(error.kind()))
         } else if wire.blocks() != self.blocks {
@@ -120,13 +122,13 @@ impl<W: Wire + Drop, S: Sink> Wire for RecordedWire<W, S> {
 
     fn read(&mut self, buffer: &mut [u8]) -> io::Result<usize> {
         let most = buffer.len();
-        let counts = Counts::of(self.inner.wire());
+        let counts = Counts::of(&self.inner);
         let begun = begin(&self.name, &mut self.recorder);
         let result = self.inner.during(&begun).read(buffer);
         let answer = match &result {
             Ok(0) => Answer::End,
             Ok(count) => Answer::Moved(*count),
-            Err(error) => counts.refused(self.inner.wire(), error),
+            Err(error) => counts.refused(&self.inner, error),
         };
         let made = Made::Read(most, answer);
         end(self.name, &mut self.recorder, begun, made);
@@ -134,13 +136,13 @@ impl<W: Wire + Drop, S: Sink> Wire for RecordedWire<W, S> {
     }
 
     fn write(&mut self, offer: &[u8]) -> io::Result<usize> {
-        let counts = Counts::of(self.inner.wire());
+        let counts = Counts::of(&self.inner);
         let begun = begin(&self.name, &mut self.recorder);
         let result = self.inner.during(&begun).write(offer);
         let answer = match &result {
             Ok(0) => Answer::Failed(Kind::Zero),
             Ok(count) => Answer::Moved(*count),
-            Err(error) => counts.refused(self.inner.wire(), error),
+            Err(error) => counts.refused(&self.inner, error),
         };
         let made = Made::Write(offer.len(), answer);
         end(self.name, &mut self.recorder, begun, made);
@@ -148,24 +150,24 @@ impl<W: Wire + Drop, S: Sink> Wire for RecordedWire<W, S> {
     }
 
     fn shut_write(&mut self) -> io::Result<()> {
-        let counts = Counts::of(self.inner.wire());
+        let counts = Counts::of(&self.inner);
         let begun = begin(&self.name, &mut self.recorder);
         let result = self.inner.during(&begun).shut_write();
         let answer = match &result {
             Ok(()) => Answer::Shut,
-            Err(error) => counts.refused(self.inner.wire(), error),
+            Err(error) => counts.refused(&self.inner, error),
         };
         end(self.name, &mut self.recorder, begun, Made::Shut(answer));
         result
     }
 
     fn joined(&mut self) -> io::Result<()> {
-        let counts = Counts::of(self.inner.wire());
+        let counts = Counts::of(&self.inner);
         let begun = begin(&self.name, &mut self.recorder);
         let result = self.inner.during(&begun).joined();
         let answer = match &result {
             Ok(()) => Answer::Joined,
-            Err(error) => counts.refused(self.inner.wire(), error),
+            Err(error) => counts.refused(&self.inner, error),
         };
         end(self.name, &mut self.recorder, begun, Made::Join(answer));
         result

@@ -1,6 +1,4 @@
 // The thread that writes.
-ghost use Rattle.std.specs.Prelude.{◌<◌};
-
 use crate::lines::Lines;
 use crate::queue::{MAX_RUN, QUEUES, RecordQueue, soon};
 use log::{Log, warn};
@@ -52,9 +50,7 @@ impl<R: Wait, P: Parts> Writer<'_, R, P> {
         self.lines.put(&queue.last(drained))?;
         self.lines.flush()
     }
-}
 
-impl<R: Wait, P: Parts> Writer<'_, R, P> {
     fn go_on(&mut self) -> io::Result<()> {
         match self.queue.go_on() {
             Some(full) => self.lines.put(&full),
@@ -70,11 +66,7 @@ impl<R: Wait, P: Parts> Drain for Writer<'_, R, P> {
         let mut found = false;
         for _look in self.rt.forever() {
             let was_over = self.queue.is_over();
-            let mut some = false;
-            for at in 0..QUEUES {
-                some = write_run(self.rt, self.queue, at, &mut self.lines)? || some;
-            }
-            if !some {
+            if !write_some(self.rt, self.queue, &mut self.lines)? {
                 // What was put before the gap is written: nothing waited after it had begun.
                 if was_over {
                     self.go_on()?;
@@ -88,21 +80,22 @@ impl<R: Wait, P: Parts> Drain for Writer<'_, R, P> {
     }
 }
 
-/// Writes up to [`MAX_RUN`] records of one queue. Returns whether there was one. Without the limit, threads that
-/// record as fast as it writes could hold it here while the other queues fill.
-fn write_run<R: Wait, P: Parts>(
+/// Writes up to [`MAX_RUN`] records of each queue. Returns whether there was one. Without the limit, threads that
+/// record as fast as it writes could hold it at one queue while the others fill.
+fn write_some<R: Wait, P: Parts>(
     rt: &R,
     queue: &RecordQueue,
-    at: usize,
     lines: &mut Lines<P>,
-) -> io::Result<bool>
-    requires { at < QUEUES }
-{
-    for written in 0..MAX_RUN {
-        let Some(record) = queue.waiting.take(rt, at) else {
-            return Ok(written > 0);
-        };
-        lines.put(&record)?;
+) -> io::Result<bool> {
+    let mut some = false;
+    for at in 0..QUEUES {
+        for _record in 0..MAX_RUN {
+            let Some(record) = queue.waiting.take(rt, at) else {
+                break;
+            };
+            lines.put(&record)?;
+            some = true;
+        }
     }
-    Ok(true)
+    Ok(some)
 }
