@@ -46,7 +46,8 @@ impl fmt::Display for AddressText {
     ghost output = { λ shown. Some (address_text shown.0) };
 
     fn fmt<W: fmt::Write>(&self, f: &mut fmt::Formatter<W>) -> fmt::Result {
-        let ([first, second, third, fourth], port) = self.0;
-        write!(f, "{first}.{second}.{third}.{fourth}:{port}")
+        let (octets, port) = self.0;
+        let host = Ipv4Addr::from(octets);
+        write!(f, "{host}:{port}")
     }
 }

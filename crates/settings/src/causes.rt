@@ -5,7 +5,7 @@ use crate::SettingsFault;
 use crate::hints::{TypedWord, key_near, option_named};
 use crate::limits::MAX_LOOKS;
 use crate::one_line::OneLine;
-use crate::table::{Key, ROWS};
+use crate::table::{KEY_NAMES, Key};
 use crate::wanted::Wanted;
 use std::alloc::{AllocError, Global};
 use std::fmt;
@@ -19,8 +19,8 @@ pub fn cause(alloc: Global, bytes: &[u8], fault: &SettingsFault) -> Option<Strin
     let text = match std::str::from_utf8(bytes) {
         Ok(text) => text,
         Err(error) => {
-            let slip = Slip::Other("this is not UTF-8");
-            return at(alloc, bytes, error.valid_up_to(), slip);
+            let place = Place(Some(line_at(bytes, error.valid_up_to())));
+            return told(alloc, place, Wanted::Words("this is not UTF-8", "", ""));
         }
     };
     match fault {
@@ -48,46 +48,105 @@ fn line_at(bytes: &[u8], index: usize) -> usize {
     line
 }
 
+/// The line of a text with this number.
+fn line_of(text: &str, number: usize) -> &str {
+    text.split('\n').nth(number.saturating_sub(1)).unwrap_or("")
+}
+
 /// The cause of `NotToml`: the line where the text stops being TOML, and what is wrong there.
 fn not_toml(alloc: Global, text: &str) -> Option<String> {
     let Err(error) = toml::table_from_str(alloc, text) else {
         return None;
     };
     let start = error.span()?.start;
-    let slip = Slip::of(alloc, text, start).unwrap_or(Slip::told(error.message(), text, start));
-    at(alloc, text.as_bytes(), start, slip)
+    let (line, rest) = (line_at(text.as_bytes(), start), rest_of_line(text, start));
+    if let Some(cause) = slip(alloc, text, line, rest) {
+        return Some(cause);
+    }
+    told(alloc, Place(Some(line)), said(error.message(), rest))
 }
 
-/// Shows the number of the line with this byte, and what is wrong there.
-fn at(alloc: Global, bytes: &[u8], index: usize, slip: Slip<'_>) -> Option<String> {
-    let line = line_at(bytes, index);
-    format!(in alloc; "line {line}: {slip}").ok()
+/// What is wrong in a line that is not TOML, where `rest` begins. None if only the parser can say it, or there is no
+/// memory to find out.
+fn slip(alloc: Global, text: &str, line: usize, rest: &str) -> Option<String> {
+    let place = Place(Some(line));
+    if rest.starts_with("//") {
+        let words = Wanted::Words("a comment begins with #", "", "");
+        return told(alloc, place, words);
+    }
+    if rest.starts_with([';', ',']) {
+        return told(alloc, place, after_value(rest));
+    }
+    let (name, written) = line_of(text, line).split_once('=')?;
+    let name = name.trim();
+    match place_of(alloc, text, name)?.0 {
+        Some(first) => twice(alloc, place, name, first),
+        None => no_value(alloc, place, Key::named(name)?, value_in(written)),
+    }
+}
+
+fn twice(alloc: Global, place: Place, name: &str, first: usize) -> Option<String> {
+    let name = OneLine(name);
+    format!(in alloc; "{place}{name} stands in line {first}, too").ok()
+}
+
+fn no_value(alloc: Global, place: Place, key: Key, written: &str) -> Option<String> {
+    let wanted = Wanted::in_place_of_written(written, key)?;
+    not_taken(alloc, place, key, written, wanted)
+}
+
+/// What the parser says of the place where `rest` begins.
+fn said<'a>(message: &'a str, rest: &'a str) -> Wanted<'a> {
+    if message.starts_with("unexpected key or value") && !rest.is_empty() {
+        return after_value(rest);
+    }
+    Wanted::Words(message, "", "")
+}
+
+/// This follows a value.
+fn after_value(rest: &str) -> Wanted<'_> {
+    Wanted::Words("nothing comes after the value: ", rest, "")
+}
+
+fn told(alloc: Global, place: Place, words: Wanted<'_>) -> Option<String> {
+    format!(in alloc; "{place}{words}").ok()
+}
+
+/// Shows a value that a key does not take, and what the key takes.
+fn not_taken(
+    alloc: Global,
+    place: Place,
+    key: Key,
+    value: &str,
+    wanted: Wanted<'_>,
+) -> Option<String> {
+    let value = OneLine(value);
+    format!(in alloc; "{place}{key} = {value}: {wanted}").ok()
 }
 
 /// An unknown key, and what to write instead.
 fn unknown(alloc: Global, text: &str, name: &str) -> Option<String> {
-    let line = line_of(alloc, text, name).ok()?;
+    let place = place_of(alloc, text, name)?;
     match option_named(name) {
-        Some((option, has_value)) => {
-            let value = if has_value {
-                value_of(alloc, text, name)?
-            } else {
-                String::new(alloc)
-            };
-            option_cause(alloc, Place(line), name, option, value.as_str())
+        Some((option, true)) => {
+            let value = value_of(alloc, text, name)?;
+            option_cause(alloc, place, name, option, value.as_str())
         }
-        None if is_heading(text, line) => heading_cause(alloc, Place(line), name),
-        None => key_cause(alloc, Place(line), name),
+        Some((option, false)) => option_cause(alloc, place, name, option, ""),
+        None if is_heading(text, place.0) => {
+            let words = Wanted::Words("keys stand at the top: leave the line [", name, "] out");
+            told(alloc, place, words)
+        }
+        None => key_cause(alloc, place, name),
     }
 }
 
-/// The value that a text has for a name, as it is typed on a command line. It is empty if there is none.
+/// The value that a text has for a name, as it is typed on a command line.
 fn value_of(alloc: Global, text: &str, name: &str) -> Option<String> {
-    let document = toml::table_from_str(alloc, text).ok()?;
-    match document.get(name) {
-        Some(value) => typed(alloc, value).ok(),
-        None => Some(String::new(alloc)),
-    }
+    let Ok(document) = toml::table_from_str(alloc, text) else {
+        return None;
+    };
+    typed(alloc, document.get(name)?)
 }
 
 fn option_cause(
@@ -101,24 +160,18 @@ fn option_cause(
     format!(in alloc; "{place}{name} is an option: relayd run --{option}{value}").ok()
 }
 
-fn heading_cause(alloc: Global, place: Place, name: &str) -> Option<String> {
-    let name = OneLine(name);
-    format!(in alloc; "{place}keys stand at the top: leave the line [{name}] out").ok()
-}
-
 fn key_cause(alloc: Global, place: Place, name: &str) -> Option<String> {
-    let near = Near(key_near(alloc, name).ok()?);
-    let (name, names) = (OneLine(name), KeyNames);
-    format!(in alloc; "{place}{name}: {near}one of {names} is wanted").ok()
+    let Ok(near) = key_near(alloc, name) else {
+        return None;
+    };
+    let (near, name) = (Near(near), OneLine(name));
+    format!(in alloc; "{place}{name}: {near}one of {KEY_NAMES} is wanted").ok()
 }
 
 /// Whether the line with this number begins a table.
 fn is_heading(text: &str, line: Option<usize>) -> bool {
-    let Some(number) = line else {
-        return false;
-    };
-    match text.split('\n').nth(number.saturating_sub(1)) {
-        Some(line) => line.trim_start().starts_with('['),
+    match line {
+        Some(number) => line_of(text, number).trim_start().starts_with('['),
         None => false,
     }
 }
@@ -152,22 +205,21 @@ impl fmt::Display for Behind<'_> {
 
 /// Shows a value that a key does not take, and what the key takes.
 fn refused(alloc: Global, text: &str, key: Key) -> Option<String> {
-    let place = Place(line_of(alloc, text, key.name()).ok()?);
-    let document = toml::table_from_str(alloc, text).ok()?;
-    refused_value(alloc, place, document.get(key.name())?, key).ok()
+    let name = key.name();
+    let place = place_of(alloc, text, name)?;
+    let Ok(document) = toml::table_from_str(alloc, text) else {
+        return None;
+    };
+    refused_value(alloc, place, document.get(name)?, key)
 }
 
-fn refused_value(
-    alloc: Global,
-    place: Place,
-    value: &Value,
-    key: Key,
-) -> Result<String, AllocError> {
+fn refused_value(alloc: Global, place: Place, value: &Value, key: Key) -> Option<String> {
     let typed = typed(alloc, value)?;
     let wanted = Wanted::in_place_of(value, typed.as_str(), key);
-    let value = format!(in alloc; "{value}")?;
-    let value = OneLine(value.as_str());
-    format!(in alloc; "{place}{key} = {value}: {wanted}")
+    let Ok(shown) = format!(in alloc; "{value}") else {
+        return None;
+    };
+    not_taken(alloc, place, key, shown.as_str(), wanted)
 }
 
 /// The cause of a fault of the command line: the argument and its value, as typed, and what is wanted instead.
@@ -181,46 +233,29 @@ pub fn argument_cause(alloc: Global, bytes: &[u8], fault: &SettingsFault) -> Opt
     else {
         return None;
     };
-    let document = toml::table_from_str(alloc, std::str::from_utf8(bytes).ok()?).ok()?;
-    refused_argument(alloc, document.get(key.name())?, *key).ok()
+    let Ok(text) = std::str::from_utf8(bytes) else {
+        return None;
+    };
+    let Ok(document) = toml::table_from_str(alloc, text) else {
+        return None;
+    };
+    refused_argument(alloc, document.get(key.name())?, *key)
 }
 
 /// Shows an argument, named as help names it, with a value that it refuses, and what it takes.
-fn refused_argument(alloc: Global, value: &Value, key: Key) -> Result<String, AllocError> {
+fn refused_argument(alloc: Global, value: &Value, key: Key) -> Option<String> {
     let typed = typed(alloc, value)?;
     let wanted = Wanted::in_place_of_word(typed.as_str(), key);
     let typed = TypedWord(typed.as_str());
-    let row = &ROWS[key as usize];
-    let (dashes, name) = match row.option {
-        Some(option) => ("--", option),
-        None => ("", row.value_name),
-    };
-    format!(in alloc; "{dashes}{name} {typed}: {wanted}")
+    let (dashes, name) = key.argument();
+    format!(in alloc; "{dashes}{name} {typed}: {wanted}").ok()
 }
 
 /// A value as it is typed on a command line: a text has no quotes there.
-fn typed(alloc: Global, value: &Value) -> Result<String, AllocError> {
+fn typed(alloc: Global, value: &Value) -> Option<String> {
     match value.as_str() {
-        Some(text) => String::from_str(alloc, text),
-        None => format!(in alloc; "{value}"),
-    }
-}
-
-#[derive(Clone, Copy)]
-struct KeyNames;
-
-impl fmt::Display for KeyNames {
-    fn fmt<W: fmt::Write>(&self, f: &mut fmt::Formatter<W>) -> fmt::Result {
-        for (number, row) in ROWS.iter().enumerate() {
-            let before = match number {
-                0 => "",
-                _ if number == ROWS.len() - 1 => " and ",
-                _ => ", ",
-            };
-            let name = row.name;
-            write!(f, "{before}{name}")?;
-        }
-        Ok(())
+        Some(text) => String::from_str(alloc, text).ok(),
+        None => format!(in alloc; "{value}").ok(),
     }
 }
 
@@ -239,8 +274,8 @@ impl fmt::Display for Place {
 
 /// The number, from 1, of the line that begins to set a key: the text up to the end of that line, or of a value that
 /// spans lines, is TOML that has the key. Only lines with the name as it is are tried, and the text is parsed at most
-/// [`MAX_LOOKS`] times.
-fn line_of(alloc: Global, text: &str, name: &str) -> Result<Option<usize>, AllocError> {
+/// [`MAX_LOOKS`] times. None if there is no memory to find out.
+fn place_of(alloc: Global, text: &str, name: &str) -> Option<Place> {
     let mut looks = 0usize;
     let mut end = 0usize;
     let mut number = 0usize;
@@ -254,14 +289,15 @@ fn line_of(alloc: Global, text: &str, name: &str) -> Result<Option<usize>, Alloc
         }
         if begun.is_some() && looks < MAX_LOOKS {
             looks += 1;
-            match sets(alloc, text.get(..end).unwrap_or(""), name)? {
-                Some(true) => return Ok(begun),
-                Some(false) => begun = None,
-                None => {}
+            match sets(alloc, text.get(..end).unwrap_or(""), name) {
+                Ok(Some(true)) => return Some(Place(begun)),
+                Ok(Some(false)) => begun = None,
+                Ok(None) => {}
+                Err(_) => return None,
             }
         }
     }
-    Ok(None)
+    Some(Place(None))
 }
 
 /// Whether a text sets this name at its top level. None if the text is not TOML, as when a value has not ended.
@@ -273,111 +309,16 @@ fn sets(alloc: Global, text: &str, name: &str) -> Result<Option<bool>, AllocErro
     }
 }
 
-/// What is wrong in a line that is not TOML.
-#[derive(Clone, Copy)]
-pub(crate) enum Slip<'a> {
-    /// The line's key stands in this earlier line, too.
-    Twice(&'a str, usize),
-    /// What the line has for this key is no TOML value.
-    NoValue(Key, &'a str, Wanted<'a>),
-    /// This follows a value.
-    Behind(&'a str),
-    /// These words say what is wrong.
-    Other(&'a str),
-}
-
-impl<'a> Slip<'a> {
-    /// What is wrong in the line with this byte, where a text stops being TOML. None if only the parser can say it,
-    /// or there is no memory to find out.
-    pub(crate) fn of(alloc: Global, text: &'a str, index: usize) -> Option<Slip<'a>> {
-        let rest = rest_of_line(text, index)?;
-        if rest.starts_with("//") {
-            Some(Slip::Other("a comment begins with #"))
-        } else if rest.starts_with([';', ',']) {
-            Some(Slip::Behind(rest))
-        } else {
-            let (before, line) = line_around(text, index)?;
-            Slip::in_line(alloc, before, line)
-        }
-    }
-
-    fn in_line(alloc: Global, before: &str, line: &'a str) -> Option<Slip<'a>> {
-        let (name, written) = line.split_once('=')?;
-        let name = name.trim();
-        match line_of(alloc, before, name) {
-            Ok(Some(first)) => Some(Slip::Twice(name, first)),
-            Ok(None) => Slip::no_value(Key::named(name)?, value_in(written)),
-            Err(_) => None,
-        }
-    }
-
-    /// What the parser says of the text at this byte.
-    fn told(message: &'a str, text: &'a str, index: usize) -> Slip<'a> {
-        match rest_of_line(text, index) {
-            Some(rest) if message.starts_with(BEHIND) && !rest.is_empty() => Slip::Behind(rest),
-            _ => Slip::Other(message),
-        }
-    }
-
-    fn no_value(key: Key, written: &str) -> Option<Slip<'_>> {
-        let wanted = Wanted::in_place_of_written(written, key)?;
-        Some(Slip::NoValue(key, written, wanted))
-    }
-}
-
-/// The lines before the one with this byte of a text, and that line.
-fn line_around(text: &str, index: usize) -> Option<(&str, &str)> {
-    let start = match text.get(..index)?.rfind('\n') {
-        Some(end) => end.saturating_add(1),
-        None => 0,
-    };
-    let (before, rest) = text.split_at_checked(start)?;
-    let line = match rest.split_once('\n') {
-        Some((line, _)) => line,
-        None => rest,
-    };
-    Some((before, line))
-}
-
-/// How the parser begins to say that something follows a value.
-const BEHIND: &str = "unexpected key or value";
-
 /// What a line has from this byte of a text on.
-fn rest_of_line(text: &str, index: usize) -> Option<&str> {
-    let rest = text.get(index..)?;
-    match rest.split_once('\n') {
-        Some((rest, _)) => Some(rest.trim()),
-        None => Some(rest.trim()),
-    }
+fn rest_of_line(text: &str, index: usize) -> &str {
+    line_of(text.get(index..).unwrap_or(""), 1).trim()
 }
 
 /// The value after the `=` of a line. A comment is left out, unless the value begins with a quote.
 fn value_in(written: &str) -> &str {
     let written = written.trim();
     match written.split_once('#') {
-        Some((value, _)) if !written.starts_with('"') && !written.starts_with('\'') => {
-            value.trim_end()
-        }
+        Some((value, _)) if !written.starts_with(['"', '\'']) => value.trim_end(),
         _ => written,
-    }
-}
-
-impl fmt::Display for Slip<'_> {
-    fn fmt<W: fmt::Write>(&self, f: &mut fmt::Formatter<W>) -> fmt::Result {
-        match *self {
-            Slip::Twice(name, line) => {
-                let name = OneLine(name);
-                write!(f, "{name} stands in line {line}, too")
-            }
-            Slip::NoValue(key, written, wanted) => {
-                let written = OneLine(written);
-                write!(f, "{key} = {written}: {wanted}")
-            }
-            Slip::Behind(rest) => {
-                let rest = OneLine(rest);
-                write!(f, "nothing comes after the value: {rest}")
-            }
-            Slip::Other(message) => f.write_str(message),
-        }
     }
 }

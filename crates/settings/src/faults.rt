@@ -8,7 +8,7 @@ use std::fmt;
 use std::marker::Model;
 
 /// The name of an unknown key.
-#[derive(Debug, Drop)]
+#[derive(Drop)]
 pub struct KeyText {
     text: String,
 }
@@ -50,7 +50,7 @@ impl fmt::Display for KeyText {
 
 /// The first thing that is wrong in a settings text: it is not TOML; else its first unknown key, in byte order; else
 /// the fault of the first key, in the order of [`Key`], that has a fault.
-#[derive(Debug, Drop)]
+#[derive(Drop)]
 pub enum SettingsFault {
     /// The bytes are not UTF-8, or not a TOML document.
     NotToml,
@@ -84,6 +84,12 @@ impl fmt::Display for SettingsFault {
             SettingsFault::BadAddress(key) => write!(f, "settings: {key}: bad address"),
             SettingsFault::NoMemory => f.write_str("out of memory"),
         }
+    }
+}
+
+impl fmt::Debug for SettingsFault {
+    fn fmt<W: fmt::Write>(&self, f: &mut fmt::Formatter<W>) -> fmt::Result {
+        fmt::Display::fmt(self, f)
     }
 }
 

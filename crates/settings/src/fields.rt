@@ -96,16 +96,15 @@ impl fmt::Display for Settings {
 
     fn fmt<W: fmt::Write>(&self, f: &mut fmt::Formatter<W>) -> fmt::Result {
         let (listen, target) = (AddressText(self.listen), AddressText(self.target));
-        let (ring, budget, workers) = (self.ring, self.budget, self.workers);
         write!(
             f,
-            "listen={listen}\ntarget={target}\nring={ring}\nbudget={budget}\nworkers={workers}\n"
+            "listen={listen}\ntarget={target}\nring={}\nbudget={}\nworkers={}\n",
+            self.ring, self.budget, self.workers
         )?;
-        let (slots, stop_after) = (self.slots, self.stop_after);
-        let (log, idle, proxy) = (self.log, self.idle, self.proxy);
         write!(
             f,
-            "slots={slots}\nstop_after={stop_after}\nlog={log}\nidle={idle}\nproxy={proxy}\n"
+            "slots={}\nstop_after={}\nlog={}\nidle={}\nproxy={}\n",
+            self.slots, self.stop_after, self.log, self.idle, self.proxy
         )
     }
 }

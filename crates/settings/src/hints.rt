@@ -103,6 +103,11 @@ static BYTES: [(&str, u32); 5] = [
     ("m", 1_048_576),
 ];
 
+/// What follows the digits with which a text begins.
+pub(crate) fn after_digits(text: &str) -> &str {
+    text.trim_start_matches(['0', '1', '2', '3', '4', '5', '6', '7', '8', '9'])
+}
+
 impl Unit {
     fn table(self) -> &'static [(&'static str, u32)] {
         match self {
@@ -113,11 +118,18 @@ impl Unit {
 
     /// The number that a word with a unit stands for.
     fn number_in(self, word: &str) -> Option<u32> {
-        let unit = word.trim_start_matches(|character: char| character.is_ascii_digit());
-        let digits = word.strip_suffix(unit)?;
+        let unit = after_digits(word);
+        let factor = self.factor(unit.trim_start())?;
+        let Ok(number) = word.strip_suffix(unit)?.parse::<u32>() else {
+            return None;
+        };
+        number.checked_mul(factor)
+    }
+
+    fn factor(self, unit: &str) -> Option<u32> {
         for (name, factor) in self.table() {
-            if unit.trim_start().eq_ignore_ascii_case(name) {
-                return digits.parse::<u32>().ok()?.checked_mul(*factor);
+            if unit.eq_ignore_ascii_case(name) {
+                return Some(*factor);
             }
         }
         None
@@ -166,16 +178,13 @@ impl fmt::Display for TypedWord<'_> {
 
 /// Whether a text has a blank of any kind, as one that does not break a line.
 pub(crate) fn has_blank(text: &str) -> bool {
-    text.chars().any(|character| character.is_whitespace())
+    text.contains(char::is_whitespace)
 }
 
 /// The quote with which a text begins that is none of TOML, and the text without its quotes.
-pub(crate) fn curly(written: &str) -> Option<(char, &str)> {
-    let first = written.chars().next().filter(|first| is_curly(*first))?;
-    Some((
-        first,
-        written.trim_matches(|character: char| is_curly(character)),
-    ))
+pub(crate) fn curly(written: &str) -> Option<(&str, &str)> {
+    let quote = written.strip_suffix(written.strip_prefix(is_curly)?)?;
+    Some((quote, written.trim_matches(is_curly)))
 }
 
 fn is_curly(character: char) -> bool {

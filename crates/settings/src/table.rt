@@ -20,27 +20,17 @@ pub fn pollers_for(slots: usize, workers: usize) -> usize
 
 /// A key of a settings text, in the order in which keys are read and printed. [`Settings`](crate::Settings) says what
 /// each is for.
-#[derive(Clone, Copy, Debug, PartialEq, Eq)]
+#[derive(Clone, Copy, PartialEq, Eq)]
 pub enum Key {
-    /// The address to which clients connect.
     Listen,
-    /// The address to which each connection is forwarded.
     Target,
-    /// Bytes buffered for each direction of a connection.
     Ring,
-    /// The most calls of the core that are made for one connection before another gets its turn.
     Budget,
-    /// Worker threads.
     Workers,
-    /// The maximum number of connections at a time.
     Slots,
-    /// How many connections are opened before the relay ends; 0 for no such limit.
     StopAfter,
-    /// The level of the messages on standard error.
     Log,
-    /// How many seconds a connection may move nothing before it fails; 0 for no such limit.
     Idle,
-    /// Whether the target is first sent a line with the client's address.
     Proxy,
 }
 
@@ -49,7 +39,7 @@ impl Key {
     pub fn name(self) -> &'static str
         ensures { result.now ≡ key_name self }
     {
-        ROWS[self as usize].name
+        self.row().name
     }
 
     /// The key with this name, if there is one.
@@ -76,13 +66,30 @@ impl Key {
     pub fn default(self) -> Option<&'static str>
         ensures { option_map (λ text. text.now) result ≡ option_map setting_text (row_of self).default }
     {
-        ROWS[self as usize].default
+        self.row().default
     }
 
-    pub(crate) fn takes(self) -> Takes
-        ensures { Tells (row_of self).kind result }
+    pub(crate) fn takes(self) -> &'static Takes
+        ensures { Tells (row_of self).kind result.now }
     {
-        ROWS[self as usize].takes
+        &self.row().takes
+    }
+
+    /// The key as an argument of a command line, as help names it.
+    pub(crate) fn argument(self) -> (&'static str, &'static str) {
+        let row = self.row();
+        match row.option {
+            Some(option) => ("--", option),
+            None => ("", row.value_name),
+        }
+    }
+
+    fn row(self) -> &'static Row
+        ensures name { result.now.name.now ≡ key_name self }
+        ensures default { option_map (λ text. text.now) result.now.default ≡ option_map setting_text (row_of self).default }
+        ensures takes { Tells (row_of self).kind result.now.takes }
+    {
+        &ROWS[self as usize]
     }
 
     /// Returns true if the key takes a truth value.
@@ -212,6 +219,10 @@ pub struct Row {
     pub value_name: &'static str,
     pub help: &'static str,
 }
+
+/// The names of all keys, as a message lists them.
+pub(crate) const KEY_NAMES: &str =
+    "listen, target, ring, budget, workers, slots, stop_after, log, idle and proxy";
 
 /// A row for each key, in their order.
 pub static ROWS: [Row; 10] = [

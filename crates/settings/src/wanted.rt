@@ -1,5 +1,5 @@
 use crate::addresses::{address_of, decimal_number};
-use crate::hints::{Bare, Unit, curly, has_blank, level_meant};
+use crate::hints::{Bare, Unit, after_digits, curly, has_blank, level_meant};
 use crate::one_line::OneLine;
 use crate::table::{AddressRow, Key, NumberRow, Takes};
 use std::fmt;
@@ -130,14 +130,20 @@ fn is_ipv4(text: &str) -> bool {
 
 /// Whether a text is made of letters, digits, `-`, `_` and `.`, with a letter among them.
 fn is_name(text: &str) -> bool {
-    let bytes = text.as_bytes();
-    bytes.iter().all(|byte| byte.is_ascii_alphanumeric() || matches!(byte, b'-' | b'_' | b'.'))
-        && bytes.iter().any(|byte| byte.is_ascii_alphabetic())
+    text.trim_start_matches(is_in_name).is_empty() && text.contains(is_letter)
+}
+
+fn is_in_name(character: char) -> bool {
+    is_letter(character) || matches!(character, '0'..='9' | '-' | '_' | '.')
+}
+
+fn is_letter(character: char) -> bool {
+    character.is_ascii_alphabetic()
 }
 
 /// Whether a text has digits only, or is empty.
 fn are_digits(text: &str) -> bool {
-    text.as_bytes().iter().all(|byte| byte.is_ascii_digit())
+    after_digits(text).is_empty()
 }
 
 /// Returns true if a text is a number with a leading zero, after a sign or none.
@@ -157,16 +163,12 @@ fn is_over(text: &str, most: u32) -> bool {
 pub(crate) enum Wanted<'a> {
     /// A whole number from this one to that one.
     Number(u32, u32),
-    /// A port from this one up.
-    Port(u16),
-    /// This text in quotes, for this key.
-    Quotes(Key, &'a str),
-    /// This text in quotes of TOML, for this key, in place of another quote.
-    NoQuote(char, Key, &'a str),
+    /// A text in quotes of TOML: the other quote that stands there, if one does, why, the key, and the text.
+    Quotes(&'a str, &'static str, Key, &'a str),
     /// A number, without the unit that is typed.
     Bare(Bare),
     /// These words, with a part of a text between them, which is shown on one line.
-    Words(&'static str, &'a str, &'static str),
+    Words(&'a str, &'a str, &'static str),
 }
 
 impl<'a> Wanted<'a> {
@@ -195,13 +197,14 @@ impl<'a> Wanted<'a> {
     /// What is wanted if a key refuses a word, as it is typed on a command line.
     pub(crate) fn in_place_of_word(word: &'a str, key: Key) -> Wanted<'a> {
         let mistake = match key.takes() {
-            Takes::Address(row) if address_of(word).is_some() => {
-                return Wanted::Port(row.lowest_port);
+            // Only the port of `target` has a lowest one.
+            Takes::Address(_) if address_of(word).is_some() => {
+                return Wanted::Words("a port from 1 up is wanted", "", "");
             }
             Takes::Address(row) => port_alone(word, row).or(mistake_in(word)),
             Takes::Number(_) if has_leading_zero(word) => mistake_in(word),
             Takes::Number(row) => without_unit(word, row),
-            Takes::Level => level_meant(word).map(|level| Wanted::Words("write ", level, "")),
+            Takes::Level => level_instead(word),
             Takes::Truth => None,
         };
         mistake.unwrap_or(Wanted::by(key))
@@ -217,8 +220,12 @@ impl<'a> Wanted<'a> {
     }
 }
 
+fn level_instead(word: &str) -> Option<Wanted<'static>> {
+    Some(Wanted::Words("write ", level_meant(word)?, ""))
+}
+
 /// The number that is wanted in place of a word with a unit.
-fn without_unit(word: &str, row: NumberRow) -> Option<Wanted<'static>> {
+fn without_unit(word: &str, row: &NumberRow) -> Option<Wanted<'static>> {
     let unit = match row.key {
         Key::Ring => Unit::Bytes,
         Key::Idle => Unit::Seconds,
@@ -232,7 +239,7 @@ fn is_word(value: &Value) -> bool {
 }
 
 /// The address that stands for a port alone, or for one after `:` or `*:`. None if the port is too low.
-fn port_alone(word: &str, row: AddressRow) -> Option<Wanted<'_>> {
+fn port_alone<'a>(word: &'a str, row: &AddressRow) -> Option<Wanted<'a>> {
     let ("" | "*", port) = host_and_port(word) else {
         return None;
     };
@@ -245,14 +252,16 @@ fn port_alone(word: &str, row: AddressRow) -> Option<Wanted<'_>> {
 /// What is wanted in place of a text that lacks its quotes, or its last one.
 fn quotes_of(written: &str, key: Key) -> Option<Wanted<'_>> {
     if let Some((quote, text)) = curly(written) {
-        return Some(Wanted::NoQuote(quote, key, text));
+        return Some(Wanted::Quotes(quote, " is no quote of TOML", key, text));
     }
+    let why = "a text stands in quotes";
     let quote = if written.starts_with('\'') { '\'' } else { '"' };
     match written.split_once(quote) {
         None if key == Key::Log => {
-            Some(Wanted::Quotes(key, level_meant(written).unwrap_or(written)))
+            let text = level_meant(written).unwrap_or(written);
+            Some(Wanted::Quotes("", why, key, text))
         }
-        None => Some(Wanted::Quotes(key, written)),
+        None => Some(Wanted::Quotes("", why, key, written)),
         Some(("", rest)) if !rest.contains(quote) => {
             Some(Wanted::Words("a quote is wanted at the end", "", ""))
         }
@@ -263,41 +272,24 @@ fn quotes_of(written: &str, key: Key) -> Option<Wanted<'_>> {
 impl fmt::Display for Wanted<'_> {
     fn fmt<W: fmt::Write>(&self, f: &mut fmt::Formatter<W>) -> fmt::Result {
         match *self {
-            Wanted::Number(low, high) => write_range(f, low, high),
-            Wanted::Port(lowest) => write!(f, "a port from {lowest} up is wanted"),
-            Wanted::Quotes(key, text) => write_quoted(f, key, text),
-            Wanted::NoQuote(quote, key, text) => write_no_quote(f, quote, key, text),
+            Wanted::Number(low, high) => write!(f, "a whole number from {low} to {high} is wanted"),
+            Wanted::Quotes(quote, why, key, text) => write_quoted(f, quote, why, key, text),
             Wanted::Bare(bare) => bare.fmt(f),
-            Wanted::Words(before, part, after) => write_words(f, before, part, after),
+            Wanted::Words(before, part, after) => {
+                let part = OneLine(part);
+                write!(f, "{before}{part}{after}")
+            }
         }
     }
 }
 
-fn write_range<W: fmt::Write>(f: &mut fmt::Formatter<W>, low: u32, high: u32) -> fmt::Result {
-    write!(f, "a whole number from {low} to {high} is wanted")
-}
-
-fn write_quoted<W: fmt::Write>(f: &mut fmt::Formatter<W>, key: Key, text: &str) -> fmt::Result {
-    let text = OneLine(text);
-    write!(f, "a text stands in quotes: {key} = \"{text}\"")
-}
-
-fn write_no_quote<W: fmt::Write>(
+fn write_quoted<W: fmt::Write>(
     f: &mut fmt::Formatter<W>,
-    quote: char,
+    quote: &str,
+    why: &str,
     key: Key,
     text: &str,
 ) -> fmt::Result {
     let text = OneLine(text);
-    write!(f, "{quote} is no quote of TOML: {key} = \"{text}\"")
-}
-
-fn write_words<W: fmt::Write>(
-    f: &mut fmt::Formatter<W>,
-    before: &str,
-    part: &str,
-    after: &str,
-) -> fmt::Result {
-    let part = OneLine(part);
-    write!(f, "{before}{part}{after}")
+    write!(f, "{quote}{why}: {key} = \"{text}\"")
 }
