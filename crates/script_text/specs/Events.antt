@@ -1,5 +1,5 @@
 -- The events of a world's script, and the lines that say them. Part of the promises.
-use Rattle.std.specs.{Prelude.{ℕ, List, [], ◌∷◌, codes, ◌+◌, nat_lt, nat_le, ◌&&◌, if◌then◌else◌, length, Option, Some, None, option_map, option_and_then}, Str.bytes_eq}
+use Rattle.std.specs.{Prelude.{ℕ, List, [], ◌∷◌, codes, nat_lt, nat_le, ◌&&◌, if◌then◌else◌, length, Option, Some, None, option_map, option_and_then}, Str.bytes_eq}
 use Rattle.world.specs.declared.event.{Event.Event, Change.Change, Act.Act, Reported.Reported}
 use Rattle.script_text.specs.{declared.steps.Step.Step, Texts.{pieces_of, words_of, number_of, number_below, bytes_of, word_then, if_last, full_of}}
 use Rattle.world_text.specs.{declared.word.Word.Word, Words.word_named}
@@ -59,15 +59,9 @@ abbrev pub all_names : List (List ℕ) → Option (List Name)
 all_names [] = Some []
 all_names (word ∷ words) = option_and_then (λ n. option_map (λ ns. n ∷ ns) (all_names words)) (name_of word)
 
--- the names that these words are, if they and the `count` names before them are at most 256
-abbrev pub names_behind : ℕ → List (List ℕ) → Option (List Name)
-names_behind count words = if nat_le (count + length words) 256 then all_names words else None
-
-abbrev pub are_names : ℕ → List (List ℕ) → Option (Unit {0})
-are_names count words = option_map (λ _. tt) (names_behind count words)
-
+-- the names that these words are, if they are at most 256
 abbrev pub names_of : List (List ℕ) → Option (List Name)
-names_of words = names_behind 0 words
+names_of words = if nat_le (length words) 256 then all_names words else None
 
 abbrev pub accepting_of : List ℕ → Option Accepting
 accepting_of word =

@@ -1,6 +1,6 @@
 // The events in a script of a world.
-ghost use Rattle.std.specs.Prelude.{◌≡◌, ◌≤◌, nat_lt, ◌∷◌, [], None, Err, if◌then◌else◌};
-ghost use Rattle.script_text.specs.{Events.{said_of, accepting_of, change_event, put_event, act_event, plain_event, arrival, event_of, generation_of, end_of, name_of, are_names, names_of, reply_of, reported_of}, Texts.{word_then, if_last, Reads, ReadsBy, Ends}};
+ghost use Rattle.std.specs.Prelude.{◌≡◌, nat_lt, ◌∷◌, [], None, if◌then◌else◌};
+ghost use Rattle.script_text.specs.{Events.{said_of, accepting_of, change_event, put_event, act_event, plain_event, arrival, event_of, generation_of, end_of, name_of, names_of, reply_of, reported_of}, Texts.{word_then, if_last, ReadsBy, Ends}};
 ghost use Rattle.token.specs.Kinds.{kind_named};
 
 use crate::readers::{
@@ -9,7 +9,7 @@ use crate::readers::{
 };
 use input::{Pieces, is, number};
 use kernel_model::{Accepting, MAX_POLLED, Reply};
-use std::alloc::{AllocError, Global};
+use std::alloc::Global;
 use token::{KIND_WANTED, Kind, MAX_GENERATION, Name, Side, Token};
 use world::{Act, Change, Event, Listening, Polling, Reported};
 use world_text::Word;
@@ -185,21 +185,23 @@ fn name(word: &[u8]) -> Option<Name>
     }
 }
 
-/// The names of a poll, at most 256.
+/// The names of a poll, at most 256. A word that is none is malformed, even if there is no memory.
 fn names<'a>(alloc: Global, mut words: Pieces<'a>) -> Result<Vec<Name>, NotRead<'a>>
     ensures { ReadsBy (λ names. names.items) (names_of words.entry) result }
 {
-    let mut names = Vec::new(alloc);
+    let mut room = [Name::Listener; MAX_POLLED];
+    let mut count = 0;
     while let Some(word) = words.next() {
-        let Some(name) = name_behind(names.len(), word) else {
-            return Err(NotRead::Malformed(not_a_name(names.len(), word)));
+        let Some(name) = name_behind(count, word) else {
+            return Err(NotRead::Malformed(not_a_name(count, word)));
         };
-        match names.reserve(1) {
-            Ok(()) => names.push_reserved(name),
-            Err(error) => return Err(lacking(error, names.len() + 1, words)),
-        }
+        room[count] = name;
+        count += 1;
     }
-    Ok(names)
+    match Vec::from_slice(alloc, &room[..count]) {
+        Ok(names) => Ok(names),
+        Err(error) => Err(NotRead::from(error)),
+    }
 }
 
 /// The name that a word says. None also if a poll has no room for a name after `count` others.
@@ -217,31 +219,6 @@ fn not_a_name<'a>(count: usize, word: &'a [u8]) -> Wrong<'a> {
     } else {
         Wrong::malformed(word, "a poll has at most 256 names")
     }
-}
-
-/// What is wrong if memory for a poll's first `count` names ran out: a malformed word after them comes first.
-fn lacking<'a>(error: AllocError, count: usize, words: Pieces<'a>) -> NotRead<'a>
-    requires { count ≤ 256 }
-    ensures { ReadsBy (λ all. all) (are_names count words.entry) (Err result) }
-{
-    match are_names(count, words) {
-        Ok(()) => NotRead::from(error),
-        Err(wrong) => NotRead::Malformed(wrong),
-    }
-}
-
-/// Fails for the first of these words that is not a name of a poll, after `count` names.
-fn are_names<'a>(mut count: usize, mut words: Pieces<'a>) -> Result<(), Wrong<'a>>
-    requires { count ≤ 256 }
-    ensures { Reads (are_names count words.entry) result }
-{
-    while let Some(word) = words.next() {
-        if name_behind(count, word).is_none() {
-            return Err(not_a_name(count, word));
-        }
-        count += 1;
-    }
-    Ok(())
 }
 
 /// Reads what a report is about that comes without cause or is withdrawn.
