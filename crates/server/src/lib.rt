@@ -2,8 +2,8 @@
 //! run most turns, and with workers, which run the others ([`serve`]). It may record what its threads do
 //! ([`serve_recorded`]).
 //!
-//! What a thread does in a round and in a turn is in `rounds` and `turns`, the threads are in `threads`, and the
-//! sockets in `sockets`. Here they are made as the settings say ([`build`]).
+//! Rounds are in `rounds`, turns in `turns`, the threads in `threads`, and the sockets in `sockets`. Here they are
+//! made as the settings say ([`build`]).
 #![tactic(auto)]
 
 mod making;

@@ -40,7 +40,7 @@ pub struct Lent<'a, R, G, C> {
     pub statistics: Option<&'a Arc<Statistics>>,
     /// How long to wait for targets and clients that do not answer.
     pub patience: Patience,
-    /// Whether each client is logged at level info, when it comes and when it goes.
+    /// Whether each client is logged at level info, when it comes and goes.
     pub log_clients: bool,
 }
 
@@ -226,7 +226,7 @@ impl<R: Wait + Threads + Log + Sync, G: Gate + Sync, C: Clock + Sync> Lent<'_, R
 
 impl<R: Wait, G, C> Lent<'_, R, G, C> {
     /// A server as the settings say, with the statistics that are lent, which logs clients at level info if asked. It
-    /// takes its share of the statistics first, so no server has to be dropped if there is no memory for the share.
+    /// takes its share of the statistics first, so no server has to be dropped if there is no memory for it.
     fn server<F: Front + Drop>(
         self,
         settings: &Settings,

@@ -35,9 +35,9 @@ ends_of_map : {P Q : Type 0} (f : P → Q) (runs : Q → ThreadEnd → Type 0) (
     → RanToEnds (λ p e. runs (f p) e) few ps ends → RanToEnds runs few (map f ps) ends
 ends_of_map f runs few ps ends (left, ran, whole) = (map f left, of_map f runs ps ends left ran, λ none. ap (map f) (whole none))
 
-pub all_of_map : {P Q W V : Type 0} (f : P → Q) (g : W → V) (polls : Q → ThreadEnd → Type 0) (works : V → ThreadEnd → Type 0) (ps : List P) (ws : List W)
-    (served : Served) → AllRan (λ p e. polls (f p) e) (λ w e. works (g w) e) ps ws served → AllRan polls works (map f ps) (map g ws) served
-all_of_map f g polls works ps ws served all = record {
+pub all_of_map : {P Q W V : Type 0} (f : P → Q) (g : W → V) (polls : Q → ThreadEnd → Type 0) (works : V → ThreadEnd → Type 0) {ps : List P} {ws : List W}
+    {served : Served} → AllRan (λ p e. polls (f p) e) (λ w e. works (g w) e) ps ws served → AllRan polls works (map f ps) (map g ws) served
+all_of_map f g polls works all = record {
   others = map f all.others;
   first = map f all.first;
   pollers_are = sym (map-append f all.others all.first) ∙ ap (map f) all.pollers_are;

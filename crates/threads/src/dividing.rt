@@ -35,9 +35,9 @@ impl Model for Rest {
     ghost view = { λ r. record { parts = r.parts; free = map (λ ends. ends.items) r.free.items } };
 }
 
-/// Makes a thread for each poller, with an end of the poller's free queue, and as many workers as are wanted, each with
-/// an end of every such queue, the first poller's first. A poller's thread has the poller's number, and the first is
-/// the last one here. The workers have the numbers after those.
+/// Makes a thread for each poller, with an end of the poller's free queue, and the workers, each with an end of every
+/// such queue, the first poller's first. A poller's thread has the poller's number, and the first is the last one here.
+/// The workers have the numbers after those.
 ///
 /// Refuses with `NoMemory` if memory or parts run out, or if a poller's table is not as long as there are slots.
 pub fn divide<F: Front + Drop>(
@@ -86,7 +86,7 @@ fn pollers_of<F: Front + Drop>(
     Ok(threads)
 }
 
-/// The thread of a poller. Refuses a table whose length is not the number of slots; `build` makes no such table.
+/// The thread of a poller. Refuses a table whose length is not the number of slots; `build` makes none.
 fn thread_of<F: Front + Drop>(
     alloc: Global,
     shared: &Arc<Shared<F>>,

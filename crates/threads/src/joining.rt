@@ -20,7 +20,7 @@ pub(crate) trait Part<X>: Sized {
         ensures { runs context.now self.old result };
 }
 
-/// Runs the part in a thread of its own. Tools such as top(1) show the thread by its name.
+/// Runs the part in its own thread, which tools such as top(1) show by this name.
 fn run_named<P: Part<X> + Drop, X>(name: &[u8], mut part: P, context: &X) -> ThreadEnd
     ensures { P.runs context.now part result }
 {

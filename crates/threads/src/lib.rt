@@ -1,8 +1,8 @@
 //! The threads of a server: what each of them is made of, its loop, and how the fault of one ends all
 //! ([`run_threads`]).
 //!
-//! What a thread does in a round and in a turn is in `rounds` and `turns`. Here the parts of a server are divided among
-//! the threads (`divide`), and each thread makes its rounds, or takes its tickets, until all is over.
+//! Rounds are in `rounds`, turns in `turns`. Here the parts of a server are divided among the threads (`divide`), and
+//! each thread makes its rounds, or takes its tickets, until all is over.
 //!
 //! # Inside
 //!

@@ -27,7 +27,7 @@ pub struct PollerThread<F: Front> {
     pub ghost sized: { length poller.table ≡ (arc_value shared).claims.words },
 }
 
-impl<F: Front + Drop> PollerThread<F> {
+impl<F: Front> PollerThread<F> {
     /// Makes its steps until one ends the thread. The poller's sweeps are counted from the clock's second on.
     pub fn run<'c, G: Gate, C: Clock, R: Wait + Log, S: StopFlag>(
         &mut self,
@@ -84,8 +84,8 @@ impl<F: Front + Drop> PollerThread<F> {
     }
 
     /// One step of the thread: a round, and then the turns of the tickets that stay with this thread, 32 at most.
-    /// Refused if the thread ends: the poller is over, a fault was recorded before the round or before one of the
-    /// turns, or this step met a fault.
+    /// Refused if the thread ends: the poller is over, a fault was recorded before the round or before a turn,
+    /// or this step met a fault.
     #[tactic(auto, using(crate::proofs::Loops::ran_none))]
     fn step<G: Gate, C: Clock, R: Wait + Log, S: StopFlag>(
         &mut self,

@@ -35,7 +35,7 @@ pub struct Server<F: Front> {
     pub ghost seats: { AreFresh shared.claims parts.seats.items },
 }
 
-/// Runs a server. The calling thread is a poller's, all other threads are started here, and the call returns when all
+/// Runs a server. The calling thread is a poller's, all others are started here, and the call returns when all
 /// have ended. Once `is_stopped` is set, the server opens no more connections, and ends once all are closed.
 ///
 /// Refuses with `NoMemory`, before any thread has started, if there is none for what they need; else with `Threads` if
@@ -98,9 +98,8 @@ pub(crate) struct Served {
     first: Option<ThreadEnd>,
 }
 
-impl<'a, F: Front + Drop, G: Gate, C: Clock, R: Wait + Log, S: StopFlag> Part<
-    Context<'a, G, C, R, S>,
-> for PollerThread<F> {
+impl<'a, F: Front, G: Gate, C: Clock, R: Wait + Log, S: StopFlag> Part<Context<'a, G, C, R, S>>
+    for PollerThread<F> {
     ghost use Rattle.threads.specs.Served.{PollerRuns, poller_part};
 
     ghost runs = { λ context poller end. PollerRuns (S.said context.is_stopped.now) (C.tells context.timing.clock.now) F.gave_none
@@ -111,9 +110,8 @@ impl<'a, F: Front + Drop, G: Gate, C: Clock, R: Wait + Log, S: StopFlag> Part<
     }
 }
 
-impl<'a, F: Front + Drop, G: Gate, C: Clock, R: Wait + Log, S: StopFlag> Part<
-    Context<'a, G, C, R, S>,
-> for Worker<F> {
+impl<'a, F: Front, G: Gate, C: Clock, R: Wait + Log, S: StopFlag> Part<Context<'a, G, C, R, S>>
+    for Worker<F> {
     ghost use Rattle.threads.specs.Served.{WorkerRuns, worker_part};
 
     ghost runs = { λ context worker end. WorkerRuns context.ending.now (worker_part worker.number worker.owned) end };
@@ -137,7 +135,7 @@ impl<G: Gate, C, R: Wait + Log, S> Handed for Context<'_, G, C, R, S> {
     }
 }
 
-/// Runs all parts to their ends: the last poller in the calling thread, each other part in a thread of its own.
+/// Runs all parts to their ends, as [`run_in`] does in a scope.
 fn run_all<P, W, X: Handed + Sync, R: Wait + Threads>(
     rt: &R,
     alloc: Global,
@@ -157,7 +155,7 @@ where
     )
 }
 
-/// Starts threads for the workers and all pollers but the last, runs that one in the calling thread, and joins all.
+/// Starts threads for all parts but the last poller, runs that one in the calling thread, and joins all.
 fn run_in<'s, E, P, W, X: Handed + Sync>(
     scope: &'s Scope<'s, E>,
     rt: &impl Threads,

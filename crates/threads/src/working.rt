@@ -33,7 +33,7 @@ pub struct Owned {
     pub others: Vec<FreeQueue>,
 }
 
-impl<F: Front + Drop> Worker<F> {
+impl<F: Front> Worker<F> {
     /// Makes its steps until one ends the thread: the queue of tickets is closed and empty, or there is a fault.
     pub fn run<'c, G: Gate, C: Clock, R: Wait + Log, S>(
         &mut self,

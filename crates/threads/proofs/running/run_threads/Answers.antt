@@ -10,5 +10,5 @@ returns-in-Ok-served-clause-ran g c =
       map (λ p. poller_part p.number p.poller p.own) made.0.items,
       map (λ w. worker_part w.number w.owned) made.1.items,
       c.in-Ok.ensures,
-      all_of_map _ _ _ _ _ _ _ c.in-Ok-served.ensures,
+      all_of_map _ _ _ _ c.in-Ok-served.ensures,
     )
