@@ -1,5 +1,5 @@
 // The events in a script of a world.
-ghost use Rattle.std.specs.Prelude.{◌≡◌, nat_lt, ◌∷◌, [], None, if◌then◌else◌};
+ghost use Rattle.std.specs.Prelude.{◌≡◌, ◌∷◌, []};
 ghost use Rattle.script_text.specs.{Events.{said_of, accepting_of, change_event, put_event, act_event, plain_event, arrival, event_of, generation_of, end_of, name_of, names_of, reply_of, reported_of}, Texts.{word_then, if_last, ReadsBy, Ends}};
 ghost use Rattle.token.specs.Kinds.{kind_named};
 
@@ -134,8 +134,10 @@ fn put<'a>(words: &mut Pieces<'a>) -> Result<Event, Wrong<'a>>
 fn work<'a>(act: Act, words: &mut Pieces<'a>) -> Result<Event, Wrong<'a>>
     ensures { Ends (act_event act words.old) result words.new }
 {
-    let worker = worker(words)?;
-    Ok(Event::Work(worker, act))
+    match worker(words) {
+        Ok(worker) => Ok(Event::Work(worker, act)),
+        Err(wrong) => Err(wrong),
+    }
 }
 
 fn generation_said(word: &[u8]) -> Option<u64>
@@ -189,11 +191,16 @@ fn name(word: &[u8]) -> Option<Name>
 fn names<'a>(alloc: Global, mut words: Pieces<'a>) -> Result<Vec<Name>, NotRead<'a>>
     ensures { ReadsBy (λ names. names.items) (names_of words.entry) result }
 {
+    let wanted = "listener, waker or SLOT.GEN.SIDE, as in 0.1.client, is wanted";
     let mut room = [Name::Listener; MAX_POLLED];
     let mut count = 0;
     while let Some(word) = words.next() {
-        let Some(name) = name_behind(count, word) else {
-            return Err(NotRead::Malformed(not_a_name(count, word)));
+        if count >= MAX_POLLED {
+            let wrong = Wrong::malformed(word, "a poll has at most 256 names");
+            return Err(NotRead::Malformed(wrong));
+        }
+        let Some(name) = name(word) else {
+            return Err(NotRead::Malformed(Wrong::malformed(word, wanted)));
         };
         room[count] = name;
         count += 1;
@@ -201,23 +208,6 @@ fn names<'a>(alloc: Global, mut words: Pieces<'a>) -> Result<Vec<Name>, NotRead<
     match Vec::from_slice(alloc, &room[..count]) {
         Ok(names) => Ok(names),
         Err(error) => Err(NotRead::from(error)),
-    }
-}
-
-/// The name that a word says. None also if a poll has no room for a name after `count` others.
-fn name_behind(count: usize, word: &[u8]) -> Option<Name>
-    ensures { result ≡ (if nat_lt count 256 then name_of word.now else None) }
-{
-    if count < MAX_POLLED { name(word) } else { None }
-}
-
-/// What is wrong with a word that is no name, or has no place in a poll after `count` names.
-fn not_a_name<'a>(count: usize, word: &'a [u8]) -> Wrong<'a> {
-    if count < MAX_POLLED {
-        let wanted = "listener, waker or SLOT.GEN.SIDE, as in 0.1.client, is wanted";
-        Wrong::malformed(word, wanted)
-    } else {
-        Wrong::malformed(word, "a poll has at most 256 names")
     }
 }
 
