@@ -78,7 +78,7 @@ fn quote(cause: &mut Page, word: &[u8]) {
 
 /// Adds the first 64 bytes of a word, escaped where they are not printable ASCII.
 fn show(cause: &mut Page, word: &[u8]) {
-    for byte in word.iter().take(MAX_SHOWN) {
+    for byte in &word[..word.len().min(MAX_SHOWN)] {
         let byte = [*byte];
         match std::str::from_utf8(&byte) {
             Ok(text) if byte[0].is_ascii_graphic() => cause.put(&[Piece::Text(text)]),

@@ -23,10 +23,7 @@ pub fn run_each<R: Read, W: Write, C: Causes>(
     writer: &mut W,
     causes: &C,
 ) -> Result<Outcome, ScriptFault>
-    // If the script could not be read, nothing is written.
     ensures unread { result ≡ Err ScriptFault.Read → writer.new ≡ writer.old }
-
-    // At most one byte more than a script may have is taken from the reader.
     ensures taken { TakesAtMost (most_of_script + 1) (R.remaining reader.old) (R.remaining reader.new) }
 {
     match input::read_at_most(alloc, reader, MAX_SCRIPT + 1) {
@@ -78,12 +75,12 @@ fn show_steps<M: Machine, W: Write>(
     steps: &[M::Step],
     writer: &mut W,
 ) -> Result<bool, Fault> {
-    if !put(alloc, writer, &mut lines, &machine.report(alloc)?)? {
+    if !put(alloc, writer, &mut lines, machine.report(alloc)?)? {
         return Ok(false);
     }
     for step in steps {
         let changes = machine.show(alloc, step)?;
-        if !put(alloc, writer, &mut lines, &changes)? {
+        if !put(alloc, writer, &mut lines, changes)? {
             return Ok(false);
         }
     }
@@ -95,13 +92,13 @@ fn put<W: Write>(
     alloc: Global,
     writer: &mut W,
     lines: &mut Lines<'_>,
-    text: &String,
+    text: String,
 ) -> Result<bool, AllocError> {
-    let mut shown = Vec::from_slice(alloc, b"> ")?;
-    if let Some(line) = lines.next() {
-        shown.extend_from_slice(line.text)?;
-    }
-    shown.extend_from_slice(b"\n")?;
-    shown.extend_from_slice(text.as_bytes())?;
+    let line = match lines.next() {
+        Some(line) => line.text,
+        None => &[],
+    };
+    let parts: [&[u8]; 4] = [b"> ", line, b"\n", text.as_bytes()];
+    let shown = parts.concat(alloc)?;
     Ok(writer.write_all(shown.as_slice()).is_ok() && writer.flush().is_ok())
 }

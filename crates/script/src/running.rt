@@ -49,7 +49,6 @@ impl Simulate for Simulator {
 ///
 /// `causes` is given the fault's cause before anything is written, if a cause is known and there is memory for it; but
 /// not if memory runs out before the script was read, or for its output.
-#[tactic(auto, using(crate::proofs::Telling::every_byte, crate::proofs::Telling::every_end, crate::proofs::Telling::every_run))]
 pub fn run<R: Read, W: Write, C: Causes>(
     alloc: Global,
     reader: &mut R,
@@ -63,11 +62,7 @@ pub fn run<R: Read, W: Write, C: Causes>(
         (λ text. WritesReport text (W.contents writer.old) (W.contents writer.new)) }
     ensures refused { result ≡ Ok Outcome.Refused
         → IfSome (R.remaining reader.old) (λ text. WritesFault text (W.contents writer.old) (W.contents writer.new)) }
-
-    // If the script could not be read, nothing is written.
     ensures unread { result ≡ Err ScriptFault.Read → writer.new ≡ writer.old }
-
-    // At most one byte more than a script may have is taken from the reader.
     ensures taken { TakesAtMost (most_of_script + 1) (R.remaining reader.old) (R.remaining reader.new) }
 
     // In every script of one direction, the bytes that arrived are the sent bytes, then the ring, then the unread
