@@ -131,12 +131,11 @@ fn replay_of<'a>(matches: &ArgMatches<'a>) -> Replayed<'a> {
 }
 
 fn relayd<'a>(alloc: Global) -> Result<clap::Command<'a>, AllocError> {
-    let mut subcommands = Vec::new(alloc);
+    let mut command = without_subcommands(alloc);
     for row in commands() {
-        let arguments = arguments_of(alloc, *row)?;
-        subcommands.push(without_arguments(alloc, *row).args(arguments)?)?;
+        command = command.subcommand(subcommand(alloc, *row)?)?;
     }
-    without_subcommands(alloc).subcommands(subcommands)
+    Ok(command)
 }
 
 fn without_subcommands<'a>(alloc: Global) -> clap::Command<'a> {
@@ -151,7 +150,7 @@ fn without_subcommands<'a>(alloc: Global) -> clap::Command<'a> {
         )
 }
 
-fn arguments_of<'a>(alloc: Global, row: CommandRow) -> Result<Vec<Arg<'a>>, AllocError> {
+fn subcommand<'a>(alloc: Global, row: CommandRow) -> Result<clap::Command<'a>, AllocError> {
     let mut arguments = Vec::new(alloc);
     if row.takes_settings {
         add_settings(alloc, &mut arguments)?;
@@ -160,13 +159,10 @@ fn arguments_of<'a>(alloc: Global, row: CommandRow) -> Result<Vec<Arg<'a>>, Allo
     if row.is_relay {
         add_arguments(alloc, relay_arguments(), &mut arguments)?;
     }
-    Ok(arguments)
-}
-
-fn without_arguments<'a>(alloc: Global, row: CommandRow) -> clap::Command<'a> {
     clap::Command::new(alloc, row.name)
         .about(row.about)
         .after_help(row.details)
+        .args(arguments)
 }
 
 fn add_arguments<'a>(
@@ -184,7 +180,7 @@ fn argument_of<'a>(alloc: Global, row: ArgumentRow) -> Result<Arg<'a>, AllocErro
     let argument = named(described(alloc, row), row);
     match row.form {
         Form::Bytes(with) => argument.requires_arg(with),
-        Form::ValueAlone(_, others) | Form::FlagAlone(others) => not_with(argument, others),
+        Form::Value(_, others) | Form::Flag(others) => argument.conflicts_with_all(others),
         _ => Ok(argument),
     }
 }
@@ -194,19 +190,8 @@ fn named<'a>(argument: Arg<'a>, row: ArgumentRow) -> Arg<'a> {
     match row.form {
         Form::File => argument,
         Form::NeededFile => argument.long(row.name).short('c'),
-        // A negative number is refused as out of range, not as an unknown option.
-        Form::Seconds | Form::Bytes(_) => argument.long(row.name).allow_negative_numbers(true),
         _ => argument.long(row.name),
     }
-}
-
-/// An argument that cannot stand beside these.
-fn not_with<'a>(argument: Arg<'a>, others: &[&'static str]) -> Result<Arg<'a>, AllocError> {
-    let mut argument = argument;
-    for other in others {
-        argument = argument.conflicts_with(*other)?;
-    }
-    Ok(argument)
 }
 
 /// A row's argument, without its option.
@@ -216,4 +201,6 @@ fn described<'a>(alloc: Global, row: ArgumentRow) -> Arg<'a> {
         .action(row.form.action())
         .value_names(row.form.value_names())
         .required(row.form.is_needed())
+        // A negative number is refused as out of range, not as an unknown option.
+        .allow_negative_numbers(row.form.is_number())
 }

@@ -26,13 +26,10 @@ pub(crate) struct ArgumentRow {
 
 #[derive(Clone, Copy)]
 pub(crate) enum Form {
-    /// `--NAME`.
-    Flag,
-    /// `--NAME` and a value, with what help calls the value.
-    Value(&'static [&'static str]),
-    /// The same, but not together with the arguments of these names.
-    ValueAlone(&'static [&'static str], &'static [&'static str]),
-    FlagAlone(&'static [&'static str]),
+    /// `--NAME`, but not together with the arguments of these names.
+    Flag(&'static [&'static str]),
+    /// `--NAME` and a value, with what help calls that, but not together with these.
+    Value(&'static [&'static str], &'static [&'static str]),
     /// `--NAME` and a number of seconds.
     Seconds,
     /// `--NAME` and a number of bytes, only together with the argument of this name.
@@ -46,15 +43,15 @@ pub(crate) enum Form {
 impl Form {
     pub(crate) fn action(self) -> ArgAction {
         match self {
-            Form::Flag | Form::FlagAlone(_) => ArgAction::SetTrue,
+            Form::Flag(_) => ArgAction::SetTrue,
             _ => ArgAction::Set,
         }
     }
 
     pub(crate) fn value_names(self) -> &'static [&'static str] {
         match self {
-            Form::Flag | Form::FlagAlone(_) => &[],
-            Form::Value(names) | Form::ValueAlone(names, _) => names,
+            Form::Flag(_) => &[],
+            Form::Value(names, _) => names,
             Form::Seconds => &["SECONDS"],
             Form::Bytes(_) => &["BYTES"],
             Form::NeededFile | Form::File => &["FILE"],
@@ -64,13 +61,17 @@ impl Form {
     pub(crate) fn is_needed(self) -> bool {
         matches!(self, Form::NeededFile | Form::File)
     }
+
+    pub(crate) fn is_number(self) -> bool {
+        matches!(self, Form::Seconds | Form::Bytes(_))
+    }
 }
 
 /// The arguments of `forward` and `run`.
 static RELAY: [ArgumentRow; 8] = [
     ArgumentRow {
         name: "record",
-        form: Form::Value(&["FILE"]),
+        form: Form::Value(&["FILE"], &[]),
         help: "Record into this file what each thread does, but no bytes",
     },
     ArgumentRow {
@@ -85,17 +86,17 @@ static RELAY: [ArgumentRow; 8] = [
     },
     ArgumentRow {
         name: "stats-file",
-        form: Form::Value(&["FILE"]),
+        form: Form::Value(&["FILE"], &[]),
         help: "Replace this file by the statistics for a monitor every so many seconds, 15 without --stats",
     },
     ArgumentRow {
         name: "until-eof",
-        form: Form::Flag,
+        form: Form::Flag(&[]),
         help: "Accept no more clients once standard input has ended, and end after the last",
     },
     ArgumentRow {
         name: "log-clients",
-        form: Form::Flag,
+        form: Form::Flag(&[]),
         help: "Log each client's address at level info, as it comes and as it goes",
     },
     ArgumentRow {
@@ -118,13 +119,13 @@ const CONFIG: ArgumentRow = ArgumentRow {
 
 const LEVEL: ArgumentRow = ArgumentRow {
     name: "log",
-    form: Form::Value(&["LEVEL"]),
+    form: Form::Value(&["LEVEL"], &[]),
     help: "The least important messages that are logged, in place of the file's `log`",
 };
 
 const EACH: ArgumentRow = ArgumentRow {
     name: "each",
-    form: Form::Flag,
+    form: Form::Flag(&[]),
     help: "Print each step, and what it changes in the report",
 };
 
@@ -132,27 +133,27 @@ const EACH: ArgumentRow = ArgumentRow {
 const REPLAY: [ArgumentRow; 6] = [
     ArgumentRow {
         name: "script",
-        form: Form::ValueAlone(&["SLOT.GEN"], &["ends", "timeline"]),
+        form: Form::Value(&["SLOT.GEN"], &["ends", "timeline"]),
         help: "Print the script of this connection",
     },
     ArgumentRow {
         name: "ends",
-        form: Form::FlagAlone(&["rest", "timeline"]),
+        form: Form::Flag(&["rest", "timeline"]),
         help: "Print what became of each connection, and what an open one waits for, by its records alone",
     },
     ArgumentRow {
         name: "timeline",
-        form: Form::ValueAlone(&["SLOT.GEN"], &["rest"]),
+        form: Form::Value(&["SLOT.GEN"], &["rest"]),
         help: "Print the records of this connection in order, and what its rings hold after each",
     },
     ArgumentRow {
         name: "steps",
-        form: Form::FlagAlone(&["script", "ends", "timeline"]),
+        form: Form::Flag(&["script", "ends", "timeline"]),
         help: "Print how many events of each kind there were, or the script up to what is wrong",
     },
     ArgumentRow {
         name: "rest",
-        form: Form::Flag,
+        form: Form::Flag(&[]),
         help: "Nothing may be left to do: all had come to rest when the relay was stopped",
     },
     ArgumentRow {
@@ -240,7 +241,7 @@ pub(crate) fn relay_arguments() -> &'static [ArgumentRow] {
 pub(crate) fn takes_value(option: &str) -> bool {
     for row in relay_arguments() {
         if row.name == option {
-            return !matches!(row.form, Form::Flag);
+            return !matches!(row.form, Form::Flag(_));
         }
     }
     is_setting(option)

@@ -7,7 +7,7 @@ use std::fmt;
 
 /// What to type or do: these words, one after the other.
 #[derive(Clone, Copy)]
-pub(crate) struct Tip<'a>([&'a str; 5]);
+pub(crate) struct Tip<'a>([&'a str; 6]);
 
 impl fmt::Display for Tip<'_> {
     fn fmt<W: fmt::Write>(&self, f: &mut fmt::Formatter<W>) -> fmt::Result {
@@ -19,20 +19,19 @@ impl fmt::Display for Tip<'_> {
 }
 
 impl<'a> Tip<'a> {
-    /// This command with a settings file.
-    fn config(command: &'a str, file: &'a str) -> Tip<'a> {
-        Tip(["relayd ", command, " --config ", file, ""])
+    fn new(first: &'a str, second: &'a str, third: &'a str) -> Tip<'a> {
+        Tip([first, second, third, "", "", ""])
     }
 
-    /// `relayd forward` with two addresses, which stood in one word, and of which the first may lack its host.
-    fn two(host: &'static str, listen: &'a str, target: &'a str) -> Tip<'a> {
-        Tip([
-            "two arguments are wanted: relayd forward ",
-            host,
-            listen,
-            " ",
-            target,
-        ])
+    /// `relayd`, these words, and a file, if one is named.
+    fn file(command: &'a str, option: &'a str, file: Option<&'a str>) -> Option<Tip<'a>> {
+        Some(Tip(["relayd ", command, option, file?, "", ""]))
+    }
+
+    /// `relayd forward` with two addresses, which stood in one word.
+    fn two(host: &'a str, colon: &'static str, port: &'a str, target: &'a str) -> Tip<'a> {
+        let wanted = "two arguments are wanted: relayd forward ";
+        Tip([wanted, host, colon, port, " ", target])
     }
 }
 
@@ -60,6 +59,8 @@ static TIPS: [(&str, &str); 12] = [
 
 const VERSION: &str = "relayd --version";
 
+const CONFIG: &str = " --config ";
+
 const IS_SETTING: &str =
     "' is a setting: it stands in the file, or is an option of 'relayd forward'";
 
@@ -79,11 +80,11 @@ pub(crate) fn find_tip<'a>(
         return missing_in(arguments);
     }
     if let Some(tip) = known_tip(refused) {
-        return Some(Tip([tip, "", "", "", ""]));
+        return Some(Tip::new(tip, "", ""));
     }
     match dash_in(arguments) {
-        Some(name) if name.len() == 1 => Some(Tip(["a hyphen is wanted: -", name, "", "", ""])),
-        Some(name) => Some(Tip(["two hyphens are wanted: --", name, "", "", ""])),
+        Some(name) if name.len() == 1 => Some(Tip::new("a hyphen is wanted: -", name, "")),
+        Some(name) => Some(Tip::new("two hyphens are wanted: --", name, "")),
         None => tip_of_command(first, arguments),
     }
 }
@@ -102,25 +103,26 @@ fn tip_of_command<'a>(first: &'a str, arguments: &'a [String]) -> Option<Tip<'a>
         Some(second) => Some(second.as_str()),
         None => None,
     };
+    let file = no_option(second);
     match first {
         "run" | "check" => match setting_in(arguments) {
-            Some(option) => Some(Tip(["'", option, IS_SETTING, "", ""])),
-            None => Some(Tip::config(first, no_option(second)?)),
+            Some(option) => Some(Tip::new("'", option, IS_SETTING)),
+            None => Tip::file(first, CONFIG, file),
         },
-        "sim" => Some(Tip(["relayd sim < ", no_option(second)?, "", "", ""])),
-        "-c" | "--config" => Some(Tip::config("run", no_option(second)?)),
-        "forward" => Some(Tip::config("run", config_in(arguments)?)),
+        "sim" => Tip::file(first, " < ", file),
+        "-c" | "--config" => Tip::file("run", CONFIG, file),
+        "forward" => Tip::file("run", CONFIG, config_in(arguments)),
         _ => tip_without_command(first, second),
     }
 }
 
 fn tip_without_command<'a>(first: &'a str, second: Option<&'a str>) -> Option<Tip<'a>> {
     if first.ends_with(".toml") {
-        return Some(Tip::config("run", first));
+        return Tip::file("run", CONFIG, Some(first));
     }
     let target = second?;
     if first.contains(':') && target.contains(':') {
-        return Some(Tip(["relayd forward ", first, " ", target, ""]));
+        return Some(Tip(["relayd forward ", first, " ", target, "", ""]));
     }
     None
 }
@@ -143,7 +145,7 @@ fn missing_in(arguments: &[String]) -> Option<Tip<'_>> {
         let (before, word) = (arguments[number - 1].as_str(), arguments[number].as_str());
         if takes_value(before.strip_prefix("--").unwrap_or("")) {
             if word.contains(':') {
-                return Some(Tip([before, " took ", word, " as its value", ""]));
+                return Some(Tip([before, " took ", word, " as its value", "", ""]));
             }
         } else if let Some(tip) = two_in(word) {
             return Some(tip);
@@ -155,18 +157,21 @@ fn missing_in(arguments: &[String]) -> Option<Tip<'_>> {
 /// The two addresses in a word, as `A B`, `A,B`, or with a `:` between them, where the first may be a port alone.
 fn two_in(word: &str) -> Option<Tip<'_>> {
     if let Some((listen, target)) = word.split_once([' ', ',']) {
-        return Some(Tip::two("", listen, target));
+        return Some(Tip::two(listen, "", "", target));
     }
     let (first, rest) = word.split_once(':')?;
     let (second, last) = rest.split_once(':')?;
     match last.split_once(':') {
-        None if first.parse::<u16>().is_ok() => Some(Tip::two("0.0.0.0:", first, rest)),
-        Some((_, port)) if port.parse::<u16>().is_ok() && second.parse::<u16>().is_ok() => {
-            let listen = word.strip_suffix(last)?.strip_suffix(':')?;
-            Some(Tip::two("", listen, last))
+        None if is_port(first) => Some(Tip::two("0.0.0.0", ":", first, rest)),
+        Some((_, port)) if is_port(port) && is_port(second) => {
+            Some(Tip::two(first, ":", second, last))
         }
         _ => None,
     }
+}
+
+fn is_port(text: &str) -> bool {
+    text.parse::<u16>().is_ok()
 }
 
 /// The file that `forward` is given with `--config`.
