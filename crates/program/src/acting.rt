@@ -248,8 +248,6 @@ fn answer_usage<L: Log, O: Write, E: Write>(
         ≢ ErrorKind.DisplayVersion → result ≡ 2 }
     ensures status { IsCarriedOut result ⊎ (result ≡ 2) }
     ensures unwritten { result ≡ 2 → O.contents writer.new ≡ O.contents writer.old }
-    ensures kept { kind_of error.now ≢ ErrorKind.DisplayHelp → kind_of error.now ≢ ErrorKind.DisplayVersion
-        → O.contents writer.new ≡ O.contents writer.old }
     ensures closed { IsTrue is_closed → O.contents writer.new ≡ O.contents writer.old }
 {
     if error.kind() == ErrorKind::OutOfMemory {

@@ -26,13 +26,8 @@ pub fn load<R: AllocGlobal + Files, L: Log>(
 ) -> Result<Settings, ConfigFault> {
     let name = FileName("config", path);
     match File::open(rt, path) {
-        Ok(file) => {
-            let mut file = Stream {
-                name,
-                inner: file,
-                log,
-            };
-            let answer = read(log, rt.alloc(), path, &mut file);
+        Ok(inner) => {
+            let answer = read(log, rt.alloc(), path, &mut Stream { name, inner, log });
             if matches!(&answer, Err(ConfigFault::Long)) {
                 log_length(rt, log, path, &name);
             }

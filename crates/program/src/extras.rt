@@ -39,7 +39,7 @@ impl Extras {
 }
 
 /// An option whose value is a number: of seconds, or of bytes.
-#[derive(Clone, Copy, Debug)]
+#[derive(Clone, Copy)]
 pub enum NumberOption {
     Stats,
     ConnectTimeout,
@@ -48,18 +48,9 @@ pub enum NumberOption {
 }
 
 impl NumberOption {
-    fn name(self) -> &'static str {
-        match self {
-            NumberOption::Stats => "stats",
-            NumberOption::ConnectTimeout => "connect-timeout",
-            NumberOption::Keepalive => "keepalive",
-            NumberOption::RecordSize => "record-size",
-        }
-    }
-
     fn unit(self) -> Unit {
         match self {
-            NumberOption::RecordSize => Unit::Bytes,
+            Self::RecordSize => Unit::Bytes,
             _ => Unit::Seconds,
         }
     }
@@ -68,7 +59,7 @@ impl NumberOption {
         ensures { result ≡ least self }
     {
         match self {
-            NumberOption::RecordSize => 65_536,
+            Self::RecordSize => 65_536,
             _ => 1,
         }
     }
@@ -77,17 +68,22 @@ impl NumberOption {
         ensures { result ≡ most self }
     {
         match self {
-            NumberOption::Stats => 86_400,
-            NumberOption::ConnectTimeout => 3_600,
-            NumberOption::Keepalive => 32_767,
-            NumberOption::RecordSize => u32::MAX,
+            Self::Stats => 86_400,
+            Self::ConnectTimeout => 3_600,
+            Self::Keepalive => 32_767,
+            Self::RecordSize => u32::MAX,
         }
     }
 }
 
 impl fmt::Display for NumberOption {
     fn fmt<W: fmt::Write>(&self, f: &mut fmt::Formatter<W>) -> fmt::Result {
-        f.write_str(self.name())
+        f.write_str(match self {
+            Self::Stats => "stats",
+            Self::ConnectTimeout => "connect-timeout",
+            Self::Keepalive => "keepalive",
+            Self::RecordSize => "record-size",
+        })
     }
 }
 

@@ -7,8 +7,7 @@ use input::{ReplayFault, ScriptFault};
 use settings::SettingsFault;
 use std::alloc::AllocError;
 use std::env::{self, Env};
-use std::io;
-use thiserror::Error;
+use std::{fmt, io};
 
 /// The statuses after a command was carried out, after a fault, and after a usage error.
 pub(crate) const DONE: u8 = 0;
@@ -18,53 +17,65 @@ pub(crate) const FAULT: u8 = 1;
 pub(crate) const USAGE: u8 = 2;
 
 /// A fault of the program. Its text is what a person sees after `relayd: `.
-#[derive(Debug, Drop, Error)]
+#[derive(Drop)]
 pub enum ProgramFault {
     /// The settings have a fault, or memory ran out, for them or for anything else.
-    #[error(transparent)]
     Config(ConfigFault),
     /// The script could not be read, or its outcome could not be written.
-    #[error(transparent)]
     Script(ScriptFault),
     /// An argument of the command line has a value that its setting does not take.
-    #[error(transparent)]
     Argument(SettingsFault),
     /// This option has a value that is no number in its range.
-    #[error("options: {0}: out of range")]
     Number(NumberOption),
     /// This option has a value that is no whole number, or one with leading zeros.
-    #[error("options: {0}: wrong kind")]
     NoNumber(NumberOption),
     /// `--script` has a value that names no connection.
-    #[error("options: script: wrong kind")]
     Connection,
     /// `--timeline` has one.
-    #[error("options: timeline: wrong kind")]
     Timeline,
     /// The server could not start, or failed.
-    #[error(transparent)]
     Server(ServerFault),
     /// A recording could not be replayed.
-    #[error(transparent)]
     Replay(ReplayFault),
     /// The file to replay does not begin as a recording does.
-    #[error("recording: malformed")]
     NoRecording,
     /// No connection can be made to the target's address.
-    #[error("target: cannot be reached")]
     Target,
     /// The file to record into could not be created.
-    #[error("record: cannot be created")]
     Record,
     /// No statistics can be written into the file.
-    #[error("stats-file: cannot be written")]
     StatsFile,
     /// The process may have `limit` descriptors open, and needs more, `needed`, for one connection.
-    #[error("descriptors: the limit is {limit}, and {needed} are needed for one connection (ulimit -n)")]
     Descriptors { limit: u64, needed: u64 },
     /// The requested output could not be written.
-    #[error("output: cannot be written")]
     Write,
+}
+
+impl fmt::Display for ProgramFault {
+    fn fmt<W: fmt::Write>(&self, f: &mut fmt::Formatter<W>) -> fmt::Result {
+        f.write_str(match self {
+            Self::Config(fault) => return fault.fmt(f),
+            Self::Script(fault) => return fault.fmt(f),
+            Self::Argument(fault) => return fault.fmt(f),
+            Self::Number(option) => return write!(f, "options: {option}: out of range"),
+            Self::NoNumber(option) => return write!(f, "options: {option}: wrong kind"),
+            Self::Connection => "options: script: wrong kind",
+            Self::Timeline => "options: timeline: wrong kind",
+            Self::Server(fault) => return fault.fmt(f),
+            Self::Replay(fault) => return fault.fmt(f),
+            Self::NoRecording => "recording: malformed",
+            Self::Target => "target: cannot be reached",
+            Self::Record => "record: cannot be created",
+            Self::StatsFile => "stats-file: cannot be written",
+            Self::Descriptors { limit, needed } => {
+                return write!(
+                    f,
+                    "descriptors: the limit is {limit}, and {needed} are needed for one connection (ulimit -n)"
+                );
+            }
+            Self::Write => "output: cannot be written",
+        })
+    }
 }
 
 // Running out of memory is one fault, wherever it happens.
@@ -100,31 +111,38 @@ impl ProgramFault {
         ensures { result ≡ status_of self.now }
     {
         match self {
-            ProgramFault::Argument(_)
-            | ProgramFault::Number(_)
-            | ProgramFault::NoNumber(_)
-            | ProgramFault::Connection
-            | ProgramFault::Timeline => USAGE,
+            Self::Argument(_)
+            | Self::Number(_)
+            | Self::NoNumber(_)
+            | Self::Connection
+            | Self::Timeline => USAGE,
             _ => FAULT,
         }
     }
 }
 
 /// A fault of the settings, in a file or in the arguments. Its text is what a person sees after `relayd: `.
-#[derive(Debug, Drop, Error)]
+#[derive(Drop)]
 pub enum ConfigFault {
     /// The settings file could not be opened or read.
-    #[error("config: cannot be read")]
     Read,
     /// There are more than 65,536 bytes.
-    #[error("config: too long")]
     Long,
     /// The text of the settings has a fault.
-    #[error(transparent)]
     Settings(SettingsFault),
     /// Memory ran out.
-    #[error("out of memory")]
     NoMemory,
+}
+
+impl fmt::Display for ConfigFault {
+    fn fmt<W: fmt::Write>(&self, f: &mut fmt::Formatter<W>) -> fmt::Result {
+        f.write_str(match self {
+            Self::Read => "config: cannot be read",
+            Self::Long => "config: too long",
+            Self::Settings(fault) => return fault.fmt(f),
+            Self::NoMemory => "out of memory",
+        })
+    }
 }
 
 impl From<AllocError> for ConfigFault {

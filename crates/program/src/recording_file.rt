@@ -117,28 +117,25 @@ where
         return Ok(Place::Nothing);
     };
     if in_parts {
-        look_at_old(rt, log, path)?;
+        let old = format!(in rt.alloc(); "{path}{OLD}")?;
+        place_of(rt, log, old.as_str(), true)?;
     }
-    match look_at(rt, path, in_parts) {
-        Ok(place) => Ok(place),
-        Err(why) => Err(refused(log, "record", path, why, ProgramFault::Record)),
-    }
+    place_of(rt, log, path, in_parts)
 }
 
-/// Refuses what has the second name of a recording in parts, if it may not be replaced.
-fn look_at_old<R: AllocGlobal + Files>(
+fn place_of<R: Files>(
     rt: &R,
     log: &impl Log,
     path: &str,
-) -> Result<(), ProgramFault>
+    in_parts: bool,
+) -> Result<Place<R::File>, ProgramFault>
 where
     R::File: AsRawFd,
     ensures { IfErr result (λ fault. status_of fault ≡ 1) }
 {
-    let old = format!(in rt.alloc(); "{path}{OLD}")?;
-    match look_at(rt, old.as_str(), true) {
-        Ok(_) => Ok(()),
-        Err(why) => Err(refused(log, "record", old.as_str(), why, ProgramFault::Record)),
+    match look_at(rt, path, in_parts) {
+        Ok(place) => Ok(place),
+        Err(why) => Err(refused(log, "record", path, why)),
     }
 }
 
@@ -175,13 +172,9 @@ pub(crate) fn create<R: AllocGlobal + Files + Copy + Drop>(
     let Some(path) = path else {
         return Ok(None);
     };
-    let made = match names_of(rt.alloc(), path, in_parts) {
-        Ok(names) => files_at(rt, log, path, place, names),
-        Err(error) => Err(Unmade::from(error)),
-    };
-    match made {
+    match files_at(rt, log, path, place, in_parts) {
         Ok(files) => Ok(Some(files)),
-        Err(why) => Err(refused(log, "record", path, why, ProgramFault::Record)),
+        Err(why) => Err(refused(log, "record", path, why)),
     }
 }
 
@@ -199,8 +192,9 @@ fn files_at<R: AllocGlobal + Files + Copy + Drop>(
     log: &impl Log,
     path: &str,
     place: Place<R::File>,
-    names: Option<Names>,
+    in_parts: bool,
 ) -> Result<RecordFiles<R>, Unmade> {
+    let names = names_of(rt.alloc(), path, in_parts)?;
     let file = open_new(rt, log, path, place)?;
     let file = BufWriter::with_capacity(rt.alloc(), MAX_WRITE, file)?;
     Ok(RecordFiles {
@@ -210,15 +204,8 @@ fn files_at<R: AllocGlobal + Files + Copy + Drop>(
     })
 }
 
-/// Logs the cause by the option's name, and returns the fault; `NoMemory` if memory ran out.
-pub(crate) fn refused(
-    log: &impl Log,
-    name: &'static str,
-    path: &str,
-    why: Unmade,
-    fault: ProgramFault,
-) -> ProgramFault
-    requires { status_of fault ≡ 1 }
+/// Logs the cause by the option's name, and returns the option's fault; `NoMemory` if memory ran out.
+pub(crate) fn refused(log: &impl Log, name: &'static str, path: &str, why: Unmade) -> ProgramFault
     ensures { status_of result ≡ 1 }
 {
     match why {
@@ -226,7 +213,11 @@ pub(crate) fn refused(
         Unmade::System(error) => log_error(log, &name, &Unopened { path, error }),
         Unmade::Taken(what) => log_error(log, &FileName(name, path), &what),
     }
-    fault
+    if name == "record" {
+        ProgramFault::Record
+    } else {
+        ProgramFault::StatsFile
+    }
 }
 
 fn place_at<R: Files>(rt: &R, path: &str) -> Result<Place<R::File>, Unmade>
@@ -236,10 +227,10 @@ where
     let found = match fs::metadata(rt, path) {
         Ok(found) => found,
         Err(error) if error.kind() == ErrorKind::NotFound => return nothing_at(rt, path),
-        Err(error) => return Err(Unmade::from(error)),
+        Err(error) => return Err(Unmade::System(error)),
     };
     if found.is_dir() {
-        return Err(Unmade::from(io::Error::from_raw_os_error(EISDIR)));
+        return Err(Unmade::System(io::Error::from_raw_os_error(EISDIR)));
     }
     if found.file_type().is_fifo() {
         return pipe_at(rt, path);
@@ -356,8 +347,8 @@ fn free_name(rt: &impl Files, alloc: Global, path: &str) -> Result<String, Unmad
         match how_to_open(false).open(rt, name.as_str()) {
             Ok(_) => return Ok(name),
             Err(error) if error.kind() == ErrorKind::AlreadyExists => {}
-            Err(error) => return Err(Unmade::from(error)),
+            Err(error) => return Err(Unmade::System(error)),
         }
     }
-    Err(Unmade::from(io::Error::from(ErrorKind::AlreadyExists)))
+    Err(Unmade::System(io::Error::from(ErrorKind::AlreadyExists)))
 }

@@ -65,7 +65,13 @@ fn status_after(log: &impl Log, judged: Judged, wanted: Wanted, bytes: usize) ->
 {
     let has_run = matches!(judged, Judged::Run);
     if matches!(wanted, Wanted::Script(..)) || !has_run && matches!(wanted, Wanted::Steps) {
-        warn_if_long(log, bytes);
+        let most = MAX_SCRIPT;
+        if bytes > most {
+            let text = format_args!(
+                "output: the script has {bytes} bytes, and relayd sim takes at most {most}"
+            );
+            log_text(log, Level::Warn, &text);
+        }
     }
     if has_run { DONE } else { FAULT }
 }
@@ -73,16 +79,6 @@ fn status_after(log: &impl Log, judged: Judged, wanted: Wanted, bytes: usize) ->
 fn log_broken(log: &impl Log, name: &FileName<'_>, fault: &ReplayFault) {
     if let ReplayFault::Broken(cause) | ReplayFault::Unknown(cause) = fault {
         log_error(log, name, cause);
-    }
-}
-
-fn warn_if_long(log: &impl Log, bytes: usize) {
-    let most = MAX_SCRIPT;
-    if bytes > most {
-        let text = format_args!(
-            "output: the script has {bytes} bytes, and relayd sim takes at most {most}"
-        );
-        log_text(log, Level::Warn, &text);
     }
 }
 
@@ -125,16 +121,21 @@ const LOGGED: &str = " relayd]";
 
 /// What is said of a file that does not begin as a recording does. A pipe is not read, and counts as a recording.
 fn other_file(rt: &impl Files, path: &str) -> Option<&'static str> {
-    if !fs::metadata(rt, path).ok()?.is_file() {
-        return None;
+    match fs::metadata(rt, path) {
+        Ok(found) if found.is_file() => {}
+        _ => return None,
     }
     let (first, length) = first_bytes(rt, path).ok()?;
-    let first = first.get(..length)?;
-    if first == FIRST_WORDS.as_slice() {
-        return None;
-    }
-    if first.is_empty() {
+    if length == 0 {
         return Some("is empty");
+    }
+    other_words(&first)
+}
+
+/// What is said of a file that begins with these bytes. Those past its end are 0.
+fn other_words(first: &[u8; 17]) -> Option<&'static str> {
+    if *first == FIRST_WORDS {
+        return None;
     }
     for (begins, what) in &OTHERS {
         if first.starts_with(begins) {

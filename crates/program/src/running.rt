@@ -5,7 +5,7 @@ use crate::config;
 use crate::extras::{Extras, extras_of};
 use crate::faults::{DONE, ProgramFault};
 use crate::logging::{direct_log, starting_filter};
-use crate::recording_file::{Place, RecordFiles, create, find_place};
+use crate::recording_file::{RecordFiles, create, find_place};
 use crate::starting::{look_at_addresses, prepare, warn_of_short_time, warn_of_silence};
 use crate::stats_file::{StatsFile, find_file};
 use commands::{Relay, Source};
@@ -66,8 +66,6 @@ where
     let settings = settings_of(rt, log, &relay.settings)?;
     warn_of_silence(log, settings.log, &extras, relay.stats_file.is_some());
     let log = direct_log(rt, starting_filter(settings.log));
-    warn_of_short_time(&log, settings.idle, extras.patience);
-    look_at_addresses(&log, &settings)?;
     make(rt, &log, relay, settings, extras)
 }
 
@@ -82,46 +80,50 @@ where
     R: AllocGlobal + Files + Net + Copy + Drop,
     R::File: AsRawFd,
 {
+    warn_of_short_time(log, settings.idle, extras.patience);
+    look_at_addresses(log, &settings)?;
     let in_parts = extras.record_size.is_some();
-    let (place, stats_file) = find_files(rt, log, relay, in_parts)?;
-    let (settings, bound) = listen(rt, log, settings, relay, in_parts)?;
-    let files = create(rt, log, relay.record, place, in_parts)?;
-    Ok(Given {
-        settings,
-        bound,
-        extras,
-        stats_file,
-        files,
-    })
-}
-
-fn find_files<R: AllocGlobal + Files>(
-    rt: &R,
-    log: &impl Log,
-    relay: &Relay<'_>,
-    in_parts: bool,
-) -> Result<(Place<R::File>, Option<StatsFile>), ProgramFault>
-where
-    R::File: AsRawFd,
-{
     let place = find_place(rt, log, relay.record, in_parts)?;
-    Ok((place, find_file(rt, log, relay.stats_file)?))
+    match listen(rt, log, relay, settings, in_parts) {
+        Ok((settings, bound, stats_file)) => {
+            match create(rt, log, relay.record, place, in_parts) {
+                Ok(files) => Ok(Given {
+                    settings,
+                    bound,
+                    extras,
+                    stats_file,
+                    files,
+                }),
+                Err(fault) => {
+                    drop(stats_file);
+                    Err(fault)
+                }
+            }
+        }
+        Err(fault) => Err(fault),
+    }
 }
 
-/// Listens, and looks at what is needed beside the files that are opened then.
+/// Finds the file of statistics, listens, and looks at what is needed beside the files.
 fn listen<R: AllocGlobal + Files + Net + Copy + Drop>(
     rt: &R,
     log: &(impl Log + Net),
-    settings: Settings,
     relay: &Relay<'_>,
+    settings: Settings,
     in_parts: bool,
-) -> Result<(Settings, Bound), ProgramFault> {
+) -> Result<(Settings, Bound, Option<StatsFile>), ProgramFault> {
     let (has_record, has_stats) = (relay.record.is_some(), relay.stats_file.is_some());
     let more = u64::from(has_record) + u64::from(in_parts) + u64::from(has_stats);
-    match bind(log, &settings) {
-        Ok(bound) => Ok((prepare(rt, log, settings, more)?, bound)),
-        Err(fault) => Err(ProgramFault::Server(fault)),
-    }
+    let stats_file = find_file(rt, log, relay.stats_file)?;
+    let fault = match bind(log, &settings) {
+        Ok(bound) => match prepare(rt, log, settings, more) {
+            Ok(settings) => return Ok((settings, bound, stats_file)),
+            Err(fault) => fault,
+        },
+        Err(fault) => ProgramFault::Server(fault),
+    };
+    drop(stats_file);
+    Err(fault)
 }
 
 fn settings_of<R: AllocGlobal + Files, L: Log>(

@@ -29,9 +29,9 @@ impl StandardStream {
         ensures { result ≡ number self }
     {
         match self {
-            StandardStream::Input => 0,
-            StandardStream::Output => 1,
-            StandardStream::Errors => 2,
+            Self::Input => 0,
+            Self::Output => 1,
+            Self::Errors => 2,
         }
     }
 
@@ -42,8 +42,8 @@ impl StandardStream {
     {
         let mut how = OpenOptions::new();
         match self {
-            StandardStream::Input | StandardStream::Output => how.write(true),
-            StandardStream::Errors => how.read(true),
+            Self::Input | Self::Output => how.write(true),
+            Self::Errors => how.read(true),
         };
         how
     }
@@ -52,9 +52,9 @@ impl StandardStream {
 impl fmt::Display for StandardStream {
     fn fmt<W: fmt::Write>(&self, f: &mut fmt::Formatter<W>) -> fmt::Result {
         f.write_str(match self {
-            StandardStream::Input => "input",
-            StandardStream::Output => "output",
-            StandardStream::Errors => "errors",
+            Self::Input => "input",
+            Self::Output => "output",
+            Self::Errors => "errors",
         })
     }
 }

@@ -287,9 +287,7 @@ pub fn read_descriptors<R: AllocGlobal + Files + Copy + Drop>(rt: &R) -> Option<
     let most = soft_limit(limits.as_str())?;
     let mut in_use = 0u64;
     for entry in fs::read_dir(rt, "/proc/self/fd").ok()? {
-        if entry.is_ok() {
-            in_use = in_use.saturating_add(1);
-        }
+        in_use = in_use.saturating_add(u64::from(entry.is_ok()));
     }
     // The folder itself was open while it was read.
     Some(Descriptors {

@@ -51,7 +51,7 @@ pub(crate) fn find_file<R: AllocGlobal + Files>(
     };
     match file_at(rt, path) {
         Ok(file) => Ok(Some(file)),
-        Err(why) => Err(refused(log, "stats-file", path, why, ProgramFault::StatsFile)),
+        Err(why) => Err(refused(log, "stats-file", path, why)),
     }
 }
 
@@ -80,10 +80,10 @@ fn look_at(rt: &impl Files, path: &str) -> Result<(), Unmade> {
     let found = match fs::metadata(rt, path) {
         Ok(found) => found,
         Err(error) if error.kind() == ErrorKind::NotFound && !path.is_empty() => return Ok(()),
-        Err(error) => return Err(Unmade::from(error)),
+        Err(error) => return Err(Unmade::System(error)),
     };
     if found.is_dir() {
-        return Err(Unmade::from(io::Error::from_raw_os_error(EISDIR)));
+        return Err(Unmade::System(io::Error::from_raw_os_error(EISDIR)));
     }
     if !found.is_file() {
         return Err(Unmade::Taken("is there, and is no file"));

@@ -9,25 +9,21 @@ use std::io::{self, ErrorKind, Read, Write};
 /// A stream, such as standard input or a file. An error of the system is logged when it comes: the fault that follows
 /// does not include it.
 #[derive(Drop)]
-pub struct Stream<'a, S, N, L> {
-    /// What the log calls the stream.
-    pub name: N,
+pub(crate) struct Stream<'a, S, L> {
+    pub(crate) name: FileName<'a>,
     /// Where bytes come from, or go to.
-    pub inner: S,
+    pub(crate) inner: S,
     /// Where errors are logged.
-    pub log: &'a L,
+    pub(crate) log: &'a L,
 }
 
-/// A stream of this name whose errors are logged.
-pub(crate) fn stream_named<'a, S, L>(
-    name: &'static str,
-    inner: S,
-    log: &'a L,
-) -> Stream<'a, S, &'static str, L> {
+/// A standard stream of this name whose errors are logged.
+pub(crate) fn stream_named<'a, S, L>(name: &'static str, inner: S, log: &'a L) -> Stream<'a, S, L> {
+    let name = FileName(name, "");
     Stream { name, inner, log }
 }
 
-impl<R: Read, N: fmt::Display, L: Log> Read for Stream<'_, R, N, L> {
+impl<R: Read, L: Log> Read for Stream<'_, R, L> {
     ghost remaining = { λ stream. R.remaining stream.inner };
 
     fn read(&mut self, buffer: &mut [u8]) -> io::Result<usize> {
@@ -39,7 +35,7 @@ impl<R: Read, N: fmt::Display, L: Log> Read for Stream<'_, R, N, L> {
     }
 }
 
-impl<W: Write, N: fmt::Display, L: Log> Write for Stream<'_, W, N, L> {
+impl<W: Write, L: Log> Write for Stream<'_, W, L> {
     ghost contents = { λ stream. W.contents stream.inner };
 
     fn write(&mut self, bytes: &[u8]) -> io::Result<usize> {
@@ -73,13 +69,16 @@ pub fn log_error<N: fmt::Display, E: fmt::Display>(log: &impl Log, name: &N, err
     error!(log; target: "relayd", "{name}: {error}");
 }
 
-/// What the log calls a file: what the file is for, and the end of its path.
+/// What the log calls a file: what it is for, and the end of its path. That of a standard stream is empty.
 #[derive(Clone, Copy)]
 pub(crate) struct FileName<'a>(pub(crate) &'static str, pub(crate) &'a str);
 
 impl fmt::Display for FileName<'_> {
     fn fmt<W: fmt::Write>(&self, f: &mut fmt::Formatter<W>) -> fmt::Result {
         let (purpose, path) = (self.0, EndOfLine(self.1));
+        if self.1.is_empty() {
+            return f.write_str(purpose);
+        }
         write!(f, "{purpose}: {path}")
     }
 }
