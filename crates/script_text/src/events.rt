@@ -54,8 +54,8 @@ fn plain_event<'a>(first: Word, words: &mut Pieces<'a>) -> Result<Event, Wrong<'
         Word::Fin => at_end(Change::Fin, words),
         Word::Reset => at_end(Change::Reset, words),
         Word::Room => at_end(Change::Room, words),
-        Word::Spurious => Ok(Event::Spurious(reported(words)?)),
-        Word::Vanish => Ok(Event::Vanish(reported(words)?)),
+        Word::Spurious => reported(words).map(Event::Spurious),
+        Word::Vanish => reported(words).map(Event::Vanish),
         Word::Open => Ok(Event::Poll(Polling::Open)),
         Word::Deliver => Ok(Event::Poll(Polling::Deliver)),
         Word::Sweep => Ok(Event::Poll(Polling::Sweep(slot(words)?))),
@@ -241,7 +241,7 @@ fn reply<'a>(words: &mut Pieces<'a>) -> Result<Reply, Wrong<'a>>
         return Err(Wrong::missing(wanted));
     };
     if is(name, "read") {
-        Ok(Reply::Bytes(count(words)?))
+        count(words).map(Reply::Bytes)
     } else if is(name, "end") {
         Ok(Reply::End)
     } else if is(name, "wrote") {

@@ -126,7 +126,7 @@ fn plain_step<'a>(first: Word, words: &mut Pieces<'a>) -> Result<Step, Wrong<'a>
     match first {
         Word::Fin => Ok(Step::Fin),
         Word::Room => Ok(Step::Room),
-        Word::Read => Ok(Step::Read(count(words)?)),
+        Word::Read => count(words).map(Step::Read),
         Word::End => Ok(Step::End),
         Word::Wrote => Ok(Step::Wrote(count(words)?, is_full(words)?)),
         Word::Shut => Ok(Step::Shut),
