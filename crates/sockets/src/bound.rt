@@ -2,9 +2,8 @@
 ghost use Rattle.std.specs.{Prelude.{◌≡◌, ◌↔◌, ◌<◌, IfOk, IfErr, IsTrue}, IoError.error_kind, Net.Socket.socket_port, declared.io.ErrorKind.TheVariants.PermissionDenied};
 ghost use Rattle.sockets.specs.Fronts.{IsAt};
 
-use crate::failure::log_failure_at;
 use common::ServerFault;
-use log::{Level, Log, error};
+use log::{Log, error};
 use mio::net::TcpListener;
 use settings::Settings;
 use std::io;
@@ -59,12 +58,12 @@ pub fn bind<R: Net + Log>(rt: &R, settings: &Settings) -> Result<Bound, ServerFa
 
 /// Logs why the relay cannot listen: with the privilege that is missing (ip(7), capabilities(7)).
 fn log_unbound<N: Log>(rt: &N, address: SocketAddr, error: &io::Error) {
-    if needs_right(address, error) {
-        let why = format_args!("{error}: a port below 1024 needs CAP_NET_BIND_SERVICE");
-        error!(rt; target: "relayd", "listen: {address}: {why}");
-        return;
-    }
-    log_failure_at(rt, Level::Error, "listen", address, error);
+    let right = if needs_right(address, error) {
+        ": a port below 1024 needs CAP_NET_BIND_SERVICE"
+    } else {
+        ""
+    };
+    error!(rt; target: "relayd", "listen: {address}: {error}{right}");
 }
 
 /// Whether a right is missing to listen at a port below 1024.

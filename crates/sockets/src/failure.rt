@@ -1,6 +1,6 @@
 //! How the failure of a system call is logged.
 
-use log::{Level, Log, log};
+use log::{Level, Log, debug, log};
 use std::io;
 use std::net::SocketAddr;
 
@@ -8,12 +8,6 @@ pub(crate) fn log_failure<N: Log>(rt: &N, level: Level, call: &str, error: &io::
     log!(rt; target: "relayd", level, "{call}: {error}");
 }
 
-pub(crate) fn log_failure_at<N: Log>(
-    rt: &N,
-    level: Level,
-    call: &str,
-    address: SocketAddr,
-    error: &io::Error,
-) {
-    log!(rt; target: "relayd", level, "{call}: {address}: {error}");
+pub(crate) fn log_unconnected<N: Log>(rt: &N, address: SocketAddr, error: &io::Error) {
+    debug!(rt; target: "relayd", "connect: {address}: {error}");
 }

@@ -65,12 +65,14 @@ impl Loads {
             return false;
         };
         let own = clients(load);
-        self.each.iter().any(|other| {
+        for other in &self.each {
             let count = clients(other);
-            count < other.most
-                && other.listens.load(SeqCst)
-                && own > count.saturating_add(margin(count))
-        })
+            let is_far = own > count.saturating_add(margin(count));
+            if is_far && count < other.most && other.listens.load(SeqCst) {
+                return true;
+            }
+        }
+        false
     }
 }
 

@@ -6,7 +6,7 @@ ghost use Rattle.sockets.specs.{Fronts.{end_in, fresh_front, heard_of, longest_o
 ghost use Rattle.common.specs.{Splits.parts_of, Told.{unaccepted_of, Waited}, declared.front.{Unaccepted.TheVariants.Starved, Unopened.TheVariants.{Connect, Register}}};
 
 use crate::bound::Bound;
-use crate::failure::{log_failure, log_failure_at};
+use crate::failure::{log_failure, log_unconnected};
 use crate::forwarding::{Dial, Forwarding};
 use crate::limits::{
     ENFILE, ENOBUFS, MAX_POLLERS, MOST_BUSY, MOST_LACKING, MOST_LEFT, SEVERAL, WAIT_MILLIS,
@@ -116,11 +116,8 @@ pub fn open_all<'r, R: Net + Log>(
     ensures wakers { IfOk result (λ made. (arc_value made.1).split ≡ split) }
     ensures refused { IfErr result (λ fault. (fault ≡ ServerFault.Poll) ⊎ (fault ≡ ServerFault.NoMemory)) }
 {
-    let mut listener = bound.listener;
-    let (polls, each) = watched_by_all(rt, alloc, &mut listener, split.pollers())?;
-    let shared = shared_of(alloc, listener, split)?;
-    let fronts = fronts_of(rt, alloc, &shared, polls, forwarding)?;
-    Ok((fronts, wakers_of(alloc, split, each, stop)?))
+    let shared = shared_of(alloc, bound.listener, split)?;
+    fronts_of(rt, alloc, &shared, forwarding, split, stop)
 }
 
 /// What all fronts share.
@@ -153,50 +150,54 @@ fn wakers_of(
     Ok(wakers)
 }
 
-/// Makes a poll for each poller, which reports on the listening socket, and the poller's waker.
-fn watched_by_all<R: Net + Log>(
-    rt: &R,
-    alloc: Global,
-    listener: &mut TcpListener,
-    pollers: usize,
-) -> Result<(Vec<Poll>, Vec<Waker>), ServerFault>
-    ensures polls { IfOk result (λ made. vec_len made.0 ≡ pollers) }
-    ensures refused { IfErr result (λ fault. (fault ≡ ServerFault.Poll) ⊎ (fault ≡ ServerFault.NoMemory)) }
-{
-    let mut polls = Vec::with_capacity(alloc, pollers)?;
-    let mut wakers = Vec::with_capacity(alloc, pollers)?;
-    for _poller in 0..pollers {
-        let (poll, waker) = watched(rt, listener)?;
-        polls.push_reserved(poll);
-        wakers.push_reserved(waker);
-    }
-    Ok((polls, wakers))
-}
-
-fn fronts_of<'r, R>(
+fn fronts_of<'r, R: Net + Log>(
     rt: &'r R,
     alloc: Global,
     shared: &Shared,
-    mut polls: Vec<Poll>,
     forwarding: Forwarding,
-) -> Result<Vec<Sockets<'r, R>>, AllocError>
-    ensures { IfOk result (λ fronts. fronts.items ≡ replicate (vec_len polls) (fresh_front forwarding (vec_len polls))) }
+    split: Split,
+    stop: &Stop,
+) -> Result<(Vec<Sockets<'r, R>>, Arc<Wakers>), ServerFault>
+    ensures opened { IfOk result (λ made. made.0.items
+        ≡ replicate (parts_of split.slots split.size) (fresh_front forwarding (parts_of split.slots split.size))) }
+    ensures wakers { IfOk result (λ made. (arc_value made.1).split ≡ split) }
+    ensures refused { IfErr result (λ fault. (fault ≡ ServerFault.Poll) ⊎ (fault ≡ ServerFault.NoMemory)) }
 {
-    let count = polls.len();
-    let mut fronts = Vec::with_capacity(alloc, count)?;
-    polls.reverse();
-    for poller in 0..count {
-        match polls.pop() {
-            Some(poll) => {
-                fronts.push_reserved(front_of(rt, alloc, shared, forwarding, poll, poller, count)?)
-            }
-            None => unreachable!(),
-        }
+    let pollers = split.pollers();
+    let mut fronts = Vec::with_capacity(alloc, pollers)?;
+    let mut wakers = Vec::with_capacity(alloc, pollers)?;
+    for poller in 0..pollers {
+        let (front, waker) = open_one(rt, alloc, shared, forwarding, poller, pollers)?;
+        fronts.push_reserved(front);
+        wakers.push_reserved(waker);
     }
-    Ok(fronts)
+    Ok((fronts, wakers_of(alloc, split, wakers, stop)?))
 }
 
-/// The front of this poller, one of this many.
+/// The front of this poller, one of this many, and its waker. If the system refuses a poll, that is logged.
+fn open_one<'r, R: Net + Log>(
+    rt: &'r R,
+    alloc: Global,
+    shared: &Shared,
+    forwarding: Forwarding,
+    poller: usize,
+    pollers: usize,
+) -> Result<(Sockets<'r, R>, Waker), ServerFault>
+    ensures front { IfOk result (λ made. made.0 ≡ fresh_front forwarding pollers) }
+    ensures refused { IfErr result (λ fault. (fault ≡ ServerFault.Poll) ⊎ (fault ≡ ServerFault.NoMemory)) }
+{
+    match reports_on(rt, &shared.listener) {
+        Ok((poll, waker)) => {
+            let front = front_of(rt, alloc, shared, forwarding, poll, poller, pollers)?;
+            Ok((front, waker))
+        }
+        Err(error) => {
+            log_failure(rt, Level::Error, "poll", &error);
+            Err(ServerFault::Poll)
+        }
+    }
+}
+
 fn front_of<'r, R>(
     rt: &'r R,
     alloc: Global,
@@ -247,19 +248,6 @@ fn longest_of(pollers: usize) -> u64
     pollers.min(MAX_POLLERS).max(2) as u64 * WAIT_MILLIS
 }
 
-/// A poll and its waker. A refusal is logged with its cause.
-fn watched<R: Net + Log>(rt: &R, listener: &mut TcpListener) -> Result<(Poll, Waker), ServerFault>
-    ensures { IfErr result (λ fault. fault ≡ ServerFault.Poll) }
-{
-    match reports_on(rt, listener) {
-        Ok(made) => Ok(made),
-        Err(error) => {
-            log_failure(rt, Level::Error, "poll", &error);
-            Err(ServerFault::Poll)
-        }
-    }
-}
-
 impl<R: Dial> Sockets<'_, R> {
     /// Starts the connection to the target, and sets its limit, which the system checks only when it sends again. If
     /// the start fails, the client's wire keeps the cause.
@@ -277,9 +265,8 @@ impl<R: Dial> Sockets<'_, R> {
                 Ok(target)
             }
             Err(error) => {
-                log_failure_at(rt, Level::Debug, "connect", self.forwarding.target, &error);
-                client.keep(&error);
-                Err(self.fail(&error, Unopened::Connect))
+                log_unconnected(rt, self.forwarding.target, &error);
+                Err(self.fail(client, &error, Unopened::Connect))
             }
         }
     }
@@ -297,20 +284,21 @@ impl<R: Dial> Sockets<'_, R> {
             Ok(()) => Ok(()),
             Err(error) => {
                 log_failure(rt, Level::Debug, "register", &error);
-                wire.keep(&error);
-                Err(self.fail(&error, Unopened::Register))
+                Err(self.fail(wire, &error, Unopened::Register))
             }
         }
     }
 
     /// An opening failed. Keeps what was short, if it failed for that: a descriptor, or the system's memory (socket(2),
     /// connect(2)). For epoll_ctl(2) a user's sockets may take only a part of it, and ENOSPC says that they have that.
-    fn fail(&mut self, error: &io::Error, why: Unopened) -> Failed
+    fn fail(&mut self, wire: &mut SocketWire, error: &io::Error, why: Unopened) -> Failed
         ensures why { result.why ≡ why }
+        ensures wire { wire.new ≡ wire.old }
         ensures lacking { OnlyLacked self.old self.new }
         ensures memory { LacksMemory error.now → self.new.lacking ≡ most_lacking }
         ensures other { (LacksMemory error.now → ⊥) → self.new ≡ self.old }
     {
+        wire.keep(error);
         if lacks_memory(error) {
             self.lacking = MOST_LACKING;
         }
@@ -328,6 +316,22 @@ impl<R: Dial> Sockets<'_, R> {
         let lacks = self.lacking > 0;
         self.lacking = self.lacking.saturating_sub(1);
         lacks
+    }
+
+    /// A wait gave this many reports.
+    fn count(&mut self, wait: Waiting, reports: usize)
+        ensures quiet { wait ≡ Waiting.Brief → reports ≡ 0 → self.new.left ≡ most_left }
+        ensures kept { wait ≢ Waiting.Brief → self.new.left ≡ self.old.left }
+        ensures eased { wait ≡ Waiting.Long → reports ≡ 0 → self.new.lacking ≡ 0 }
+        ensures lacks { (self.new.lacking ≡ self.old.lacking) ⊎ ((wait ≡ Waiting.Long) × (reports ≡ 0)) }
+        ensures same { self.new ≡ record self.old { left = self.new.left; lacking = self.new.lacking } }
+    {
+        self.busy = busy_after(self.busy, reports);
+        match wait {
+            Waiting::Brief if reports == 0 => self.left = MOST_LEFT,
+            Waiting::Long if reports == 0 => self.lacking = 0,
+            _ => {}
+        }
     }
 }
 
@@ -381,9 +385,15 @@ fn v4(address: Option<SocketAddr>) -> Option<SocketAddrV4>
     }
 }
 
-fn reports_on<R: Net>(rt: &R, listener: &mut TcpListener) -> io::Result<(Poll, Waker)> {
+/// A poll, which reports on the listening socket, and its waker.
+fn reports_on<R: Net>(rt: &R, listener: &TcpListener) -> io::Result<(Poll, Waker)> {
+    let socket = listener.as_raw_fd();
     let poll = Poll::new(rt)?;
-    poll.registry().register(listener, mio::Token(LISTENER as usize), Interest::READABLE)?;
+    poll.registry().register(
+        &mut SourceFd(&socket),
+        mio::Token(LISTENER as usize),
+        Interest::READABLE,
+    )?;
     let waker = Waker::new(poll.registry(), mio::Token(WAKER as usize))?;
     Ok((poll, waker))
 }
@@ -470,14 +480,7 @@ impl<R: Dial> Front for Sockets<'_, R> {
         self.busy = let_others_run(self.busy);
         self.waiter.wait(wait)?;
         put_numbers(batch, self.waiter.events(), &self.told);
-        self.busy = busy_after(self.busy, batch.len());
-        if batch.is_empty() {
-            match wait {
-                Waiting::No => {}
-                Waiting::Brief => self.left = MOST_LEFT,
-                Waiting::Long => self.lacking = 0,
-            }
-        }
+        self.count(wait, batch.len());
         Ok(())
     }
 

@@ -1,12 +1,12 @@
-use Rattle.std.{proofs.Common.{◌≡◌, ◌+◌, ◌≤◌, replicate}, specs.Prelude.{vec_len, vec_capacity}}
+use Rattle.std.proofs.Common.{◌≡◌, ◌≤◌, replicate, vec_len, vec_capacity}
 use Rattle.sockets.specs.Fronts.{fresh_front}
 use Rattle.sockets.proofs.poll.fronts_of.Given as goal
 
 abbrev pub invariant-loop-poller : goal.invariant-loop-poller
 invariant-loop-poller g l = record {
-  count : l.count ≡ vec_len l.fn.polls;
-  left : vec_len l.polls + l.poller ≡ vec_len l.fn.polls;
-  made : l.fronts.items ≡ replicate l.poller (fresh_front l.forwarding (vec_len l.fn.polls));
-  len : vec_len l.fronts ≡ l.poller;
-  room : vec_len l.fn.polls ≤ vec_capacity l.fronts;
+  made : l.fronts.items ≡ replicate l.poller (fresh_front l.forwarding l.pollers);
+  fronts : vec_len l.fronts ≡ l.poller;
+  wakers : vec_len l.wakers ≡ l.poller;
+  fronts_room : l.pollers ≤ vec_capacity l.fronts;
+  wakers_room : l.pollers ≤ vec_capacity l.wakers;
 }
