@@ -30,8 +30,8 @@ impl Script {
         ensures { Gives (reached_by self.now) result }
     {
         match self {
-            Script::Flow(script) => Ok(Reached::Flow(script.carry_out(alloc)?)),
-            Script::World(script) => Ok(Reached::World(script.carry_out(alloc)?)),
+            Script::Flow(script) => script.carry_out(alloc).map(Reached::Flow),
+            Script::World(script) => script.carry_out(alloc).map(Reached::World),
         }
     }
 }
