@@ -112,7 +112,7 @@ pub fn read_step<'a>(alloc: Global, line: &'a [u8]) -> Result<Step, NotRead<'a>>
     let mut words = Pieces::new(line, b' ');
     let first = first_word(&mut words, STEPS)?;
     match first {
-        Word::Arrive => Ok(Step::Arrive(last_bytes(alloc, words)?)),
+        Word::Arrive => last_bytes(alloc, words).map(Step::Arrive),
         _ => Ok(last(plain_step(first, &mut words)?, words)?),
     }
 }
