@@ -1,11 +1,10 @@
 -- Connections that are opened one after the other, why one is closed unopened, and a round of its parts.
-use Rattle.std.proofs.{Common.{◌≡◌, ◌≢◌, ◌⊎◌, ℕ, ◌+◌, ◌<◌, ◌≤◌, List, [], ◌∷◌, ◌++◌, length, drop, slice_get, slice_set, min, cond, Bool, true, refl, sym, ◌∙◌, arith, inl, inr, append_assoc, length-append, Option, Some, None, ◌==◌, Result, Ok, Err, IfErr, IfOk, IfSome, IsErrAnd, MatchResult, slice_index, ap, ◌↔◌, IsTrue, not, false, Contains, if◌then◌else◌}, lemmas.{Bool.false≢true, List.{append-nil, length-set, get_or-set_other, get_or_past, Sums.sum_by-append}, Grind.get_or-set_at, Option.{none-some, same_Some}}}
-use Rattle.std.specs.{Option.ok_or, Bool.then_some}
+use Rattle.std.proofs.{Common.{◌≡◌, ◌≢◌, ◌⊎◌, ℕ, ◌+◌, ◌<◌, ◌≤◌, List, [], ◌∷◌, ◌++◌, length, drop, slice_get, slice_set, min, cond, Bool, true, refl, sym, ◌∙◌, arith, inl, inr, append_assoc, length-append, Option, Some, None, ◌==◌, Result, Ok, Err, IfErr, IfOk, IfSome, IsErrAnd, MatchResult, slice_index, ap, ◌↔◌, IsTrue, false, Contains, if◌then◌else◌}, lemmas.{Bool.false≢true, List.{append-nil, length-set, get_or-set_other, get_or_past, Sums.sum_by-append}, Grind.get_or-set_at, Option.{none-some, same_Some}}}
 use Rattle.claims.{specs.{declared.answers.Posted.Posted, Calls.PostChange, Seats.{SeatState, TableId, Adds, account_at}, declared.view.{Account.Account, Exchange.{Exchange, TheVariants.{NotFree as WasNotFree}}}, Views.after_all}, proofs.Seats.{account_after, adds_both, adds_none}}
-use Rattle.common.{specs.{Posts.{HoldsOnly, IsWorn}, declared.{places.Berth.Berth, shared.Own.Own, split.Part.Part, front.{Unaccepted.Unaccepted, Unopened.Unopened, Route.Route, Waiting.{Waiting, TheVariants.{No, Brief, Long}}}}, Hands.{HandState, ticket_room}, Acts.{Act, AreMade, Made, Register, Adopt}, Told.{cause_of, Seen, Waited}, Splits.IsIn}, proofs.Holding.{holds_still, woke_behind_post, worn_still}}
+use Rattle.common.{specs.{Posts.{HoldsOnly, IsWorn, OnlyWorn}, declared.{places.Berth.Berth, shared.Own.Own, split.Part.Part, front.{Unaccepted.{Unaccepted, TheVariants.{Again, Blocked, Starved}}, Unopened.Unopened, Route.Route, Waiting.{Waiting, TheVariants.{No, Brief, Long}}}}, Hands.{HandState, ticket_room}, Acts.{Act, AreMade, Made, Register, Adopt}, Told.{cause_of, Seen, Waited}, Splits.IsIn}, proofs.Holding.{holds_still, woke_behind_post, worn_still}}
 use Rattle.ready.specs.declared.ticket.Ticket.{Ticket}
 use Rattle.relay_core.specs.Pairs.{PairState}
-use Rattle.rounds.{specs.{Acts.{SeatAct, opening, ActsMade, AreTries, InOrder, all_reported, ArePosted, sweep_of}, Openings.{times, with_slot, AreOpened, OnlyTook, SlotsCounted, Between, Started, Connected, AcceptDone, OneAccepted, OnlyAccepted, unmarked, IsOpened, IsSpent, AreLost, IsNext, SameQueues, Fate, LeadGiven, Registered, next_in, Opened, Dropped, Spent, NotFree, DropsFor, ActsOf, DropMade, TriedOnce, TriesMade, TriesNext, TryMade, lacks, lead_of}, Pollers.{PollerState, Counted, counted_up, HasOpenedAll}, Rounds.{AcceptEnded, AllPosted, RoundInOrder, ListenerKept, ListensNoMore, ListensToOpen, Looked, OnlyAnswered, OnlyListens, RoundRefused, WaitedAsMay, WaitsAsMay}}, proofs.Acts.{at_slot-append, acts_none, acts_one, acts_both, in_order, none_at, try_dropped, try_opened, tries_none, tries_both, holds_nothing_still, posted_none, posts_still, no_sweep}}
+use Rattle.rounds.{specs.{declared.episodes.Episodes.Episodes, Acts.{SeatAct, opening, ActsMade, AreTries, InOrder, all_reported, ArePosted, sweep_of}, Openings.{times, with_slot, AreOpened, OnlyTook, SlotsCounted, Between, Started, Connected, AcceptDone, OneAccepted, OnlyAccepted, unmarked, IsOpened, IsSpent, AreLost, IsNext, SameQueues, Fate, LeadGiven, Registered, next_in, Opened, Dropped, Spent, NotFree, DropsFor, ActsOf, DropMade, TriedOnce, TriesMade, TriesNext, TryMade, lacks, lead_of}, Pollers.{PollerState, Counted, counted_up, HasOpenedAll}, Episodes.{flag_after, starved_after}, Rounds.{AcceptEnded, AllPosted, RoundInOrder, ListenerKept, ListensNoMore, ListensToOpen, Looked, OnlyAnswered, OnlyListens, RoundRefused, WaitedAsMay, WaitsAsMay}}, proofs.Acts.{at_slot-append, acts_none, acts_one, acts_both, in_order, none_at, try_dropped, try_opened, tries_none, tries_both, holds_nothing_still, posted_none, posts_still, no_sweep}}
 use Rattle.common.specs.declared.{cause.Cause.{Cause}, faults.ServerFault.{ServerFault, TheVariants.{Poll, Worn}}}
 use Rattle.claims.specs.declared.view.Exchange.TheVariants as exchange
 use Rattle.claims.specs.declared.answers.Posted.TheVariants as posted
@@ -158,12 +157,7 @@ module _ {C S T : Type 0} {moved : Berth C T → S → Type 0} {named : Ticket �
   -- one try, after a change that opens nothing
   pub once_after : {s t : S} {q r : PollerState} {a b : Own} → OneAccepted (TriesMade moved named made may_tell q s t) q r a b → SamePoller p q
       → OneAccepted (TriesMade moved named made may_tell p s t) p r a b
-  once_after {a = a} once same = record {
-    tries = once.tries;
-    acts = record { acts = rw same.poller at once.acts.acts };
-    did = connected_both (took_only same (took_none a)) once.did;
-    room = once.room;
-  }
+  once_after once same = record { tries = once.tries; acts = record { acts = rw same.poller at once.acts.acts }; did = connected_both (took_only same (took_none _)) once.did; room = once.room }
 
 -- slots were taken for the next try
 pub accept_and_took : {C S T : Type 0} {moved : Berth C T → S → Type 0} {named : Ticket → S → Type 0} {made : Made S} {may_tell : C → Route → Type 0}
@@ -208,12 +202,7 @@ module _ {p q : PollerState} {a : Own} {hand : HandState} {slot : ℕ} (taken : 
   pub placed_there : {one_acts acted : List SeatAct → Type 0} {b : Own} → IsWorn a.seat ⊎ OneAccepted one_acts p q (with_slot slot (record a { hand = hand })) b
       → ((tries : List SeatAct) → one_acts tries → acted tries) → IsWorn a.seat ⊎ OneAccepted acted p q a b
   placed_there (inl is_worn) joined = inl is_worn
-  placed_there (inr once) joined = inr (record {
-    tries = once.tries;
-    acts = joined once.tries once.acts;
-    did = rw (taken, put_back a.hand.slots slot is) at once.did;
-    room = rw taken at once.room;
-  })
+  placed_there (inr once) joined = inr (record { tries = once.tries; acts = joined once.tries once.acts; did = rw (taken, put_back a.hand.slots slot is) at once.did; room = rw taken at once.room })
 
 -- the acts of the one try for a connection, with those before its slot was adopted
 pub tried_once : {S : Type 0} (made : Ticket → Made S) {opens placed finds : Ticket → S → S → Type 0} (t : Ticket) (a b c : S)
@@ -234,11 +223,10 @@ pub unless : {A B : Type 0} → (A → ⊥) → A ⊎ B → B
 unless never (inl a) = absurd (never a)
 unless never (inr b) = b
 
-pub answered : (is_worn : Bool) (old new : PollerState) (had has : Own) (answer : Result (Unit {0}) ServerFault) → IsTrue is_worn ↔ IsWorn has.seat → answer ≡ ok_or (then_some (not is_worn) tt) Worn
+pub answered : (answer : Result (Unit {0}) ServerFault) (old new : PollerState) (had has : Own) → MatchResult answer (λ _. IsWorn has.seat → ⊥) (λ fault. OnlyWorn fault has.seat)
     → ((answer ≡ Err Worn) ↔ IsWorn has.seat) × (answer ≢ Err Poll) × IfErr answer (λ fault. RoundRefused fault old new had has)
-answered true old new had has answer is same = let is_worn = is.0 refl in rw same ((λ refused. is_worn, λ refused. refl), λ failed. cc failed, inr (refl, is_worn))
-answered false old new had has answer is same =
-    rw same ((λ refused. absurd (cc refused), λ is_worn. absurd (false≢true (is.1 is_worn))), λ failed. cc failed, tt)
+answered (Ok done) old new had has more = ((λ refused. absurd (cc refused), λ is_worn. absurd (more is_worn)), λ failed. cc failed, tt)
+answered (Err fault) old new had has only = rw only.0 ((λ refused. only.1, λ is_worn. refl), λ failed. cc failed, inr (refl, only.1))
 
 -- what became of an accepted connection that was placed, with the acts that were made from there on
 pub fate_by : {slot : ℕ} {p q : PollerState} {told opened : Type 0} {dropped : Cause → Type 0} {found : Type 0} {made : List Act → Type 0} {a b : SeatState}
@@ -280,11 +268,7 @@ started_by t noted posted.Wake woke a first second b only took change quiet left
 started_by t noted posted.Worn woke a first second b only took change quiet left hand = inl (worn_before _ _ _ _ took refl change.1)
 started_by t noted posted.Quiet woke a first second b only took change quiet left hand =
     let due = woke_behind_post t.slot first second woke change (holds_still _ _ _ _ took only refl).here quiet in
-    inr (record {
-      noted = noted;
-      seat = adds_both _ _ _ _ _ _ took (adds_both _ _ (exchange.Release true ∷ []) _ _ _ change (rw due at left));
-      hand = rw due at hand;
-    })
+    inr (record { noted = noted; seat = adds_both _ _ _ _ _ _ took (adds_both _ _ (exchange.Release true ∷ []) _ _ _ change (rw due at left)); hand = rw due at hand })
 
 -- a connection was opened in its slot, unless its note could not be posted
 pub opened_once : {acted : List SeatAct → Type 0} {t : Ticket} {p q : PollerState} {a b : Own} {middle : SeatState} {found : ℕ}
@@ -414,15 +398,17 @@ or_more (inr x) more = inr x
 
 -- what answers made of the poller, one after the other
 pub answered_both : {gave : Unaccepted → Type 0} {p q r : PollerState} → OnlyAnswered gave p q → OnlyAnswered gave q r → OnlyAnswered gave p r
-answered_both first second = record {
-  raised = λ up. first.raised (second.raised up);
-  flag = λ down. or_more (second.flag down) first.flag;
-  starved = λ lack. or_more (second.starved lack) first.starved;
-}
+answered_both one two = record { raised = λ up. one.raised (two.raised up); flag = λ down. or_more (two.flag down) one.flag; starved = λ lack. or_more (two.starved lack) one.starved }
 
 pub answered_none : {gave : Unaccepted → Type 0} {p q : PollerState} → q.accepting ≡ p.accepting → (q.starved ≡ p.starved) ⊎ (q.starved ≡ false) → OnlyAnswered gave p q
 answered_none flag (inl same) = record { raised = λ up. sym flag ∙ up; flag = λ down. inl (sym flag ∙ down); starved = λ lack. inl (sym same ∙ lack) }
 answered_none flag (inr none) = record { raised = λ up. sym flag ∙ up; flag = λ down. inl (sym flag ∙ down); starved = λ lack. absurd (false≢true (sym none ∙ lack)) }
+
+pub answered_by : {gave : Unaccepted → Type 0} {p q : PollerState} (class : Unaccepted) → gave class → q.accepting ≡ flag_after class p.accepting
+    → q.starved ≡ starved_after class p.starved → OnlyAnswered gave p q
+answered_by Again gave flag lack = answered_none flag (inl lack)
+answered_by Blocked gave flag lack = record { raised = λ up. absurd (false≢true (sym flag ∙ up)); flag = λ down. inr gave; starved = λ up. absurd (false≢true (sym lack ∙ up)) }
+answered_by Starved gave flag lack = record { raised = λ up. sym flag ∙ up; flag = λ down. inl (sym flag ∙ down); starved = λ up. inr gave }
 
 -- the accept flag is down at the end
 pub flag_ended : {gave : Type 0} (p q r v t : PollerState) → Looked p q → (r.accepting ≡ false → (q.accepting ≡ false) × (Contains q.batch 0 → ⊥))
@@ -446,20 +432,17 @@ kept p q listens = grind arith
 -- the poller waits only where it may, and for as long
 pub waits_if : (waiting : Waiting) (limit : ℕ) (p q r : PollerState) (a b : Own) → OnlyListens p q → WaitsAsMay waiting limit q b
     → (waiting ≡ Long → b ≡ a) → OnlyTook a b → Waited waiting q.seen r.seen → WaitedAsMay limit p r a
-waits_if Long limit p q r a b same may still took waited = inl (ap (λ (s : Seen). s.waited) waited ∙ ap (λ (s : PollerState). s.seen.longest) same, rw (same, still refl) at (may.long refl))
+waits_if Long limit p q r a b same may still took waited = inl (ap (λ (s : Seen). s.waited) waited ∙ ap (λ (s : PollerState). s.seen.longest) same, rw (same, still refl) at may)
 waits_if Brief limit p q r a b same may still took waited =
-    let left = rw same at (may.brief refl) in
+    let left = rw same at may in
     inr (inl (ap (λ (s : Seen). s.waited) waited, (left.0, sym took.tickets ∙ left.1, left.2)))
-waits_if No limit p q r a b same may still took waited = inr (inr (ap (λ (s : Seen). s.waited) waited, b, took, rw same at (may.haste refl)))
+waits_if No limit p q r a b same may still took waited = inr (inr (ap (λ (s : Seen). s.waited) waited, b, took, rw same at may))
 
 -- what the steps of a round leave as it was after the look, but that the front may listen no longer
-abbrev pub Lasts : PollerState → PollerState → Type 0
-Lasts old new = new ≡ record new {
-  seen = record old.seen { listens = new.seen.listens };
-  batch = old.batch;
-  opening = old.opening;
-  most = old.most;
-}
+pub lasts : (q : PollerState) {r v w t u : PollerState} {up : Bool} {logged : Episodes} → r ≡ record q { accepting = up } → v ≡ record r { second = v.second; swept = v.swept }
+    → OnlyAccepted v w → t ≡ record w { episodes = logged } → OnlyListens (record t { over = u.over }) u
+    → u ≡ record u { seen = record q.seen { listens = u.seen.listens }; batch = q.batch; opening = q.opening; most = q.most }
+lasts q flag timed accepted told back = rw (back, told, accepted, timed, flag)
 
 -- the hand had room for a round
 pub begun_not_early : {X : Type 0} (needed room : ℕ) → needed ≤ room → room < needed → X

@@ -142,10 +142,10 @@ abbrev pub MayNotWait : ℕ → PollerState → Own → Type 0
 MayNotWait limit p own = (is_due limit p ≡ true) ⊎ ((own.hand.tickets ≢ []) ⊎ ((p.starved ≡ false) × (p.left ≡ false) × MayAccept p own))
 
 -- a wait for reports is as long as it may be now
-pub record WaitsAsMay (wait : Waiting) (limit : ℕ) (p : PollerState) (own : Own) : Type 0 where
-  pub long : wait ≡ waiting.Long → MayWait limit p own
-  pub brief : wait ≡ waiting.Brief → MayWaitBriefly limit p own
-  pub haste : wait ≡ waiting.No → MayNotWait limit p own
+abbrev pub WaitsAsMay : Waiting → ℕ → PollerState → Own → Type 0
+WaitsAsMay waiting.Long limit p own = MayWait limit p own
+WaitsAsMay waiting.Brief limit p own = MayWaitBriefly limit p own
+WaitsAsMay waiting.No limit p own = MayNotWait limit p own
 
 -- For how many milliseconds a round waited for reports, and why: for as long as its front ever waits, for one, or not at
 -- all

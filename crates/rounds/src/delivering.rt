@@ -35,10 +35,18 @@ pub fn deliver(
     ensures idle { HoldsNothing seat.new }
 {
     let listener = deliver_by(&mut (), claims, seat, table, batch, hand);
+    refuse_worn(seat)?;
+    Ok(listener)
+}
+
+/// Refuses with `Worn` if the seat posts no more.
+pub(crate) fn refuse_worn(seat: &ClaimSeat) -> Result<(), ServerFault>
+    ensures { MatchResult result (λ _. IsWorn seat.now → ⊥) (λ fault. OnlyWorn fault seat.now) }
+{
     if seat.is_worn() {
         return Err(ServerFault::Worn);
     }
-    Ok(listener)
+    Ok(())
 }
 
 /// [`deliver`] by any acts: a post for each note, also of a worn seat.

@@ -94,16 +94,9 @@ pub fn open<F: Front + Counting, A: Moves<F>, R: Wait + Logs>(
         return;
     };
     let ticket = names.ticket();
-    match prepare(
-        rt,
-        alloc,
-        acts,
-        shared.clients,
-        &mut own.hand,
-        poller,
-        client,
-        names,
-    ) {
+    let clients = shared.clients;
+    let hand = &mut own.hand;
+    match prepare(rt, alloc, acts, clients, hand, poller, client, names) {
         Ok(berth) => place(rt, acts, shared, own, poller, ticket, berth, uncounted),
         Err(dropped) => uncounted.count_dropped(shared, ticket.slot, dropped),
     }
@@ -149,8 +142,9 @@ fn prepare<F: Front, A: Moves<F>, N: Log>(
     ensures same { OnOk result (poller.new ≡ poller.old) }
     ensures logged { IfErr result (λ dropped. DropLogged dropped poller.old poller.new) }
 {
-    let (slot, second) = (names.client.slot(), poller.second);
-    let reached = reach(rt, alloc, acts, poller, &mut client, names);
+    let (slot, second, opening) = (names.client.slot(), poller.second, poller.opening);
+    let front = &mut poller.front;
+    let reached = reach(rt, alloc, acts, front, opening, second, &mut client, names);
     let (from, error) = (F::peer(&client), client.error());
     match berth_of(alloc, reached, second, client) {
         Ok(berth) => Ok(berth),
@@ -210,34 +204,24 @@ fn reach<F: Front, A: Moves<F>, N: Log>(
     rt: &N,
     alloc: Global,
     acts: &mut A,
-    poller: &mut Poller<F>,
+    front: &mut F,
+    opening: Opening,
+    second: u64,
     client: &mut F::Client,
     names: Names,
 ) -> Result<(Pair, F::Target), Cause>
+    requires ring { (1 ≤ opening.ring) × (opening.ring ≤ 65536) }
     ensures acts { Registered (Naming A.named A.made) (of_end names.client) result acts.old acts.new }
-    ensures pair { IfOk result (λ made. made.0 ≡ fresh names.client.slot names.client.generation poller.old.opening.ring
-        poller.old.second made.0.up.lead) }
-    ensures lead { IfOk result (λ made. LeadGiven (F.may_tell client.old) poller.old.opening.proxy (Some made.0.up.lead)) }
-    ensures cause { IfErr result (λ cause. DropsFor (F.may_refuse client.old) (F.may_tell client.old) poller.old.opening.proxy cause) }
-    ensures same { poller.new ≡ poller.old }
+    ensures pair { IfOk result (λ made. made.0 ≡ fresh names.client.slot names.client.generation opening.ring second made.0.up.lead) }
+    ensures lead { IfOk result (λ made. LeadGiven (F.may_tell client.old) opening.proxy (Some made.0.up.lead)) }
+    ensures cause { IfErr result (λ cause. DropsFor (F.may_refuse client.old) (F.may_tell client.old) opening.proxy cause) }
+    ensures seen { F.seen front.new ≡ F.seen front.old }
 {
-    let Opened { target, route } = acts.register(
-        rt,
-        &mut poller.front,
-        client,
-        names.client,
-        names.target,
-    )?;
-    let opening = poller.opening;
+    let Opened { target, route } = acts.register(rt, front, client, names.client, names.target)?;
     let lead = lead(alloc, opening.proxy, &route)?;
-    let pair = Pair::new(
-        alloc,
-        names.client.slot(),
-        names.client.generation(),
-        opening.ring,
-        poller.second,
-        lead.as_slice(),
-    )?;
+    let Ticket { slot, generation } = names.ticket();
+    let ring = opening.ring;
+    let pair = Pair::new(alloc, slot, generation, ring, second, lead.as_slice())?;
     Ok((pair, target))
 }
 

@@ -252,18 +252,10 @@ impl<F: Front> Poller<F> {
         ensures lacked { cause ≡ Cause.Memory → F.lacked }
         ensures drops { DropLogged cause self.old self.new }
     {
-        self.tell_lack(cause);
-        Dropped::log(rt, &mut self.episodes.drops, cause, self.second)
-    }
-
-    /// Tells the front of a drop for want of memory.
-    fn tell_lack(&mut self, cause: Cause)
-        ensures lacked { cause ≡ Cause.Memory → F.lacked }
-        ensures same { self.new ≡ self.old }
-    {
         if cause == Cause::Memory {
             self.front.lacked_memory();
         }
+        Dropped::log(rt, &mut self.episodes.drops, cause, self.second)
     }
 
     /// Logs the counted drops of each cause that has had no line at the round's second.

@@ -4,8 +4,7 @@ ghost use Rattle.ready.specs.Steps.{HeldOnce};
 ghost use Rattle.rounds.specs.{Acts.{all_reported}, Episodes.{episodes_after, flag_after, starved_after}, Openings.{Between, OnlyTook, AcceptDone, OneAccepted, TriesMade}, Pollers.{HasOpenedAll, max_accepts, spare_room}, Rounds.{AcceptEnded, AllPosted, EndedEarly, IsFull, IsOver, ListensNoMore, ListensToOpen, Looked, LooksForAll, MayAccept, NoSlot, NoneToAccept, NotBegun, OnlyAnswered, OnlyListens, RoundEnded, RoundInOrder, RoundKeeps, RoundRefused, TookAll, WaitedAsMay, WaitsAsMay}};
 ghost use Rattle.common.specs.{Hands.ticket_room, Posts.IsWorn, Told.{unaccepted_of, Waited}};
 
-use crate::delivering::deliver_by;
-use crate::limits::SPARE_ROOM;
+use crate::delivering::{deliver_by, refuse_worn};
 use crate::opening::open;
 use crate::poller::Poller;
 use crate::sweeping::{is_due, keep_time};
@@ -19,6 +18,10 @@ use relay_log::log_all_taken;
 use std::alloc::Global;
 use std::io;
 use std::sync::Wait;
+
+/// A round begins only if the poller's hand has room for a ticket of each slot, in case of a sweep, and for this many
+/// more tickets: those of the round's reports and openings.
+const SPARE_ROOM: usize = 512;
 
 /// One round of the poller.
 ///
@@ -75,8 +78,7 @@ pub fn poller_round<F: Front, A: Moves<F>, C: Clock, R: Wait + Log>(
     accept(rt, alloc, acts, shared, own, poller);
     poller.log_counted(rt);
     take_back(rt, own, poller);
-    let is_worn = own.seat.is_worn();
-    (!is_worn).then_some(()).ok_or(ServerFault::Worn)
+    refuse_worn(&own.seat)
 }
 
 /// Whether the hand has room for a ticket of each slot and 512 more.
@@ -185,14 +187,9 @@ fn deliver_batch<F: Front, A: Acts>(
         own.old own.new acts.old acts.new }
     ensures listener { IsTrue result ↔ Contains poller.now.batch 0 }
 {
-    deliver_by(
-        acts,
-        &shared.claims,
-        &mut own.seat,
-        poller.table(),
-        poller.batch(),
-        &mut own.hand,
-    )
+    let (table, batch) = (poller.table(), poller.batch());
+    let hand = &mut own.hand;
+    deliver_by(acts, &shared.claims, &mut own.seat, table, batch, hand)
 }
 
 /// If a client waits for a slot, the poller is full from now on, until accept(2) answers that nobody waits. If all
@@ -207,7 +204,6 @@ fn log_if_full<F: Front, A, R: Wait + Log>(
     ensures took { OnlyTook own.old own.new }
     ensures poller { poller.new ≡ record poller.old { episodes = record poller.old.episodes { full = poller.new.episodes.full } } }
     ensures full { poller.new.episodes.full ≡ true → (poller.old.episodes.full ≡ true) ⊎ IsFull poller.new own.new }
-    ensures kept { poller.old.episodes.full ≡ true → poller.new.episodes.full ≡ true }
     ensures found { IsFull poller.new own.new → poller.new.episodes.full ≡ true }
 {
     if poller.episodes.full {
@@ -304,7 +300,7 @@ fn accept_next<F: Front, A: Moves<F>, R: Wait + Log>(
             open(rt, alloc, acts, shared, own, poller, client, uncounted);
             true
         }
-        Err(error) => not_accepted(rt, shared, poller, &error) != Unaccepted::Starved,
+        Err(error) => not_accepted(rt, shared, poller, &error),
     }
 }
 
@@ -312,7 +308,6 @@ fn accept_next<F: Front, A: Moves<F>, R: Wait + Log>(
 fn has_slot<R: Wait>(rt: &R, own: &mut Own) -> bool
     requires room { 1 ≤ ticket_room own.old.hand }
     ensures took { OnlyTook own.old own.new }
-    ensures had { 1 ≤ length own.old.hand.slots → (result ≡ true) × (own.new ≡ own.old) }
     ensures slot { result ≡ true → 1 ≤ length own.new.hand.slots }
     ensures none { result ≡ false → NoSlot own.new × (own.new ≡ own.old) }
 {
@@ -334,30 +329,31 @@ fn take_one<R: Wait>(rt: &R, own: &mut Own) -> bool
     }
 }
 
-/// Returns what an error of accept(2) means, and keeps it. That accept(2) is starved is logged once between openings.
+/// Keeps what an error of accept(2) means. Returns whether another try is worth making. That accept(2) is starved is
+/// logged once between openings.
 fn not_accepted<F: Front, A, R: Log>(
     rt: &R,
     shared: &Shared<F, A>,
     poller: &mut Poller<F>,
     error: &io::Error,
-) -> Unaccepted
-    requires none { F.gave_none (unaccepted_of (error_kind error.now)) }
-    ensures answered { OnlyAnswered F.gave_none poller.old poller.new }
-    ensures class { result ≡ unaccepted_of (error_kind error.now) }
-    ensures flag { poller.new ≡ record poller.old {
-      accepting = flag_after result poller.old.accepting;
-      starved = starved_after result poller.old.starved;
-      episodes = episodes_after result poller.old.episodes;
+) -> bool
+    ensures flag { let class = unaccepted_of (error_kind error.now) in poller.new ≡ record poller.old {
+      accepting = flag_after class poller.old.accepting;
+      starved = starved_after class poller.old.starved;
+      episodes = episodes_after class poller.old.episodes;
     } }
-    ensures starved { result ≡ Unaccepted.Starved → poller.new.starved ≡ true }
+    ensures starved { result ≡ false → poller.new.starved ≡ true }
 {
-    let class = unaccepted_of(error.kind());
-    match class {
-        Unaccepted::Again => {}
+    match unaccepted_of(error.kind()) {
+        Unaccepted::Again => true,
         Unaccepted::Blocked => {
             poller.accepting = false;
             poller.starved = false;
-            end_full(shared, poller);
+            if poller.episodes.full {
+                shared.full.leave();
+            }
+            poller.episodes.full = false;
+            true
         }
         Unaccepted::Starved => {
             poller.starved = true;
@@ -365,18 +361,9 @@ fn not_accepted<F: Front, A, R: Log>(
                 log_failure(rt, "accept", error);
             }
             poller.episodes.starved = true;
+            false
         }
     }
-    class
-}
-
-fn end_full<F: Front, A>(shared: &Shared<F, A>, poller: &mut Poller<F>)
-    ensures { poller.new ≡ record poller.old { episodes = record poller.old.episodes { full = false } } }
-{
-    if poller.episodes.full {
-        shared.full.leave();
-    }
-    poller.episodes.full = false;
 }
 
 fn log_failure<R: Log>(rt: &R, call: &str, error: &io::Error) {

@@ -29,14 +29,9 @@ pub(crate) fn keep_time<F: Front, A: Acts, C: Clock>(
     ensures swept { poller.new.swept ≡ swept_after timing.now.limit poller.old.second poller.old.swept }
 {
     let due = is_due(poller, timing.limit);
-    sweep(
-        acts,
-        &shared.claims,
-        &mut own.seat,
-        poller.table(),
-        due,
-        &mut own.hand,
-    );
+    let seat = &mut own.seat;
+    let hand = &mut own.hand;
+    sweep(acts, &shared.claims, seat, poller.table(), due, hand);
     poller.set_second(due, timing.moment().second);
 }
 

@@ -7,7 +7,7 @@ returns-in-Ok-clause-acts g c = rw c.in-Ok.ensures.berth.0 at c.reach-reached.en
 pub returns-in-Ok-clause-fresh : goal.returns-in-Ok-clause-fresh
 returns-in-Ok-clause-fresh g c =
     let made = c.in-Ok.ensures.berth in
-    record { pair = rw made.0 at c.reach-reached.ensures.pair; lead = rw made.0 at c.reach-reached.ensures.lead; since = rw (← c.poller.view_is) made.1 }
+    rw (← c.poller.view_is) (record { pair = rw made.0 at c.reach-reached.ensures.pair; lead = rw made.0 at c.reach-reached.ensures.lead; since = made.1 })
 
 pub returns-in-Err-clause-acts : goal.returns-in-Err-clause-acts
 returns-in-Err-clause-acts g c = registered_drop (Naming g.A.Moves.named g.A.Acts.made) {t = of_end c.args.names.client} c.reach-reached.result c.reach-reached.ensures.acts
@@ -15,4 +15,4 @@ returns-in-Err-clause-acts g c = registered_drop (Naming g.A.Moves.named g.A.Act
 pub returns-in-Err-clause-cause : goal.returns-in-Err-clause-cause
 returns-in-Err-clause-cause g c =
     let reached = c.reach-reached.ensures in
-    rw c.log_dropped.ensures.cause (drops_by (g.F.Front.may_refuse c.args.client) (g.F.Front.may_tell c.args.client) _ _ _ reached.cause reached.lead c.in-Err.ensures.refused)
+    rw (← c.poller.view_is, c.log_dropped.ensures.cause) (drops_by (g.F.Front.may_refuse c.args.client) (g.F.Front.may_tell c.args.client) _ _ _ reached.cause reached.lead c.in-Err.ensures.refused)

@@ -14,16 +14,11 @@ loop-try-init g c =
       answered = answered_none (rw (c.reset_tries.ensures, full.poller)) (inl (rw (c.reset_tries.ensures, full.poller)));
     }
 
-pub accept_next-requires : goal.accept_next-requires
-accept_next-requires g c =
-    let room = c.loop-try.invariant.room in
-    let same = room_same c.may_accept.ensures.took in
-    let more = c.loop-try-test.true in
-    record {
-      between = between_still c.loop-try.invariant.between c.may_accept.ensures.took.seat refl;
-      room = omega arith;
-      may = c.may_accept.ensures.may c.if-not-may_accept.false;
-    }
+pub accept_next-requires-clause-between : goal.accept_next-requires-clause-between
+accept_next-requires-clause-between g c = between_still c.loop-try.invariant.between c.may_accept.ensures.took.seat refl
+
+pub accept_next-requires-clause-room : goal.accept_next-requires-clause-room
+accept_next-requires-clause-room g c = omega (arith, c.loop-try.invariant.room, room_same c.may_accept.ensures.took, c.loop-try-test.true)
 
 pub returns-then-not-may_accept : goal.returns-then-not-may_accept
 returns-then-not-may_accept g c =

@@ -1,5 +1,5 @@
-use Rattle.std.proofs.Common.{inl, inr, refl}
-use Rattle.rounds.proofs.Rounds.{accept_none, no_tries, answered_both, answered_none, fate_only, not_worn, once_after, unless}
+use Rattle.std.proofs.{Common.{inl, inr, refl, sym}, lemmas.Bool.false≢true}
+use Rattle.rounds.proofs.Rounds.{accept_none, no_tries, answered_by, answered_none, fate_only, not_worn, once_after, unless}
 use Rattle.rounds.proofs.round.accept_next.Goals as goal
 
 pub returns-then-is_worn-clause-done : goal.returns-then-is_worn-clause-done
@@ -26,7 +26,8 @@ returns-then-leaves-clause-answered g c = answered_none (rw c.leaves.ensures) (i
 
 pub returns-in-Err-clause-answered : goal.returns-in-Err-clause-answered
 returns-in-Err-clause-answered g c =
-    answered_both (answered_none (rw (c.in-Err.ensures.refused, c.leaves.ensures)) (inl (rw (c.in-Err.ensures.refused, c.leaves.ensures)))) c.not_accepted.ensures.answered
+    let flag = c.not_accepted.ensures.flag in
+    answered_by _ c.in-Err.ensures.none (rw (flag, c.in-Err.ensures.refused, c.leaves.ensures)) (rw (flag, c.in-Err.ensures.refused, c.leaves.ensures))
 
 pub returns-in-Ok-clause-answered : goal.returns-in-Ok-clause-answered
 returns-in-Ok-clause-answered g c =
@@ -35,3 +36,15 @@ returns-in-Ok-clause-answered g c =
 
 pub returns-in-Ok-clause-tries : goal.returns-in-Ok-clause-tries
 returns-in-Ok-clause-tries g c = λ more. rw (fate_only _ _ _ _ _ _ _ _ c.requires.may.2 c.open.ensures.counted, c.in-Ok.ensures.accepted, c.leaves.ensures)
+
+pub returns-then-is_worn-clause-ended : goal.returns-then-is_worn-clause-ended
+returns-then-is_worn-clause-ended g c = λ over. inr (inr (inr (c.is_worn.ensures.0 c.if-is_worn.true)))
+
+pub returns-then-leaves-clause-ended : goal.returns-then-leaves-clause-ended
+returns-then-leaves-clause-ended g c = λ over. inr (inl (rw c.leaves.ensures (c.if-leaves.true, c.requires.may.0)))
+
+pub returns-in-Err-clause-ended : goal.returns-in-Err-clause-ended
+returns-in-Err-clause-ended g c = λ over. inl (inl (c.not_accepted.ensures.starved over))
+
+pub returns-in-Ok-clause-ended : goal.returns-in-Ok-clause-ended
+returns-in-Ok-clause-ended g c = λ over. absurd (false≢true (sym over))

@@ -1,5 +1,5 @@
 use Rattle.std.proofs.Common.{◌≡◌, refl, length, inl, inr, arith}
-use Rattle.rounds.proofs.{Rounds.{accept_and_took, between_still, room_same, took_none, answered, Lasts, begun_not_early, ended_still, flag_ended, flag_up, kept, listens_still, unless, round_ended, round_of}, Acts.{filter_le, room_left, few_sweep, flag_down, flag_raised}}
+use Rattle.rounds.proofs.{Rounds.{accept_and_took, between_still, room_same, took_none, answered, lasts, begun_not_early, ended_still, flag_ended, flag_up, kept, listens_still, unless, round_ended, round_of}, Acts.{filter_le, room_left, few_sweep, flag_down, flag_raised}}
 use Rattle.rounds.specs.Acts.{reported}
 use Rattle.rounds.proofs.round.poller_round.Goals as goal
 
@@ -66,10 +66,9 @@ returns g c =
     let told = c.log_counted.ensures.logged in
     let back = c.take_back.ensures in
     let end = back.poller in
-    let last : Lasts c.look.new.poller c.take_back.new.poller = rw (end, told, accepted.done.did.poller, timed.poller, raised) in
+    let last = lasts c.look.new.poller raised timed.poller accepted.done.did.poller told end in
     let swept = rw (raised, looked.poller) at timed.swept in
-    let answer = answered c.is_worn-is_worn.result c.args.poller.now
-    c.take_back.new.poller c.args.own.now c.take_back.new.own c.ok_or.result c.is_worn-is_worn.ensures (rw c.then_some.ensures at c.ok_or.ensures.value) in
+    let answer = answered c.refuse_worn.result c.args.poller.now c.take_back.new.poller c.args.own.now c.take_back.new.own c.refuse_worn.ensures in
     record {
       between = between_still accepted.between back.took.seat (rw (end, told));
       early = begun_not_early _ _ (c.has_room.ensures.room c.if-not-has_room.false);
@@ -104,11 +103,11 @@ returns g c =
       refused = answer.2;
     }
 
-pub deliver_batch-listener-requires : goal.deliver_batch-listener-requires
-deliver_batch-listener-requires g c =
+pub deliver_batch-listener-requires-clause-between : goal.deliver_batch-listener-requires-clause-between
+deliver_batch-listener-requires-clause-between g c =
+    between_still {p = c.args.poller.now} c.requires.between c.look.ensures.took.seat (rw c.look.ensures.poller)
+
+pub deliver_batch-listener-requires-clause-room : goal.deliver_batch-listener-requires-clause-room
+deliver_batch-listener-requires-clause-room g c =
     let room = c.has_room.ensures.room c.if-not-has_room.false in
-    let same = room_same c.look.ensures.took in
-    record {
-      between = between_still {p = c.args.poller.now} c.requires.between c.look.ensures.took.seat (rw c.look.ensures.poller);
-      room = omega arith;
-    }
+    omega (arith, room_same c.look.ensures.took)

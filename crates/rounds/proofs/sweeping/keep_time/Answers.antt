@@ -1,13 +1,11 @@
 use Rattle.rounds.proofs.{Acts.{own_sweep, swept_by}, Rounds.between_posted}
 use Rattle.rounds.proofs.sweeping.keep_time.Goals as goal
 
-pub sweep-requires : goal.sweep-requires
-sweep-requires g c = record {
-  same = c.requires.between.same;
-  idle = c.requires.between.idle;
-  sized = rw c.table.ensures.table c.requires.between.sized;
-  room = rw c.table.ensures.table c.requires.room;
-}
+pub sweep-requires-clause-sized : goal.sweep-requires-clause-sized
+sweep-requires-clause-sized g c = rw c.table.ensures.table c.requires.between.sized
+
+pub sweep-requires-clause-room : goal.sweep-requires-clause-room
+sweep-requires-clause-room g c = rw c.table.ensures.table c.requires.room
 
 pub returns : goal.returns
 returns g c =
