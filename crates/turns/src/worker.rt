@@ -154,7 +154,8 @@ fn run<F: Front, A: Gated<F, G>, G, R: Wait + Log>(
         terms.budget terms.moment.second terms.moment.limit)
         visit.ticket visit.berth.value (ok_or result ServerFault.Worn) own.old own.new acts.old acts.new }
 {
-    match visit.play(acts, shared, &mut own.seat, gate, terms, &mut own.buffer) {
+    let turn = visit.play(acts, shared, &mut own.seat, gate, terms, &mut own.buffer);
+    match turn {
         Turn::Done | Turn::Failed => {
             visit.log_gone(rt, shared.clients, terms.moment.second);
             end(rt, acts, shared, own, visit);

@@ -29,12 +29,5 @@ pub returns : goal.returns
 returns g c =
     let so_far = c.loop-ticket.invariant in
     record {
-      shared = record {
-        tickets = shared_all so_far.shared (omega arith);
-        took = so_far.took;
-        seat = so_far.seat;
-        free = so_far.free;
-        slots = so_far.slots;
-        capacity = so_far.capacity;
-      };
+      shared = record { tickets = shared_all so_far.shared (omega arith); took = so_far.took; seat = so_far.seat; free = so_far.free; slots = so_far.slots; capacity = so_far.capacity };
     }
