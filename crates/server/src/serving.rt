@@ -172,22 +172,22 @@ impl<R: Wait + Threads + Log + Sync, G: Gate + Sync, C: Clock + Sync> Lent<'_, R
         requires { length fronts.items ≡ pollers_for settings.now.slots settings.now.workers }
     {
         match self.server(settings, fronts, waker) {
-            Ok(server) => {
-                let timing = Timing {
-                    clock: self.clock,
-                    limit: u64::from(settings.idle),
-                };
-                run_threads(
-                    self.rt,
-                    self.alloc,
-                    self.gate,
-                    timing,
-                    self.stop.flag(),
-                    server,
-                )
-            }
+            Ok(server) => self.run_made(settings, server),
             Err(fault) => Outcome::refused(fault),
         }
+    }
+
+    fn run_made<F>(self, settings: &Settings, server: Server<F>) -> Outcome
+    where
+        F: Front + Drop + Send,
+        F::Client: Send,
+        F::Target: Send,
+        F::Waker: Send + Sync,
+    {
+        let (clock, limit) = (self.clock, u64::from(settings.idle));
+        let timing = Timing { clock, limit };
+        let stop = self.stop.flag();
+        run_threads(self.rt, self.alloc, self.gate, timing, stop, server)
     }
 
     /// Runs a server with these fronts, one for each poller, and records what they, the gate and the clock do.
