@@ -10,12 +10,19 @@ use std::marker::Model;
 
 /// A line that must be logged. This value cannot be dropped, and only [`Owed::log`] takes it.
 pub(crate) struct Owed {
-    pub(crate) cause: Cause,
+    cause: Cause,
     /// How many drops the line counts. 0 for the line about one drop.
-    pub(crate) more: u64,
+    more: u64,
 }
 
 impl Owed {
+    /// The line that counts this many drops, or with 0 the line about one drop.
+    pub(crate) fn new(cause: Cause, more: u64) -> Owed
+        ensures { result ≡ record { cause = cause; more = more } }
+    {
+        Owed { cause, more }
+    }
+
     pub(crate) fn log<L: Logs>(self, rt: &L)
         ensures { L.logged rt.now level.Warn (Some (line_of self)) }
     {

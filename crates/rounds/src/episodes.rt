@@ -1,6 +1,6 @@
 //! What a poller keeps and logs of accepting connections.
 ghost use Rattle.std.specs.Prelude.{◌≡◌, IfSome, Some};
-ghost use Rattle.rounds.specs.Episodes.{all_logged_at, dropped_at, dropped_for, due_at, follows, is_counted, line_of, no_drops, no_episodes, no_tally, owed, owed_for, tally_of, logged_at, AreLogged};
+ghost use Rattle.rounds.specs.Episodes.{all_logged_at, dropped_at, dropped_for, due_at, follows, is_counted, line_of, no_drops, no_episodes, no_tally, owed, owed_for, tally_of, logged_at, with_tally, AreLogged};
 ghost use Rattle.log.specs.declared.level.Level.TheVariants as level;
 
 use crate::dropping::Owed;
@@ -71,7 +71,7 @@ impl Tally {
             return None;
         }
         self.line = second;
-        Some(Owed { cause, more: 0 })
+        Some(Owed::new(cause, 0))
     }
 
     /// Clears the count and returns its line. None if no drop is counted, or this second has had a line.
@@ -86,7 +86,7 @@ impl Tally {
         let more = self.more;
         self.line = second;
         self.more = 0;
-        Some(Owed { cause, more })
+        Some(Owed::new(cause, more))
     }
 
     /// Returns the line for what is counted, if any drop is. The next drop has a line of its own again.
@@ -99,7 +99,7 @@ impl Tally {
         if more == 0 {
             return None;
         }
-        Some(Owed { cause, more })
+        Some(Owed::new(cause, more))
     }
 }
 
@@ -151,20 +151,45 @@ impl Drops {
         ensures logged { self.new ≡ all_logged_at second self.old }
         ensures all { AreLogged second self.new }
     {
-        log_owed(rt, self.memory.counted_line(Cause::Memory, second));
-        log_owed(rt, self.connect.counted_line(Cause::Connect, second));
-        log_owed(rt, self.register.counted_line(Cause::Register, second));
-        log_owed(rt, self.address.counted_line(Cause::Address, second));
+        log_owed(rt, self.tell_of(Cause::Memory, second));
+        log_owed(rt, self.tell_of(Cause::Connect, second));
+        log_owed(rt, self.tell_of(Cause::Register, second));
+        log_owed(rt, self.tell_of(Cause::Address, second));
+    }
+
+    fn tell_of(&mut self, cause: Cause, second: u64) -> Option<Owed>
+        ensures drops { self.new ≡ with_tally cause (logged_at second (tally_of cause self.old)) self.old }
+        ensures owed { result ≡ owed cause (due_at second (tally_of cause self.old)) }
+        ensures logged { due_at second (tally_of cause self.new) ≡ 0 }
+    {
+        match cause {
+            Cause::Memory => self.memory.counted_line(cause, second),
+            Cause::Connect => self.connect.counted_line(cause, second),
+            Cause::Register => self.register.counted_line(cause, second),
+            Cause::Address => self.address.counted_line(cause, second),
+        }
     }
 
     /// Logs all that is counted. The next drop of each cause has a line of its own again.
     pub(crate) fn end(&mut self, rt: &impl Logs)
         ensures { self.new ≡ no_drops }
     {
-        log_owed(rt, self.memory.end(Cause::Memory));
-        log_owed(rt, self.connect.end(Cause::Connect));
-        log_owed(rt, self.register.end(Cause::Register));
-        log_owed(rt, self.address.end(Cause::Address));
+        log_owed(rt, self.end_of(Cause::Memory));
+        log_owed(rt, self.end_of(Cause::Connect));
+        log_owed(rt, self.end_of(Cause::Register));
+        log_owed(rt, self.end_of(Cause::Address));
+    }
+
+    fn end_of(&mut self, cause: Cause) -> Option<Owed>
+        ensures drops { self.new ≡ with_tally cause no_tally self.old }
+        ensures owed { result ≡ owed cause (tally_of cause self.old).more }
+    {
+        match cause {
+            Cause::Memory => self.memory.end(cause),
+            Cause::Connect => self.connect.end(cause),
+            Cause::Register => self.register.end(cause),
+            Cause::Address => self.address.end(cause),
+        }
     }
 }
 

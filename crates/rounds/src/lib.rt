@@ -14,9 +14,9 @@
 //! - Each error of accept(2) has its class, and only the answer that no client waits lowers the accept flag
 //!   (`unaccepted_of`, `not_accepted`: `flag`). A lack lasts until that answer or a connection (`starved_after`).
 //! - A drop is counted, or has a line of its own (`dropped_at`, `owed_for`). A count is cleared only if a line of its
-//!   cause logs it (`logged_at`, `counted_line`; an `Owed` cannot be dropped, and only the log takes it). At an opening
-//!   all counts are logged (`end_episodes`). A starved accept(2) has no new line before an opening (`episodes_after`).
-//!   A poller becomes full if the listener was reported, it may open more, and no slot was free before it accepted
+//!   cause logs it (`logged_at`, `tell_of`; an `Owed` cannot be dropped, and only the log takes it). At an opening all
+//!   counts are logged (`end_episodes`). A starved accept(2) has no new line before an opening (`episodes_after`). A
+//!   poller becomes full if the listener was reported, it may open more, and no slot was free before it accepted
 //!   anybody (`log_if_full`: `full`, `found`). It stays full until accept(2) answers that nobody waits.
 //! - Both tokens of a connection have the next generation of its slot (`next_names`). What is put into its place is a
 //!   fresh connection (`open`: `counted`, by `OpensFresh`): its lead is the PROXY line of the addresses that the front

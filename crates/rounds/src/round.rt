@@ -204,6 +204,7 @@ fn log_if_full<F: Front, A, R: Wait + Log>(
     ensures took { OnlyTook own.old own.new }
     ensures poller { poller.new ≡ record poller.old { episodes = record poller.old.episodes { full = poller.new.episodes.full } } }
     ensures full { poller.new.episodes.full ≡ true → (poller.old.episodes.full ≡ true) ⊎ IsFull poller.new own.new }
+    ensures kept { poller.old.episodes.full ≡ true → poller.new.episodes.full ≡ true }
     ensures found { IsFull poller.new own.new → poller.new.episodes.full ≡ true }
 {
     if poller.episodes.full {
