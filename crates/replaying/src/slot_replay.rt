@@ -172,9 +172,8 @@ impl<'a> SlotReplay<'a> {
         if self.findings.rests {
             self.rest()?;
         }
-        match self.state.phase {
-            Phase::Free => Ok(()),
-            _ if !matches!(recording.last, Last::Ended) => Ok(()),
+        match (self.state.phase, self.findings.recording.last) {
+            (Phase::Free, _) | (_, Last::Stopped | Last::Full) => Ok(()),
             _ => Err(Flaw::Because("the relay has ended, and the connection is not closed")),
         }
     }
