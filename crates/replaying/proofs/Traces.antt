@@ -1,8 +1,9 @@
 -- A run with one event more, and the connections of records with one more.
-use Rattle.std.{proofs.{Common.{◌≡◌, ℕ, List, [], ◌∷◌, ◌++◌, drop, take, Option, Some, None, refl, sym, ◌∙◌, ap, arith, option_and_then}, lemmas.List.{append-nil, append_assoc, take-append-drop, Elements.{All-append, All-cons}}}, specs.Prelude.All}
+use Rattle.std.{proofs.{Common.{◌≡◌, ◌<◌, ◌+◌, ℕ, List, [], ◌∷◌, ◌++◌, drop, drop-cons, get_or, length, suc, take, Option, Some, None, refl, sym, ◌∙◌, ap, arith, option_and_then}, lemmas.List.{append-nil, append_assoc, take-append-drop, Elements.{All-append, All-cons}}}, specs.Prelude.All}
 use Rattle.world.{proofs.Headline.run_and, specs.{declared.{event.Event.Event, limits.Limits.Limits}, States.{State, opening}, Steps.step, Runs.run}}
+use Rattle.records.specs.declared.act.Act.{Act}
 use Rattle.recorded.specs.declared.recording.Numbered.{Numbered}
-use Rattle.replaying.specs.{declared.action.Action.Action, Traces.{IsHistory, action_in, and_then, joined, trace_next, trace_of_run}}
+use Rattle.replaying.specs.{declared.action.Action.Action, Traces.{IsHistory, action_in, action_of, and_then, joined, trace_after, trace_next, trace_of_records, trace_of_run}}
 
 nothing_more : (o : Option State) → trace_next o (λ (q : State). []) ≡ []
 nothing_more None = refl
@@ -29,6 +30,19 @@ trace_and st q (f ∷ events) e ran =
     ap (λ xs. and_then (action_in st f) xs)
     (trace_by q events e (and_then (action_in q e) []) (λ p ran'. trace_and p q events e ran') (step st f) ran)
     ∙ and_then_append (action_in st f) (trace_next (step st f) (λ (p : State). trace_of_run p events)) (and_then (action_in q e) [])
+
+-- what was found so far, with the record at a place
+pub one_record : (records : List Numbered) (place : ℕ) (d : Numbered) (last : Act) (o : Option Action) (trace more : List Action)
+    → place < length records → trace_of_records records ≡ trace ++ trace_after last (drop place records)
+    → o ≡ action_of last (get_or records place d).record.act → more ≡ trace ++ and_then o []
+    → trace_of_records records ≡ more ++ trace_after (get_or records place d).record.act (drop (place + 1) records)
+one_record records place d last o trace more within before found more_is =
+    let later : List Action = trace_after (get_or records place d).record.act (drop (place + 1) records) in
+    let one : suc place ≡ place + 1 = omega arith in
+    let next : drop place records ≡ get_or records place d ∷ drop (place + 1) records =
+    drop-cons records place d within ∙ ap (λ n. get_or records place d ∷ drop n records) one in
+    before ∙ ap (λ rs. trace ++ trace_after last rs) next ∙ ap (λ p. trace ++ and_then p later) (sym found)
+    ∙ ap (λ xs. trace ++ xs) (and_then_append o [] later) ∙ sym (append_assoc trace (and_then o []) later) ∙ ap (λ xs. xs ++ later) (sym more_is)
 
 -- A history with one event more
 
