@@ -1,4 +1,4 @@
--- Which exchange the caller made, by what the call answers. Part of the promises.
+-- Which exchange the caller made, by what the call answers.
 use Rattle.std.specs.Prelude.{◌≡◌, ℕ, ◌^◌, true, false, [], ◌∷◌}
 use Rattle.claims.specs.{declared.answers.{Posted.{Posted, TheVariants.{Wake, Quiet, Worn}}, Claimed.{Claimed, TheVariants.{Held, Busy}}, Released.{Released, TheVariants.{Wake as ReleaseWakes, Quiet as ReleaseQuiet}}, Adopted.{Adopted as AdoptAnswer, TheVariants.{Adopted, NotFree}}}, Seats.{SeatState, account_at, posts_of, HoldsNot, Adds}}
 use Rattle.claims.specs.declared.view.Exchange.TheVariants as exchange

@@ -1,5 +1,4 @@
--- What `open` refuses, and what it leaves; and what follows from the claim rule for all seats together, in plain
--- terms. Part of the promises.
+-- What `open` refuses, and what it leaves; and what follows from the claim rule for all seats together, in plain terms.
 use Rattle.std.specs.Prelude.{◌≡◌, ◌↔◌, ℕ, ◌+◌, ◌<◌, ◌≤◌, ◌⊎◌, true, false, List, map, replicate, All, sum_by, if◌then◌else◌, slice_index, slice_index_or}
 use Rattle.claims.specs.{declared.view.{Account.Account, View.View}, Words.{one, some_wait, word_of, WordState}, Views.{blank, column}, Rule.ClaimRule, Seats.{SeatState, view_of}}
 

@@ -1,5 +1,5 @@
--- The claim rule, and what one step does. Part of the promises. The rule is true of all words and of the views of all
--- seats between any two steps, in every schedule.
+-- The claim rule, and what one step does. The rule is true of all words and of the views of all seats between any two
+-- steps, in every schedule.
 use Rattle.std.specs.Prelude.{◌≡◌, ℕ, ◌+◌, ◌^◌, ◌<◌, ◌≤◌, ◌==◌, true, List, [], ◌∷◌, ◌++◌, length, All, sum_by, if◌then◌else◌, slice_index, slice_index_or, slice_set}
 use Rattle.claims.specs.{declared.view.{Account.Account, Exchange.Exchange, View.View}, Words.{WordState, StepKind, post, claim, adopt, word_of, word_after, made, kind_of}, Views.{blank, after, accounts_of, trace_in, traces_at}}
 use mathlib.Core.Option.{some}

@@ -1,4 +1,4 @@
--- What callers see of a seat, and how a call changes it. Part of the promises.
+-- What callers see of a seat, and how a call changes it.
 use Rattle.std.specs.Prelude.{◌≡◌, ◌≢◌, ℕ, ◌^◌, ◌≤◌, Bool, true, false, List, [], ◌++◌, map, length, sum_by, slice_index_or}
 pub use Rattle.atomic_table.specs.Seated.{TableId}
 use Rattle.claims.specs.{declared.view.{Account.Account, Exchange.Exchange, View.View}, Words.StepKind, Views.{account_of, accounts_of, unused_view}, Rule.KeepsRule}

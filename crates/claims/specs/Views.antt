@@ -1,5 +1,4 @@
--- What a seat has done. Part of the promises. Its trace of a slot is the list of its exchanges there, and its account
--- what they say.
+-- What a seat has done. Its trace of a slot is the list of its exchanges there, and its account what they say.
 use Rattle.std.specs.Prelude.{ℕ, ◌+◌, true, false, List, [], ◌∷◌, map, replicate, slice_index_or}
 use Rattle.claims.specs.{declared.view.{Account.Account, Exchange.{Exchange, TheVariants.{Post, Busy, Held, Take, Release, Retire, Adopted, NotFree}}, View.View}, Words.{one, some_wait}}
 

@@ -1,5 +1,5 @@
--- The claim word of a slot, how a step of each kind changes it, and which exchange that is. Part of the promises. This
--- file stands alone, so that a model of the server can describe its own steps with the same words.
+-- The claim word of a slot, how a step of each kind changes it, and which exchange that is. This file stands alone, so
+-- that a model of the server can describe its own steps with the same words.
 use Rattle.std.specs.Prelude.{ℕ, zero, suc, ◌+◌, ◌*◌, Bool, true, false, if◌then◌else◌}
 use Rattle.claims.specs.declared.view.Exchange.{Exchange, TheVariants.{Post, Busy, Held, Take, Release, Retire, Adopted, NotFree}}
 

@@ -1,4 +1,4 @@
--- What a thread does at a slot, act by act. Part of the promises.
+-- What a thread does at a slot, act by act.
 use Rattle.std.specs.Prelude.{◌≡◌, ℕ, Bool, if◌then◌else◌, List, [], ◌∷◌}
 
 -- `Claim`, `TakeNotes`, `Post`, `Release`, `Retire`, `Adopt` and `Discard`, a take whose notes are thrown away, are exchanges

@@ -1,5 +1,4 @@
--- What a thread has in hand: the tickets and the free slots that it has put into no queue yet, oldest first. Part of
--- the promises.
+-- What a thread has in hand: the tickets and the free slots that it has put into no queue yet, oldest first.
 use Rattle.std.specs.Prelude.{◌≡◌, ℕ, ◌-◌, ◌<◌, ◌≤◌, List, [], length}
 use Rattle.ready.specs.declared.ticket.Ticket.{Ticket}
 

@@ -1,4 +1,4 @@
--- Which tickets a poller's thread leaves to the workers. Part of the promises.
+-- Which tickets a poller's thread leaves to the workers.
 use Rattle.std.specs.Prelude.{ℕ, ◌-◌, List, slice_index, slice_set}
 
 -- the heavy marks after a ticket of this slot was looked at: the slot has one less, if it had any

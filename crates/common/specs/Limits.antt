@@ -1,4 +1,4 @@
--- Numbers of the server that clauses name. Part of the promises.
+-- Numbers of the server that clauses name.
 use Rattle.std.specs.Prelude.{ℕ}
 
 -- the most own turns of a poller after a round

@@ -1,5 +1,5 @@
 -- What a thread had to put into a queue so far: what its end of the queue has put, and then what is in hand for that
--- queue. Part of the promises. While this list stays as it is, nothing of it is lost, doubled or moved.
+-- queue. While this list stays as it is, nothing of it is lost, doubled or moved.
 use Rattle.std.specs.Prelude.{◌≡◌, ◌⊎◌, ℕ, List, [], ◌∷◌, ◌++◌, drop, map}
 use Rattle.ready.specs.{declared.{history.History.History, ticket.Ticket.Ticket}, Steps.{EndState, PutLast, HeldOnce}}
 use Rattle.common.specs.{Hands.HandState, declared.shared.Own.Own}

@@ -1,4 +1,4 @@
--- What is said of a thread's seat: it is fresh, worn or at rest, or holds one slot. Part of the promises.
+-- What is said of a thread's seat: it is fresh, worn or at rest, or holds one slot.
 use Rattle.std.specs.Prelude.{◌≡◌, ◌≢◌, ℕ, ◌^◌, List, length, replicate}
 use Rattle.claims.specs.Seats.{SeatState, TableId, fresh_seat, posts_of, Holds, HoldsNot, HoldsNothing}
 use Rattle.common.specs.declared.faults.ServerFault.{ServerFault}

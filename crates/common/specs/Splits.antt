@@ -1,5 +1,5 @@
--- Which slots are a poller's. Part of the promises. All are dealt in parts of one size, one after the other, and the
--- last part has what is left.
+-- Which slots are a poller's. All are dealt in parts of one size, one after the other, and the last part has what is
+-- left.
 use Rattle.std.specs.{Prelude.{ℕ, ◌*◌, ◌+◌, ◌-◌, ◌/◌, ◌<◌, ◌≤◌, min, List, map}, List.range_with_len}
 use Rattle.common.specs.declared.split.Part.{Part}
 

@@ -1,5 +1,5 @@
 -- What a front shows, what the statistics count of a connection, what is logged of one that could not be opened, and
--- what the errors of accept(2) mean to the relay. Part of the promises.
+-- what the errors of accept(2) mean to the relay.
 use Rattle.std.specs.Prelude.{◌≡◌, ℕ, Bool, List, codes}
 use Rattle.std.specs.declared.io.ErrorKind.{ErrorKind, TheVariants.{Interrupted, ConnectionAborted, NetworkDown, NetworkUnreachable, HostUnreachable, WouldBlock}}
 use Rattle.relay_core.specs.Pairs.{PairState, verdict}

@@ -1,4 +1,4 @@
--- What errors of read(2), write(2), connect(2) and shutdown(2) mean, and what a wire counts. Part of the promises.
+-- What errors of read(2), write(2), connect(2) and shutdown(2) mean, and what a wire counts.
 use Rattle.std.specs.{Prelude.{Bool, true, false, not, ◌&&◌, if◌then◌else◌, ℕ, ◌+◌, ◌%◌, ◌^◌}, declared.io.ErrorKind.{ErrorKind, TheVariants.{ConnectionReset, BrokenPipe, ConnectionAborted, ConnectionRefused, NotConnected, TimedOut, WouldBlock, Interrupted, Other}}}
 use Rattle.relay_core.specs.{declared.{Kind.Kind, call.{Call.Call, CallKind.{CallKind, TheVariants.Shut}}}, Calls.kind_of}
 use Rattle.engine.specs.declared.class.Class.{Class}

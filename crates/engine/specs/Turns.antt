@@ -1,4 +1,4 @@
--- What a turn does, as the pair's run over the answers of two wires. Part of the promises.
+-- What a turn does, as the pair's run over the answers of two wires.
 use Rattle.std.specs.{Prelude.{◌≡◌, ℕ, ◌+◌, ◌≤◌, Bool, true, false, ◌&&◌, if◌then◌else◌, List, [], ◌∷◌, ◌++◌, length, OnSome, unwrap_or, option_map, Option, Some, None}, declared.io.ErrorKind.ErrorKind, Io.KnownBytes.{Consumes, Appends}}
 use Rattle.relay_core.specs.{declared.{Side.{Side, TheVariants.{Client, Target}}, Direction.Direction, Kind.{Kind, TheVariants.Zero}, call.Call.Call, verdict.{Fault.{Fault, TheVariants.{Broken, Idle}}, Verdict.Verdict}}, Calls.{side_of, direction_of}, Pairs.{PairState, verdict}, Order.{next_call, offer}, Replies.{AnswerValue, Bytes, End, Wrote, Joined, Shut, Blocked, Interrupted, Failed}, Runs.{answered, over, all_brought, all_carried}, Idle.expired, Laws.IsOverdue}
 use Rattle.engine.specs.{Classes.kind_of_error, Wires.{Asked, Given, Brought, Took, Done, Refused, WireView, Rises}, declared.outcome.Turn.Turn}

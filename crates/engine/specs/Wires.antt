@@ -1,4 +1,4 @@
--- What a call asks of a wire, what it gives, and what it does to the wire. Part of the promises.
+-- What a call asks of a wire, what it gives, and what it does to the wire.
 use Rattle.std.specs.{Prelude.{ℕ, List, ◌≡◌, ◌⊎◌, ◌+◌, ◌%◌, ◌^◌, ◌≤◌, [], length, take, MatchResult, Option, None, Result, Ok, Err, ◌∷◌, ◌++◌}, declared.io.{ErrorKind.ErrorKind, Error.Error}, IoError.error_kind, Io.KnownBytes.{Consumes, Keeps}}
 use Rattle.engine.specs.declared.scripted.Play.{Play, TheVariants.Bytes}
 

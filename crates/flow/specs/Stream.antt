@@ -1,6 +1,6 @@
--- One direction of a connection, as the relay keeps it. Part of the promises. `lead` is the rest of the bytes that go
--- out first, `ring` the bytes that were read at the source and not yet written at the destination, oldest first.
--- `end_seen` says that the source's end of input was seen, `shut` that a shutdown passed it on.
+-- One direction of a connection, as the relay keeps it. `lead` is the rest of the bytes that go out first, `ring` the
+-- bytes that were read at the source and not yet written at the destination, oldest first. `end_seen` says that the
+-- source's end of input was seen, `shut` that a shutdown passed it on.
 use Rattle.std.specs.Prelude.{ℕ, ◌-◌, Bool, true, false, List, [], ◌∷◌, ◌++◌, length, drop}
 
 pub record Stream : Type 0 where

@@ -1,4 +1,4 @@
--- How a text is cut into pieces, and which texts are numbers. Part of the promises.
+-- How a text is cut into pieces, and which texts are numbers.
 use Rattle.std.specs.{Prelude.{◌≡◌, ℕ, ◌+◌, ◌<◌, ◌≤◌, List, ◌++◌, length, Option, ◌-◌, ◌*◌, ◌^◌, ◌==◌, nat_lt, nat_le, Bool, true, false, not, ◌&&◌, if◌then◌else◌, [], ◌∷◌, fold, Some, None}, Io.KnownBytes.{Consumes, IsAtEnd}, List.{slice_split, list_all}}
 
 -- the most bytes of a script

@@ -1,6 +1,6 @@
 -- The exchanges of the slot's word with their answers; when a state of the threads and one of the machine are alike;
--- and the law. Part of the promises. The machine has one slot. It makes an opening in one event, and the threads make
--- seven acts: until the last of these the machine is ahead.
+-- and the law. The machine has one slot. It makes an opening in one event, and the threads make seven acts: until the
+-- last of these the machine is ahead.
 use Rattle.std.specs.{Prelude.{◌≡◌, ◌≢◌, ℕ, ◌≤◌, ◌==◌, ◌&&◌, true, false, if◌then◌else◌, List, [], ◌∷◌, ◌++◌, map, replicate, slice_get, drop, Option, Some, None, option_map, option_and_then, unwrap_or, length}, List.flat_map}
 use Rattle.token.specs.declared.name.Name.{Name}
 use Rattle.kernel_model.specs.{declared.{reply.Reply.Reply, both.Descriptors.Descriptors}, Ends.is_nonempty}

@@ -1,6 +1,6 @@
--- Left alone, the threads come to rest. Part of the promises. A state has a weight, a number that each step of the
--- relay's own makes smaller. What a step uses up weighs more than all that it may bring about: so each weight is 1, for
--- the step, and the weight of what may come of it.
+-- Left alone, the threads come to rest. A state has a weight, a number that each step of the relay's own makes smaller.
+-- What a step uses up weighs more than all that it may bring about: so each weight is 1, for the step, and the weight
+-- of what may come of it.
 use Rattle.std.specs.{List.list_all, Prelude.{◌≡◌, ℕ, ◌+◌, ◌*◌, ◌<◌, ◌≤◌, Bool, true, false, not, ◌&&◌, nat_lt, nat_le, max, if◌then◌else◌, List, [], ◌∷◌, length, slice_get, Option, Some, None, ◌⊎◌}}
 use Rattle.token.specs.{declared.direction.Direction.Direction, Names.last_generation, Sides.{destination, opposite}}
 use Rattle.flow.specs.Stream.{Stream, waiting}

@@ -1,5 +1,5 @@
--- A server of many slots and pollers, and the law that each of its slots can be looked at alone. Part of the promises.
--- What is done at a slot is a step of `System`, which has one slot (`Threads.antt`). Here is only what slots share.
+-- A server of many slots and pollers, and the law that each of its slots can be looked at alone. What is done at a slot
+-- is a step of `System`, which has one slot (`Threads.antt`). Here is only what slots share.
 use Rattle.std.specs.{Prelude.{◌≡◌, ◌≢◌, ℕ, ◌+◌, ◌-◌, ◌<◌, ◌≤◌, ◌==◌, Bool, true, false, not, ◌&&◌, ◌||◌, nat_lt, nat_le, if◌then◌else◌, List, [], ◌∷◌, ◌++◌, length, map, drop, get_or, slice_get, Option, Some, None, option_map, option_and_then, unwrap_or, IfSome, Vec}, Global.Global, Option.is_none, List.list_any}
 use Rattle.token.specs.declared.{side.Side.Side, name.Name.Name}
 use Rattle.kernel_model.specs.{declared.{reply.Reply.Reply, accepting.Accepting.{Accepting, TheVariants.{Accepted, Blocked, Again, Starved}}}, Outcome.guard, Names.{has, without_names}}

@@ -1,6 +1,6 @@
--- The threads of the server at one slot. Part of the promises. First come the programs of a turn and of an opening, as
--- lists of atomic acts; then what the threads share (the slot's word, its place, the queues and the kernel), and what
--- each act does to that. Acts of different threads come in any order.
+-- The threads of the server at one slot. First come the programs of a turn and of an opening, as lists of atomic acts;
+-- then what the threads share (the slot's word, its place, the queues and the kernel), and what each act does to that.
+-- Acts of different threads come in any order.
 use Rattle.std.specs.{Global.Global, Prelude.{◌≡◌, Vec, ℕ, zero, suc, ◌+◌, ◌-◌, ◌==◌, Bool, true, false, not, ◌&&◌, nat_lt, nat_le, if◌then◌else◌, List, [], ◌∷◌, ◌++◌, length, replicate, slice_get, slice_set, Option, Some, None, option_map, option_and_then}, Option.is_none}
 use Rattle.token.specs.{declared.{side.Side.{Side, TheVariants.{Client, Target}}, name.Name.Name}, Names.EndName}
 use Rattle.kernel_model.specs.{declared.{reply.Reply.Reply, watched.Watched.Watched, accepting.Accepting.{Accepting, TheVariants.{Accepted, Blocked, Again, Starved}}, both.{Descriptors.Descriptors, Sockets.Sockets}}, Outcome.{guard, Told}, Kernel.KernelState}

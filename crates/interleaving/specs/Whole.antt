@@ -1,5 +1,5 @@
--- A whole server, left alone, comes to rest. Part of the promises. What a server weighs is what each of its slots weighs
--- (`Rest.antt`), twice, since a step at a slot may leave a ticket in a hand; and what slots share.
+-- A whole server, left alone, comes to rest. What a server weighs is what each of its slots weighs (`Rest.antt`),
+-- twice, since a step at a slot may leave a ticket in a hand; and what slots share.
 use Rattle.std.specs.{Prelude.{◌≡◌, ℕ, ◌+◌, ◌*◌, ◌<◌, ◌≤◌, Bool, true, false, not, nat_lt, nat_le, List, length, Some}, List.list_all, Option.is_none}
 use Rattle.claims.specs.Words.{one}
 use Rattle.world.specs.{declared.limits.Limits.Limits, States.numbers_below, Support.total}

@@ -1,6 +1,6 @@
--- The threads at one slot over wires that rest, and what that is without such wires. Part of the promises. In `System` the
--- kernel answers each call. Here a wire answers reads by itself once one would block, until a report that names reading was
--- passed on to it (`Machine.antt` of `readiness`). Without such wires, what comes meanwhile is late.
+-- The threads at one slot over wires that rest, and what that is without such wires. In `System` the kernel answers
+-- each call. Here a wire answers reads by itself once one would block, until a report that names reading was passed on
+-- to it (`Machine.antt` of `readiness`). Without such wires, what comes meanwhile is late.
 use Rattle.std.specs.{Prelude.{◌≡◌, ◌≢◌, ℕ, ◌-◌, ◌==◌, Bool, true, false, not, ◌&&◌, ◌||◌, if◌then◌else◌, List, [], ◌∷◌, ◌++◌, length, map, slice_get, Option, Some, None, option_map, option_and_then, unwrap_or, Vec}, Global.Global, Option.{is_none, is_some}, List.{flat_map, list_all}}
 use Rattle.token.specs.declared.{side.Side.{Side, TheVariants.{Client, Target}}, name.Name.{Name, TheVariants.{Listener, Waker, End}}}
 use Rattle.kernel_model.specs.{declared.{reply.Reply.Reply, both.Descriptors.Descriptors}, Outcome.guard, Ends.{is_readable}, Kernel.{KernelState, Registered, end_at}, Names.has}

@@ -1,5 +1,5 @@
--- One end of a connection. Part of the promises. It is a non-blocking stream socket as the kernel keeps it, and what
--- the network does to it (epoll(7), read(2), write(2), shutdown(2)).
+-- One end of a connection. It is a non-blocking stream socket as the kernel keeps it, and what the network does to it
+-- (epoll(7), read(2), write(2), shutdown(2)).
 use Rattle.std.specs.Prelude.{◌≡◌, ℕ, Bool, true, false, not, ◌&&◌, ◌||◌, nat_lt, List, [], ◌++◌, length, Option}
 use Rattle.token.specs.declared.side.Side.{Side, TheVariants.{Client, Target}}
 use Rattle.kernel_model.specs.Outcome.{guard, Told}

@@ -1,5 +1,5 @@
--- The kernel of one process. Part of the promises. It watches its sockets with edge triggering (epoll(7)): the open
--- ends by descriptor, the names that are queued for the next poll, and the listening socket.
+-- The kernel of one process. It watches its sockets with edge triggering (epoll(7)): the open ends by descriptor, the
+-- names that are queued for the next poll, and the listening socket.
 use Rattle.std.specs.{Prelude.{ℕ, ◌+◌, ◌-◌, ◌==◌, Bool, true, false, not, ◌&&◌, ◌||◌, nat_lt, nat_le, if◌then◌else◌, List, [], ◌∷◌, ◌++◌, length, slice_get, slice_set, position, Option, Some, None, option_map, option_and_then, unwrap_or}, Option.{is_none, option_flatten}}
 use Rattle.token.specs.{declared.name.Name.{Name, TheVariants.{Listener, Waker, End}}, Names.EndName}
 use Rattle.kernel_model.specs.{declared.{watched.Watched.Watched, accepting.Accepting.{Accepting, TheVariants.{Accepted, Blocked, Again, Starved}}, reply.Reply.Reply, both.{Descriptors.Descriptors, Sockets.Sockets}}, Outcome.{guard, Told}, Ends.{EndState, opened, is_readable, is_writable, arrival, finish, failure, new_room}, Replies.{after_read, after_write, after_join, after_shut}, Names.{has, with_name, without_name, without_names, are_distinct, are_among}}

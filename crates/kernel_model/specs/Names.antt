@@ -1,4 +1,4 @@
--- The names that a readiness queue holds, as a set: a list in which no two are equal. Part of the promises.
+-- The names that a readiness queue holds, as a set: a list in which no two are equal.
 use Rattle.std.specs.{Prelude.{◌==◌, Bool, true, false, not, ◌&&◌, if◌then◌else◌, List, [], ◌∷◌, ◌++◌}, List.{list_any, list_all, filter}}
 use Rattle.token.specs.{declared.name.Name.{Name, TheVariants.{Listener, Waker, End}}, Names.EndName, Sides.side_number}
 

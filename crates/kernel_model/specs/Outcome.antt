@@ -1,4 +1,4 @@
--- How the result of a call fits the value that a definition gives, if it gives one. Part of the promises.
+-- How the result of a call fits the value that a definition gives, if it gives one.
 use Rattle.std.specs.Prelude.{◌≡◌, Bool, Option, Some, None, IsSome, Result, Ok, Err, if◌then◌else◌}
 use Rattle.kernel_model.specs.declared.refusal.Refusal.{Refusal, TheVariants.{NotAllowed, NoMemory}}
 

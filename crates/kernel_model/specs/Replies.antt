@@ -1,5 +1,5 @@
--- Which replies an end may give to each call, and the end after the call. Part of the promises. None for a reply that
--- the end may not give. Interrupted and a failure leave the end as it is. Only a write can fail by taking 0 bytes.
+-- Which replies an end may give to each call, and the end after the call. None for a reply that the end may not give.
+-- Interrupted and a failure leave the end as it is. Only a write can fail by taking 0 bytes.
 use Rattle.std.specs.Prelude.{ℕ, Bool, true, false, not, ◌&&◌, nat_lt, nat_le, List, ◌++◌, length, take, drop, Option, Some, None}
 use Rattle.token.specs.declared.kind.Kind.{Kind, TheVariants.Zero}
 use Rattle.kernel_model.specs.{declared.reply.Reply.{Reply, TheVariants.{Bytes, End, Wrote, Joined, Shut, Blocked, Interrupted, Failed}}, Outcome.guard, Ends.{EndState, is_nonempty, is_readable, is_writable}}

@@ -1,4 +1,4 @@
--- What a settings file sets, or what is wrong with it, by its bytes. Part of the promises.
+-- What a settings file sets, or what is wrong with it, by its bytes.
 use Rattle.std.specs.{Prelude.{ℕ, ◌<◌, ◌≤◌, List, length, ◌≡◌, ◌⊎◌}, declared.io.ErrorKind.{ErrorKind, TheVariants.OutOfMemory}}
 use Rattle.settings.specs.{Document.{IsSettingsOf, IsFaultOf}, declared.{fields.Settings.Settings, faults.SettingsFault.SettingsFault}}
 use Rattle.program.specs.declared.faults.{ConfigFault.ConfigFault, ProgramFault.{ProgramFault, TheVariants.{Config, Argument, Number, NoNumber, Connection, Timeline}}, ArgumentsFault.{ArgumentsFault, TheVariants.{NoMemory, NotText}}}

@@ -1,6 +1,6 @@
--- What is on its way from one socket to its wire, and that the wire misses nothing. Part of the promises. A poller takes
--- the socket's reports from the system (epoll(7), edge-triggered), and passes on to the wire those that name reading,
--- while any thread makes the wire's calls. The socket is an end of the modelled kernel.
+-- What is on its way from one socket to its wire, and that the wire misses nothing. A poller takes the socket's reports
+-- from the system (epoll(7), edge-triggered), and passes on to the wire those that name reading, while any thread makes
+-- the wire's calls. The socket is an end of the modelled kernel.
 use Rattle.std.specs.Prelude.{◌≡◌, ◌⊎◌, ℕ, Bool, true, false, not, ◌&&◌, ◌||◌, List, [], ◌∷◌, ◌++◌, Contains, Option, Some, None, option_map, option_and_then}
 use Rattle.token.specs.declared.side.Side.{Side}
 use Rattle.kernel_model.specs.{Outcome.{guard, Told}, Ends.{EndState, opened, is_readable, is_writable, arrival, finish, failure, new_room}, Replies.{after_read, after_write, after_join, after_shut}, declared.reply.Reply.Reply}

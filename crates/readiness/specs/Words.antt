@@ -1,5 +1,4 @@
--- The words at which reports are passed on. Part of the promises. Each end of each slot's connection has one of its
--- own.
+-- The words at which reports are passed on. Each end of each slot's connection has one of its own.
 use Rattle.std.specs.{Prelude.{ℕ, nat_lt, if◌then◌else◌, List, map, Option, Some, None}, List.range_with_len}
 use Rattle.token.specs.declared.side.Side.{Side, TheVariants.{Client, Target}}
 

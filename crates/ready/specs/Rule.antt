@@ -1,5 +1,5 @@
--- The queue rule. Part of the promises. It is what is true of a queue's items and of what each end has put and taken,
--- between any two steps, in every schedule.
+-- The queue rule. It is what is true of a queue's items and of what each end has put and taken, between any two steps,
+-- in every schedule.
 use Rattle.std.specs.{Prelude.{◌≡◌, ℕ, ◌<◌, ◌==◌, nat_lt, if◌then◌else◌, true, false, List, [], ◌∷◌, ◌++◌, length, All, sum_by}, List.AllPairs}
 use Rattle.ready.specs.declared.history.History.{History}
 use mathlib.Core.Option.{some}

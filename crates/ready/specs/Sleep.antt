@@ -1,6 +1,6 @@
--- How the ends of a queue sleep and wake. Part of the promises. Each thread has one end. First comes what an end is
--- about to do, and what the others can see of it; then what each atomic act does, and which act follows by what it found.
--- Acts of different ends come in any order.
+-- How the ends of a queue sleep and wake. Each thread has one end. First comes what an end is about to do, and what the
+-- others can see of it; then what each atomic act does, and which act follows by what it found. Acts of different ends
+-- come in any order.
 use Rattle.std.specs.Prelude.{◌≡◌, ◌⊎◌, ◌<◌, ◌≤◌, ◌+◌, ℕ, zero, suc, Bool, true, false, not, ◌&&◌, nat_lt, nat_le, if◌then◌else◌, List, [], ◌∷◌, length, replicate, get_or, slice_set, sum_by}
 
 -- The next act of an end. `Rest`: it is in no call. `Wake`: it has a wake in hand, for an item in the queue, and reads

@@ -1,5 +1,5 @@
 -- What a call shows the end that made it. No clause can name what other threads do. So the call shows some state that
--- meets the rule and has the end's own history. Part of the promises.
+-- meets the rule and has the end's own history.
 use Rattle.std.specs.{Prelude.{◌≡◌, ℕ, ◌+◌, ◌^◌, ◌==◌, Bool, not, bit_and, true, false, List, [], ◌∷◌, ◌++◌, length, map, slice_set}, List.range_with_len}
 use Rattle.ready.specs.{declared.history.History.History, Rule.QueueRule}
 use mathlib.Core.Option.{some}

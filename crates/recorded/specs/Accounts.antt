@@ -1,5 +1,4 @@
--- What a connection has come to, by its acts from its opening on: its turns, and what was done with its ends. Part of the
--- promises.
+-- What a connection has come to, by its acts from its opening on: its turns, and what was done with its ends.
 use Rattle.std.specs.{Prelude.{◌≡◌, ◌-◌, ℕ, Bool, true, false, not, ◌&&◌, ◌||◌, nat_lt, min, if◌then◌else◌, List, [], ◌∷◌, Option, Some, None, sum_by}, List.list_any, Option.{option_or, unwrap_or}}
 use Rattle.token.specs.{declared.side.Side.{Side, TheVariants.{Client, Target}}}
 use Rattle.relay_core.specs.declared.{call.CallKind.CallKind, verdict.Fault.{Fault, TheVariants.Broken}}

@@ -1,5 +1,5 @@
--- Which records stay of a file that begins after a count: the others follow what is in a file before it. In each list the last
--- record comes first. Part of the promises.
+-- Which records stay of a file that begins after a count: the others follow what is in a file before it. In each list
+-- the last record comes first.
 use Rattle.std.specs.Prelude.{◌≡◌, ◌<◌, ℕ, Bool, true, false, ◌&&◌, ◌||◌, ◌==◌, List, [], ◌∷◌, length, nat_lt, slice_get, unwrap_or}
 use Rattle.records.specs.declared.act.{Record.Record, Act.{Act, TheVariants.{Poller, Begin, End, Wire}}, Polling.{Polling, TheVariants.{Gave, Interrupted, Failed, Open}}}
 use Rattle.recorded.specs.declared.beginning.Beginning.{Beginning}

@@ -1,4 +1,4 @@
--- When things happened to a connection, by its reports, its turns and what was done with its ends. Part of the promises.
+-- When things happened to a connection, by its reports, its turns and what was done with its ends.
 use Rattle.std.specs.{Prelude.{◌≡◌, ◌-◌, ℕ, Bool, true, false, if◌then◌else◌, max, nat_lt, List, [], ◌∷◌, Option, Some, None}}
 use Rattle.token.specs.declared.{name.Name.TheVariants.End, side.Side.{Side, TheVariants.{Client, Target}}}
 use Rattle.records.specs.declared.act.{Act.Act, Answer.Answer}

@@ -1,4 +1,4 @@
--- What one thread at a time does is one act after another. Part of the promises.
+-- What one thread at a time does is one act after another.
 use Rattle.std.specs.{Prelude.{◌≡◌, ◌⊎◌, ◌-◌, ◌<◌, ℕ, Bool, true, false, if◌then◌else◌, List, [], Option, Some, None, slice_get, ◌≤◌, length, nat_lt, slice_index, Vec}, Global.Global}
 use Rattle.records.specs.declared.act.{Record.Record, Act.{Act, TheVariants.Poller}}
 use Rattle.recorded.specs.declared.recording.{Numbered.Numbered, Recording.Recording}

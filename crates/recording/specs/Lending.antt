@@ -1,4 +1,4 @@
--- What a wrapped part is once a borrow of it has ended. Part of the promises.
+-- What a wrapped part is once a borrow of it has ended.
 use Rattle.std.specs.Borrow.{Lends, MutBor, Fml, RattleType}
 use Rattle.recording.specs.contracts.recorder.Inner.{the_row}
 

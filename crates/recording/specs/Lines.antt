@@ -1,4 +1,4 @@
--- Which line of a recording is in which of its files. In each list the last one comes first. Part of the promises.
+-- Which line of a recording is in which of its files. In each list the last one comes first.
 use Rattle.std.specs.Prelude.{◌≡◌, ◌≤◌, ℕ, Bool, true, false, List, [], ◌∷◌, ◌++◌, length, max, codes, Option, Some}
 use Rattle.records.specs.{Parts.Are, Texts.{header_text, record_text}, declared.{act.{Record.Record, Act.{Act, TheVariants.Full}}, header.Header.Header}}
 

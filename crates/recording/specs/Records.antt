@@ -1,4 +1,4 @@
--- What is put into a recording: what a call is recorded as, and which steps that takes. Part of the promises.
+-- What is put into a recording: what a call is recorded as, and which steps that takes.
 use Rattle.std.specs.{Prelude.{ℕ, Bool, true, false, ◌==◌, if◌then◌else◌, List, [], ◌∷◌, ◌++◌, length, Option, Some, None, Result, Ok, Err, ◌≡◌}, declared.io.{Error.Error, ErrorKind.{ErrorKind, TheVariants.Interrupted}}, IoError.error_kind}
 use Rattle.token.specs.{Names.EndName, Numbers.name_of, declared.{name.Name.Name, side.Side.{Side, TheVariants.{Client, Target}}}}
 use Rattle.engine.specs.{Wires.{Asked, Given, Brought, Took, Done, Refused, WireView}, Classes.kind_of_error}

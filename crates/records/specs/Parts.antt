@@ -1,4 +1,4 @@
--- The texts of the files of a recording, where they are known: the last file is the first of the list. Part of the promises.
+-- The texts of the files of a recording, where they are known: the last file is the first of the list.
 use Rattle.std.specs.Prelude.{◌≡◌, ℕ, List, [], ◌∷◌, ◌++◌, Option, Some, None}
 
 -- the texts are known to be these

@@ -1,4 +1,4 @@
--- The lines of a recording, without their line feeds. Part of the promises.
+-- The lines of a recording, without their line feeds.
 use Rattle.std.specs.{Prelude.{ℕ, Bool, if◌then◌else◌, List, [], ◌++◌, Option, Some, None, codes}, Fmt.decimal}
 use Rattle.token.specs.{Names.EndName, Kinds.kind_name, Sides.side_name, declared.name.Name.Name}
 use Rattle.records.specs.declared.{act.{Record.Record, Act.{Act, TheVariants.{Poller, Second, Begin, End, Wire, Ended, Full}}, Polling.Polling, Accepted.Accepted, Opening.Opening, Made.Made, Answer.Answer}, header.Header.Header}

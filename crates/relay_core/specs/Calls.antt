@@ -1,4 +1,4 @@
--- The calls that the relay makes on a connection's two sockets. Part of the promises.
+-- The calls that the relay makes on a connection's two sockets.
 use Rattle.std.specs.Prelude.{ℕ, List, codes}
 use Rattle.token.specs.{declared.{side.Side.Side, direction.Direction.Direction}, Sides.{inward, outward}}
 use Rattle.relay_core.specs.declared.call.{Call.{Call, TheVariants.{Write, Join, Shut, Read}}, CallKind.{CallKind, TheVariants.{Write as WriteKind, Join as JoinKind, Shut as ShutKind, Read as ReadKind}}}

@@ -1,5 +1,4 @@
--- The idle limit: when a pair that moves nothing fails. Part of the promises. Seconds are of one clock. A limit of 0
--- never passes.
+-- The idle limit: when a pair that moves nothing fails. Seconds are of one clock. A limit of 0 never passes.
 use Rattle.std.specs.{Prelude.{ℕ, ◌-◌, Bool, ◌&&◌, nat_lt, nat_le, if◌then◌else◌, Some}, Option.is_none}
 use Rattle.relay_core.specs.{declared.verdict.Fault.TheVariants.Idle, Pairs.{PairState, verdict, is_live}, Order.next_call}
 

@@ -1,4 +1,4 @@
--- The laws of every pair. Part of the promises.
+-- The laws of every pair.
 use Rattle.std.specs.Prelude.{◌≡◌, ◌↔◌, ℕ, ◌-◌, ◌≤◌, ◌⊎◌, true, false, List, [], ◌++◌, length, map, Some, None}
 use Rattle.token.specs.{declared.{direction.Direction.Direction, kind.Kind.Kind}, Sides.{source, destination, inward, outward}}
 use Rattle.flow.specs.Stream.{Stream, free_room, waiting}

@@ -1,4 +1,4 @@
--- The crate's definitions. The first line of each file says whether the promises need it.
+-- The crate's definitions. A file that the promises do not need says so at its head.
 pub mod Calls
 pub mod Pairs
 pub mod Order

@@ -1,4 +1,4 @@
--- The order of work: which call comes next. Part of the promises.
+-- The order of work: which call comes next.
 use Rattle.std.specs.{Prelude.{ℕ, Bool, not, ◌&&◌, nat_lt, min, if◌then◌else◌, List, length, Option, Some, None}, Option.option_or}
 use Rattle.token.specs.{declared.{side.Side.Side, direction.Direction.Direction}, Sides.{source, destination, opposite, inward}}
 use Rattle.flow.specs.Stream.{Stream, free_room, waiting, front}

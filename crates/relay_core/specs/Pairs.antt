@@ -1,5 +1,4 @@
--- One connection, as the relay keeps it. Part of the promises. It has a stream of bytes for each direction, and flags
--- for each side's socket.
+-- One connection, as the relay keeps it. It has a stream of bytes for each direction, and flags for each side's socket.
 use Rattle.std.specs.Prelude.{ℕ, Bool, true, false, ◌&&◌, List, [], Option, Some, None}
 use Rattle.token.specs.declared.{side.Side.{Side, TheVariants.{Client, Target}}, direction.Direction.{Direction, TheVariants.{Up, Down}}}
 use Rattle.flow.specs.Stream.{Stream, empty_stream}

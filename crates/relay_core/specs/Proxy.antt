@@ -1,5 +1,5 @@
--- The line that gives a target its client's address. Part of the promises. The line is of the PROXY protocol, version
--- 1, for TCP over IPv4, and goes out before the client's own bytes.
+-- The line that gives a target its client's address. The line is of the PROXY protocol, version 1, for TCP over IPv4,
+-- and goes out before the client's own bytes.
 use Rattle.std.specs.Prelude.{ℕ, List, ◌++◌, slice_index, codes, decimal}
 
 -- the four numbers of an address in decimal, joined by dots

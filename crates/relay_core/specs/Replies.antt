@@ -1,4 +1,4 @@
--- What a socket may answer to a call, and what each answer does to the pair. Part of the promises.
+-- What a socket may answer to a call, and what each answer does to the pair.
 use Rattle.std.specs.Prelude.{ℕ, ◌+◌, ◌-◌, ◌^◌, Bool, true, false, ◌&&◌, nat_le, min, if◌then◌else◌, List, length, Some}
 use Rattle.token.specs.{declared.{kind.Kind.Kind, direction.Direction.Direction}, Sides.opposite}
 use Rattle.flow.specs.Stream.{Stream, taken_in, dropped, ended, closed}

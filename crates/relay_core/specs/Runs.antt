@@ -1,5 +1,5 @@
--- Runs: what happens to a pair, in order, and the bytes that reads bring in and writes take out. Part of the promises.
--- Each answer is to the call that comes next at that point.
+-- Runs: what happens to a pair, in order, and the bytes that reads bring in and writes take out. Each answer is to the
+-- call that comes next at that point.
 use Rattle.std.specs.Prelude.{ℕ, List, [], ◌∷◌, Option, Some, None, option_and_then, if◌then◌else◌, Bool, true, false, ◌++◌, take, option_map, unwrap_or}
 use Rattle.relay_core.specs.{declared.call.Call.Call, Pairs.{PairState, stream_of, noted}, Order.next_call, Replies.{AnswerValue, fits, after, Bytes, Wrote}, Calls.direction_of, Idle.{is_overdue, timed_out}}
 use Rattle.token.specs.declared.direction.Direction.{Direction, TheVariants.{Up, Down}}

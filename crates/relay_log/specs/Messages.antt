@@ -1,4 +1,4 @@
--- The exact bytes of the log messages. Part of the promises.
+-- The exact bytes of the log messages.
 use Rattle.std.specs.{Prelude.{ℕ, Bool, true, false, List, [], ◌++◌, codes, Option, Some, None}, Fmt.{decimal, ◌++?◌}}
 use Rattle.log.specs.declared.level.Level.{Level}
 use Rattle.token.specs.{Sides.side_name, Kinds.kind_name}

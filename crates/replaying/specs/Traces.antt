@@ -1,5 +1,5 @@
 -- What records and runs of the machine have in common: openings, turns, calls with their answers, turns that end quiet,
--- and closings. What else a run has, nobody recorded. Part of the promises.
+-- and closings. What else a run has, nobody recorded.
 use Rattle.std.specs.{Prelude.{◌≡◌, ◌⊎◌, ◌+◌, ◌==◌, ◌&&◌, ℕ, Bool, true, false, if◌then◌else◌, List, [], ◌∷◌, ◌++◌, length, All, Option, Some, None, IsSome, slice_get}, Option.is_none}
 use Rattle.token.specs.{Names.EndName, declared.{side.Side.{Side, TheVariants.{Client, Target}}}}
 use Rattle.kernel_model.specs.declared.reply.Reply.{Reply}

@@ -1,4 +1,4 @@
--- What a poller keeps and logs of accepting connections. Part of the promises.
+-- What a poller keeps and logs of accepting connections.
 use Rattle.std.specs.Prelude.{◌≡◌, ℕ, ◌+◌, ◌==◌, ◌||◌, nat_lt, Bool, true, false, List, Option, Some, None, if◌then◌else◌}
 use Rattle.common.specs.declared.cause.Cause.{Cause}
 use Rattle.relay_log.specs.Messages.{drop_message, drops_message}

@@ -1,4 +1,4 @@
--- What accepting and opening connections does to what the poller's thread owns. Part of the promises.
+-- What accepting and opening connections does to what the poller's thread owns.
 use Rattle.std.specs.{Prelude.{◌≡◌, ◌⊎◌, ℕ, ◌+◌, ◌<◌, ◌≤◌, ◌==◌, Bool, true, false, List, [], ◌∷◌, ◌++◌, length, drop, map, Option, Some, None, Result, Ok, Err, replicate, slice_index, slice_set}, List.count_by, declared.net.socket_addr.SocketAddrV4.SocketAddrV4, Net.{Addr.ipv4_octets, Socket.{v4_ip, v4_port}}}
 use Rattle.claims.specs.{declared.view.Exchange.Exchange, Seats.{SeatState, TableId, Adds, HoldsNothing}}
 use Rattle.ready.specs.declared.ticket.Ticket.{Ticket}

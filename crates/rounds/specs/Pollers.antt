@@ -1,4 +1,4 @@
--- What the poller keeps between its rounds, and the numbers of a round that clauses name. Part of the promises.
+-- What the poller keeps between its rounds, and the numbers of a round that clauses name.
 use Rattle.std.specs.Prelude.{◌≡◌, ◌⊎◌, ℕ, ◌+◌, ◌≤◌, min, Bool, List, All, slice_index}
 use Rattle.rounds.specs.declared.{episodes.Episodes.Episodes, opening.Opening.Opening}
 use Rattle.common.specs.{declared.split.Part.Part, Splits.IsIn, Told.Seen}

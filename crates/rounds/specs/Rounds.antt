@@ -1,5 +1,5 @@
 -- What a round of the poller does. Of four states the first two are the poller's, before and after, and the last two
--- what its thread owns. Part of the promises.
+-- what its thread owns.
 use Rattle.std.specs.Prelude.{◌≡◌, ◌≢◌, ◌⊎◌, ◌↔◌, ℕ, ◌+◌, ◌<◌, ◌≤◌, true, false, List, [], ◌++◌, length, Contains, Result, Err}
 use Rattle.ready.specs.{declared.ticket.Ticket.Ticket, Steps.HeldOnce}
 use Rattle.common.specs.{declared.{front.{Route.Route, Unaccepted.Unaccepted, Waiting.Waiting}, places.Berth.Berth, shared.Own.Own, split.Part.Part}, Acts.Made, Hands.{HasRoom, ticket_room}, Outgoing.tickets_out, Posts.{IsWorn, OnlyWorn}}

@@ -1,4 +1,4 @@
--- The faults of a script, and the one line of each. Part of the promises.
+-- The faults of a script, and the one line of each.
 use Rattle.std.specs.{Prelude.{◌≡◌, ℕ, Bool, IsTrue, List, [], ◌∷◌, ◌++◌, codes, take, slice_get, Option, Some, None, Result, Ok, Err}, Fmt.decimal}
 use Rattle.world_text.specs.{declared.word.Word.Word, Words.word_text}
 use Rattle.script.specs.declared.fault.Fault.{Fault, TheVariants.{TooLong, NoWorld, Malformed, NotAllowed, NoMemory}}

@@ -1,4 +1,4 @@
--- The two kinds of scripts, as values. Part of the promises.
+-- The two kinds of scripts, as values.
 use Rattle.std.specs.Prelude.{ℕ, List, map}
 use Rattle.world.specs.declared.{limits.Limits.Limits, event.Event.Event}
 use Rattle.script_text.specs.declared.steps.{NumberedStep.NumberedStep, NumberedEvent.NumberedEvent}

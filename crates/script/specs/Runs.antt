@@ -1,4 +1,4 @@
--- What a run writes, given what its reader had. Part of the promises.
+-- What a run writes, given what its reader had.
 use Rattle.std.specs.{Prelude.{Bool, Result, Ok, ℕ, List, ◌++◌, codes, ◌≡◌, ◌≢◌, ◌⊎◌, [], Option, Some, Err}, Io.KnownBytes.Appends}
 use Rattle.world.specs.{States.{State, opening}, Steps.step, Memory.may_allocate, declared.{limits.Limits.Limits, event.Event.Event}, Runs.run, Headline.HeadlineHolds, Support.SupportHolds}
 use Rattle.script.specs.{declared.{fault.Fault.{Fault, TheVariants.NoMemory}, script.{Script.Script, Reached.Reached}, transfer.Transfer.Transfer}, Plans.{WorldPlan, FlowPlan, events_in}, Scripts.{FlowOf, TakesMemory, parsed, said_by}, Transfers.{run_of, KeepsBytes, KeepsEnd}, Faults.{and_then, or_not_allowed, played, fault_text}}

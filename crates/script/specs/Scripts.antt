@@ -1,4 +1,4 @@
--- The script that a text stands for, or its first fault. Part of the promises.
+-- The script that a text stands for, or its first fault.
 use Rattle.std.specs.Prelude.{ℕ, List, map, ◌≡◌, ◌⊎◌, nat_lt, Bool, false, IsTrue, if◌then◌else◌, [], ◌∷◌, ◌≤◌, length, is_some, Option, Some, None, Result, Ok, Err}
 use Rattle.world.specs.declared.limits.Limits.{Limits}
 use Rattle.script_text.specs.{declared.{steps.{NumberedStep.NumberedStep, NumberedEvent.NumberedEvent}, header.Header.Header}, Texts.{NumberedLine, lines_of, telling_lines}, Headers.header_of, Events.{step_of, Said, said_of, event_of}}

@@ -1,5 +1,4 @@
--- One direction as a machine. Part of the promises. Here are its source, ring and destination, and what each step of a
--- script does to them.
+-- One direction as a machine. Here are its source, ring and destination, and what each step of a script does to them.
 use Rattle.std.specs.Prelude.{ℕ, min, Bool, true, false, not, ◌&&◌, if◌then◌else◌, [], take, Option, None, option_map, Result, ◌≡◌, ◌||◌, List, ◌∷◌, ◌++◌, Ok}
 use Rattle.token.specs.declared.side.Side.TheVariants.{Client, Target}
 use Rattle.flow.specs.Stream.{Stream, empty_stream, free_room, waiting, front, taken_in, dropped, ended, closed}

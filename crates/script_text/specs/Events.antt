@@ -1,4 +1,4 @@
--- The events of a world's script, and the lines that say them. Part of the promises.
+-- The events of a world's script, and the lines that say them.
 use Rattle.std.specs.{Prelude.{ℕ, List, [], ◌∷◌, codes, nat_lt, nat_le, ◌&&◌, if◌then◌else◌, length, Option, Some, None, option_map, option_and_then}, Str.bytes_eq}
 use Rattle.world.specs.declared.event.{Event.Event, Change.Change, Act.Act, Reported.Reported}
 use Rattle.script_text.specs.{declared.steps.Step.Step, Texts.{pieces_of, words_of, number_of, number_below, bytes_of, word_then, if_last, full_of}}

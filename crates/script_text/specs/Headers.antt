@@ -1,5 +1,4 @@
--- The header of a script, which says what the script covers, and its sizes. Part of the promises. It is the first line
--- that is not skipped.
+-- The header of a script, which says what the script covers, and its sizes. It is the first line that is not skipped.
 use Rattle.std.specs.{Prelude.{ℕ, ◌≤◌, nat_lt, nat_le, ◌&&◌, if◌then◌else◌, List, [], ◌∷◌, codes, length, Option, Some, None, option_map, option_and_then}, Str.bytes_eq}
 use Rattle.token.specs.Names.{last_generation}
 use Rattle.world.specs.{declared.limits.Limits.Limits, Leads.{LeadTable, for_all}, States.IsWithinLimits}

@@ -1,4 +1,4 @@
--- How a script is cut into lines and words, and how numbers and bytes are written in it. Part of the promises.
+-- How a script is cut into lines and words, and how numbers and bytes are written in it.
 use Rattle.std.specs.{Prelude.{ℕ, ◌+◌, ◌==◌, nat_lt, nat_le, Bool, true, ◌&&◌, ◌||◌, if◌then◌else◌, List, [], ◌∷◌, length, Option, Some, None, take, drop, option_and_then, ◌≡◌, false, codes, IsSome, option_map, Result, Ok, Err}, List.list_all, Str.bytes_eq, Result.result_ok}
 use Rattle.hex.specs.Hex.{decode_of}
 pub use Rattle.input.specs.Texts.{is_digit, is_plain, number_of, pieces_left, pieces_of, value_of, with_digit}

@@ -1,4 +1,4 @@
--- What a server begins with. Part of the promises.
+-- What a server begins with.
 use Rattle.std.specs.Prelude.{◌≡◌, ℕ, ◌+◌, List, [], ◌∷◌, replicate}
 use Rattle.claims.specs.Seats.{TableId, fresh_seat}
 use Rattle.ready.specs.Steps.{EndState, opened, unused}

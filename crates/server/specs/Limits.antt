@@ -1,4 +1,4 @@
--- The limits of a server. Part of the promises.
+-- The limits of a server.
 use Rattle.std.specs.Prelude.{◌⊎◌, ℕ, ◌<◌, zero, suc, ◌+◌, ◌/◌, ◌%◌, nat_lt, if◌then◌else◌}
 
 -- How many connections the poller with this number may open, of all that the setting `stop_after` allows: with 0 as

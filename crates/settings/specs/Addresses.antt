@@ -1,4 +1,4 @@
--- An IPv4 address with a port, and its one text. Part of the promises.
+-- An IPv4 address with a port, and its one text.
 use Rattle.std.specs.{Prelude.{◌≡◌, ◌≢◌, ℕ, ◌<◌, ◌^◌, List, ◌∷◌, ◌++◌, length, map, slice_index, All}, List.join_with_byte, Fmt.decimal}
 
 -- the four numbers of an address, from left to right, and a port

@@ -1,4 +1,4 @@
--- How many calls a turn may make. Part of the promises.
+-- How many calls a turn may make.
 use Rattle.std.specs.Prelude.{ℕ, max}
 
 -- The fewest: one for each of a connection's four flags. A turn begins with all four up and may spend a call on each only

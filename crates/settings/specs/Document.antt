@@ -1,4 +1,4 @@
--- What a TOML document sets, by the table of the settings, and what is wrong in one. Part of the promises.
+-- What a TOML document sets, by the table of the settings, and what is wrong in one.
 use Rattle.std.specs.{Prelude.{◌≡◌, ◌≢◌, ℕ, ◌≤◌, List, [], ◌∷◌, Some, None, Result, Ok, Err, MatchOption, IsSome, pos, ◌⊎◌, ◌++◌}, Ordering.nat_cmp, Cmp.Lexicographic.slice_cmp, declared.cmp.Ordering.TheVariants.Greater, Str.IsUtf8, Fmt.decimal}
 use Rattle.toml.specs.{Data.{Data, Members, get_member, as_str, as_integer, as_bool}, Parse.parse_document}
 use Rattle.settings.specs.{Addresses.{IsAddress, address_text}, Table.{level_name, truth_name, key_name, Setting, address, number, level, truth, ValueKind, an_address, a_number, a_level, a_truth, Row, row_of, setting, keys}, declared.{table.Key.Key, faults.SettingsFault.{SettingsFault, TheVariants.{Missing, WrongKind, OutOfRange, BadAddress, NotToml, UnknownKey}}, fields.Settings.Settings}}

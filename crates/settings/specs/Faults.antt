@@ -1,4 +1,4 @@
--- The line for a settings fault. Part of the promises.
+-- The line for a settings fault.
 use Rattle.std.specs.{Prelude.{ℕ, List, [], ◌++◌, ◌-◌, false, length, take, drop, codes, if◌then◌else◌, nat_lt, encode_utf8}, Char.is_control, Fmt.digits, List.flat_map, Str.chars}
 use Rattle.settings.specs.{Table.key_name, declared.faults.SettingsFault.{SettingsFault, TheVariants.{NotToml, UnknownKey, Missing, WrongKind, OutOfRange, BadAddress, NoMemory}}}
 

@@ -1,4 +1,4 @@
--- How many threads poll. Part of the promises.
+-- How many threads poll.
 use Rattle.std.specs.Prelude.{ℕ, ◌/◌, min, max}
 
 -- as many pollers as workers, but at most one for each 64 slots, and at least one

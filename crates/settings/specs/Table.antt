@@ -1,5 +1,4 @@
--- The table of the settings: each key with its name, the kind of its value, its range and its default. Part of the
--- promises.
+-- The table of the settings: each key with its name, the kind of its value, its range and its default.
 use Rattle.std.specs.Prelude.{◌≡◌, ℕ, List, [], ◌∷◌, Bool, false, Option, Some, None, codes, if◌then◌else◌}
 use Rattle.settings.specs.{Addresses.SocketAddress, declared.{table.{Key.{Key, TheVariants.{Listen, Target, Ring, Budget, Workers, Slots, StopAfter, Log, Idle, Proxy}}, Takes.Takes}, fields.Settings.Settings, levels.LogLevel.{LogLevel, TheVariants.{Info, Off, Error, Warn, Debug, Trace}}}}
 use Rattle.settings.specs.declared.table.Takes.TheVariants as takes

@@ -1,4 +1,4 @@
--- Where a server listens, and what is reported. Part of the promises.
+-- Where a server listens, and what is reported.
 use Rattle.std.specs.{Prelude.{◌≡◌, ◌≢◌, ◌⊎◌, ℕ, pos, ◌*◌, max, min, Bool, true, false, ◌||◌, if◌then◌else◌, List, [], map, OnOk, IsTrue, ◌↔◌, Option, Some, None, Result, Ok, Err}, IoError.{error_kind, raw_os_error}, declared.{io.{Error.Error, ErrorKind.TheVariants.Interrupted}, net.{SocketAddr.{SocketAddr, TheVariants.{V4, V6}}, SocketAddrV4.SocketAddrV4}}, Result.result_ok, Net.{Addr.{IsV4And, ipv4_octets}, Socket.{socket_ip, IsPlainSocket}}}
 use Rattle.token.specs.{Names.EndName, Numbers.name_of, declared.name.Name.{Name, TheVariants.{Listener, Waker, End}}}
 use Rattle.readiness.specs.Words.{WordName, word_of}

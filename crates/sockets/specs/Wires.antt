@@ -1,5 +1,5 @@
 -- What a wire over a socket knows of it, when it sends at once, what each call on it changes, and the system calls that
--- it makes. Part of the promises.
+-- it makes.
 use Rattle.std.specs.{Prelude.{◌≡◌, ◌≢◌, ℕ, ◌*◌, ◌==◌, Bool, true, false, if◌then◌else◌, length, Option, Some, None, Result, Ok, Err, ◌↔◌, ◌+◌, ◌<◌, ◌≤◌, min, IsTrue}, declared.{io.{Error.Error, ErrorKind.TheVariants.WouldBlock}, net.SocketAddr.SocketAddr}, IoError.error_kind, Result.result_ok}
 use Rattle.token.specs.Names.{EndName}
 use Rattle.readiness.specs.Words.{WordName}

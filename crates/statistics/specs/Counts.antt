@@ -1,4 +1,4 @@
--- What is counted at a slot, and the sums. Part of the promises.
+-- What is counted at a slot, and the sums.
 use Rattle.std.specs.{Prelude.{ℕ, ◌+◌, ◌*◌, ◌-◌, ◌≤◌, min, List, map, ◌≡◌, [], ◌∷◌, slice_index, slice_set, sum_by}, List.zip}
 use Rattle.token.specs.{Kinds.all_kinds, Sides.side_number, declared.{kind.Kind.Kind, side.Side.{Side, TheVariants.{Client, Target}}}}
 use Rattle.relay_core.specs.declared.verdict.{Fault.TheVariants.{Broken, Idle}, Verdict.{Verdict, TheVariants.{Live, Done, Failed}}}

@@ -1,4 +1,4 @@
--- How what a server is made of is divided among its threads. Part of the promises.
+-- How what a server is made of is divided among its threads.
 use Rattle.std.specs.{Prelude.{◌≡◌, ℕ, ◌+◌, ◌*◌, List, [], ◌∷◌, reverse, Contains, slice_index_or}, List.enumerate_from}
 use Rattle.ready.specs.Steps.{EndState}
 use Rattle.common.specs.declared.shared.Parts.{Parts}

@@ -1,5 +1,4 @@
--- Why a thread's loop ends, which fault a server ends by, and what a loop does with tickets and with free slots. Part
--- of the promises.
+-- Why a thread's loop ends, which fault a server ends by, and what a loop does with tickets and with free slots.
 use Rattle.std.specs.{Prelude.{◌≡◌, ◌≢◌, ◌⊎◌, ℕ, zero, suc, ◌+◌, ◌-◌, ◌<◌, ◌≤◌, ◌==◌, ◌&&◌, Bool, true, false, nat_lt, if◌then◌else◌, Option, Some, None, option_to_list, List, [], ◌∷◌, ◌++◌, length, map, Result, Ok, Err, IsOk, slice_get, slice_set, IfSome, IsSome, option_map}, List.{count_by, flat_map, sum_by, All}}
 use Rattle.token.specs.Names.{last_generation}
 use Rattle.claims.specs.{declared.view.Exchange.{Exchange, TheVariants.Adopted}, Seats.SeatState}

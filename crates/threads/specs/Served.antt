@@ -1,4 +1,4 @@
--- How the parts of a server are run to their ends, each in a thread of its own. Part of the promises.
+-- How the parts of a server are run to their ends, each in a thread of its own.
 use Rattle.std.specs.{Prelude.{◌≡◌, ℕ, Bool, All, List, [], ◌++◌, length, map, Option, None, option_to_list}, List.{range_with_len}}
 use Rattle.claims.specs.Seats.{SeatState}
 use Rattle.ready.specs.Steps.{EndState}

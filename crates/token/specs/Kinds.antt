@@ -1,4 +1,4 @@
--- The words for the kinds of a failed call. Part of the promises.
+-- The words for the kinds of a failed call.
 use Rattle.std.specs.{Prelude.{ℕ, if◌then◌else◌, List, [], ◌∷◌, codes, Option, Some, None}, Str.bytes_eq}
 use Rattle.token.specs.declared.kind.Kind.{Kind, TheVariants.{Reset, Pipe, Aborted, Refused, NotConnected, TimedOut, Zero, Other}}
 

@@ -1,5 +1,5 @@
--- The name of an end of a connection. Part of the promises. The slot's generation distinguishes the connection from
--- every earlier one in the same slot.
+-- The name of an end of a connection. The slot's generation distinguishes the connection from every earlier one in the
+-- same slot.
 use Rattle.std.specs.Prelude.{ℕ, ◌+◌, ◌*◌, ◌≤◌}
 use Rattle.token.specs.{declared.side.Side.Side, Sides.side_number}
 

@@ -1,4 +1,4 @@
--- What the numbers of a readiness queue stand for. Part of the promises.
+-- What the numbers of a readiness queue stand for.
 use Rattle.std.specs.Prelude.{ℕ, ◌+◌, ◌/◌, ◌%◌, ◌==◌, nat_le, ◌&&◌, if◌then◌else◌, ⊤, Option, Some, None}
 use Rattle.token.specs.{declared.{side.Side.{Side, TheVariants.{Client, Target}}, name.Name.{Name, TheVariants.{Listener, Waker, End}}}, Names.{EndName, IsEndName, end_number, last_generation}}
 

@@ -1,4 +1,4 @@
--- The two sides of a connection, and the two directions in which bytes go through it. Part of the promises.
+-- The two sides of a connection, and the two directions in which bytes go through it.
 use Rattle.std.specs.{Prelude.{ℕ, if◌then◌else◌, List, codes, Option, Some, None}, Str.bytes_eq}
 use Rattle.token.specs.declared.{side.Side.{Side, TheVariants.{Client, Target}}, direction.Direction.{Direction, TheVariants.{Up, Down}}}
 

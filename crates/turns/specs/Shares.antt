@@ -1,4 +1,4 @@
--- Which tickets a poller's thread keeps for turns of its own, and which it puts for the workers. Part of the promises.
+-- Which tickets a poller's thread keeps for turns of its own, and which it puts for the workers.
 use Rattle.std.specs.Prelude.{◌≡◌, ◌⊎◌, ℕ, suc, ◌<◌, List, [], ◌∷◌, ◌++◌, slice_index}
 use Rattle.ready.specs.{declared.ticket.Ticket.Ticket, Steps.{EndState, PutOne, HeldOnce}}
 use Rattle.common.specs.{Heavy.looked_at, Limits.first_light, declared.shared.Own.Own}

@@ -1,4 +1,4 @@
--- What a turn does to what its thread owns, by its answer. Part of the promises.
+-- What a turn does to what its thread owns, by its answer.
 use Rattle.std.specs.{Prelude.{◌≡◌, ◌≢◌, ◌⊎◌, ℕ, zero, suc, ◌<◌, ◌≤◌, Bool, true, false, nat_lt, if◌then◌else◌, Option, Some, None, Result, Ok, Err, List, [], ◌∷◌, drop, length, slice_get, slice_set, IfSome, IfErr}, Option.is_some}
 use Rattle.claims.specs.{declared.view.Exchange.{Exchange, TheVariants.{Post, Busy, Held, Take, Release, Retire}}, Views.minted_by, Seats.{TableId, account_at, Adds}}
 use Rattle.ready.specs.declared.ticket.Ticket.{Ticket}

@@ -1,4 +1,4 @@
--- A connection's next call, made on the kernel, and its reply. Part of the promises.
+-- A connection's next call, made on the kernel, and its reply.
 use Rattle.std.specs.Prelude.{ℕ, Bool, if◌then◌else◌, List, Option, Some, None, option_map, option_and_then}
 use Rattle.token.specs.declared.side.Side.{Side, TheVariants.{Client, Target}}
 use Rattle.kernel_model.specs.{declared.{reply.Reply.Reply, both.Descriptors.Descriptors}, Replies.bytes_read, Kernel.{KernelState, Registered, end_at, read, write, join, shut}}

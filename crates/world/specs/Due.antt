@@ -1,4 +1,4 @@
--- What could move, and what is due to be tried. Part of the promises. Neither depends on a flag that the pair keeps.
+-- What could move, and what is due to be tried. Neither depends on a flag that the pair keeps.
 use Rattle.std.specs.{Prelude.{ℕ, ◌==◌, Bool, false, not, ◌&&◌, ◌||◌, nat_lt, length, Option, Some, None, slice_get}, List.list_any}
 use Rattle.token.specs.{declared.{direction.Direction.{Direction, TheVariants.{Up, Down}}, name.Name.{Name, TheVariants.{Listener, Waker, End}}}, Sides.{source, destination}}
 use Rattle.flow.specs.Stream.{Stream}

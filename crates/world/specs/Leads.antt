@@ -1,4 +1,4 @@
--- Which lead each connection has, and how one lies in its array. Part of the promises.
+-- Which lead each connection has, and how one lies in its array.
 use Rattle.std.specs.Prelude.{◌≡◌, ℕ, ◌-◌, ◌≤◌, List, [], ◌++◌, length, take, replicate, get_or}
 
 -- `own` has leads by slot and then by generation. A connection that is not listed there has the lead `others`

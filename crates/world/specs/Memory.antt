@@ -1,5 +1,5 @@
--- The events for which memory may run out: those that, if they are allowed, make a list longer. Part of the promises.
--- Any other event happens if it is allowed.
+-- The events for which memory may run out: those that, if they are allowed, make a list longer. Any other event happens
+-- if it is allowed.
 use Rattle.std.specs.Prelude.{ℕ, Bool, true, false, ◌||◌, nat_lt, length, Option, Some, None, slice_get}
 use Rattle.token.specs.declared.{side.Side.Side, name.Name.Name}
 use Rattle.kernel_model.specs.Replies.{needs_memory}

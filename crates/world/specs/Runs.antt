@@ -1,4 +1,4 @@
--- A list of events, one after the other, and why one of them fails. Part of the promises.
+-- A list of events, one after the other, and why one of them fails.
 use Rattle.std.specs.Prelude.{◌≡◌, ℕ, ◌⊎◌, List, [], ◌∷◌, take, Option, Some, None, IsSome, IsTrue, slice_get, option_and_then}
 use Rattle.kernel_model.specs.declared.refusal.Refusal.{Refusal, TheVariants.{NotAllowed, NoMemory}}
 use Rattle.world.specs.{declared.{limits.Limits.Limits, event.Event.Event}, States.{State, opening}, Steps.step, Memory.may_allocate}

@@ -1,4 +1,4 @@
--- What a slot and a worker are. Part of the promises.
+-- What a slot and a worker are.
 use Rattle.std.specs.Prelude.{ℕ, Bool, true, false, List, Option}
 use Rattle.world.specs.declared.{connection.Connection.Connection, actors.{Ticket.Ticket, Holder.{Holder, TheVariants.{Nobody, By, Free}}, Doing.Doing}}
 

@@ -1,4 +1,4 @@
--- The state of the whole machine, its limits, and how it begins. Part of the promises.
+-- The state of the whole machine, its limits, and how it begins.
 use Rattle.std.specs.Prelude.{ℕ, suc, zero, ◌==◌, ◌<◌, ◌≤◌, Bool, true, false, List, [], ◌∷◌, ◌++◌, replicate, Option, Some, None}
 use Rattle.token.specs.{declared.name.Name.Name, Names.last_generation}
 use Rattle.kernel_model.specs.Kernel.{KernelState, idle}

@@ -1,5 +1,5 @@
--- What one event does to the machine. Part of the promises. Each choice is part of the event, so a step has one
--- result; or none, if the event is not allowed.
+-- What one event does to the machine. Each choice is part of the event, so a step has one result; or none, if the event
+-- is not allowed.
 use Rattle.std.specs.{Prelude.{ℕ, ◌+◌, ◌-◌, ◌==◌, Bool, true, false, not, ◌&&◌, ◌||◌, nat_lt, nat_le, if◌then◌else◌, List, [], ◌∷◌, ◌++◌, length, slice_get, slice_set, drop, Option, Some, None, option_map, option_and_then}, Option.is_none}
 use Rattle.token.specs.{declared.{side.Side.{Side, TheVariants.{Client, Target}}, name.Name.Name}, Names.{EndName, last_generation}}
 use Rattle.kernel_model.specs.{declared.{reply.Reply.Reply, watched.Watched.Watched, accepting.Accepting.{Accepting, TheVariants.{Accepted, Blocked, Again, Starved}}, both.{Descriptors.Descriptors, Sockets.Sockets}}, Outcome.{guard, Told}, Ends.is_nonempty, Kernel.KernelState}

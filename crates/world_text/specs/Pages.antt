@@ -1,4 +1,4 @@
--- A text that is written piece by piece. Part of the promises.
+-- A text that is written piece by piece.
 use Rattle.std.specs.{Prelude.{◌≡◌, ℕ, List, [], ◌∷◌, ◌++◌, codes, if◌then◌else◌, Option, Some, option_map, IfSome, flat_map, Bool}, Fmt.decimal}
 use Rattle.hex.specs.Hex.{encode_lower}
 use Rattle.kernel_model.specs.Ends.{is_nonempty}

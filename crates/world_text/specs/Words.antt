@@ -1,4 +1,4 @@
--- The words by which the lines of a script begin, and the word of each event. Part of the promises.
+-- The words by which the lines of a script begin, and the word of each event.
 use Rattle.std.specs.{Prelude.{ℕ, List, [], ◌∷◌, codes, if◌then◌else◌, Option, Some, None}, Str.bytes_eq}
 use Rattle.world.specs.declared.event.{Event.Event, Change.Change, Listening.Listening, Polling.Polling, Act.Act}
 use Rattle.world_text.specs.declared.word.Word.{Word}

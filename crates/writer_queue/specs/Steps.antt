@@ -1,4 +1,4 @@
--- What is done to the count of lines that are left out. Part of the promises.
+-- What is done to the count of lines that are left out.
 use Rattle.std.specs.Prelude.{ℕ}
 
 -- one step on a count that threads share: 1 was added, or all that was there was taken
