@@ -44,28 +44,15 @@ one_record records place d last o trace more within before found more_is =
     before ∙ ap (λ rs. trace ++ trace_after last rs) next ∙ ap (λ p. trace ++ and_then p later) (sym found)
     ∙ ap (λ xs. trace ++ xs) (and_then_append o [] later) ∙ sym (append_assoc trace (and_then o []) later) ∙ ap (λ xs. xs ++ later) (sym more_is)
 
--- A history with one event more
-
--- it is an action
-pub with_action : (l : Limits) (events next : List Event) (q r : State) (trace more : List Action) (e : Event) (a : Action)
-    → IsHistory (record { limits = l; events = events; world = q; trace = trace }) → step q e ≡ Some r → action_in q e ≡ Some a
-    → next ≡ events ++ e ∷ [] → more ≡ trace ++ a ∷ []
+-- a history with one event more
+pub one_event : (l : Limits) (events next : List Event) (q r : State) (trace more : List Action) (e : Event) (o : Option Action)
+    → IsHistory (record { limits = l; events = events; world = q; trace = trace }) → step q e ≡ Some r → action_in q e ≡ o
+    → next ≡ events ++ e ∷ [] → more ≡ trace ++ and_then o []
     → IsHistory (record { limits = l; events = next; world = r; trace = more })
-with_action l events next q r trace more e a before stepped is next_is more_is = record {
+one_event l events next q r trace more e o before stepped is next_is more_is = record {
   runs = ap (λ es. run (opening l) es) next_is ∙ run_and (opening l) q r events e before.runs stepped;
   trace = ap (λ es. trace_of_run (opening l) es) next_is ∙ trace_and (opening l) q events e before.runs
-      ∙ ap (λ xs. xs ++ and_then (action_in q e) []) before.trace ∙ ap (λ o. trace ++ and_then o []) is ∙ sym more_is;
-}
-
--- it is none
-pub without : (l : Limits) (events next : List Event) (q r : State) (trace same : List Action) (e : Event)
-    → IsHistory (record { limits = l; events = events; world = q; trace = trace }) → step q e ≡ Some r → action_in q e ≡ None
-    → next ≡ events ++ e ∷ [] → same ≡ trace
-    → IsHistory (record { limits = l; events = next; world = r; trace = same })
-without l events next q r trace same e before stepped is next_is same_is = record {
-  runs = ap (λ es. run (opening l) es) next_is ∙ run_and (opening l) q r events e before.runs stepped;
-  trace = ap (λ es. trace_of_run (opening l) es) next_is ∙ trace_and (opening l) q events e before.runs
-      ∙ ap (λ xs. xs ++ and_then (action_in q e) []) before.trace ∙ ap (λ o. trace ++ and_then o []) is ∙ append-nil trace ∙ sym same_is;
+      ∙ ap (λ xs. xs ++ and_then (action_in q e) []) before.trace ∙ ap (λ p. trace ++ and_then p []) is ∙ sym more_is;
 }
 
 joined_append : (xs : List (List Numbered)) (x : List Numbered) → joined (xs ++ x ∷ []) ≡ joined xs ++ x
