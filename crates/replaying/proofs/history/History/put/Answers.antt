@@ -1,4 +1,4 @@
-use Rattle.std.proofs.Common.{rules, sym, append-nil, Some, None, ◌∙◌}
+use Rattle.std.proofs.Common.{rules, sym, append-nil, Some, None, ◌≡◌, ◌∙◌}
 use Rattle.replaying.proofs.Traces.{one_event}
 use Rattle.replaying.proofs.history.History.put.Goals as goal
 
@@ -9,5 +9,6 @@ invariant_of-self-in-Some c =
 
 pub invariant_of-self-in_default-action : goal.invariant_of-self-in_default-action
 invariant_of-self-in_default-action c =
+    let same : c.reserve-2.new.self.items ≡ c.self.inside.trace.items = search rules in
     one_event c.self.inside.limits c.self.inside.events.items c.push_reserved.new.self.items c.self.inside.world c.step.new.self c.self.inside.trace.items c.reserve-2.new.self.items
-    c.args.event None c.self.invariant c.in_default-step.ensures.event (sym c.action_in-action.ensures ∙ c.in_default-action.is) (search rules) (search (rules, append-nil))
+    c.args.event None c.self.invariant c.in_default-step.ensures.event (sym c.action_in-action.ensures ∙ c.in_default-action.is) (search rules) (same ∙ sym (append-nil c.self.inside.trace.items))
