@@ -3,10 +3,10 @@ pub mod Weights
 pub mod Acts
 use Rattle.std.{proofs.{Common.{Bool, List, None, Option, Some, Vec, [], ap, arith, drop, false, get_or, if◌then◌else◌, inl, inr, le-leb, length, lt-ltb, ltb-true, nat_le, nat_lt, not, option_map, refl, replicate, slice_get, slice_set, subst, suc, sym, true, zero, ℕ, ◌&&◌, ◌*◌, ◌++◌, ◌+◌, ◌-◌, ◌<◌, ◌==◌, ◌∙◌, ◌∷◌, ◌≡◌, ◌≢◌, ◌≤◌, ◌⊎◌}, lemmas.{Bool.{Decides.nat_tests, and_parts}, List.{length-replicate, length-set}, Option.{option_and_then_some, slice_get-get_or}}}, specs.{Cmp.{first_so, second_so}, Global.Global, List.{list_all, list_any}, Option.option_flatten}}
 use Rattle.claims.specs.Words.{one}
-use Rattle.kernel_model.specs.{Ends.is_nonempty, Kernel.{KernelState, Registered, end_at}, Names.{are_among, are_distinct, without_names}, declared.{accepting.Accepting.TheVariants.{Accepted, Again, Blocked, Starved}, both.Descriptors.Descriptors}}
+use Rattle.kernel_model.specs.{Ends.is_nonempty, Kernel.{KernelState, Registered, end_at}, Names.{are_among, are_distinct}, declared.{accepting.Accepting.TheVariants.{Accepted, Again, Blocked, Starved}, both.Descriptors.Descriptors}}
 use Rattle.token.specs.{Names.last_generation, declared.{kind.Kind.TheVariants.Reset, name.Name.Name, side.Side.{TheVariants.{Client, Target}, Side}}}
 use Rattle.world.{proofs.Headline.Ends.Pairs.Holders.{Events.{Lists.{Kept, get-replicate, get-set_other, kept_at, kept_bind, kept_guard, kept_map, kept_none, kept_over, kept_some, kept_when, total_none}, Happens, Ticks, holds_after}, SlotOk, Turns, facts, turns_after, worker_closes, worker_holds}, specs.{Calls.{OpenConnection, descriptor}, CoreLaws.CoreLaws, Due.{due, due_place, has_ticket, movable}, Headline.ListenerHolds, Slots.{SlotState, WorkerState, is_by_worker, is_held}, States.{State, opening, resting as idle_worker}, Steps.{change_at, token_of}, Support.{one as one_if, total, worker_tickets}, declared.{actors.Holder.{TheVariants.{By, Free, Nobody}, Holder}, connection.Connection.Connection, event.Event.Event, limits.Limits.Limits}}}
-use Rattle.interleaving.{proofs.{Rest.{Acts.{Calling, Ending, Fine, Known, Nothing, Opening, Sound, acts_fine, begins_fine, calls_fine, goes, known, posted_weighs}, Weights.{polled, same_self}}, Runs.{Programs.{rests_like, some_there}, run_on, stage_acts}}, specs.{Likeness.{EveryInterleavingIsARun, IsARun, IsHalfOpen, IsSettled, Like, NoActInVain, Settled, machine_of}, Rest.{HasStopped, LeftAloneItEnds, LeftAloneItRests, is_own, weight}, Threads.{Accept, Act, Acts as DoesAct, Begin, Calls, Connect, Deliver, Drop, Network, Open, Poll, Spurious, Step, Sweep, System, Thread, Tick, Vanish, acts, delivers, ended, goes_on, is_over, open_slot, poller_rests, posted, registering, resting, rests, run, start, step, watched_of}}}
+use Rattle.interleaving.{proofs.{Rest.{Acts.{Calling, Ending, Fine, Known, Nothing, Opening, Sound, acts_fine, begins_fine, calls_fine, goes, known, posted_weighs}, Weights.{polled, same_self}}, Runs.{Programs.{rests_like, some_there}, run_on, stage_acts}}, specs.{Likeness.{EveryInterleavingIsARun, IsARun, IsHalfOpen, IsSettled, Like, NoActInVain, Settled, machine_of}, Rest.{HasStopped, LeftAloneItEnds, LeftAloneItRests, is_own, weight}, Threads.{Accept, Act, Acts as DoesAct, Begin, Calls, Connect, Deliver, Drop, Network, Open, Poll, Spurious, Step, Sweep, System, Thread, Tick, Vanish, acts, delivers, ended, is_over, open_slot, poller_rests, posted, registering, resting, rests, run, start, step, watched_of}}}
 use denote.RawPtr.{null_ptr}
 use Rattle.relay_core.specs.{Calls.side_of, Order.next_call, declared.{call.{Call.{TheVariants.Read, Call as PairCall}}}}
 unfoldable use Rattle.world.specs.Calls.{called}
@@ -20,7 +20,7 @@ use Rattle.world.specs.Runs as machine_runs
 -- A program that is half way can go on
 
 token_some : (side : Side) (g : ℕ) → 1 ≤ g → g ≤ last_generation → token_of 0 side g ≡ Some (record { slot = 0; side = side; generation = g })
-token_some side g some most = rw (le-leb 1 g some, le-leb g last_generation most) refl
+token_some side g some most = rw (le-leb _ _ some, le-leb _ _ most) refl
 
 registers_on : (st : System) (i : ℕ) (t : Thread) (rest : List Act) (free : ℕ) → st.accepted ≡ true → 1 ≤ free → st.entry < last_generation → registering st i t rest free ≡ None → ⊥
 registers_on st i t rest zero had some below none = absurd (omega arith)
@@ -80,7 +80,7 @@ module _ {l : Limits} {st : System} (sound : Sound l st) (stopped : HasStopped s
     pub no_tickets : 4 ≤ l.budget → (tickets : List ℕ) → st.tickets ≡ tickets → tickets ≡ []
     no_tickets four [] is = refl
     no_tickets four (g ∷ rest) is =
-        let none = rw (poller.1, over 0 poller.0 poller.1, sound.limits, le-leb 4 l.budget four, is) at (stopped (Begin 0 4) refl) in cc
+        let none = rw (poller.1, over 0 poller.0 poller.1, sound.limits, le-leb _ _ four, is) at (stopped (Begin 0 4) refl) in cc
 
     pub no_batch : (batch : List Name) → st.batch ≡ batch → batch ≡ []
     no_batch [] is = refl
@@ -191,7 +191,7 @@ module _ {l : Limits} {st : System} (s : Sound l st) where
 
   accepts : st.accepted ≡ false → nat_lt 0 st.kernel.backlog ≡ true
       → weight (record st { accepted = true; kernel = record st.kernel { backlog = st.kernel.backlog - 1 } }) + 1 ≤ weight st
-  accepts none some = by _ _ _ _ _ _ st.kernel.backlog _ (rw none refl) (ltb-true 0 st.kernel.backlog some)
+  accepts none some = by _ _ _ _ _ _ st.kernel.backlog _ (rw none refl) (ltb-true _ _ some)
     where
       by : (e x c y f r b n : ℕ) → n ≡ 0 → 0 < b → ((e + (x + (1 + c) * (b - 1))) + ((y + (f + c * 1)) + r)) + 1 ≤ (e + (x + (1 + c) * b)) + ((y + (f + c * n)) + r)
       by e x c y f r zero n none some = omega arith
@@ -239,9 +239,9 @@ module _ {l : Limits} {st : System} (s : Sound l st) where
       let parts = and_parts (rests t) st.accepted may in
       goes s 0 t there _ _ refl (assumption s) (λ e. refl) (λ e. parts.1) (λ own. rw (over_is t.todo parts.0) (omega arith))))
   fine each nothing (Begin i most) = kept_bind _ (slice_get st.threads i) (λ t there. kept_when _ _ (λ may.
-      begins_fine s i t there most st.tickets refl (over_is t.todo (and_parts (rests t) _ may).0)))
-  fine each nothing (DoesAct i) = kept_bind _ (slice_get st.threads i) (λ t there. acts_fine s i t there (each i t there) refl (nothing.finds i t there))
-  fine each nothing (Calls i r) = kept_bind _ (slice_get st.threads i) (λ t there. calls_fine s i t there r (each i t there) refl)
+      begins_fine s i t there most st.tickets refl (over_is t.todo (and_parts _ _ may).0)))
+  fine each nothing (DoesAct i) = kept_bind _ _ (λ t there. acts_fine s i t there (each i t there) refl (nothing.finds i t there))
+  fine each nothing (Calls i r) = kept_bind _ _ (λ t there. calls_fine s i t there r (each i t there) refl)
 
 -- A list of steps
 
@@ -259,11 +259,11 @@ module _ (core : CoreLaws) (laws : EveryInterleavingIsARun) (l : Limits) (alone 
   went : (before steps : List Step) (st next : System) → run (start l) before ≡ Some st → Sound l st → run st steps ≡ Some next
       → Sound l next × (list_all is_own steps ≡ true → length steps + weight next ≤ weight st)
   went before [] st next ran sound led = let same : st ≡ next = cc in rw (← same) (sound, λ own. omega arith)
-  went before (x ∷ steps) st next ran sound led = option_and_then_some (λ (q : System). run q steps) (step st x) next led (λ q is rest.
+  went before (x ∷ steps) st next ran sound led = option_and_then_some _ _ _ led (λ q is rest.
       let r = laws l before st alone ran in
-      let it = kept_at (step st x) q is (fine sound (known_in before st r) r.nothing x) in
+      let it = kept_at _ _ is (fine sound (known_in before st r) r.nothing x) in
       let more = went (before ++ x ∷ []) steps q next (run_on before (x ∷ []) (start l) st ran ∙ rw is refl) it.sound rest in
-      (more.0, λ own. (let parts = and_parts (is_own x) (list_all is_own steps) own in omega (arith, it.lighter parts.0, more.1 parts.1))))
+      (more.0, λ own. (let parts = and_parts _ _ own in omega (arith, it.lighter parts.0, more.1 parts.1))))
 
   from_start : (steps : List Step) (st : System) → run (start l) steps ≡ Some st → Sound l st
   from_start steps st ran = (went [] steps (start l) st refl (start_sound l) ran).0

@@ -1,7 +1,7 @@
 -- What holds after any list of steps, and what no thread ever finds.
 pub mod Programs
 use Rattle.world.{specs.{declared.limits.Limits.Limits, Headline.EveryRunHolds, CoreLaws.CoreLaws, States.{opening, unused as unused_place}}, proofs.Headline.Ends.Pairs.Holders.{Events.{holds_after, Lists.{get-replicate, get_beside}}, turns_after, turns_on}}
-use Rattle.common.specs.Acts.{gone_turn, quiet_turn, again_turn, ended_turn}
+use Rattle.common.specs.Acts.{gone_turn, ended_turn}
 use Rattle.interleaving.specs.{Threads.{Claim, Close, Play, ProgramsAreThese, PutIn, gone, resting, run, seen, start}, Likeness.{exchanges, taken_word, EveryInterleavingIsARun, EveryStepIsFollowed, NoActInVain}}
 use Rattle.std.proofs.lemmas.Option.{option_and_then_some, same_Some}
 use Programs.*
@@ -37,16 +37,16 @@ module _ (st : System) (p : SlotState) (workers : List WorkerState) (set : Settl
   follows_settled : (s : Step) → Kept (Follows [] (exchange st.word (kind_in st s)) (machine_of st p st.entry st.tickets workers) s) (step st s)
   follows_settled Deliver = reports set
   follows_settled Sweep = sweeps set
-  follows_settled Open = kept_bind _ (slice_get st.threads 0) (λ t there. kept_guard _ _ (λ r.
+  follows_settled Open = kept_bind _ _ (λ t there. kept_guard _ _ (λ r.
       let it = set.threads 0 t there in
-      begins_opening st p workers set 0 t there it.worker it.there refl it.like (and_parts (rests t) st.accepted r).0))
-  follows_settled (Begin i most) = kept_bind _ (slice_get st.threads i) (λ t there.
+      begins_opening st p workers set 0 t there it.worker it.there refl it.like (and_parts _ _ r).0))
+  follows_settled (Begin i most) = kept_bind _ _ (λ t there.
       let it = set.threads i t there in
       begins_turn st p workers set i t there it.worker it.there it.like most)
-  follows_settled (Acts i) = kept_bind _ (slice_get st.threads i) (λ t there.
+  follows_settled (Acts i) = kept_bind _ _ (λ t there.
       let it = set.threads i t there in
       rw there (thread_acts st p workers set i t there it.worker it.there turns it.like))
-  follows_settled (Calls i r) = kept_bind _ (slice_get st.threads i) (λ t there.
+  follows_settled (Calls i r) = kept_bind _ _ (λ t there.
       let it = set.threads i t there in
       thread_calls st p workers set i t there it.worker it.there it.like r)
   follows_settled s = beyond (settled_frame set) s refl
@@ -133,8 +133,8 @@ module _ (st : System) (t : Thread) (c : Connection) (workers : List WorkerState
   calls_half i u r there (inr other) = rw (half.others i u other there).0 refl
 
   follows_half : (s : Step) → Kept (Follows (left_of t.todo st.word) (exchange st.word (kind_in st s)) half_world s) (step st s)
-  follows_half Deliver = kept_when (poller_rests st) _ (λ b. poller_acts b)
-  follows_half Sweep = kept_guard _ _ (λ b. poller_acts (and_parts (poller_rests st) _ b).0)
+  follows_half Deliver = kept_when _ _ (λ b. poller_acts b)
+  follows_half Sweep = kept_guard _ _ (λ b. poller_acts (and_parts _ _ b).0)
   follows_half Open = kept_bind _ (slice_get st.threads 0) (λ u there. kept_guard _ _ (λ b. poller_acts (rw there (and_parts (rests u) st.accepted b).0)))
   follows_half (Begin i most) = kept_bind _ (slice_get st.threads i) (λ u there. kept_when (rests u && nat_le most st.limits.budget) _ (λ b. rw half.tickets kept_none))
   follows_half (Acts i) = kept_bind _ (slice_get st.threads i) (λ u there. rw there (acts_half i u there (cases_eq i 0)))
@@ -189,7 +189,7 @@ no_act_in_vain st w (IsHalfOpen t c workers is half) turns = record {
 -- A list of steps
 
 pub run_on : (steps more : List Step) (st mid : System) → run st steps ≡ Some mid → run st (steps ++ more) ≡ run mid more
-run_on [] more st mid ran = ap (λ (q : System). run q more) (same_Some st mid ran)
+run_on [] more st mid ran = ap (λ (q : System). run q more) (same_Some _ _ ran)
 run_on (s ∷ steps) more st mid ran = option_and_then_some (λ (q : System). run q steps) (step st s) mid ran (λ q is rest. rw is (run_on steps more q mid rest))
 
 record Ran (st : System) (w : State) (before : List Exchange) (steps : List Step) (to : System) : Type 0 where
@@ -211,8 +211,8 @@ went : (laws : CoreLaws) (steps : List Step) (w : State) (st to : System) (like 
 went laws [] w st to like turns ran =
     let same : st ≡ to = cc in
     rw (← same) (record { events = []; world = w; like = like; shows = rw append-nil })
-went laws (s ∷ steps) w st to like turns ran = option_and_then_some (λ (q : System). run q steps) (step st s) to ran (λ q is rest.
-    let f : Follows (ahead st w like) (exchange st.word (kind_in st s)) w s q = kept_at (step st s) q is (follows st w like turns s) in
+went laws (s ∷ steps) w st to like turns ran = option_and_then_some _ _ _ ran (λ q is rest.
+    let f : Follows (ahead st w like) (exchange st.word (kind_in st s)) w s q = kept_at _ _ is (follows st w like turns s) in
     let led : machine_runs.run w f.events ≡ Some f.world = rw append-nil at (ap (λ (x : Shown). x.0) (f.shows [])) in
     let now = holds_after Turns (λ v e u. turns_on laws v) w f.world f.events turns led in
     went_on s steps is f (went laws steps f.world q to f.like now rest))

@@ -1,7 +1,7 @@
 -- Each slot of a server can be looked at alone.
 pub mod Leaves
 pub mod Steps
-use Rattle.std.{proofs.{Common.{Bool, List, None, Some, Vec, [], ap, append-nil, arith, eq-eqb, eqb-true, false, if◌then◌else◌, inl, inr, le-leb, leb-true, length, nat_le, nat_lt, ne_eqb, not, refl, replicate, slice_get, suc, sym, true, zero, ℕ, ◌&&◌, ◌++◌, ◌+◌, ◌-◌, ◌<◌, ◌==◌, ◌||◌, ◌∙◌, ◌∷◌, ◌≡◌, ◌≢◌, ◌≤◌, ◌⊎◌}, lemmas.{Bool.{Decides.nat_tests, and_parts, cases_eq, ltb-true}, List.nil_from_length, Option.{option_and_then_some, same_Some}}}, specs.{Cmp.second_so, Global.Global, List.list_any}}
+use Rattle.std.{proofs.{Common.{Bool, List, None, Some, Vec, [], ap, append-nil, arith, eq-eqb, eqb-true, false, if◌then◌else◌, inl, inr, le-leb, leb-true, length, nat_lt, ne_eqb, not, refl, replicate, slice_get, suc, sym, true, zero, ℕ, ◌&&◌, ◌++◌, ◌+◌, ◌-◌, ◌<◌, ◌==◌, ◌||◌, ◌∙◌, ◌∷◌, ◌≡◌, ◌≢◌, ◌≤◌, ◌⊎◌}, lemmas.{Bool.{Decides.nat_tests, and_parts, cases_eq, ltb-true}, List.nil_from_length, Option.{option_and_then_some, same_Some}}}, specs.{Cmp.second_so, Global.Global, List.list_any}}
 use Rattle.world.proofs.Headline.Ends.Pairs.Holders.Events.Lists.{Kept, kept_at, kept_guard, kept_map, kept_none, kept_some, kept_when}
 use Rattle.interleaving.{proofs.{Runs.run_on, Slots.{Leaves.{leaves_acting, leaves_calling, leaves_network, leaves_spurious, leaves_sweep, leaves_tick, leaves_vanish}, Steps.{Alone, Apart, AreOwn, AtSlot, Between, FrontHolds, FrontsHold, Next, at_each, begins, by_still, by_thread, count, delivers_end, fewer_names, framed, opens, own_reports, queued, rank_first, same_names, taken_here, taken_there, tickets_append}}}, specs.{Likeness.EveryInterleavingIsARun, Slots.{Accept, Acts, AllStandApart, Begin, Calls, Connect, Deliver, Drop, Front, Listener, Many, Network, Of, Open, Poll, Put, Refuse, Report, Retract, Rumour, Sees, SeesAll, Server, SlotsStandApart, Spurious, Step, Stop, Sweep, Taken, Tick, Vanish, Waker, answered, are_queued, delivering, first_of, is_listener, makes, may, may_accept, names_at, one_slot, polled, rank, rank_at, rests, run, shared, slot_of, start, step, suits, tickets_at, told, unqueued, with_front}, Threads.{System, resting, rests_at}}}
 use denote.RawPtr.{null_ptr}
@@ -18,19 +18,13 @@ Holds listens flag armed none queued batch = ((not listens || flag) || ((armed &
 some_wait : (listens flag armed now queued batch : Bool) → Holds listens flag armed false queued batch → Holds listens flag armed now queued batch
 some_wait listens flag armed now queued batch h = grind arith
 
-none_wait : (listens flag armed none queued batch : Bool) → Holds listens flag armed none queued batch → Holds listens flag armed true queued batch
-none_wait listens flag armed none queued batch h = grind arith
-
-told_holds : (listens flag armed none now queued batch : Bool) → Holds listens flag armed none queued batch → Holds listens flag false now (queued || armed) batch
-told_holds listens flag armed none now queued batch h = grind arith
-
 polled_holds : (x y queued batch : Bool) → (x || (y || (queued || false))) ≡ true → (x || (y || ((queued && not batch) || batch))) ≡ true
 polled_holds x y queued batch h = grind arith
 
 -- once a client waits, a front holds by what is on its way; the backlog may have any size then
 with_backlog : (server : Server) (b c p : ℕ) (f : Front) → nat_lt 0 b ≡ true → FrontHolds server b p f → FrontHolds server c p f
 with_backlog server b c p f some h =
-    let more : 0 < b = ltb-true 0 b some in
+    let more : 0 < b = ltb-true _ _ some in
     let none : (b == 0) ≡ false = ne_eqb b 0 (λ e. absurd (omega arith)) in
     let was : ((not f.listens || f.flag) || ((f.armed && false) || (f.reported || list_any is_listener f.batch))) ≡ true = rw none at h.listener in
     record { listener = some_wait f.listens f.flag f.armed (c == 0) f.reported (list_any is_listener f.batch) was; share = h.share; own = h.own }
@@ -66,7 +60,7 @@ module _ (m : Many) (between : Between m) where
   connects : Kept (Next m Connect) (shared m Connect)
   connects = kept_some (quiet Connect (record m { backlog = m.backlog + 1; fronts = λ p. told (m.fronts p) }) refl (λ s. refl) (λ s. refl) between.apart (λ p. let f = m.fronts p in
       record {
-        listener = told_holds f.listens f.flag f.armed (m.backlog == 0) (m.backlog + 1 == 0) f.reported (list_any is_listener f.batch) (between.fronts p).listener;
+        listener = let was = (between.fronts p).listener in grind arith;
         share = (between.fronts p).share;
         own = (between.fronts p).own;
       }))
@@ -78,7 +72,7 @@ module _ (m : Many) (between : Between m) where
   retracts : (p : ℕ) → Kept (Next m (Retract p)) (shared m (Retract p))
   retracts p = let f = m.fronts p in
       kept_guard _ _ (λ h.
-      let none : (m.backlog == 0) ≡ true = second_so f.reported _ h in
+      let none : (m.backlog == 0) ≡ true = second_so _ _ h in
       hears_of (Retract p) p f.listens f.flag true false (λ s. refl) (rw none (grind arith)))
 
   drops : (p : ℕ) → Kept (Next m (Drop p)) (shared m (Drop p))
@@ -94,7 +88,7 @@ module _ (m : Many) (between : Between m) where
   refuses : Kept (Next m Refuse) (shared m Refuse)
   refuses = kept_some (quiet Refuse (record m { backlog = 0 }) refl (λ s. refl) (λ s. refl) between.apart (λ p. let f = m.fronts p in
       let h = between.fronts p in
-      record { listener = none_wait f.listens f.flag f.armed (m.backlog == 0) f.reported (list_any is_listener f.batch) h.listener; share = h.share; own = h.own }))
+      record { listener = let was = h.listener in grind arith; share = h.share; own = h.own }))
 
   -- a report of the listener or of the waker
   hears : (p : ℕ) (r : Report) (rest : List Report) (flag : Bool) → (m.fronts p).batch ≡ r ∷ rest → ((s : ℕ) → names_at s (r ∷ rest) ≡ names_at s rest)
@@ -115,8 +109,8 @@ module _ (m : Many) (between : Between m) where
       → Kept (Next m (Accept p reply)) (answered m p reply)
   answers p Accepted may =
       let f = m.fronts p in
-      let less : f.opened < m.server.share p = ltb-true f.opened (m.server.share p) (second_so (not f.accepted) _ (second_so (f.listens && f.flag) _ may)) in
-      let flag_up : f.flag ≡ true = second_so f.listens f.flag (and_parts (f.listens && f.flag) _ may).0 in
+      let less : f.opened < m.server.share p = ltb-true _ _ (second_so _ _ (second_so _ _ may)) in
+      let flag_up : f.flag ≡ true = second_so _ _ (and_parts _ _ may).0 in
       kept_guard _ _ (λ some. front_next (Accept p Accepted) p (record f { accepted = true }) (m.backlog - 1) (λ s. refl) (λ s. refl)
       (λ i. with_backlog m.server m.backlog (m.backlog - 1) i (m.fronts i) some (between.fronts i))
       (record { listener = rw flag_up (grind arith); share = omega arith; own = (between.fronts p).own }))
@@ -127,17 +121,17 @@ module _ (m : Many) (between : Between m) where
   answers p Starved may = kept_some (quiet (Accept p Starved) m refl (λ s. refl) (λ s. refl) between.apart between.fronts)
 
   puts : (i s : ℕ) → Kept (Next m (Put i s)) (shared m (Put i s))
-  puts i s = kept_map _ (first_of (suits i (Some s)) m.tickets) (λ c is.
+  puts i s = kept_map _ _ (λ c is.
       let n : Many = record m { tickets = c.rest ++ record c.ticket { hand = None } ∷ [] } in
       quiet (Put i s) n refl (λ t. refl) (λ t. framed m n t refl refl refl (same c is t (cases_eq t c.ticket.slot))) between.apart between.fronts)
     where
       same : (c : Taken) → first_of (suits i (Some s)) m.tickets ≡ Some c → (t : ℕ) → (t ≡ c.ticket.slot) ⊎ (t ≢ c.ticket.slot)
           → tickets_at t (c.rest ++ record c.ticket { hand = None } ∷ []) ≡ tickets_at t m.tickets
       same c is t (inl here) =
-          let it : Alone t m.tickets c = taken_here (suits i (Some s)) m.tickets c is t (sym here) (between.one_ticket t) in
-          tickets_append t c.rest _ ∙ rw (it.rest, eq-eqb c.ticket.slot t (sym here)) (sym it.whole)
+          let it : Alone t m.tickets c = taken_here _ _ _ is t (sym here) (between.one_ticket t) in
+          tickets_append t c.rest _ ∙ rw (it.rest, eq-eqb _ _ (sym here)) (sym it.whole)
       same c is t (inr other) = tickets_append t c.rest _ ∙ rw (ne_eqb c.ticket.slot t (λ e. other (sym e))) (append-nil (tickets_at t c.rest))
-          ∙ taken_there (suits i (Some s)) m.tickets c is t other
+          ∙ taken_there _ _ _ is t other
 
   -- a poll
 
@@ -166,13 +160,13 @@ module _ (m : Many) (between : Between m) where
         let given = vec_of (names_at s reports) fewer in
         record {
           own = alone.Poll given.0 ∷ [];
-          sees = rw (eq-eqb (m.server.owner s) p own) (given.0, given.1, refl);
-          leads = rw (own, empty, idle_now, given.1, le-leb (length (names_at s reports)) 256 fewer, q.among, q.once, eq-eqb p p refl) refl;
+          sees = rw (eq-eqb _ _ own) (given.0, given.1, refl);
+          leads = rw (own, empty, idle_now, given.1, le-leb _ _ fewer, q.among, q.once, eq-eqb _ _ refl) refl;
         }
     polls_at s (inr other) = record {
       own = [];
-      sees = rw (ne_eqb (m.server.owner s) p other) refl;
-      leads = ap Some (sym (framed m (polled m p reports) s refl (rw (ne_eqb (m.server.owner s) p other) refl)
+      sees = rw (ne_eqb _ _ other) refl;
+      leads = ap Some (sym (framed m (polled m p reports) s refl (rw (ne_eqb _ _ other) refl)
           (same_names m.fronts p _ s (m.server.owner s) (λ e. absurd (other e))) refl));
     }
 
@@ -193,9 +187,9 @@ module _ (m : Many) (between : Between m) where
 
   polls : (p : ℕ) (reports : List Report) → rests m p ≡ true → Kept (Next m (Poll p reports)) (shared m (Poll p reports))
   polls p reports rested = kept_guard _ _ (λ h.
-      let few = and_parts (nat_le (length reports) 256) _ h in
-      let parts = and_parts (length (m.fronts p).batch == 0) (are_queued m p reports) few.1 in
-      polled_next p reports rested (leb-true (length reports) 256 few.0) (nil_from_length (m.fronts p).batch (eqb-true (length (m.fronts p).batch) 0 parts.0)) parts.1)
+      let few = and_parts _ _ h in
+      let parts = and_parts _ _ few.1 in
+      polled_next p reports rested (leb-true _ _ few.0) (nil_from_length _ (eqb-true _ _ parts.0)) parts.1)
 
   -- any step
 
@@ -207,15 +201,15 @@ module _ (m : Many) (between : Between m) where
   next Connect = connects
   next (Rumour p) = rumours p
   next (Retract p) = retracts p
-  next (Poll p reports) = kept_when (rests m p) _ (λ rested. polls p reports rested)
-  next (Deliver p) = kept_when (rests m p) _ (λ rested. delivers p (m.fronts p).batch refl)
+  next (Poll p reports) = kept_when _ _ (λ rested. polls p reports rested)
+  next (Deliver p) = kept_when _ _ (λ rested. delivers p (m.fronts p).batch refl)
   next (Sweep p s) = kept_when (may m (Sweep p s)) _ (λ h. by_still m between (Sweep p s) _ (λ t own e. e) (leaves_sweep (slot_of m s)))
-  next (Accept p reply) = kept_when (rests m p) _ (λ rested. kept_when _ _ (λ h. answers p reply h))
+  next (Accept p reply) = kept_when _ _ (λ rested. kept_when _ _ (λ h. answers p reply h))
   next Refuse = refuses
-  next (Stop p) = kept_when (rests m p) _ (λ rested. stops p)
-  next (Drop p) = kept_when (rests m p) _ (λ rested. drops p)
+  next (Stop p) = kept_when _ _ (λ rested. stops p)
+  next (Drop p) = kept_when _ _ (λ rested. drops p)
   next (Open p s) = kept_when _ _ (λ h. opens m between p s h)
-  next (Begin i from most) = kept_when (rests m i) _ (λ rested. begins m between i from most rested (first_of (suits i from) m.tickets) refl)
+  next (Begin i from most) = kept_when _ _ (λ rested. begins m between i from most rested (first_of (suits i from) m.tickets) refl)
   next (Put i s) = puts i s
   next (Acts i) = by_thread m between (Acts i) i _ (λ t own e. e) (leaves_acting (slot_of m (m.busy_at i)) (rank_at m (m.busy_at i) i) refl)
   next (Calls i r) = by_thread m between (Calls i r) i _ (λ t own e. e) (leaves_calling (slot_of m (m.busy_at i)) (rank_at m (m.busy_at i) i) r)
@@ -270,8 +264,8 @@ module _ (law : EveryInterleavingIsARun) (server : Server) (inside : (s : ℕ) �
   }
 
   pub goes : (steps : List Step) (m to : Many) → Reached server m → run m steps ≡ Some to → Went server m steps to
-  goes [] m to r ran = rw (← same_Some m to ran) (record { reached = r; each = λ s. record { own = []; sees = refl; leads = refl } })
-  goes (x ∷ xs) m to r ran = option_and_then_some (λ (n : Many). run n xs) (step m x) to ran (λ n is rest.
+  goes [] m to r ran = rw (← same_Some _ _ ran) (record { reached = r; each = λ s. record { own = []; sees = refl; leads = refl } })
+  goes (x ∷ xs) m to r ran = option_and_then_some _ _ _ ran (λ n is rest.
       let it : Next m x n = kept_at {P = Next m x} (step m x) n is (next m (between m r) x) in
       let w : Went server n xs to = goes xs n to (reach m x n r it) rest in
       record {

@@ -91,13 +91,13 @@ ends_given m p [] h = omega arith
 ends_given m p (Listener ∷ rs) h = let rest = ends_given m p rs (second_so ((m.fronts p).reported && not (list_any is_listener rs)) _ h) in omega arith
 ends_given m p (Waker ∷ rs) h = let rest = ends_given m p rs h in omega arith
 ends_given m p (Of t name ∷ rs) h =
-    let parts = and_parts (nat_lt t m.server.limits.slots && m.server.owner t == p) _ h in
-    let within = and_parts (nat_lt t m.server.limits.slots) _ parts.0 in
-    let others = second_so (not (has name (names_at t rs))) _ (second_so (has name (m.places t).kernel.queue) _ parts.1) in
+    let parts = and_parts _ _ h in
+    let within = and_parts _ _ parts.0 in
+    let others = second_so _ _ (second_so _ _ parts.1) in
     let rest = ends_given m p rs others in
-    let apart = differs_at m.server.limits.slots t (given m p (Of t name ∷ rs)) (given m p rs) (ltb-true t m.server.limits.slots within.0)
+    let apart = differs_at m.server.limits.slots t (given m p (Of t name ∷ rs)) (given m p rs) (ltb-true _ _ within.0)
     (λ i other. rw (ne_eqb t i (λ e. other (sym e))) refl) in
-    let this : given m p (Of t name ∷ rs) t ≡ suc (given m p rs t) = rw (within.1, eq-eqb t t refl) refl in
+    let this : given m p (Of t name ∷ rs) t ≡ suc (given m p rs t) = rw (within.1, eq-eqb _ _ refl) refl in
     omega arith
 
 -- One slot
@@ -111,7 +111,7 @@ one_reported queue b = grind (arith, length-append {A = Name})
 
 -- a client that connects at the slot
 connects_weigh : (st : System) → Kept (λ (q : System). slot.weight q ≤ slot.weight st + ((1 + client_weight st.limits) + 17)) (alone.step st alone.Connect)
-connects_weigh st = kept_over _ (kernel.connect_in st.kernel) (kept_guard _ _ (λ few. omega (arith, one_reported st.kernel.queue st.kernel.armed)))
+connects_weigh st = kept_over _ _ (kept_guard _ _ (λ few. omega (arith, one_reported st.kernel.queue st.kernel.armed)))
 
 -- One step
 
@@ -137,7 +137,7 @@ module _ (law : EveryInterleavingIsARun) (ends : LeftAloneItEnds) (server : Serv
         ∙ ap (λ (f : Front). fronts_of m.fronts + front_weight m.server.limits f) (set_here m.fronts p new)
 
     is_thread : (i : ℕ) → rests m i ≡ true → i < m.server.limits.workers
-    is_thread i rested = ltb-true i m.server.limits.workers (and_parts (nat_lt i m.server.limits.workers) _ rested).0
+    is_thread i rested = ltb-true _ _ (and_parts _ _ rested).0
 
     -- a step that each slot sees as these steps
     abbrev IsAt : Step → (ℕ → List alone.Step) → Type 0
@@ -153,12 +153,12 @@ module _ (law : EveryInterleavingIsARun) (ends : LeftAloneItEnds) (server : Serv
     module _ (x : Step) (n : Many) (d : Deed) (q : System) (it : Next m x n) (is : IsAt x (λ s. steps_at s (Some d))) (ran : alone.run (slot_of m d.slot) d.own ≡ Some q)
         (within : nat_lt d.slot m.server.limits.slots ≡ true) where
       become : q ≡ slot_of n d.slot
-      become = same_Some _ _ (sym ran ∙ rw (eq-eqb d.slot d.slot refl) at (same_at x n it (λ s. steps_at s (Some d)) is d.slot))
+      become = same_Some _ _ (sym ran ∙ rw (eq-eqb _ _ refl) at (same_at x n it (λ s. steps_at s (Some d)) is d.slot))
 
       -- its slot gives up a and gets b, and no other changes
       slots_lighter : (a b : ℕ) → slot.weight q + a ≤ slot.weight (slot_of m d.slot) + b → slots_of n + a ≤ slots_of m + b
       slots_lighter a b less =
-          let apart = differs_at m.server.limits.slots d.slot (λ s. slot.weight (slot_of n s)) (λ s. slot.weight (slot_of m s)) (ltb-true d.slot m.server.limits.slots within)
+          let apart = differs_at m.server.limits.slots d.slot (λ s. slot.weight (slot_of n s)) (λ s. slot.weight (slot_of m s)) (ltb-true _ _ within)
           (λ s other. ap slot.weight (sym (stays s other))) in
           omega (arith, apart, less, ap slot.weight become)
         where
@@ -183,7 +183,7 @@ module _ (law : EveryInterleavingIsARun) (ends : LeftAloneItEnds) (server : Serv
     by_one : (x : Step) (d : Deed) (made : System → Many) → IsAt x (λ s. steps_at s (Some d)) → list_all slot.is_own d.own ≡ true → length d.own ≡ 1
         → ((q : System) → slots_of (made q) + 1 ≤ slots_of m + 0 → total hand_weight (written m d q).tickets ≤ total hand_weight m.tickets + 1 → weight (made q) + 1 ≤ weight m + 2 * wakes x)
         → Kept (Lighter x) (when (nat_lt d.slot m.server.limits.slots) (option_map made (alone.run (slot_of m d.slot) d.own)))
-    by_one x d made is are one_step leads = kept_when _ _ (λ within. kept_map made (alone.run (slot_of m d.slot) d.own) (λ q ran it.
+    by_one x d made is are one_step leads = kept_when _ _ (λ within. kept_map _ _ (λ q ran it.
         leads q (one_lighter x (made q) d q it is ran within are one_step) (made_few x (made q) d q it is ran within)))
 
     -- the next act or call of a thread
@@ -202,20 +202,20 @@ module _ (law : EveryInterleavingIsARun) (ends : LeftAloneItEnds) (server : Serv
         omega (arith, slots_same x (record (with_front m p new) { backlog = b }) it none, front_changed p new below, less)
 
     opens : (p s : ℕ) → may m (Open p s) ≡ true → Kept (Lighter (Open p s)) (makes m (Open p s) (deed m (Open p s)))
-    opens p s allowed = kept_when _ _ (λ within. kept_map _ (alone.run (slot_of m s) opening) (λ q ran it.
+    opens p s allowed = kept_when _ _ (λ within. kept_map _ _ (λ q ran it.
         let d : Deed = record { slot = s; thread = p; own = opening } in
         let n = besides m (Open p s) (written m d q) in
         let slots = slots_lighter (Open p s) n d q it (λ t own e. e) ran within 3 ((1 + client_weight m.server.limits) + 17) (opened q ran) in
         let hands = made_few (Open p s) n d q it (λ t own e. e) ran within in
-        let had : (m.fronts p).accepted ≡ true = second_so (m.server.owner s == p) (m.fronts p).accepted (second_so (rests m p) _ allowed) in
-        let fronts = front_changed p (record (m.fronts p) { accepted = false; opened = (m.fronts p).opened + 1 }) (is_thread p (and_parts (rests m p) _ allowed).0) in
+        let had : (m.fronts p).accepted ≡ true = second_so _ _ (second_so _ _ allowed) in
+        let fronts = front_changed p (record (m.fronts p) { accepted = false; opened = (m.fronts p).opened + 1 }) (is_thread p (and_parts _ _ allowed).0) in
         omega (arith, slots, hands, rw had at fronts)))
       where
         opened : (q : System) → alone.run (slot_of m s) opening ≡ Some q → slot.weight q + 3 ≤ slot.weight (slot_of m s) + ((1 + client_weight m.server.limits) + 17)
         opened q ran = option_and_then_some (λ (st : System). alone.run st (drop 1 opening)) (alone.step (slot_of m s) alone.Connect) q ran (λ st is rest.
             let before = run_on (r.own s) (alone.Connect ∷ []) (alone.start (one_slot server.limits s)) (slot_of m s) (r.leads s) ∙ rw is refl in
             let less = ends (one_slot server.limits s) (r.own s ++ alone.Connect ∷ []) (drop 1 opening) st q refl before refl rest in
-            let more = kept_at (alone.step (slot_of m s) alone.Connect) st is (connects_weigh (slot_of m s)) in
+            let more = kept_at _ _ is (connects_weigh (slot_of m s)) in
             omega (arith, less, more, most_at (most length) m.server.limits.lead.own s []))
 
     -- a report of the batch
@@ -253,9 +253,9 @@ module _ (law : EveryInterleavingIsARun) (ends : LeftAloneItEnds) (server : Serv
         → may_accept m.server p (m.fronts p) ≡ true → Kept (Lighter (Accept p reply)) (answered m p reply)
     accepts p Accepted own below can =
         let f = m.fronts p in
-        let none : f.accepted ≡ false = not_so f.accepted (and_parts (not f.accepted) _ (second_so (f.listens && f.flag) _ can)).0 in
+        let none : f.accepted ≡ false = not_so f.accepted (and_parts _ _ (second_so _ _ can)).0 in
         kept_guard _ _ (λ some. fronts_only (Accept p Accepted) p (record f { accepted = true }) (m.backlog - 1) below (λ s own e. e)
-        (sums _ _ _ _ m.backlog none (ltb-true 0 m.backlog some)))
+        (sums _ _ _ _ m.backlog none (ltb-true _ _ some)))
       where
         sums : (a g r t : ℕ) {had : Bool} (b : ℕ) → had ≡ false → 0 < b
             → ((1 + a) * (b - 1) + (g + (3 * r + (t + a * 1)))) + 1 ≤ (1 + a) * b + (g + (3 * r + (t + a * one had)))
@@ -270,7 +270,7 @@ module _ (law : EveryInterleavingIsARun) (ends : LeftAloneItEnds) (server : Serv
 
     polls : (p : ℕ) (reports : List Report) → 0 < length reports → p < m.server.limits.workers → Kept (Lighter (Poll p reports)) (shared m (Poll p reports))
     polls p reports some below = kept_guard _ _ (λ h it.
-        let queued_ok : are_queued m p reports ≡ true = second_so (length (m.fronts p).batch == 0) _ (second_so (nat_le (length reports) 256) _ h) in
+        let queued_ok : are_queued m p reports ≡ true = second_so _ _ (second_so _ _ h) in
         let each = total_le (λ s. slot.weight (slot_of (polled m p reports) s) + given m p reports s) (λ s. slot.weight (slot_of m s)) (numbers_below m.server.limits.slots) (weighs queued_ok) in
         let both = total_both m.server.limits.slots (λ s. slot.weight (slot_of (polled m p reports) s)) (given m p reports) in
         let ends = ends_given m p reports queued_ok in
@@ -288,13 +288,13 @@ module _ (law : EveryInterleavingIsARun) (ends : LeftAloneItEnds) (server : Serv
             by false other = rw other (omega arith)
 
     lighter : (x : Step) → is_own x ≡ true → Kept (Lighter x) (step m x)
-    lighter (Poll p reports) own = kept_when (rests m p) _ (λ rested. polls p reports (ltb-true 0 (length reports) own) (is_thread p rested))
-    lighter (Deliver p) own = kept_when (rests m p) _ (λ rested. delivers p (is_thread p rested) (m.fronts p).batch refl)
-    lighter (Accept p reply) own = kept_when (rests m p) _ (λ rested. kept_when _ _ (λ may. accepts p reply own (is_thread p rested) may))
-    lighter (Drop p) own = kept_when (rests m p) _ (λ rested. kept_guard _ _ (λ had.
+    lighter (Poll p reports) own = kept_when _ _ (λ rested. polls p reports (ltb-true _ _ own) (is_thread p rested))
+    lighter (Deliver p) own = kept_when _ _ (λ rested. delivers p (is_thread p rested) (m.fronts p).batch refl)
+    lighter (Accept p reply) own = kept_when _ _ (λ rested. kept_when _ _ (λ may. accepts p reply own (is_thread p rested) may))
+    lighter (Drop p) own = kept_when _ _ (λ rested. kept_guard _ _ (λ had.
         fronts_only (Drop p) p (record (m.fronts p) { accepted = false }) m.backlog (is_thread p rested) (λ s own e. e) (rw had (omega arith))))
     lighter (Open p s) own = kept_when _ _ (λ may. opens p s may)
-    lighter (Begin i from most) own = kept_when (rests m i) _ (λ rested. begins i from most own (first_of (suits i from) m.tickets) refl)
+    lighter (Begin i from most) own = kept_when _ _ (λ rested. begins i from most own (first_of (suits i from) m.tickets) refl)
     lighter (Put i s) own = puts i s
     lighter (Acts i) own = threads (Acts i) i (alone.Acts (rank_at m (m.busy_at i) i) ∷ []) (λ t own e. e) refl refl
     lighter (Calls i reply) own = threads (Calls i reply) i (alone.Calls (rank_at m (m.busy_at i) i) reply ∷ []) (λ t own e. e) (rw own refl) refl
@@ -303,9 +303,9 @@ module _ (law : EveryInterleavingIsARun) (ends : LeftAloneItEnds) (server : Serv
   -- A list of steps
 
   rests_on : (own : List Step) (m next : Many) → Reached server m → list_all is_own own ≡ true → run m own ≡ Some next → length own + weight next ≤ weight m + 2 * total wakes own
-  rests_on [] m next_ r are ran = rw (← same_Some m next_ ran) (omega arith)
-  rests_on (x ∷ xs) m to r are ran = option_and_then_some (λ (n : Many). run n xs) (step m x) to ran (λ n is rest.
-      let parts = and_parts (is_own x) (list_all is_own xs) are in
+  rests_on [] m next_ r are ran = rw (← same_Some _ _ ran) (omega arith)
+  rests_on (x ∷ xs) m to r are ran = option_and_then_some _ _ _ ran (λ n is rest.
+      let parts = and_parts _ _ are in
       let it : Next m x n = kept_at {P = Next m x} (step m x) n is (next m (between law server inside m r) x) in
       let less = kept_at {P = Lighter m r x} (step m x) n is (lighter m r x parts.0) it in
       let more = rests_on xs n to (reach law server inside m x n r it) parts.1 rest in

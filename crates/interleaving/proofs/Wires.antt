@@ -1,6 +1,6 @@
 -- The threads at one slot over wires that rest are the threads without such wires, where what is late comes later.
 pub mod Turns
-use Rattle.interleaving.{proofs.{Rest.{known_in}, Runs.{count_free, Programs.{none_by}}}, specs.{Likeness.{EveryInterleavingIsARun, IsHalfOpen, IsSettled, Like, Settled, machine_of, opened_slot}, Wires.{ComeLate, EndHolds, WiresComeLate, delay, happened, none_late, start, way}}}
+use Rattle.interleaving.{proofs.{Rest.{known_in}, Runs.{count_free, Programs.{none_by}}}, specs.{Likeness.{EveryInterleavingIsARun, IsHalfOpen, IsSettled, Like, Settled, machine_of, opened_slot}, Wires.{EndHolds, WiresComeLate, delay, happened, none_late, start, way}}}
 use Rattle.world.{proofs.Headline.Ends.Pairs.Holders.{Turns as HasTurns, first_free, turns_after}, specs.{CoreLaws.{CoreLaws}, Slots.{SlotState, WorkerState}, States.{State}, declared.limits.Limits.{Limits}}}
 pub use Turns.*
 
@@ -50,7 +50,7 @@ module _ (core : CoreLaws) (law : EveryInterleavingIsARun) (l : Limits) (one : l
       → wired.run w steps ≡ Some to → Went w d e q steps to
   went [] w to d e q j rested made ran h = rw (some_is h)
       (record { there = e; queue = q; leads = refl; joined = j })
-  went (x ∷ steps) w to d e q j rested made ran h = option_and_then_some (λ (v : Wired). wired.run v steps) (wired.step w x) to h (λ v is rest.
+  went (x ∷ steps) w to d e q j rested made ran h = option_and_then_some _ _ _ h (λ v is rest.
       let before = seen_as w.system e q (batch_there w.poll d.early w.system.batch) in
       let r = law l made before one ran in
       let free = free_none before r.world r.like (turns_after core l r.made r.world r.allowed) before.free refl in

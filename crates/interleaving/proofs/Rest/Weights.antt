@@ -220,8 +220,8 @@ counts_once n (x ∷ q) h = let rest = counts_once n q in grind arith
 counted : (names q : List Name) → are_among q names ≡ true → are_distinct names ≡ true → length names ≤ count names q
 counted [] q among distinct = omega arith
 counted (n ∷ ns) q among distinct =
-    let parts = and_parts (has n q) (are_among q ns) among in
-    let others = and_parts (not (has n ns)) (are_distinct ns) distinct in
+    let parts = and_parts _ _ among in
+    let others = and_parts _ _ distinct in
     omega (arith, counted ns q parts.1 others.1, counts_beside n ns q (not_so (has n ns) others.0), counts_once n q parts.0)
 
 parted : (names q : List Name) → length (without_names names q) + count names q ≡ length q

@@ -1,10 +1,10 @@
 -- What a step is for the machine: what the network, the kernel, the clock and the poller do between the programs, and
 -- what a thread does, act by act, where no opening is half way. Its imports are passed on to the file above it.
-pub use Rattle.std.{proofs.{Common.{Bool, List, None, Option, Some, [], ap, append-nil, arith, drop, false, if◌then◌else◌, inl, inr, is_some, length, lt-ltb, map, nat_le, nat_lt, not, option_map, refl, replicate, slice_get, slice_set, subst, suc, sym, true, zero, ℕ, ◌&&◌, ◌++◌, ◌+◌, ◌==◌, ◌∙◌, ◌∷◌, ◌≡◌, ◌≢◌, ◌≤◌, ◌⊎◌, ◌||◌, length-append, eqb-true, ne_eqb, ◌-◌, append_assoc, eq-eqb, leb-true}, lemmas.{Bool.{or_right, and_parts, cases_eq, Decides.nat_tests}, Option.slice_get_past, List.{map-append, length-replicate, set-set}}}, specs.{Option.is_none, Cmp.second_so, List.flat_map}}
+pub use Rattle.std.{proofs.{Common.{Bool, List, None, Option, Some, [], ap, append-nil, arith, drop, false, if◌then◌else◌, inl, inr, is_some, length, lt-ltb, map, nat_le, nat_lt, not, option_map, refl, replicate, slice_get, slice_set, subst, suc, sym, true, zero, ℕ, ◌&&◌, ◌++◌, ◌+◌, ◌==◌, ◌∙◌, ◌∷◌, ◌≡◌, ◌≢◌, ◌≤◌, ◌⊎◌, length-append, eqb-true, ne_eqb, ◌-◌, append_assoc, eq-eqb, leb-true}, lemmas.{Bool.{or_right, and_parts, cases_eq, Decides.nat_tests}, Option.slice_get_past, List.{map-append, length-replicate, set-set}}}, specs.{Option.is_none, Cmp.second_so, List.flat_map}}
 pub use Rattle.claims.specs.{Words.{WordState, made as exchange_made, some_wait, wakes, word_after}, declared.view.Exchange.Exchange}
 pub use Rattle.interleaving.specs.{Likeness.{OthersRest, exchange, exchanges_in, first_kind, kind_in, left_of, Adopted, Emptied, Entered, Goes, HalfOpen, HasClosed, HasOut, HasRetired, Held, HolderLike, Holds, IsHalfOpen, IsHolder, IsSettled, Leaves, Like, Opens, Placed, Posted, Registered, Rests, Settled, Stage, Stays, ThreadLike, Tries, WorkerFor, WorkersFor, ahead, call_of, call_in, ends_of, machine_of, opened_slot, outside_in, outside_of, ticket, posts, here, Finds}, Threads.{Act, Call, Release, TakeOut, again, ended, open_slot, plan, quiet, turn, Accept, Acts, Begin, Calls, Connect, Deliver, Drop, Network, Open, Poll, Spurious, Step, Sweep, System, Thread, Tick, Vanish, acts, begun, goes_on, is_over, poller_rests, posted, released, rests, step, with_thread, watched_of, is_limited, delivered, delivers, Post, Retire, Give, calls, closed, begins, given, heard, taking, planned, put_in, registered, registering}}
 pub use Rattle.kernel_model.specs.{Ends.is_nonempty, Kernel.KernelState, declared.{both.Descriptors.Descriptors, reply.Reply.Reply, accepting.Accepting.TheVariants.{Accepted, Blocked, Again, Starved}}}
-pub use Rattle.relay_core.specs.{declared.call.Call.{Call as PairCall}, Order.next_call, Pairs.{PairState, is_live, verdict, fresh, noted}, Replies.fits, Idle.{is_overdue, expired}}
+pub use Rattle.relay_core.specs.{declared.call.Call.{Call as PairCall}, Order.next_call, Pairs.{PairState, is_live, verdict, fresh}, Replies.fits, Idle.{is_overdue, expired}}
 pub use Rattle.token.specs.{Names.EndName, declared.{name.Name.Name, side.Side.{Side, TheVariants.{Client, Target}}}}
 pub use Rattle.world.{proofs.Headline.Ends.Pairs.Holders.{Events.Lists.{Kept, get-set_other, get-set_same, kept_at, kept_bind, kept_guard, kept_map, kept_none, kept_some, kept_when, set_same, total_at}, Turns, facts, first_free, is_number, is_shaped, names_it, own_generation, some_more, waiting, worker_retires}, specs.{Acts.busy, Leads.lead_at, Slots.{SlotState, WorkerState, is_by_worker, is_held}, States.{State, resting as idle_worker}, Steps.{with_note, brings_ticket, may_release, is_worn, token_of}, Support.{of_slot, one, tickets, total, worker_tickets}, Words.{is_free, word_at}, declared.{actors.Holder.{Holder, TheVariants.{By, Free, Nobody}}, connection.Connection.Connection, event.{Event.Event, Change.Change, Reported.Reported}}, Calls.{descriptor, OpenConnection, called, told_of, made}}}
 pub use Rattle.claims.specs.Words as word
@@ -117,11 +117,11 @@ module _ {st : System} {before : List Exchange} {p : SlotState} {entry : ℕ} {t
   may : (poller_rests st && (st.flag && (not st.accepted && nat_lt 0 st.free))) ≡ true → machine.may_accept frame_world ≡ true
   may h =
       let some : is_nonempty (replicate st.free 0) ≡ nat_lt 0 st.free = rw (length-replicate {A = ℕ} st.free 0) refl in
-      rw some (second_so (poller_rests st) _ h)
+      rw some (second_so _ _ h)
 
   pub beyond : (s : Step) → is_beyond s ≡ true → Kept (Follows before [] frame_world s) (step st s)
   beyond (Tick n) is = kept_guard _ _ (λ may. alone (event.Tick n) (λ more. rw may))
-  beyond (Network side change) is = kept_bind _ st.ends (λ ends is. kept_map _ (machine.change_at st.kernel (descriptor ends side) change) (λ q may.
+  beyond (Network side change) is = kept_bind _ _ (λ ends is. kept_map _ _ (λ q may.
       network_at side change ends q may p.connection refl (sym fr.ends ∙ is)))
   beyond Connect is = kept_map _ (kernel.connect_in st.kernel) (λ q may. alone (event.Listen listening.Connect) (λ more. rw may))
   beyond (Spurious who) is = kept_bind _ (watched_of st who) (λ what is. kept_map _ (kernel.spurious st.kernel what) (λ q may.
@@ -130,7 +130,7 @@ module _ {st : System} {before : List Exchange} {p : SlotState} {entry : ℕ} {t
       alone (event.Vanish (here who)) (λ more. rw (same_watched st p entry tickets workers fr.ends who, is, may))))
   beyond (Accept Accepted) is = kept_when _ _ (λ b. kept_map _ (kernel.accept st.kernel Accepted) (λ q can.
       alone (event.Listen (listening.Accept Accepted)) (λ more. rw (may b, can))))
-  beyond (Accept Blocked) is = kept_when _ _ (λ b. kept_map _ (kernel.accept st.kernel Blocked) (λ q can.
+  beyond (Accept Blocked) is = kept_when _ _ (λ b. kept_map _ _ (λ q can.
       alone (event.Listen (listening.Accept Blocked)) (λ more. rw (may b, can))))
   beyond (Accept Again) is = kept_when _ _ (λ b. kept_some (alone (event.Listen (listening.Accept Again)) (λ more. rw (may b))))
   beyond (Accept Starved) is = kept_when _ _ (λ b. kept_some (alone (event.Listen (listening.Accept Starved)) (λ more. rw (may b))))
@@ -143,7 +143,7 @@ module _ {st : System} {before : List Exchange} {p : SlotState} {entry : ℕ} {t
 
 pub some_notes : (notes : List ℕ) → some_wait (length notes) ≡ is_nonempty notes
 some_notes [] = refl
-some_notes (n ∷ ns) = sym (lt-ltb 0 (length (n ∷ ns)) (omega arith))
+some_notes (n ∷ ns) = sym (lt-ltb _ _ (omega arith))
 
 wakes_as : (p : SlotState) → wakes (word_at p) ≡ brings_ticket p
 wakes_as p = rw (some_notes p.notes) (grind arith)
@@ -161,7 +161,7 @@ due_now c live = rw live (or_right _ true refl)
 
 may_still : (c : Connection) (some : Bool) → may_release c some ≡ true → may_release c true ≡ true
 unfolding may_release
-may_still c some may = due_now c (and_parts (is_live (verdict c.pair)) (is_none (next_call c.pair) || some) may).0
+may_still c some may = due_now c (and_parts _ _ may).0
 
 still : {p : SlotState} {i g : ℕ} {has : Option Connection} (note : ℕ) → Held p i g has → Held (with_note p note) i g has
 still note held = assumption held
@@ -278,9 +278,9 @@ module _ {st : System} {p : SlotState} {workers : List WorkerState} (set : Settl
 
   delivers_end : (n : EndName) (rest : List Name) → st.batch ≡ name.End n ∷ rest → (n.slot ≡ 0) ⊎ (n.slot ≢ 0) → (b : Bool) → (st.entry == n.generation) ≡ b → Delivers (name.End n) rest
   delivers_end n rest is (inl first) true own =
-      rw (first, own, sym (eqb-true st.entry n.generation own)) (posts_by Deliver (event.Poll polling.Deliver) st.entry rest (brings_ticket p) refl (λ more. rw (is, first, own)))
+      rw (first, own, sym (eqb-true _ _ own)) (posts_by Deliver (event.Poll polling.Deliver) st.entry rest (brings_ticket p) refl (λ more. rw (is, first, own)))
   delivers_end n rest is (inl first) false own = rw (first, own) (alone (settled_frame set) (event.Poll polling.Deliver) (λ more. rw (is, first, own)))
-  delivers_end n rest is (inr other) b own = rw (ne_eqb n.slot 0 other) (alone (settled_frame set) (event.Poll polling.Deliver) (λ more. rw (is, past_one st.entry n.slot other)))
+  delivers_end n rest is (inr other) b own = rw (ne_eqb _ _ other) (alone (settled_frame set) (event.Poll polling.Deliver) (λ more. rw (is, past_one st.entry n.slot other)))
 
   delivers_all : (batch : List Name) → st.batch ≡ batch → Kept (Follows [] (exchange st.word (posts st batch)) world Deliver) (delivers st batch)
   delivers_all [] is = kept_none
@@ -408,9 +408,9 @@ module _ (st : System) (p : SlotState) (workers : List WorkerState) (set : Settl
       (λ more. rw (had, is, tickets)))
 
   pub begins_turn : ThreadLike st.limits.budget st.place p i t k t.todo → (most : ℕ) → Kept (Follows [] [] w (Begin i most)) (begins st i most t)
-  begins_turn like most = kept_when (rests t && nat_le most st.limits.budget) _ (λ r.
-      let parts = and_parts (rests t) (nat_le most st.limits.budget) r in
-      begins_with (rests_like like parts.0) most (leb-true most st.limits.budget parts.1) st.tickets refl)
+  begins_turn like most = kept_when _ _ (λ r.
+      let parts = and_parts _ _ r in
+      begins_with (rests_like like parts.0) most (leb-true _ _ parts.1) st.tickets refl)
 
   pub begins_opening : i ≡ 0 → ThreadLike st.limits.budget st.place p i t k t.todo → rests t ≡ true → Follows [] [] w Open (with_thread st i (goes_on t open_slot))
   begins_opening first like r = follow [] p workers
@@ -460,7 +460,7 @@ module _ (st : System) (p : SlotState) (workers : List WorkerState) (set : Settl
 
     -- the connection is closed
     closes : st.place ≡ None → is_live (verdict c.pair) ≡ false → Kept (Acted []) (closed st i t (Retire ∷ Give ∷ []) c)
-    closes at over = kept_map _ (kernel.close_both st.kernel c.ends) (λ told may.
+    closes at over = kept_map _ _ (λ told may.
         follow (event.Work i act.Close ∷ []) (record p { connection = None }) (slice_set workers i (busy (doing.Closed 0))) (record {
           ends = refl;
           word = set.word;
@@ -473,7 +473,7 @@ module _ (st : System) (p : SlotState) (workers : List WorkerState) (set : Settl
     -- it takes the connection out, which is its ticket's own
     holder_acts turns (Holds at least all some) =
         let own = own_generation (facts w 0 p.generation) p c ((turns.each 0 p refl).connection c held.there).stands ∙ held.generation in
-        kept_some (rw (at, eq-eqb c.pair.generation t.generation own) (follow [] p workers (record {
+        kept_some (rw (at, eq-eqb _ _ own) (follow [] p workers (record {
           ends = set.ends;
           word = set.word;
           place = not_nobody;

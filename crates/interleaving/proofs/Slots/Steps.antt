@@ -9,10 +9,10 @@ use Rattle.interleaving.specs.Threads as alone
 -- Functions with one value set
 
 pub set_here : {X : Type 0} (f : ℕ → X) (i : ℕ) (x : X) → set f i x i ≡ x
-set_here f i x = rw (eq-eqb i i refl) refl
+set_here f i x = rw (eq-eqb _ _ refl) refl
 
 pub set_there : {X : Type 0} (f : ℕ → X) (i j : ℕ) (x : X) → j ≢ i → set f i x j ≡ f j
-set_there f i j x other = rw (ne_eqb j i other) refl
+set_there f i j x other = rw (ne_eqb _ _ other) refl
 
 -- Views
 
@@ -38,7 +38,7 @@ tickets_append s (t ∷ ts) ys = let rest = tickets_append s ts ys in grind (ari
 
 made_here : (s i : ℕ) (gs : List ℕ) → tickets_at s (map (in_hand s i) gs) ≡ gs
 made_here s i [] = refl
-made_here s i (g ∷ gs) = rw (eq-eqb s s refl) (ap (λ (hs : List ℕ). g ∷ hs) (made_here s i gs))
+made_here s i (g ∷ gs) = rw (eq-eqb _ _ refl) (ap (λ (hs : List ℕ). g ∷ hs) (made_here s i gs))
 
 made_there : (s t i : ℕ) (gs : List ℕ) → t ≢ s → tickets_at t (map (in_hand s i) gs) ≡ []
 made_there s t i [] other = refl
@@ -151,17 +151,17 @@ AreOwn owner p (r ∷ rs) = AreOwn owner p rs
 
 pub own_reports : (m : Many) (p : ℕ) (rs : List Report) → are_queued m p rs ≡ true → AreOwn m.server.owner p rs
 own_reports m p [] h = tt
-own_reports m p (Listener ∷ rs) h = own_reports m p rs (second_so ((m.fronts p).reported && not (list_any is_listener rs)) _ h)
+own_reports m p (Listener ∷ rs) h = own_reports m p rs (second_so _ _ h)
 own_reports m p (Waker ∷ rs) h = own_reports m p rs h
 own_reports m p (Of t n ∷ rs) h =
-    let parts = and_parts (nat_lt t m.server.limits.slots && m.server.owner t == p) _ h in
-    let others = second_so (has n (m.places t).kernel.queue) _ parts.1 in
-    (eqb-true (m.server.owner t) p (second_so (nat_lt t m.server.limits.slots) _ parts.0), own_reports m p rs (second_so (not (has n (names_at t rs))) _ others))
+    let parts = and_parts _ _ h in
+    let others = second_so _ _ parts.1 in
+    (eqb-true _ _ (second_so _ _ parts.0), own_reports m p rs (second_so _ _ others))
 
 -- Ranks: a poller and thread 0 are in exchange
 
 pub rank_first : (p : ℕ) → rank p p ≡ 0
-rank_first p = rw (eq-eqb p p refl) refl
+rank_first p = rw (eq-eqb _ _ refl) refl
 
 rank_twice : (p i : ℕ) → rank p (rank p i) ≡ i
 rank_twice p i = grind (arith, nat_tests)
@@ -269,8 +269,8 @@ module _ (m : Many) (x : Step) (d : Deed) (n : Many) (q : System) where
   }
     where
       at : (s : ℕ) → (d.slot ≡ s) ⊎ (d.slot ≢ s) → AtSlot m x n s
-      at s (inl here) = record { own = d.own; sees = is s d.own (rw (eq-eqb d.slot s here) refl); leads = rw (← here) (ran ∙ ap Some (sym (done_here done))) }
-      at s (inr other) = record { own = []; sees = is s [] (rw (ne_eqb d.slot s other) refl); leads = ap Some (sym (done_there done s (λ e. other (sym e)))) }
+      at s (inl here) = record { own = d.own; sees = is s d.own (rw (eq-eqb _ _ here) refl); leads = rw (← here) (ran ∙ ap Some (sym (done_here done))) }
+      at s (inr other) = record { own = []; sees = is s [] (rw (ne_eqb _ _ other) refl); leads = ap Some (sym (done_there done s (λ e. other (sym e)))) }
 
       rests_on : (i s : ℕ) → i < m.server.limits.workers → s ≢ n.busy_at i → Stands i → (s ≡ d.slot) ⊎ (s ≢ d.slot) → RestsAt n s i
       rests_on i s some other (inl same) (inl here) =
@@ -282,7 +282,7 @@ module _ (m : Many) (x : Step) (d : Deed) (n : Many) (q : System) where
         where
           was : (s ≡ m.busy_at i) ⊎ (s ≢ m.busy_at i) → (m.busy_at i ≡ d.slot) ⊎ (rests m i ≡ true) → RestsAt m s i
           was (inl here) (inl at_slot) = absurd (away (here ∙ at_slot))
-          was (inl here) (inr rested) = let now = second_so (nat_lt i m.server.limits.workers) _ rested in rw here now
+          was (inl here) (inr rested) = let now = second_so _ _ rested in rw here now
           was (inr never) before = apart i s some never
 
 -- a deed, with other fronts and threads elsewhere besides
@@ -310,7 +310,7 @@ module _ (m : Many) (between : Between m) where
   by_deed : {P : System → Type 0} (x : Step) (d : Deed) (made : System → Many) → Kept P (alone.run (slot_of m d.slot) d.own)
       → ((q : System) → alone.run (slot_of m d.slot) d.own ≡ Some q → P q → Next m x (made q))
       → Kept (Next m x) (when (nat_lt d.slot m.server.limits.slots) (option_map made (alone.run (slot_of m d.slot) d.own)))
-  by_deed {P} x d made kept leads = kept_when _ _ (λ within. kept_map made (alone.run (slot_of m d.slot) d.own) (λ q ran. leads q ran (kept_at {P = P} _ q ran kept)))
+  by_deed {P} x d made kept leads = kept_when _ _ (λ within. kept_map _ _ (λ q ran. leads q ran (kept_at {P = P} _ q ran kept)))
 
   pub by_still : (x : Step) (d : Deed) → ((s : ℕ) (own : List alone.Step) → own ≡ steps_at s (Some d) → Sees m s x own)
       → Kept (Leaves nobody [] (slot_of m d.slot)) (alone.run (slot_of m d.slot) d.own)
@@ -364,7 +364,7 @@ module _ (m : Many) (between : Between m) where
           → names_at s (set m.fronts p (record (m.fronts p) { batch = drop 1 (m.fronts p).batch }) (m.server.owner s)).batch ≡ q.batch
       here q own left =
           let was : names_at s (m.fronts p).batch ≡ left.0 ∷ q.batch = rw own at left.1.batch in
-          let now : name ∷ names_at s rest ≡ left.0 ∷ q.batch = rw (is, eq-eqb s s refl) at was in
+          let now : name ∷ names_at s rest ≡ left.0 ∷ q.batch = rw (is, eq-eqb _ _ refl) at was in
           let tail : names_at s rest ≡ q.batch = cc in
           rw (own, set_here m.fronts p (record (m.fronts p) { batch = drop 1 (m.fronts p).batch }), is) tail
 
@@ -376,7 +376,7 @@ module _ (m : Many) (between : Between m) where
   begins i from most rested (Some c) is =
       let s = c.ticket.slot in
       let d : Deed = record { slot = s; thread = i; own = alone.Begin (rank_at m s i) most ∷ [] } in
-      let only_one : Alone s m.tickets c = taken_here (suits i from) m.tickets c is s refl (between.one_ticket s) in
+      let only_one : Alone s m.tickets c = taken_here _ _ _ is s refl (between.one_ticket s) in
       by_deed (Begin i from most) d (λ q. besides m (Begin i from most) (written m d q)) (leaves_begin (slot_of m s) (rank_at m s i) most) (λ q ran left.
       let n : Many = record (written m d q) { tickets = c.rest; busy_at = set m.busy_at i s } in
       let had : tickets_at s m.tickets ≡ left.first ∷ q.tickets = left.tickets in
@@ -386,7 +386,7 @@ module _ (m : Many) (between : Between m) where
         places = λ t. refl;
         names = λ t other. refl;
         names_here = left.batch;
-        tickets = λ t other. taken_there (suits i from) m.tickets c is t other;
+        tickets = λ t other. taken_there _ _ _ is t other;
         tickets_here = only_one.rest ∙ sym none;
         common = left.common;
       }) (λ t own e. e ∙ ap (λ (o : Option Taken). steps_at t (option_map

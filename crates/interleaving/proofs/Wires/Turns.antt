@@ -1,11 +1,10 @@
 -- What the threads do over wires that rest, act by act and call by call, and what happens there.
 pub mod Steps
-pub use Rattle.interleaving.{proofs.{Rest.Acts.{Calling, Ending, IsOut, Known, Opening}, Runs.{run_on}}, specs.{Threads.{calls, planned, registered, registering}, Wires.{Asked, Handed, Looks, Polled, Tells, Unasked, as_call, asked_by, asks, blocked, called as called_wire, handed, plain, polled, unasked}}}
+pub use Rattle.interleaving.{proofs.{Rest.Acts.{Calling, Ending, IsOut, Known, Opening}, Runs.{run_on}}, specs.{Threads.{calls, planned, registered, registering}, Wires.{Asked, Handed, Looks, Polled, Tells, Unasked, as_call, asked_by, asks, unasked}}}
 pub use Rattle.kernel_model.specs.Replies.{bytes_read}
 pub use Rattle.readiness.proofs.Runs.{failed_reads}
 pub use Rattle.relay_core.specs.{Calls.{side_of}, Order.{next_call, offer}, Pairs.{PairState, verdict}, Replies.{after as answered, fits}, declared.call.Call.{Call as PairCall, TheVariants.{Join, Read, Shut, Write}}}
-pub use Rattle.std.proofs.Common.{append_assoc, ltb-true, subst, ◌<◌, ◌≤◌}
-pub use Rattle.token.specs.declared.kind.Kind.{Kind}
+pub use Rattle.std.proofs.Common.{append_assoc, subst, ◌≤◌}
 pub use Rattle.world.{proofs.Headline.Ends.Pairs.Holders.Events.Lists.{get-set_other}, specs.{Calls.{OpenConnection, made, plain as plain_answer, told_of}, Steps.{token_of}}}
 pub use Steps.*
 unfoldable pub use Rattle.world.specs.Calls.{called}
@@ -87,7 +86,7 @@ module _ (w : Wired) (d : Delay) (e : List (Option Registered)) (q : List Name) 
 
     act_apart : (act : Act) (rest : List Act) → t.todo ≡ act ∷ rest → is_apart act ≡ true → after_act here i t act rest ≡ Some next → Acted [] false
     act_apart act rest todo is h =
-        let a = kept_at (after_act here i t act rest) next h (acts_apart here e q (batch_there w.poll d.early here.batch) i t act rest is) in
+        let a = kept_at _ _ h (acts_apart here e q (batch_there w.poll d.early here.batch) i t act rest is) in
         stays w d e q j (Acts i) next wires (rw (there, todo) a.0, a.1) (old_wires w d e q j next wires (ap (λ (r : Rim). r.ends) a.1) new)
 
     act_opens : {o : Option ℕ} (rest : List Act) (free : ℕ) → t.todo ≡ Register ∷ rest → here.free ≡ free → (1 ≤ here.free → here.ends ≡ None) → registering here i t rest free ≡ Some next
@@ -197,10 +196,10 @@ record Makes (st : System) (i : ℕ) (a : Asked) : Type 0 where
   next : next_call a.connection.pair ≡ Some a.asks
 
 makes_back : (st : System) (i : ℕ) (a : Asked) → asks st i ≡ Some a → Makes st i a
-makes_back st i a h = option_and_then_some (λ (t : Thread). asked_by t t.todo) (slice_get st.threads i) a h (λ t there made. by t there t.todo refl made)
+makes_back st i a h = option_and_then_some _ _ _ h (λ t there made. by t there t.todo refl made)
   where
     by : (t : Thread) → slice_get st.threads i ≡ Some t → (todo : List Act) → t.todo ≡ todo → asked_by t todo ≡ Some a → Makes st i a
-    by t there (Call ∷ rest) todo h = option_and_then_some _ t.out a h (λ c out more. mapped _ (next_call c.pair) a more (λ call next is.
+    by t there (Call ∷ rest) todo h = option_and_then_some _ _ _ h (λ c out more. mapped _ _ _ more (λ call next is.
         rw is (record { there = there; rest = rest; todo = todo; out = out; next = next })))
     by t there other todo h = cc
 
@@ -241,11 +240,11 @@ module _ (st : System) (i : ℕ) (a : Asked) (m : Makes st i a) (own : a.connect
   answer_runs n = ap (option_and_then (λ (y : System). Some y)) (call_is ∙ ap (option_map lines) (rw (n.told, n.fit, n.after) at called_is))
 
   answer_ran : (next : System) → step st (Calls i r) ≡ Some next → (n : Answer its_end a r) × (next ≡ goes_so st i a (then_kernel n.socket) n.value)
-  answer_ran next h = mapped lines (called st.second (record { kernel = st.kernel; connection = a.connection }) r) next (sym call_is ∙ h) (λ line does after.
-      option_and_then_some _ (told_at its_end a.asks r) line (sym called_is ∙ does) (λ value told rest.
-      let fit = when_back (fits a.connection.pair a.asks value) _ line rest in
-      mapped _ (option_map then_kernel (after_call its_end (as_call a.connection.pair a.asks) r)) line fit.1 (λ k made line_is.
-      mapped then_kernel (after_call its_end (as_call a.connection.pair a.asks) r) k made (λ x ends k_is.
+  answer_ran next h = mapped _ _ _ (sym call_is ∙ h) (λ line does after.
+      option_and_then_some _ _ _ (sym called_is ∙ does) (λ value told rest.
+      let fit = when_back _ _ _ rest in
+      mapped _ _ _ fit.1 (λ k made line_is.
+      mapped _ _ _ made (λ x ends k_is.
       (record { value = value; told = told; fit = fit.0; socket = x; after = ends }, after ∙ rw (line_is, k_is) refl)))))
 
 -- the bytes that a read gives are the same there: nothing is late while the wire reads
@@ -326,8 +325,7 @@ module _ (w : Wired) (d : Delay) (e : List (Option Registered)) (q : List Name) 
         let r = reply.Failed kind in
         let c1 = comes_at w.system g s q b side (f side) (d.late side) ends (oks side).due in
         let wire : Wire = record (w.wires side) { reads = reads_after (w.wires side).reads (as_call a.connection.pair a.asks) r } in
-        let all = changed_end g w.system.kernel.queue w.poll w.system.kernel.queue w.poll side n.socket n.socket wire []
-        (awake n.socket _ wire (inl (failed_reads (w.wires side).reads (as_call a.connection.pair a.asks) kind))) (λ k other some more. more) oks in
+        let all = changed_end g w.system.kernel.queue w.poll w.system.kernel.queue w.poll side (awake n.socket _ wire (inl (failed_reads (w.wires side).reads (as_call a.connection.pair a.asks) kind))) (λ k other some more. more) oks in
         let same = on_here side (f side) s in
         let made = answer_there (on side (f side) s) c1.queue r (record { value = n.value; told = rw same n.told; fit = n.fit; socket = n.socket; after = rw same n.after }) in
         record {
@@ -344,8 +342,7 @@ module _ (w : Wired) (d : Delay) (e : List (Option Registered)) (q : List Name) 
         }
     answered_at r n may =
         let x = answers (oks side) n.socket (as_call a.connection.pair a.asks) r may n.after refl in
-        let wire : Wire = record (w.wires side) { reads = reads_after (w.wires side).reads (as_call a.connection.pair a.asks) r } in
-        let all = changed_end g w.system.kernel.queue w.poll w.system.kernel.queue w.poll side n.socket x.there wire (d.late side) x.ok (λ k other some more. more) oks in
+        let all = changed_end g w.system.kernel.queue w.poll w.system.kernel.queue w.poll side x.ok (λ k other some more. more) oks in
         record {
           there = open_as g (on side x.there s);
           queue = q;
@@ -362,8 +359,8 @@ module _ (w : Wired) (d : Delay) (e : List (Option Registered)) (q : List Name) 
     blocked_at : (v : Wired) → unasked w i a ≡ Some v → Led before (Calls i reply.Blocked ∷ []) v d
     blocked_at v h =
         let it = w.wires side in
-        let gave = guarded (not (may_call it.reads (as_call a.connection.pair a.asks)) && not it.told) (record w { system = blocked w.system i a }) v h in
-        let none = both_down (may_call it.reads (as_call a.connection.pair a.asks)) it.told gave.0 in
+        let gave = guarded _ _ _ h in
+        let none = both_down _ _ gave.0 in
         let n = itself a a.asks refl it.reads (λ most asleep. would_block (oks side) most asleep none.1) none.0 in
         let does = rw (n.1, n.2, open_same g side s) at (answer_there s q reply.Blocked n.0) in
         rw gave.1 (record { there = e; queue = q; leads = rw as_seen does; joined = j })
@@ -400,15 +397,15 @@ module _ (w : Wired) (d : Delay) (e : List (Option Registered)) (q : List Name) 
   plain_next (Vanish who) next wires h new = vanishes w d e q j who next wires h new
   plain_next (Poll names) next wires h new = cc
   plain_next Deliver next wires h new =
-      let a = when_back (poller_rests w.system) _ next h in
+      let a = when_back _ _ _ h in
       rw (old_wires w d e q j next wires (deliver_ends w.system w.system.batch next a.1) new) (delivers_on w.system w.wires w.poll d e q j w.system.batch refl next a.0 a.1)
-  plain_next (Acts i) next wires h new = option_and_then_some (λ (t : Thread). acts w.system i t t.todo) (slice_get w.system.threads i) next h (λ t there made.
+  plain_next (Acts i) next wires h new = option_and_then_some _ _ _ h (λ t there made.
       acts_next i t there next wires new t.todo refl made (closes w.system i) refl)
-  plain_next (Calls i r) next wires h new = option_and_then_some (called_wire w.wires r) (asks w.system i) wires new (λ a asking made.
-      let g = guarded (may_call (w.wires (side_of a.asks)).reads (as_call a.connection.pair a.asks)) (asking_wire a r) wires made in
+  plain_next (Calls i r) next wires h new = option_and_then_some _ _ _ new (λ a asking made.
+      let g = guarded _ _ _ made in
       rw (g.1, failing_is i r a asking) (calls_by i r a (makes_back w.system i a asking) next h g.0 j.ends j.known j.polls))
   plain_next s next wires h new =
-      let a = kept_at (step w.system s) next h (steps_apart w.system e q (batch_there w.poll d.early w.system.batch) s refl) in
+      let a = kept_at _ _ h (steps_apart w.system e q (batch_there w.poll d.early w.system.batch) s refl) in
       stays w d e q j s next wires a (old_wires w d e q j next wires (ap (λ (r : Rim). r.ends) a.1) new)
 
   -- while it polls, the poller rests
@@ -444,21 +441,21 @@ module _ (w : Wired) (d : Delay) (e : List (Option Registered)) (q : List Name) 
       (λ j. handed_on w.system w.wires p d e q j rests none) j
 
   pub step_next : (x : wired.Step) (v : Wired) → wired.step w x ≡ Some v → Fit x v
-  step_next (Plain s) v h = option_and_then_some _ (step w.system s) v h (λ next is rest.
-      let a = when_back (is_none w.poll || poller_rests next) _ v rest in
-      mapped _ (wires_after w s next) v a.1 (λ wires made after. rw after (plain_next s next wires is made, a.0)))
+  step_next (Plain s) v h = option_and_then_some _ _ _ h (λ next is rest.
+      let a = when_back _ _ _ rest in
+      mapped _ _ _ a.1 (λ wires made after. rw after (plain_next s next wires is made, a.0)))
   step_next (Polled names reading) v h =
-      let a = when_back (is_none w.poll && (poller_rests w.system && (length w.system.batch == 0 && list_all (may_name w.system reading) names.items))) _ v h in
-      let b = and_parts (is_none w.poll) _ a.0 in
-      let c = and_parts (poller_rests w.system) _ b.1 in
-      let both = and_parts (length w.system.batch == 0) _ c.1 in
-      mapped _ (kernel.poll w.system.kernel names.items) v a.1 (λ k is after. rw after (polls_on w.system w.wires w.poll d e q j names reading b.0 c.0 both.0 both.1 k is, c.0))
-  step_next Tells v h = option_and_then_some (λ (p : Polling). tells w p p.left) w.poll v h (λ p is made. (told_of_poll p is v made, tells_rests p p.left v made (rw is at rested)))
-  step_next Handed v h = option_and_then_some (λ (p : Polling). handed w p) w.poll v h (λ p is made.
-      let g = guarded (length p.left == 0) (record w { system = record w.system { batch = p.names.items }; poll = None }) v made in
-      rw g.1 (hands p is (rw is at rested) (nil_from_length p.left (eqb-true (length p.left) 0 g.0)), refl))
+      let a = when_back _ _ _ h in
+      let b = and_parts _ _ a.0 in
+      let c = and_parts _ _ b.1 in
+      let both = and_parts _ _ c.1 in
+      mapped _ _ _ a.1 (λ k is after. rw after (polls_on w.system w.wires w.poll d e q j names reading b.0 c.0 both.0 both.1 k is, c.0))
+  step_next Tells v h = option_and_then_some _ _ _ h (λ p is made. (told_of_poll p is v made, tells_rests p p.left v made (rw is at rested)))
+  step_next Handed v h = option_and_then_some _ _ _ h (λ p is made.
+      let g = guarded _ _ _ made in
+      rw g.1 (hands p is (rw is at rested) (nil_from_length _ (eqb-true _ _ g.0)), refl))
   step_next (Looks side) v h = rw (some_is h) (looks_at w d e q j side, rested)
-  step_next (Unasked i) v h = option_and_then_some (λ (a : Asked). unasked w i a) (asks w.system i) v h (λ a asking made.
+  step_next (Unasked i) v h = option_and_then_some _ _ _ h (λ a asking made.
       let m = makes_back w.system i a asking in
-      let g = guarded (not (may_call (w.wires (side_of a.asks)).reads (as_call a.connection.pair a.asks)) && not (w.wires (side_of a.asks)).told) (record w { system = blocked w.system i a }) v made in
+      let g = guarded _ _ _ made in
       (blocks_by i a m v made j.ends j.known j.polls, rw g.1 (poller_stays i a.thread _ m.rest m.there m.todo)))

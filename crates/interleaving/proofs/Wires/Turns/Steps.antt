@@ -1,9 +1,9 @@
 -- A step over wires that rest, and what happens there: what the network, the kernel, the poller and the wires do.
 pub mod Ends
-pub use Rattle.interleaving.specs.{Threads.{Accept, Act, Acts, Adopt, Begin, Call, Calls, Claim, Close, Connect, Deliver, Discard, Drop, Enter, Give, Open, Play, Poll, Post, PutIn, Register, Release, Retire, Sweep, TakeNotes, TakeOut, Thread, Tick, acts, after_act, begun, delivers, goes_on, poller_rests, posted, rests, taken_out, taking, watched_of, with_thread}, Wires.{Plain, Step, Wired, batch_there, catching, cleared, closes, delay_after, fresh, happens, is_close, may_name, polls, sides_told, tells, told, wires_after}}
+pub use Rattle.interleaving.specs.{Threads.{Accept, Act, Acts, Adopt, Begin, Call, Calls, Claim, Close, Connect, Deliver, Drop, Give, Open, Play, Poll, Register, Sweep, TakeNotes, TakeOut, Thread, Tick, acts, after_act, begun, delivers, goes_on, poller_rests, posted, rests, taken_out, taking, with_thread}, Wires.{Plain, Step, Wired, batch_there, catching, cleared, closes, delay_after, fresh, happens, is_close, may_name, polls, sides_told, tells, told, wires_after}}
 pub use Rattle.kernel_model.specs.{Names.{are_among}, declared.accepting.Accepting.TheVariants.{Accepted, Again, Blocked, Starved}}
 pub use Rattle.std.{proofs.{Common.{Vec, append-nil, slice_get, suc, unwrap_or, zero, ◌+◌, ◌-◌}, lemmas.{Bool.{eqb-true, not-true}, List.{nil_from_length}}}, specs.Global.{Global}}
-pub use Rattle.world.{proofs.Headline.Ends.Pairs.Holders.Events.Lists.{Kept, has_polled, kept_at, kept_bind, kept_guard, kept_if, kept_map, kept_none, kept_over, kept_some, kept_when}, specs.{Steps.{is_worn}, declared.connection.Connection.{Connection}}}
+pub use Rattle.world.{proofs.Headline.Ends.Pairs.Holders.Events.Lists.{Kept, has_polled, kept_at, kept_bind, kept_guard, kept_map, kept_none, kept_some, kept_when}, specs.{Steps.{is_worn}, declared.connection.Connection.{Connection}}}
 pub use Ends.*
 pub use Rattle.claims.specs.Words as word
 pub use Rattle.kernel_model.specs.declared.watched.Watched.TheVariants as watched
@@ -99,55 +99,54 @@ module _ (st : System) (e : List (Option Registered)) (q b : List Name) where
       (λ t is. kept_when (rests t && nat_le most st.limits.budget) (begun st i most st.tickets) (λ may. begins_by i most st.tickets t is may))
   steps_apart s out = cc
 
--- the same ends, with another queue or another poll
-pub requeued : {o : Option ℕ} {r : Rim} {wires : Side → Wire} {poll : Option Polling} {late : Side → List Change} {e : List (Option Registered)} (queue batch : List Name) (next : Option Polling)
-    → ((g : ℕ) (f : Side → EndState) → o ≡ Some g → r.ends ≡ Some two → r.sockets ≡ open_as g f → (k : Side) → is_readable (f k) ≡ true
-    → coming r.queue poll (End (token g k)) ≡ true → coming queue next (End (token g k)) ≡ true)
-    → Both r wires poll late e o → Both (record r { queue = queue; batch = batch }) wires next late e o
-requeued queue batch next more (Away ends real there late) = Away ends real there late
-requeued queue batch next more (Opened {g} f s ends real there oks) =
-    Opened f s ends real there (λ k. eased (more g f refl ends real k) (oks k))
-
--- what the slot's connection is there
-abbrev pub shape_there : {o : Option ℕ} {r : Rim} {wires : Side → Wire} {poll : Option Polling} {late : Side → List Change} {e : List (Option Registered)} → Both r wires poll late e o
-    → (x : Option (ℕ × (Side → EndState))) × (Shape r.ends e x) × (generation_of x ≡ o)
-shape_there (Away ends real there late) = (None, ends, refl)
-shape_there (Opened {g} f s ends real there oks) = (Some (g, s), (ends, there), refl)
-
-abbrev pub shape_here : {o : Option ℕ} {r : Rim} {wires : Side → Wire} {poll : Option Polling} {late : Side → List Change} {e : List (Option Registered)} → Both r wires poll late e o
-    → (x : Option (ℕ × (Side → EndState))) × (Shape r.ends r.sockets x) × (generation_of x ≡ o)
-shape_here (Away ends real there late) = (None, ends, refl)
-shape_here (Opened {g} f s ends real there oks) = (Some (g, f), (ends, real), refl)
-
--- where no call could do anything here, none could there
-pub quiet_there : {o : Option ℕ} {r : Rim} {wires : Side → Wire} {poll : Option Polling} {late : Side
-    → List Change} {e : List (Option Registered)} (backlog : ℕ) (ends : Both r wires poll late e o) (who : Reported)
-    → quiet_here backlog (shape_here ends).0 who ≡ true → quiet_here backlog (shape_there ends).0 who ≡ true
-quiet_there backlog ends reports.Listener quiet = quiet
-quiet_there backlog ends reports.Waker quiet = quiet
-quiet_there backlog (Away ends real there late) (reports.End i side) quiet = refl
-quiet_there backlog (Opened {g} f s ends real there oks) (reports.End i side) quiet =
-    let none : is_readable (f side) ≡ false = grind arith in
-    rw (same_here (oks side) (λ reads told some. cc)).1 quiet
-
 apart : (g : ℕ) (f : Side → EndState) (side k : Side) → not (is_readable (f side) || is_writable (f side)) ≡ true → is_readable (f k) ≡ true → same (End (token g side)) (End (token g k)) ≡ false
 apart g f Client Client quiet some = let never = rw some at quiet in cc
 apart g f Client Target quiet some = refl
 apart g f Target Client quiet some = refl
 apart g f Target Target quiet some = let never = rw some at quiet in cc
 
--- a report is withdrawn, of an end where no call could do anything
-withdrawn : {o : Option ℕ} {r : Rim} {wires : Side → Wire} {poll : Option Polling} {late : Side
-    → List Change} {e : List (Option Registered)} (backlog : ℕ) (ends : Both r wires poll late e o) (who : Reported) (n : Name)
-    → name_here o who ≡ Some n → quiet_here backlog (shape_here ends).0 who ≡ true → Both (record r { queue = without_name n r.queue }) wires poll late e o
-withdrawn backlog (Away ends real there late) who n is quiet = Away ends real there late
-withdrawn {r = r} {poll = poll} backlog (Opened {g} f s ends real there oks) who n is quiet = Opened f s ends real there (λ k.
-    eased (λ some. more_or (has (End (token g k)) r.queue) _ (soon poll (End (token g k))) (has_without (End (token g k)) n r.queue (by who k is quiet some))) (oks k))
-  where
-    by : (who : Reported) (k : Side) → name_here (Some g) who ≡ Some n → quiet_here backlog (Some (g, f)) who ≡ true → is_readable (f k) ≡ true → same n (End (token g k)) ≡ false
-    by reports.Listener k is quiet some = rw (some_is is) refl
-    by reports.Waker k is quiet some = rw (some_is is) refl
-    by (reports.End i side) k is quiet some = rw (some_is is) (apart g f side k quiet some)
+module _ {r : Rim} {wires : Side → Wire} {poll : Option Polling} {late : Side → List Change} {e : List (Option Registered)} where
+  -- the same ends, with another queue or another poll
+  pub requeued : {o : Option ℕ} (queue batch : List Name) (next : Option Polling)
+      → ((g : ℕ) (f : Side → EndState) → o ≡ Some g → r.ends ≡ Some two → r.sockets ≡ open_as g f → (k : Side) → is_readable (f k) ≡ true
+      → coming r.queue poll (End (token g k)) ≡ true → coming queue next (End (token g k)) ≡ true)
+      → Both r wires poll late e o → Both (record r { queue = queue; batch = batch }) wires next late e o
+  requeued queue batch next more (Away ends real there late) = Away ends real there late
+  requeued queue batch next more (Opened {g} f s ends real there oks) =
+      Opened f s ends real there (λ k. eased (more g f refl ends real k) (oks k))
+
+  -- what the slot's connection is there
+  abbrev pub shape_there : {o : Option ℕ} → Both r wires poll late e o
+      → (x : Option (ℕ × (Side → EndState))) × (Shape r.ends e x) × (generation_of x ≡ o)
+  shape_there (Away ends real there late) = (None, ends, refl)
+  shape_there (Opened {g} f s ends real there oks) = (Some (g, s), (ends, there), refl)
+
+  abbrev pub shape_here : {o : Option ℕ} → Both r wires poll late e o
+      → (x : Option (ℕ × (Side → EndState))) × (Shape r.ends r.sockets x) × (generation_of x ≡ o)
+  shape_here (Away ends real there late) = (None, ends, refl)
+  shape_here (Opened {g} f s ends real there oks) = (Some (g, f), (ends, real), refl)
+
+  -- where no call could do anything here, none could there
+  pub quiet_there : {o : Option ℕ} (backlog : ℕ) (ends : Both r wires poll late e o) (who : Reported)
+      → quiet_here backlog (shape_here ends).0 who ≡ true → quiet_here backlog (shape_there ends).0 who ≡ true
+  quiet_there backlog ends reports.Listener quiet = quiet
+  quiet_there backlog ends reports.Waker quiet = quiet
+  quiet_there backlog (Away ends real there late) (reports.End i side) quiet = refl
+  quiet_there backlog (Opened {g} f s ends real there oks) (reports.End i side) quiet =
+      let none : is_readable (f side) ≡ false = grind arith in
+      rw (same_here (oks side) (λ reads told some. cc)).1 quiet
+
+  -- a report is withdrawn, of an end where no call could do anything
+  withdrawn : {o : Option ℕ} (backlog : ℕ) (ends : Both r wires poll late e o) (who : Reported) (n : Name)
+      → name_here o who ≡ Some n → quiet_here backlog (shape_here ends).0 who ≡ true → Both (record r { queue = without_name n r.queue }) wires poll late e o
+  withdrawn backlog (Away ends real there late) who n is quiet = Away ends real there late
+  withdrawn backlog (Opened {g} f s ends real there oks) who n is quiet = Opened f s ends real there (λ k.
+      eased (λ some. more_or (has (End (token g k)) r.queue) _ (soon poll (End (token g k))) (has_without (End (token g k)) n r.queue (by who k is quiet some))) (oks k))
+    where
+      by : (who : Reported) (k : Side) → name_here (Some g) who ≡ Some n → quiet_here backlog (Some (g, f)) who ≡ true → is_readable (f k) ≡ true → same n (End (token g k)) ≡ false
+      by reports.Listener k is quiet some = rw (some_is is) refl
+      by reports.Waker k is quiet some = rw (some_is is) refl
+      by (reports.End i side) k is quiet some = rw (some_is is) (apart g f side k quiet some)
 
 -- A poll there, of what may not be queued there
 
@@ -176,7 +175,7 @@ polled_now st e q o shape false (Some p) rests (Busy none few once named gone wi
       leads = r.leads (Poll p.names ∷ []) ∙ ap (option_and_then (λ (x : System). Some x)) (polls_there st e r.queue p.names rests none few among once);
       less = λ n h.
           let had = has_filter n (λ m. not (has m p.names.items)) r.queue h in
-          (elim (r.back n had.0) [ inl was ↦ or_left _ _ was | inr named ↦ or_right _ _ named ], not-true (has n p.names.items) had.1);
+          (elim (r.back n had.0) [ inl was ↦ or_left _ _ was | inr named ↦ or_right _ _ named ], not-true _ had.1);
     }
 
 module _ (w : Wired) (d : Delay) (e : List (Option Registered)) (q : List Name) (j : Joined (rim w.system) w.wires w.poll d e q) where
@@ -213,7 +212,7 @@ module _ (w : Wired) (d : Delay) (e : List (Option Registered)) (q : List Name) 
       (record d { late = if waits (w.wires side) c then on side (d.late side ++ c ∷ []) d.late else d.late })
   nets side c next wires h new (Away ends real there late) known polls = cc (rw ends at h)
   nets side c next wires h new (Opened {g} f s ends real there oks) known polls =
-      let n = net_back (is_short c) (at_end st.kernel g f side) (λ (k : KernelState). record st { kernel = k }) (effect c (f side)) next (sym (network_here st g f side c ends real) ∙ h) in
+      let n = net_back _ _ _ _ _ (sym (network_here st g f side c ends real) ∙ h) in
       let same = old_wires next wires (ap (λ (x : System). x.ends) n.3) new in
       rw (n.3, same) (by n.1 n.2 n.0 (waits (w.wires side) c) refl)
     where
@@ -223,8 +222,7 @@ module _ (w : Wired) (d : Delay) (e : List (Option Registered)) (q : List Name) 
       by t is fit true late =
           let n = End (token g side) in
           let ok = eased (λ _. coming_told n t.told st.kernel.queue w.poll) (waited (oks side) c t is fit late) in
-          let all = changed_end g st.kernel.queue w.poll (reported st.kernel.queue n t.told) w.poll side t.value (s side) (w.wires side) (d.late side ++ c ∷ []) ok
-          (λ k other some. coming_still n (End (token g k)) t.told st.kernel.queue w.poll) oks in
+          let all = changed_end g st.kernel.queue w.poll (reported st.kernel.queue n t.told) w.poll side ok (λ k other some. coming_still n (End (token g k)) t.told st.kernel.queue w.poll) oks in
           record {
             there = e;
             queue = q;
@@ -241,8 +239,7 @@ module _ (w : Wired) (d : Delay) (e : List (Option Registered)) (q : List Name) 
           let n = End (token g side) in
           let m = moves (oks side) c t is now in
           let ok = eased (λ _. coming_told n t.told st.kernel.queue w.poll) m.ok in
-          let all = changed_end g st.kernel.queue w.poll (reported st.kernel.queue n t.told) w.poll side t.value m.there.value (w.wires side) (d.late side) ok
-          (λ k other some. coming_still n (End (token g k)) t.told st.kernel.queue w.poll) oks in
+          let all = changed_end g st.kernel.queue w.poll (reported st.kernel.queue n t.told) w.poll side ok (λ k other some. coming_still n (End (token g k)) t.told st.kernel.queue w.poll) oks in
           record {
             there = open_as g (on side m.there.value s);
             queue = reported q n t.told;
@@ -276,8 +273,8 @@ module _ (w : Wired) (d : Delay) (e : List (Option Registered)) (q : List Name) 
       })
 
   pub connects : (next : System) (wires : Side → Wire) → step st Connect ≡ Some next → New next wires → Led seen (Connect ∷ []) (record w { system = next; wires = wires }) d
-  connects next wires h new = mapped _ (kernel.connect_in st.kernel) next h (λ k is after.
-      let g = guarded (nat_lt st.kernel.backlog 4096) _ k is in
+  connects next wires h new = mapped _ _ _ h (λ k is after.
+      let g = guarded _ _ _ is in
       rw (after, g.1) (queues Connect Listener st.kernel.armed tt (st.kernel.backlog + 1) false (rw g.0 refl) wires (rw after at new)))
 
   -- a report without cause
@@ -286,7 +283,7 @@ module _ (w : Wired) (d : Delay) (e : List (Option Registered)) (q : List Name) 
   rumours who next wires h new =
       let here = shape_here j.ends in
       let x = shape_there j.ends in
-      mapped _ (name_here j.generation who) next (sym (rw here.2 at (spurious_is st here.0 here.1 who)) ∙ h) (λ n is after.
+      mapped _ _ _ (sym (rw here.2 at (spurious_is st here.0 here.1 who)) ∙ h) (λ n is after.
       rw after (queues (Spurious who) n true (named_here j.generation who n is) st.kernel.backlog st.kernel.armed (rw (x.2, is) at (spurious_is seen x.0 x.1 who)) wires (rw after at new)))
 
   -- a report is taken back: one is taken back there too, and is queued before
@@ -313,8 +310,7 @@ module _ (w : Wired) (d : Delay) (e : List (Option Registered)) (q : List Name) 
           on_way = λ m h.
               let had = has_filter m (λ x. not (same n x)) (with_name n q) h in
               elim (has_with_back m n q had.0) [
-                | inl was ↦ more_or (has m st.kernel.queue) (has m (without_name n st.kernel.queue)) (in_poll d.early w.poll m)
-                    (λ r. still_has m (λ x. not (same n x)) st.kernel.queue r had.1) (j.on_way m was)
+                | inl was ↦ more_or (has m st.kernel.queue) (has m (without_name n st.kernel.queue)) (in_poll d.early w.poll m) (λ r. still_has m (λ x. not (same n x)) st.kernel.queue r had.1) (j.on_way m was)
                 | inr this ↦ (let never = rw (this, same_self n) at had.1 in cc)
               ];
         };
@@ -325,8 +321,7 @@ module _ (w : Wired) (d : Delay) (e : List (Option Registered)) (q : List Name) 
       → Both (rim st) (on side (record { reads = (w.wires side).reads || (w.wires side).told; told = false }) w.wires) w.poll d.late e o
   looked side (Away ends real there late) = Away ends real there late
   looked side (Opened {g} f s ends real there oks) =
-      let wire : Wire = record { reads = (w.wires side).reads || (w.wires side).told; told = false } in
-      let all = changed_end g st.kernel.queue w.poll st.kernel.queue w.poll side (f side) (s side) wire (d.late side) (looks (oks side)) (λ k other some more. more) oks in
+      let all = changed_end g st.kernel.queue w.poll st.kernel.queue w.poll side (looks (oks side)) (λ k other some more. more) oks in
       Opened f s ends real there (λ k. rw (on_same side f k, on_same side s k, on_same side d.late k) at (all k))
 
   pub looks_at : (side : Side) → Led seen [] (record w { wires = on side (record { reads = (w.wires side).reads || (w.wires side).told; told = false }) w.wires }) d
@@ -373,9 +368,9 @@ polls_on st wires (Some p) d e q j names reading idle rested empty may k h = cc
 polls_on st wires None d e q j names reading idle rested empty may k h =
     let g = guarded (nat_le (length names.items) 256 && (are_among st.kernel.queue names.items && are_distinct names.items))
     (record st.kernel { queue = without_names names.items st.kernel.queue }) k h in
-    let parts = and_parts (nat_le (length names.items) 256) _ g.0 in
-    let fine = and_parts (are_among st.kernel.queue names.items) (are_distinct names.items) parts.1 in
-    let none : st.batch ≡ [] = nil_from_length st.batch (eqb-true (length st.batch) 0 empty) in
+    let parts = and_parts _ _ g.0 in
+    let fine = and_parts _ _ parts.1 in
+    let none : st.batch ≡ [] = nil_from_length _ (eqb-true _ _ empty) in
     rw g.1 (record {
       there = e;
       queue = q;
@@ -426,7 +421,7 @@ module _ (st : System) (wires : Side → Wire) (p : Polling) (d : Delay) (e : Li
   after = record p { left = rest }
 
   within_rest : {early : Bool} {o : Option ℕ} → Polls st.batch early o (Some p) → Polls st.batch early o (Some after)
-  within_rest (Busy none few once named gone within) = Busy none few once named gone (λ m h. within m (rw left (or_right (same m n) _ h)))
+  within_rest (Busy none few once named gone within) = Busy none few once named gone (λ m h. within m (rw left (or_right _ _ h)))
 
   same_poll : (early : Bool) (m : Name) → in_poll early (Some after) m ≡ in_poll early (Some p) m
   same_poll true m = refl
@@ -473,7 +468,7 @@ module _ (st : System) (wires : Side → Wire) (p : Polling) (d : Delay) (e : Li
       let side = m.side in
       let c = comes_at st g s q (batch_there (Some p) d.early st.batch) side (f side) (d.late side) ends (oks side).due in
       let wire : Wire = record (wires side) { told = true } in
-      let all = changed_end g st.kernel.queue (Some p) st.kernel.queue (Some after) side (f side) (f side) wire [] (awake (f side) _ wire (inr refl))
+      let all = changed_end g st.kernel.queue (Some p) st.kernel.queue (Some after) side (awake (f side) _ wire (inr refl))
       (λ k other some. other_coming (End (token g k)) (λ own. (let never = rw is at own in cc (same_token g k side other m refl)))) oks in
       record {
         there = open_as g (on side (f side) s);

@@ -1,9 +1,9 @@
 -- The two ends of the slot's connection over wires that rest, and the same ends where what is late has not come: what the
 -- kernel does at one of them, and what is kept of both.
 pub use Rattle.interleaving.{proofs.{Rest.Weights.{same_is, same_self}, Runs.{run_on}}, specs.{Threads.{Network, Spurious, System, Vanish, over_kernel, run, step}, Wires.{Delay, Polling, Wire, comes, end_here, in_poll, is_input, on, report_of, seen_as, waits}}}
-pub use Rattle.kernel_model.specs.{Ends.{EndState, arrival, failure, finish, is_readable, is_writable, new_room, opened}, Kernel.{KernelState, Registered, changed, close_both, end_at, open_both, reported}, Names.{are_distinct, has, same, with_name, without_name, without_names}, Outcome.{Told, guard}, declared.{both.{Descriptors.{Descriptors}, Sockets.{Sockets}}, reply.Reply.{Reply}}}
+pub use Rattle.kernel_model.specs.{Ends.{EndState, arrival, failure, finish, is_readable, is_writable, new_room, opened}, Kernel.{KernelState, Registered, changed, end_at, open_both, reported}, Names.{are_distinct, has, same, with_name, without_name, without_names}, Outcome.{Told, guard}, declared.{both.{Descriptors.{Descriptors}}, reply.Reply.{Reply}}}
 pub use Rattle.readiness.{proofs.Runs.{Heard, both_down, guarded, heard, mapped, some_is}, specs.Machine.{Call, WillBeTold, after_call, may_call, reads_after}}
-pub use Rattle.std.{proofs.{Common.{append-nil, Bool, Contains, List, None, Option, Some, [], ap, arith, false, if◌then◌else◌, inl, inr, length, map, nat_le, nat_lt, not, option_and_then, option_map, refl, sym, take, true, ℕ, ◌&&◌, ◌++◌, ◌==◌, ◌||◌, ◌∙◌, ◌∷◌, ◌≡◌, ◌≢◌, ◌⊎◌}, lemmas.{Bool.{and_parts, cases_eq, not-true, or_cases, or_left, or_parts, or_right}, Option.{option_and_then_some, same_Some}}}, specs.{Cmp.{first_so, second_so}, List.{filter, list_all}, Option.{is_none, is_some}}}
+pub use Rattle.std.{proofs.{Common.{append-nil, Bool, Contains, List, None, Option, Some, [], ap, arith, false, if◌then◌else◌, inl, inr, length, map, nat_le, nat_lt, not, option_and_then, option_map, refl, sym, take, true, ℕ, ◌&&◌, ◌++◌, ◌==◌, ◌||◌, ◌∙◌, ◌∷◌, ◌≡◌, ◌≢◌, ◌⊎◌}, lemmas.{Bool.{and_parts, cases_eq, not-true, or_cases, or_left, or_parts, or_right}, Option.{option_and_then_some}}}, specs.{Cmp.{first_so, second_so}, List.{filter, list_all}, Option.{is_none, is_some}}}
 pub use Rattle.token.specs.{Names.{EndName}, declared.{name.Name.{Name, TheVariants.{End, Listener, Waker}}, side.Side.{Side, TheVariants.{Client, Target}}}}
 pub use Rattle.world.{proofs.Headline.Ends.Pairs.Holders.Events.Lists.{has_reported, has_with, has_without, reported_has}, specs.{Calls.{descriptor, when}, Steps.{change_at}, declared.event.{Change.{Change, TheVariants.{Arrive, Fin, Reset, Room}}, Reported.{Reported}}}}
 pub use Rattle.interleaving.specs.Threads as alone
@@ -156,7 +156,7 @@ come st g s q b side x f [] ends Settled =
     record { queue = q; leads = rw (open_twice g side x x s) refl; more = record { back = λ m h. inl h }; none = λ e. refl }
 come st g s q b side x f (c ∷ late) ends (After t may is rest) =
     let effect_is : effect c (on side x s side) ≡ Some t = rw (on_here side x s) is in
-    let one = network_there st g (on side x s) q b side c t ends (and_parts (is_input c) (is_short c) may).1 effect_is in
+    let one = network_there st g (on side x s) q b side c t ends (and_parts _ _ may).1 effect_is in
     let r = come st g s (reported q (End (token g side)) t.told) b side t.value f late ends rest in
     record {
       queue = r.queue;
@@ -203,9 +203,9 @@ record IsBeside (f e : EndState) : Type 0 where
   write_armed : f.err ≡ false → e.write_armed ≡ f.write_armed
 
 beside_one : (c : Change) (e : EndState) (t : Told EndState Bool) → may_come c ≡ true → effect c e ≡ Some t → IsBeside t.value e
-beside_one (Arrive bytes) e t may is = rw (guarded _ _ t is).1 (search)
-beside_one Fin e t may is = rw (guarded _ _ t is).1 (search)
-beside_one Reset e t may is = rw (guarded _ _ t is).1 (record { room = refl; err = λ h. cc; write_armed = λ h. cc })
+beside_one (Arrive bytes) e t may is = rw (guarded _ _ _ is).1 (search)
+beside_one Fin e t may is = rw (guarded _ _ _ is).1 (search)
+beside_one Reset e t may is = rw (guarded _ _ _ is).1 (record { room = refl; err = λ h. cc; write_armed = λ h. cc })
 beside_one Room e t may is = cc
 
 is_beside : {e f : EndState} {late : List Change} → Settles e late f → IsBeside f e
@@ -231,10 +231,10 @@ MayBe a f = (a.armed false ≡ false) ⊎ (f.err ≡ false)
 
 one_aside : (a : Aside) (c : Change) (e : EndState) (t : Told EndState Bool) → MayBe a t.value → may_come c ≡ true → effect c e ≡ Some t
     → (told : Bool) × (effect c (aside a e) ≡ Some (record { value = aside a t.value; told = told }))
-one_aside a (Arrive bytes) e t may in_ is = let g = guarded _ _ t is in (e.read_armed, rw (g.0, g.1) refl)
-one_aside a Fin e t may in_ is = let g = guarded _ _ t is in (e.read_armed, rw (g.0, g.1) refl)
-one_aside a Reset e t (inl none) in_ is = let g = guarded _ _ t is in (e.read_armed || a.armed e.write_armed, rw (g.0, g.1, none) refl)
-one_aside a Reset e t (inr sound) in_ is = let no = rw (guarded _ _ t is).1 at sound in cc
+one_aside a (Arrive bytes) e t may in_ is = let g = guarded _ _ _ is in (e.read_armed, rw (g.0, g.1) refl)
+one_aside a Fin e t may in_ is = let g = guarded _ _ _ is in (e.read_armed, rw (g.0, g.1) refl)
+one_aside a Reset e t (inl none) in_ is = let g = guarded _ _ _ is in (e.read_armed || a.armed e.write_armed, rw (g.0, g.1, none) refl)
+one_aside a Reset e t (inr sound) in_ is = let no = rw (guarded _ _ _ is).1 at sound in cc
 one_aside a Room e t may in_ is = cc
 
 settle_aside : {e f : EndState} {late : List Change} (a : Aside) → MayBe a f → Settles e late f → Settles (aside a e) late (aside a f)
@@ -276,8 +276,8 @@ allowed b x h = rw h refl
 blocks : {x e f : EndState} (call : Call) → IsBeside e x → guard (not (is_writable e)) (aside waiting e) ≡ Some f
     → (not (is_writable x) ≡ true → after_call x call reply.Blocked ≡ Some (aside waiting x)) → Both_do x e f call reply.Blocked
 blocks {x} {e} call b is there =
-    let g = guarded (not (is_writable e)) _ _ is in
-    let none = or_parts e.room e.err (not-true (is_writable e) g.0) in
+    let g = guarded _ _ _ is in
+    let none = or_parts _ _ (not-true _ g.0) in
     record { a = waiting; here = g.1; there = there (rw (b.room ∙ none.0, b.err none.1) refl); may = inr none.1 }
 
 both_do : {x e f : EndState} (call : Call) (r : Reply) → may_call false call ≡ true → is_failed r ≡ false → IsBeside e x → after_call e call r ≡ Some f → Both_do x e f call r
@@ -395,8 +395,8 @@ module _ {e x : EndState} {b : Bool} {wire : Wire} {late : List Change} (ok : En
 
   pub moves : (c : Change) (t : Told EndState Bool) → effect c e ≡ Some t → waits wire c ≡ false → Moved e x b wire late c t
   moves Room t is up =
-      let full = guarded (not e.room && not e.err) _ t is in
-      let none = both_down e.room e.err full.0 in
+      let full = guarded _ _ _ is in
+      let none = both_down _ _ full.0 in
       let beside = is_beside ok.due in
       let armed = beside.write_armed none.1 in
       let room = beside.room ∙ none.0 in
@@ -417,8 +417,8 @@ module _ {e x : EndState} {b : Bool} {wire : Wire} {late : List Change} (ok : En
       let asleep = both_down wire.reads wire.told parts.1 in
       let h = heard_at c e t may is in
       let coming : (b || t.told) ≡ true = elim ok.waits [
-        | Prompt none ↦ or_right b t.told (h.told (rw (same_socket ok.due none) at (ok.rests asleep.0 asleep.1).armed))
-        | Behind a ↦ or_left b t.told a.coming
+        | Prompt none ↦ or_right _ t.told (h.told (rw (same_socket ok.due none) at (ok.rests asleep.0 asleep.1).armed))
+        | Behind a ↦ or_left _ t.told a.coming
       ] in
       record {
         due = settle_more c t ok.due may is;
@@ -445,8 +445,8 @@ module _ {e x : EndState} {b : Bool} {wire : Wire} {late : List Change} (ok : En
 
   pub answers : (f : EndState) (call : Call) (r : Reply) → may_call wire.reads call ≡ true → after_call e call r ≡ Some f → is_failed r ≡ false → Answered x b wire late f call r
   answers f (machine.Read most) reply.Blocked up is sound =
-      let g = guarded (not (is_readable e)) _ f is in
-      reads_now f most reply.Blocked up is (λ asleep. rw g.1 (record { empty = not-true (is_readable e) g.0; armed = refl }))
+      let g = guarded _ _ _ is in
+      reads_now f most reply.Blocked up is (λ asleep. rw g.1 (record { empty = not-true _ g.0; armed = refl }))
   answers f call (reply.Failed kind) up is sound = cc
   answers f (machine.Read most) r up is sound = reads_now f most r up is (λ asleep. cc)
   answers f (machine.Write offer) r up is sound = other_call f (machine.Write offer) r refl is sound refl
@@ -463,19 +463,19 @@ module _ {e x : EndState} {b : Bool} {wire : Wire} {late : List Change} (ok : En
   looks = record {
     due = ok.due;
     waits = on_still (λ a. record { reads = rw (a.reads, a.told) refl; told = refl; readable = a.readable; coming = a.coming }) ok.waits;
-    rests = λ reads told. (let none = or_parts wire.reads wire.told reads in ok.rests none.0 none.1);
+    rests = λ reads told. (let none = or_parts _ _ reads in ok.rests none.0 none.1);
   }
 
 -- One end becomes another, and of the other end no less is coming
 pub changed_end : (g : ℕ) (queue : List Name) (poll : Option Polling) (next : List Name) (after : Option Polling) (side : Side) {f s : Side → EndState} {wires : Side → Wire}
-    {late : Side → List Change} (e x : EndState) (wire : Wire) (more : List Change) → EndOk e (coming next after (End (token g side))) wire more x
+    {late : Side → List Change} {e x : EndState} {wire : Wire} {more : List Change} → EndOk e (coming next after (End (token g side))) wire more x
     → ((j : Side) → (j ≡ side → ⊥) → is_readable (f j) ≡ true → coming queue poll (End (token g j)) ≡ true → coming next after (End (token g j)) ≡ true)
     → ((j : Side) → EndOk (f j) (coming queue poll (End (token g j))) (wires j) (late j) (s j))
     → (j : Side) → EndOk (on side e f j) (coming next after (End (token g j))) (on side wire wires j) (on side more late j) (on side x s j)
-changed_end g queue poll next after Client e x wire more here beside all Client = here
-changed_end g queue poll next after Client e x wire more here beside all Target = eased (beside Target (λ is. cc)) (all Target)
-changed_end g queue poll next after Target e x wire more here beside all Client = eased (beside Client (λ is. cc)) (all Client)
-changed_end g queue poll next after Target e x wire more here beside all Target = here
+changed_end g queue poll next after Client here beside all Client = here
+changed_end g queue poll next after Client here beside all Target = eased (beside Target (λ is. cc)) (all Target)
+changed_end g queue poll next after Target here beside all Client = eased (beside Client (λ is. cc)) (all Client)
+changed_end g queue poll next after Target here beside all Target = here
 
 -- What is kept
 
@@ -538,7 +538,7 @@ known_filter p queue all = record { each = λ m h. all.each m (has_filter m p qu
 
 -- what is reported is coming
 pub coming_told : (n : Name) (t : Bool) (queue : List Name) (poll : Option Polling) → (coming queue poll n || t) ≡ true → coming (reported queue n t) poll n ≡ true
-coming_told n t queue poll h = elim (or_cases (coming queue poll n) t h) [
+coming_told n t queue poll h = elim (or_cases _ _ h) [
   | inl was ↦ more_or (has n queue) (has n (reported queue n t)) (soon poll n) (has_reported n n t queue) was
   | inr told ↦ or_left _ (soon poll n) (reported_has n t queue told)
 ]
@@ -602,7 +602,7 @@ has_itself n q = reported_has n true q refl
 
 pub all_from : (p : Name → Bool) (xs : List Name) → ((n : Name) → has n xs ≡ true → p n ≡ true) → list_all p xs ≡ true
 all_from p [] each = refl
-all_from p (x ∷ xs) each = rw (each x (or_left (same x x) (has x xs) (same_self x))) (all_from p xs (λ n h. each n (or_right (same n x) _ h)))
+all_from p (x ∷ xs) each = rw (each x (or_left _ (has x xs) (same_self x))) (all_from p xs (λ n h. each n (or_right _ _ h)))
 
 -- each of these names is reported without cause
 pub record Reports (st : System) (e : List (Option Registered)) (q b : List Name) (names : List Name) : Type 0 where
@@ -684,6 +684,6 @@ all_come g {late} st q b f s ends oks =
       queue = c2.queue;
       leads = rw (append-nil (map (Network Target) (late Target))) (run_on (map (Network Client) (late Client)) _ _ _ c1.leads ∙ c2.leads);
       back = λ m h client target.
-          let first : has m c1.queue ≡ true = elim (c2.more.back m h) [ inl was ↦ was | inr is ↦ absurd (not_it (End (token g Target)) m target is) ] in
-          elim (c1.more.back m first) [ inl was ↦ was | inr is ↦ absurd (not_it (End (token g Client)) m client is) ];
+          let first : has m c1.queue ≡ true = elim (c2.more.back m h) [ inl was ↦ was | inr is ↦ absurd (not_it _ _ target is) ] in
+          elim (c1.more.back m first) [ inl was ↦ was | inr is ↦ absurd (not_it _ _ client is) ];
     }
