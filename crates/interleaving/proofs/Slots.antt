@@ -10,24 +10,13 @@ use Rattle.token.specs.declared.name.Name.{Name}
 use Rattle.interleaving.specs.Threads as alone
 use Rattle.world.specs.declared.event.Reported.TheVariants as reported
 
--- What a front holds by: whether it listens, its flag, its arm, whether nobody waits, and whether a report is queued or in its batch
-
-abbrev Holds : Bool → Bool → Bool → Bool → Bool → Bool → Type 0
-Holds listens flag armed none queued batch = ((not listens || flag) || ((armed && none) || (queued || batch))) ≡ true
-
-some_wait : (listens flag armed now queued batch : Bool) → Holds listens flag armed false queued batch → Holds listens flag armed now queued batch
-some_wait listens flag armed now queued batch h = grind arith
-
-polled_holds : (x y queued batch : Bool) → (x || (y || (queued || false))) ≡ true → (x || (y || ((queued && not batch) || batch))) ≡ true
-polled_holds x y queued batch h = grind arith
-
 -- once a client waits, a front holds by what is on its way; the backlog may have any size then
 with_backlog : (server : Server) (b c p : ℕ) (f : Front) → nat_lt 0 b ≡ true → FrontHolds server b p f → FrontHolds server c p f
 with_backlog server b c p f some h =
     let more : 0 < b = ltb-true _ _ some in
     let none : (b == 0) ≡ false = ne_eqb b 0 (λ e. absurd (omega arith)) in
     let was : ((not f.listens || f.flag) || ((f.armed && false) || (f.reported || list_any is_listener f.batch))) ≡ true = rw none at h.listener in
-    record { listener = some_wait f.listens f.flag f.armed (c == 0) f.reported (list_any is_listener f.batch) was; share = h.share; own = h.own }
+    record { listener = grind arith; share = h.share; own = h.own }
 
 -- names as a poll gives them
 vec_of : (names : List Name) → length names ≤ 256 → (v : Vec Name Global) × (v.items ≡ names)
@@ -179,7 +168,7 @@ module _ (m : Many) (between : Between m) where
           each = λ s. polls_at s (cases_eq (m.server.owner s) p);
           apart = λ i s some other. rw (same_threads (m.server.owner s == p) (m.places s) (names_at s reports)) (between.apart i s some other);
           fronts = λ i. at_each (FrontHolds m.server m.backlog) m.fronts p _ i (between.fronts i) (λ e. record {
-            listener = polled_holds (not f.listens || f.flag) (f.armed && m.backlog == 0) f.reported (list_any is_listener reports) was;
+            listener = grind arith;
             share = (between.fronts p).share;
             own = own_reports m p reports asked;
           });
@@ -286,9 +275,6 @@ module _ (law : EveryInterleavingIsARun) (server : Server) (inside : (s : ℕ) �
     fronts = λ p. record { listener = refl; share = omega arith; own = tt };
   }
 
-  waits : (listens flag armed none rest : Bool) → ((not listens || flag) || ((armed && none) || rest)) ≡ true → listens ≡ true → flag ≡ false → (none || rest) ≡ true
-  waits listens flag armed none rest h on down = grind arith
-
   stand : (steps : List Step) (m : Many) → run (start server) steps ≡ Some m → AllStandApart server steps m
   stand steps m ran =
       let w = goes steps (start server) m first ran in
@@ -302,7 +288,7 @@ module _ (law : EveryInterleavingIsARun) (server : Server) (inside : (s : ℕ) �
           lead = λ g. refl;
         };
         pollers = λ p. let f = m.fronts p in let h = r.fronts p in record {
-          listener = waits f.listens f.flag f.armed (m.backlog == 0) (f.reported || list_any is_listener f.batch) h.listener;
+          listener = λ on down. (let was = h.listener in grind arith);
           share = let least = h.share in omega arith;
         };
         one_place = λ i s some other. rw r.same at (r.apart i s (rw r.same some) other);

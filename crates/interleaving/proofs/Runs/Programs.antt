@@ -307,9 +307,6 @@ one_more : (n : ℕ) → replicate {A = ℕ} n zero ++ zero ∷ [] ≡ replicate
 one_more zero = refl
 one_more (suc n) = ap (λ (xs : List ℕ). 0 ∷ xs) (one_more n)
 
-some_more_left : (n more : ℕ) → (n == 0) ≡ false → n ≤ more → nat_lt 0 more ≡ true
-some_more_left n more h least = grind (arith, nat_tests)
-
 -- A worker holds the slot, and its connection fails where the idle limit has passed: by one event more, or none
 
 abbrev with_connection : SlotState → Connection → SlotState
@@ -515,7 +512,7 @@ module _ (st : System) (p : SlotState) (workers : List WorkerState) (set : Settl
     plan_calls : st.place ≡ None → t.out ≡ Some c → t.left ≤ more → (r : Reply) → Kept (Follows [] [] w (Calls i r)) (calls st i t r (plan t.left c.pair))
     plan_calls at out least r = by_plan (λ todo. Kept (Follows [] [] w (Calls i r)) (calls st i t r todo)) t.left c.pair (λ live none. kept_none) (λ live call next spent. kept_none)
         (λ live call next some. rw out (kept_map _ (called st.second (record { kernel = st.kernel; connection = c }) r) (λ line replied. (
-        let some_left = some_more_left t.left more some least in
+        let some_left : nat_lt 0 more ≡ true = grind (arith, nat_tests) in
         let d = held_to_limit st line.connection in
         let b = is_overdue st.second st.limits.idle line.connection.pair in
         let busier = busy (doing.Holds 0 (more - 1)) in
