@@ -57,9 +57,6 @@ taken_weighs test (t ∷ ts) c is = by (found test t ts c is) (λ d there. taken
     by (inl it) lower = rw it.0 (it.1, omega arith)
     by (inr it) lower = let rest = lower it.0 it.1 in rw it.2 (rest.0, omega arith)
 
-in_a_hand : (i s : ℕ) (t : Ticket) → suits i (Some s) t ≡ true → hand_weight t ≡ 1
-in_a_hand i s t suits = grind arith
-
 -- Reports
 
 abbrev is_end : Report → ℕ
@@ -247,7 +244,8 @@ module _ (law : EveryInterleavingIsARun) (ends : LeftAloneItEnds) (server : Serv
     puts i s = kept_map _ (first_of (suits i (Some s)) m.tickets) (λ c is it.
         let taken = taken_weighs (suits i (Some s)) m.tickets c is in
         let slots = slots_same (Put i s) (record m { tickets = c.rest ++ record c.ticket { hand = None } ∷ [] }) it (λ t own e. e) in
-        omega (arith, slots, in_a_hand i s c.ticket taken.0, total_push hand_weight c.rest (record c.ticket { hand = None }), taken.1))
+        let held : hand_weight c.ticket ≡ 1 = (let fits = taken.0 in grind arith) in
+        omega (arith, slots, held, total_push hand_weight c.rest (record c.ticket { hand = None }), taken.1))
 
     accepts : (p : ℕ) (reply : Accepting) → slot.is_settled reply ≡ true → p < m.server.limits.workers
         → may_accept m.server p (m.fronts p) ≡ true → Kept (Lighter (Accept p reply)) (answered m p reply)

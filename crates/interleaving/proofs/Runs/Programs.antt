@@ -184,12 +184,6 @@ pub chosen : (P : System → Type 0) (b : Bool) (x y : System) → P x → P y �
 chosen P true x y p q = p
 chosen P false x y p q = q
 
-held_by : {X : Type 0} {h : Holder} {i : ℕ} → h ≡ By i → is_by_worker h ≡ false → X
-held_by by nobody = cc
-
-held_free : {X : Type 0} {h : Holder} {i : ℕ} → h ≡ Free → h ≡ By i → X
-held_free free by = cc
-
 module _ {budget : ℕ} {place : Option Connection} {p : SlotState} {i : ℕ} {t : Thread} {k : WorkerState} where
   -- a thread without a program is like a worker with nothing to do
   pub rests_like : {todo : List Act} → ThreadLike budget place p i t k todo → is_over todo ≡ true → k ≡ idle_worker
@@ -231,8 +225,8 @@ module _ {budget : ℕ} {place : Option Connection} {p : SlotState} {i : ℕ} {t
   none_here workers there other free none gone (Tries least is) = absurd (
       let least = total_at (worker_tickets 0) workers i k there in
       let some : worker_tickets 0 k ≡ 1 = rw is refl in omega arith)
-  none_here workers there other free none gone (IsHolder c more held is at) = held_free free held.holder
-  none_here workers there other free none gone (HasClosed held at is) = held_free free held.holder
+  none_here workers there other free none gone (IsHolder c more held is at) = cc held.holder
+  none_here workers there other free none gone (HasClosed held at is) = cc held.holder
   none_here workers there other free none gone (HasRetired own is) = absurd (
       let least = total_at (worker_retires 0) workers i k there in
       let some : worker_retires 0 k ≡ 1 = rw is refl in omega arith)
@@ -242,9 +236,6 @@ module _ {budget : ℕ} {place : Option Connection} {p : SlotState} {i : ℕ} {t
 -- the state here, with this batch
 abbrev with_batch : System → List Name → System
 with_batch st batch = record st { batch = batch }
-
-past_one : (x k : ℕ) → k ≢ 0 → slice_get (x ∷ []) k ≡ None
-past_one x k not = slice_get_past (x ∷ []) k (omega arith)
 
 module _ {st : System} {p : SlotState} {workers : List WorkerState} (set : Settled st p workers) where
   abbrev world : State
@@ -280,7 +271,7 @@ module _ {st : System} {p : SlotState} {workers : List WorkerState} (set : Settl
   delivers_end n rest is (inl first) true own =
       rw (first, own, sym (eqb-true _ _ own)) (posts_by Deliver (event.Poll polling.Deliver) st.entry rest (brings_ticket p) refl (λ more. rw (is, first, own)))
   delivers_end n rest is (inl first) false own = rw (first, own) (alone (settled_frame set) (event.Poll polling.Deliver) (λ more. rw (is, first, own)))
-  delivers_end n rest is (inr other) b own = rw (ne_eqb _ _ other) (alone (settled_frame set) (event.Poll polling.Deliver) (λ more. rw (is, past_one st.entry n.slot other)))
+  delivers_end n rest is (inr other) b own = rw (ne_eqb _ _ other) (alone (settled_frame set) (event.Poll polling.Deliver) (λ more. rw (is, slice_get_past (st.entry ∷ []) n.slot (omega arith))))
 
   delivers_all : (batch : List Name) → st.batch ≡ batch → Kept (Follows [] (exchange st.word (posts st batch)) world Deliver) (delivers st batch)
   delivers_all [] is = kept_none
@@ -422,7 +413,7 @@ module _ (st : System) (p : SlotState) (workers : List WorkerState) (set : Settl
     holds_on = record { holder = held.holder; there = refl; generation = held.generation }
 
     not_nobody : {X : Type 0} → is_by_worker p.holder ≡ false → X
-    not_nobody nobody = held_by held.holder nobody
+    not_nobody nobody = cc held.holder
 
     -- the connection is back in its place
     put_back : t.out ≡ Some c → (rest : List Act) → HolderLike st.limits.budget (Some c) p (record t { out = None; todo = rest }) c more rest → Acted [] (put_in st i t rest)

@@ -101,14 +101,15 @@ module _ (w : Wired) (d : Delay) (e : List (Option Registered)) (q : List Name) 
         let first = (guarded _ (token g Client) client one).1 in
         let other = (guarded _ (token g Target) target second).1 in
         let empty_here : (here.kernel.ends ≡ []) ⊎ (here.kernel.ends ≡ None ∷ None ∷ []) = elim empty [ inl is ↦ inl (real ∙ is) | inr is ↦ inr (real ∙ is) ] in
-        let is : next ≡ registered here i t rest more g (record { value = record here.kernel { ends = open_as g opened }; told = two }) =
+        let now : Told KernelState Descriptors = record { value = record here.kernel { ends = open_as g opened }; told = two } in
+        let is : next ≡ registered here i t rest more g now =
         after ∙ ap (registered here i t rest more g) (rw (first, other) (open_is here.kernel g empty_here)) in
         let new_wires : wires ≡ fresh w.wires = some_is new ∙ rw (ends, is) refl in
         let zero_is = rw (known_opens known todo) at there in
         let busy : poller_rests here ≡ false = rw (zero_is, todo) refl in
         let idle : is_none w.poll ≡ true = (let or = rw busy at rested in grind arith) in
         let does : step there_now (Acts i)
-        ≡ Some (seen_as (registered here i t rest more g (record { value = record here.kernel { ends = open_as g opened }; told = two })) (open_as g opened) q
+        ≡ Some (seen_as (registered here i t rest more g now) (open_as g opened) q
         (batch_there w.poll d.early here.batch)) =
         rw (there, todo, count, a.0, one, second, first, other) (ap (λ (told : Told KernelState Descriptors). Some (registered there_now i t rest more g told)) (open_is there_now.kernel g empty)) in
         rw (is, new_wires) (record {
@@ -203,13 +204,16 @@ makes_back st i a h = option_and_then_some _ _ _ h (λ t there made. by t there 
         rw is (record { there = there; rest = rest; todo = todo; out = out; next = next })))
     by t there other todo h = cc
 
+abbrev its_call : Asked → machine.Call
+its_call a = as_call a.connection.pair a.asks
+
 -- the call a has this answer r of the socket e
 record Answer (e : EndState) (a : Asked) (r : Reply) : Type 0 where
   value : answer.AnswerValue
   told : told_at e a.asks r ≡ Some value
   fit : fits a.connection.pair a.asks value ≡ true
   socket : EndState
-  after : after_call e (as_call a.connection.pair a.asks) r ≡ Some socket
+  after : after_call e (its_call a) r ≡ Some socket
 
 -- and then the thread goes on so
 abbrev goes_so : System → ℕ → Asked → KernelState → answer.AnswerValue → System
@@ -226,13 +230,16 @@ module _ (st : System) (i : ℕ) (a : Asked) (m : Makes st i a) (own : a.connect
   abbrev lines : OpenConnection → System
   lines line = with_thread (record st { kernel = line.kernel }) i (planned st a.thread (a.thread.left - 1) line.connection)
 
-  call_is : step st (Calls i r) ≡ option_map lines (called st.second (record { kernel = st.kernel; connection = a.connection }) r)
+  abbrev line_after : Option OpenConnection
+  line_after = called st.second (record { kernel = st.kernel; connection = a.connection }) r
+
+  call_is : step st (Calls i r) ≡ option_map lines line_after
   call_is = ap (option_and_then (λ (t : Thread). calls st i t r t.todo)) m.there ∙ (ap (calls st i a.thread r) m.todo
       ∙ ap (option_and_then (λ (c : Connection). option_map lines (called st.second (record { kernel = st.kernel; connection = c }) r))) m.out)
 
-  called_is : called st.second (record { kernel = st.kernel; connection = a.connection }) r ≡ option_and_then (λ (v : answer.AnswerValue). when (fits a.connection.pair a.asks v)
+  called_is : line_after ≡ option_and_then (λ (v : answer.AnswerValue). when (fits a.connection.pair a.asks v)
       (option_map (λ (k : KernelState). record { kernel = k; connection = record a.connection { pair = answered st.second a.connection.pair a.asks v } })
-      (option_map then_kernel (after_call its_end (as_call a.connection.pair a.asks) r)))) (told_at its_end a.asks r)
+      (option_map then_kernel (after_call its_end (its_call a) r)))) (told_at its_end a.asks r)
   unfolding called
   called_is = rw (m.next, told_is st.kernel a.connection g f a.asks r real own, made_is st.kernel a.connection g f a.asks r real own) refl
 
@@ -255,7 +262,7 @@ told_same ok p call r may = refl
 
 -- a wire answers a read by itself as the socket there would
 itself : {x : EndState} (a : Asked) (call : PairCall) → a.asks ≡ call → (reads : Bool) → ((most : ℕ) → reads ≡ false → after_call x (machine.Read most) reply.Blocked ≡ Some x)
-    → may_call reads (as_call a.connection.pair a.asks) ≡ false → (n : Answer x a reply.Blocked) × (n.socket ≡ x) × (n.value ≡ answer.Blocked)
+    → may_call reads (its_call a) ≡ false → (n : Answer x a reply.Blocked) × (n.socket ≡ x) × (n.value ≡ answer.Blocked)
 itself {x} a (Read side most) is reads blocks asleep =
     (record { value = answer.Blocked; told = rw is refl; fit = rw is refl; socket = x; after = rw is (blocks most (rw is at asleep)) }, refl, refl)
 itself a call is reads blocks asleep = let never = rw is at asleep in cc
@@ -296,7 +303,7 @@ module _ (w : Wired) (d : Delay) (e : List (Option Registered)) (q : List Name) 
       rw (sym is ∙ closes_is w.system i t _ there todo) (act_apart w d e q j rested i t there (known i t there) next wires new act rest todo refl h)
 
   abbrev asking_wire : Asked → Reply → Side → Wire
-  asking_wire a r = on (side_of a.asks) (record (w.wires (side_of a.asks)) { reads = reads_after (w.wires (side_of a.asks)).reads (as_call a.connection.pair a.asks) r }) w.wires
+  asking_wire a r = on (side_of a.asks) (record (w.wires (side_of a.asks)) { reads = reads_after (w.wires (side_of a.asks)).reads (its_call a) r }) w.wires
 
   abbrev failing : Reply → Asked → List Side
   failing r a = if is_failed r then side_of a.asks ∷ [] else []
@@ -318,14 +325,14 @@ module _ (w : Wired) (d : Delay) (e : List (Option Registered)) (q : List Name) 
         run st (Calls i r ∷ []) ≡ Some (goes_so st i a (record st.kernel { ends = open_as g (on side n.socket s) }) n.value)
     answer_there s queue r n = answer_runs (seen_as w.system (open_as g s) queue b) i a (record { there = m.there; rest = m.rest; todo = m.todo; out = m.out; next = m.next }) own g s refl r n
 
-    answered_at : (r : Reply) (n : Answer (f side) a r) → may_call (w.wires side).reads (as_call a.connection.pair a.asks) ≡ true
+    answered_at : (r : Reply) (n : Answer (f side) a r) → may_call (w.wires side).reads (its_call a) ≡ true
         → Called_by i r a (goes_so w.system i a (record w.system.kernel { ends = open_as g (on side n.socket f) }) n.value)
     -- what is late comes before a call that fails
     answered_at (reply.Failed kind) n may =
         let r = reply.Failed kind in
         let c1 = comes_at w.system g s q b side (f side) (d.late side) ends (oks side).due in
-        let wire : Wire = record (w.wires side) { reads = reads_after (w.wires side).reads (as_call a.connection.pair a.asks) r } in
-        let all = changed_end g w.system.kernel.queue w.poll w.system.kernel.queue w.poll side (awake n.socket _ wire (inl (failed_reads (w.wires side).reads (as_call a.connection.pair a.asks) kind))) (λ k other some more. more) oks in
+        let wire : Wire = record (w.wires side) { reads = reads_after (w.wires side).reads (its_call a) r } in
+        let all = changed_end g w.system.kernel.queue w.poll w.system.kernel.queue w.poll side (awake n.socket _ wire (inl (failed_reads (w.wires side).reads (its_call a) kind))) (λ k other some more. more) oks in
         let same = on_here side (f side) s in
         let made = answer_there (on side (f side) s) c1.queue r (record { value = n.value; told = rw same n.told; fit = n.fit; socket = n.socket; after = rw same n.after }) in
         record {
@@ -341,7 +348,7 @@ module _ (w : Wired) (d : Delay) (e : List (Option Registered)) (q : List Name) 
           };
         }
     answered_at r n may =
-        let x = answers (oks side) n.socket (as_call a.connection.pair a.asks) r may n.after refl in
+        let x = answers (oks side) n.socket (its_call a) r may n.after refl in
         let all = changed_end g w.system.kernel.queue w.poll w.system.kernel.queue w.poll side x.ok (λ k other some more. more) oks in
         record {
           there = open_as g (on side x.there s);
@@ -370,7 +377,7 @@ module _ (w : Wired) (d : Delay) (e : List (Option Registered)) (q : List Name) 
   its_own i a m = let k = known_calls (known i a.thread m.there) m.todo in let has = k.1.out in let are = k.1.ends in cc m.out
 
   calls_by : {o : Option ℕ} (i : ℕ) (r : Reply) (a : Asked) → Makes w.system i a → (next : System) → step w.system (Calls i r) ≡ Some next
-      → may_call (w.wires (side_of a.asks)).reads (as_call a.connection.pair a.asks) ≡ true
+      → may_call (w.wires (side_of a.asks)).reads (its_call a) ≡ true
       → Both (rim w.system) w.wires w.poll d.late e o → AllNamed o w.system.kernel.queue → Polls w.system.batch d.early o w.poll → Called_by i r a next
   calls_by i r a m next h may (Away ends real empty late) named busy = let never = its_own i a m in cc
   calls_by i r a m next h may (Opened {g} f s ends real as_seen oks) named busy =

@@ -24,12 +24,10 @@ still_has n p (x ∷ xs) h passes = let rest = still_has n p xs in let is = same
 
 has_push : (n m : Name) (xs : List Name) → has n (xs ++ m ∷ []) ≡ true → (has n xs ≡ true) ⊎ (n ≡ m)
 has_push n m [] h = let is = same_is n m in inr (grind arith)
-has_push n m (x ∷ xs) h = by (same n x) refl h (has_push n m xs)
-  where
-    by : (b : Bool) → same n x ≡ b → (b || has n (xs ++ m ∷ [])) ≡ true → (has n (xs ++ m ∷ []) ≡ true → (has n xs ≡ true) ⊎ (n ≡ m))
-        → ((b || has n xs) ≡ true) ⊎ (n ≡ m)
-    by true is h rest = inl refl
-    by false is h rest = rest h
+has_push n m (x ∷ xs) h = elim (or_cases (same n x) (has n (xs ++ m ∷ [])) h) [
+  | inl is ↦ inl (or_left (same n x) (has n xs) is)
+  | inr later ↦ elim (has_push n m xs later) [ inl was ↦ inl (or_right (same n x) (has n xs) was) | inr is ↦ inr is ]
+]
 
 -- a name that is queued was so before, or is the one that is queued then
 pub has_with_back : (n m : Name) (xs : List Name) → has n (with_name m xs) ≡ true → (has n xs ≡ true) ⊎ (n ≡ m)
