@@ -414,107 +414,108 @@ same_token g Client Target other m is = rw is (grind arith)
 same_token g Target Client other m is = rw is (grind arith)
 same_token g Target Target other m is = absurd (other refl)
 
--- A wire of the slot hears of a report, or of nothing. In `module` the poll has this first name left
-module _ (st : System) (wires : Side → Wire) (p : Polling) (d : Delay) (e : List (Option Registered)) (q : List Name) (j : Joined (rim st) wires (Some p) d e q)
-    (n : Name) (rest : List Name) (left : p.left ≡ n ∷ rest) where
-  abbrev after : Polling
-  after = record p { left = rest }
+-- A wire of the slot hears of a report, or of nothing
+module _ (st : System) (wires : Side → Wire) (p : Polling) (d : Delay) (e : List (Option Registered)) (q : List Name) (j : Joined (rim st) wires (Some p) d e q) where
+  abbrev sees : System
+  sees = seen_as st e q (batch_there (Some p) d.early st.batch)
 
-  within_rest : {early : Bool} {o : Option ℕ} → Polls st.batch early o (Some p) → Polls st.batch early o (Some after)
-  within_rest (Busy none few once named gone within) = Busy none few once named gone (λ m h. within m (rw left (or_right _ _ h)))
+  -- where the poll has this first name left
+  module _ (n : Name) (rest : List Name) (left : p.left ≡ n ∷ rest) where
+    abbrev after : Polling
+    after = record p { left = rest }
 
-  same_poll : (early : Bool) (m : Name) → in_poll early (Some after) m ≡ in_poll early (Some p) m
-  same_poll true m = refl
-  same_poll false m = refl
+    within_rest : {early : Bool} {o : Option ℕ} → Polls st.batch early o (Some p) → Polls st.batch early o (Some after)
+    within_rest (Busy none few once named gone within) = Busy none few once named gone (λ m h. within m (rw left (or_right _ _ h)))
 
-  -- another name is coming as before
-  other_coming : (m : Name) → (same m n ≡ true → p.reading m ≡ false) → coming st.kernel.queue (Some p) m ≡ true → coming st.kernel.queue (Some after) m ≡ true
-  other_coming m never h =
-      let was = rw left at h in
-      grind (arith, never)
+    same_poll : (early : Bool) (m : Name) → in_poll early (Some after) m ≡ in_poll early (Some p) m
+    same_poll true m = refl
+    same_poll false m = refl
 
-  hears_nothing : ((m : EndName) → same (End m) n ≡ true → p.reading (End m) ≡ false)
-      → Led (seen_as st e q (batch_there (Some p) d.early st.batch)) [] (record { system = st; wires = wires; poll = Some after }) d
-  hears_nothing never = record {
-    there = e;
-    queue = q;
-    leads = refl;
-    joined = record {
-      generation = j.generation;
-      ends = requeued st.kernel.queue st.batch (Some after) (λ g f o ends real k some. other_coming (End (token g k)) (never (token g k))) j.ends;
-      known = j.known;
-      polls = within_rest j.polls;
-      on_way = λ m h. rw (same_poll d.early m) (j.on_way m h);
-    };
-  }
+    -- another name is coming as before
+    other_coming : (m : Name) → (same m n ≡ true → p.reading m ≡ false) → coming st.kernel.queue (Some p) m ≡ true → coming st.kernel.queue (Some after) m ≡ true
+    other_coming m never h =
+        let was = rw left at h in
+        grind (arith, never)
 
-  -- all that is late at the side comes
-  hears : (m : EndName) → n ≡ End m → {o : Option ℕ} → Both (rim st) wires (Some p) d.late e o → AllNamed o st.kernel.queue → Polls st.batch d.early o (Some p)
-      → Led (seen_as st e q (batch_there (Some p) d.early st.batch)) (comes d.late (m.side ∷ []))
-      (record { system = st; wires = on m.side (record (wires m.side) { told = true }) wires; poll = Some after }) (record d { late = on m.side [] d.late })
-  hears m is (Away ends real there late) known polls = rw (late m.side) (record {
-    there = e;
-    queue = q;
-    leads = refl;
-    joined = record {
-      generation = None;
-      ends = Away ends real there (none_on m.side d.late late);
-      known = known;
-      polls = within_rest polls;
-      on_way = λ k h. rw (same_poll d.early k) (j.on_way k h);
-    };
-  })
-  hears m is (Opened {g} f s ends real there oks) known polls =
-      let side = m.side in
-      let c = comes_at st g s q (batch_there (Some p) d.early st.batch) side (f side) (d.late side) ends (oks side).due in
-      let wire : Wire = record (wires side) { told = true } in
-      let all = changed_end g st.kernel.queue (Some p) st.kernel.queue (Some after) side (awake (f side) _ wire (inr refl))
-      (λ k other some. other_coming (End (token g k)) (λ own. (let never = rw is at own in cc (same_token g k side other m refl)))) oks in
-      record {
-        there = open_as g (on side (f side) s);
-        queue = c.queue;
-        leads = rw (there, append-nil (map (Network side) (d.late side))) c.leads;
-        joined = record {
-          generation = Some g;
-          ends = Opened f (on side (f side) s) ends real refl (λ k. rw (on_same side f k) at (all k));
-          known = known;
-          polls = within_rest polls;
-          on_way = λ k h. rw (same_poll d.early k) (came_way st.kernel.queue polls (oks side) j.on_way c k h);
-        };
-      }
-
--- the first report that is left is passed on
-pub tells_on : (st : System) (wires : Side → Wire) (p : Polling) (d : Delay) (e : List (Option Registered)) (q : List Name) → Joined (rim st) wires (Some p) d e q → (left : List Name) → p.left ≡ left
-    → (v : Wired) → tells (record { system = st; wires = wires; poll = Some p }) p left ≡ Some v
-    → Led (seen_as st e q (batch_there (Some p) d.early st.batch)) (comes d.late (sides_told p left)) v (record d { late = cleared (sides_told p left) d.late })
-tells_on st wires p d e q j [] is v h = cc
-tells_on st wires p d e q j (Listener ∷ rest) is v h = rw (some_is h) (hears_nothing st wires p d e q j Listener rest is (λ m own. cc))
-tells_on st wires p d e q j (Waker ∷ rest) is v h = rw (some_is h) (hears_nothing st wires p d e q j Waker rest is (λ m own. cc))
-tells_on st wires p d e q j (End m ∷ rest) is v h = rw (some_is h) (by (p.reading (End m)) refl)
-  where
-    by : (b : Bool) → p.reading (End m) ≡ b → let sides : List Side = if b then m.side ∷ [] else [] in
-        Led (seen_as st e q (batch_there (Some p) d.early st.batch)) (comes d.late sides)
-        (record { system = st; wires = if b then on m.side (record (wires m.side) { told = true }) wires else wires; poll = Some (record p { left = rest }) })
-        (record d { late = cleared sides d.late })
-    by true reads = hears st wires p d e q j (End m) rest is m refl j.ends j.known j.polls
-    by false reads = hears_nothing st wires p d e q j (End m) rest is (λ k own. rw (same_is (End k) (End m) own) reads)
-
--- all is handed over
-pub handed_on : (st : System) (wires : Side → Wire) (p : Polling) (d : Delay) (e : List (Option Registered)) (q : List Name) → Joined (rim st) wires (Some p) d e q → poller_rests st ≡ true
-    → p.left ≡ []
-    → Led (seen_as st e q (batch_there (Some p) d.early st.batch)) (polls d.early (Some p)) (record { system = record st { batch = p.names.items }; wires = wires; poll = None }) d
-handed_on st wires p d e q j rested none =
-    let x = shape_there j.ends in
-    let now = polled_now st e q x.0 x.1 d.early (Some p) rested (rw x.2 j.polls) in
-    record {
+    hears_nothing : ((m : EndName) → same (End m) n ≡ true → p.reading (End m) ≡ false)
+        → Led sees [] (record { system = st; wires = wires; poll = Some after }) d
+    hears_nothing never = record {
       there = e;
-      queue = now.queue;
-      leads = now.leads;
+      queue = q;
+      leads = refl;
       joined = record {
         generation = j.generation;
-        ends = requeued st.kernel.queue p.names.items None (λ g f o ends real k some more. (let was = rw none at more in was)) j.ends;
+        ends = requeued st.kernel.queue st.batch (Some after) (λ g f o ends real k some. other_coming (End (token g k)) (never (token g k))) j.ends;
         known = j.known;
-        polls = Idle;
-        on_way = λ n h. (let it = now.less n h in let was = j.on_way n in grind (arith, was, not_in d.early n));
+        polls = within_rest j.polls;
+        on_way = λ m h. rw (same_poll d.early m) (j.on_way m h);
       };
     }
+
+    -- all that is late at the side comes
+    hears : (m : EndName) → n ≡ End m → {o : Option ℕ} → Both (rim st) wires (Some p) d.late e o → AllNamed o st.kernel.queue → Polls st.batch d.early o (Some p)
+        → Led sees (comes d.late (m.side ∷ []))
+        (record { system = st; wires = on m.side (record (wires m.side) { told = true }) wires; poll = Some after }) (record d { late = on m.side [] d.late })
+    hears m is (Away ends real there late) known polls = rw (late m.side) (record {
+      there = e;
+      queue = q;
+      leads = refl;
+      joined = record {
+        generation = None;
+        ends = Away ends real there (none_on m.side d.late late);
+        known = known;
+        polls = within_rest polls;
+        on_way = λ k h. rw (same_poll d.early k) (j.on_way k h);
+      };
+    })
+    hears m is (Opened {g} f s ends real there oks) known polls =
+        let side = m.side in
+        let c = comes_at st g s q (batch_there (Some p) d.early st.batch) side (f side) (d.late side) ends (oks side).due in
+        let wire : Wire = record (wires side) { told = true } in
+        let all = changed_end g st.kernel.queue (Some p) st.kernel.queue (Some after) side (awake (f side) _ wire (inr refl))
+        (λ k other some. other_coming (End (token g k)) (λ own. (let never = rw is at own in cc (same_token g k side other m refl)))) oks in
+        record {
+          there = open_as g (on side (f side) s);
+          queue = c.queue;
+          leads = rw (there, append-nil (map (Network side) (d.late side))) c.leads;
+          joined = record {
+            generation = Some g;
+            ends = Opened f (on side (f side) s) ends real refl (λ k. rw (on_same side f k) at (all k));
+            known = known;
+            polls = within_rest polls;
+            on_way = λ k h. rw (same_poll d.early k) (came_way st.kernel.queue polls (oks side) j.on_way c k h);
+          };
+        }
+
+  -- the first report that is left is passed on
+  pub tells_on : (left : List Name) → p.left ≡ left → (v : Wired) → tells (record { system = st; wires = wires; poll = Some p }) p left ≡ Some v
+      → Led sees (comes d.late (sides_told p left)) v (record d { late = cleared (sides_told p left) d.late })
+  tells_on [] is v h = cc
+  tells_on (Listener ∷ rest) is v h = rw (some_is h) (hears_nothing Listener rest is (λ m own. cc))
+  tells_on (Waker ∷ rest) is v h = rw (some_is h) (hears_nothing Waker rest is (λ m own. cc))
+  tells_on (End m ∷ rest) is v h = rw (some_is h) (by (p.reading (End m)) refl)
+    where
+      by : (b : Bool) → p.reading (End m) ≡ b → let sides : List Side = if b then m.side ∷ [] else [] in
+          Led sees (comes d.late sides)
+          (record { system = st; wires = if b then on m.side (record (wires m.side) { told = true }) wires else wires; poll = Some (record p { left = rest }) })
+          (record d { late = cleared sides d.late })
+      by true reads = hears (End m) rest is m refl j.ends j.known j.polls
+      by false reads = hears_nothing (End m) rest is (λ k own. rw (same_is (End k) (End m) own) reads)
+
+  -- all is handed over
+  pub handed_on : poller_rests st ≡ true → p.left ≡ [] → Led sees (polls d.early (Some p)) (record { system = record st { batch = p.names.items }; wires = wires; poll = None }) d
+  handed_on rested none =
+      let x = shape_there j.ends in
+      let now = polled_now st e q x.0 x.1 d.early (Some p) rested (rw x.2 j.polls) in
+      record {
+        there = e;
+        queue = now.queue;
+        leads = now.leads;
+        joined = record {
+          generation = j.generation;
+          ends = requeued st.kernel.queue p.names.items None (λ g f o ends real k some more. (let was = rw none at more in was)) j.ends;
+          known = j.known;
+          polls = Idle;
+          on_way = λ n h. (let it = now.less n h in let was = j.on_way n in grind (arith, was, not_in d.early n));
+        };
+      }
