@@ -332,7 +332,8 @@ module _ (w : Wired) (d : Delay) (e : List (Option Registered)) (q : List Name) 
         let r = reply.Failed kind in
         let c1 = comes_at w.system g s q b side (f side) (d.late side) ends (oks side).due in
         let wire : Wire = record (w.wires side) { reads = reads_after (w.wires side).reads (its_call a) r } in
-        let all = changed_end g w.system.kernel.queue w.poll w.system.kernel.queue w.poll side (awake n.socket _ wire (inl (failed_reads (w.wires side).reads (its_call a) kind))) (λ k other some more. more) oks in
+        let all = changed_end g w.system.kernel.queue w.poll w.system.kernel.queue w.poll side (awake n.socket _ wire (inl (failed_reads (w.wires side).reads (its_call a) kind)))
+        (λ k other some more. more) oks in
         let same = on_here side (f side) s in
         let made = answer_there (on side (f side) s) c1.queue r (record { value = n.value; told = rw same n.told; fit = n.fit; socket = n.socket; after = rw same n.after }) in
         record {

@@ -310,7 +310,8 @@ module _ (w : Wired) (d : Delay) (e : List (Option Registered)) (q : List Name) 
           on_way = λ m h.
               let had = has_filter m (λ x. not (same n x)) (with_name n q) h in
               elim (has_with_back m n q had.0) [
-                | inl was ↦ more_or (has m st.kernel.queue) (has m (without_name n st.kernel.queue)) (in_poll d.early w.poll m) (λ r. still_has m (λ x. not (same n x)) st.kernel.queue r had.1) (j.on_way m was)
+                | inl was ↦ more_or (has m st.kernel.queue) (has m (without_name n st.kernel.queue)) (in_poll d.early w.poll m)
+                    (λ r. still_has m (λ x. not (same n x)) st.kernel.queue r had.1) (j.on_way m was)
                 | inr this ↦ (let never = rw (this, same_self n) at had.1 in cc)
               ];
         };
