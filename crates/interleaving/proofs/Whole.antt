@@ -4,7 +4,7 @@ use Rattle.claims.specs.Words.{one}
 use Rattle.kernel_model.specs.{Kernel.reported, Names.{has, without_names}, declared.accepting.Accepting.{TheVariants.{Accepted, Again, Blocked, Starved}, Accepting}}
 use Rattle.token.specs.declared.name.Name.{TheVariants.{Listener as listener_name}, Name}
 use Rattle.world.{proofs.Headline.Ends.Pairs.Holders.Events.Lists.{Kept, kept_at, kept_guard, kept_map, kept_none, kept_over, kept_some, kept_when, total_le, total_push}, specs.{Calls.when, States.numbers_below, Support.total}}
-use Rattle.interleaving.{proofs.{Rest.{Weights.{most_at, not_so, polled as left_queue}}, Runs.run_on, Slots.{Steps.{Found, Next, found, queued, set_here, set_there}, Reached, between, first, goes, next, reach}}, specs.{Likeness.EveryInterleavingIsARun, Rest.{LeftAloneItEnds, client_weight, most}, Slots.{Accept, Acts, Begin, Calls, Deed, Deliver, Drop, Front, Listener, Many, Of, Open, Poll, Put, Report, Sees, Server, Step, Taken, Ticket, Waker, answered, are_queued, besides, deed, delivering, first_of, in_hand, is_listener, makes, may, may_accept, names_at, one_slot, opening, polled, rank_at, rests, run, set, shared, slot_of, start, step, steps_at, suits, tickets_at, with_front, written}, Threads.System, Whole.{ServersComeToRest, accepted_weight, front_weight, hand_weight, is_own, is_waker, report_weight, wakes, weight}}}
+use Rattle.interleaving.{proofs.{Rest.{Weights.{most_at, not_so, polled as left_queue}}, Runs.run_on, Slots.{Steps.{Found, Next, found, queued, set_here, set_there, turn_of}, Reached, between, first, goes, next, reach}}, specs.{Likeness.EveryInterleavingIsARun, Rest.{LeftAloneItEnds, client_weight, most}, Slots.{Accept, Acts, Begin, Calls, Deed, Deliver, Drop, Front, Listener, Many, Of, Open, Poll, Put, Report, Sees, Server, Step, Taken, Ticket, Waker, answered, are_queued, besides, deed, delivering, first_of, in_hand, is_listener, makes, may, may_accept, names_at, one_slot, opening, polled, rank_at, rests, run, set, shared, slot_of, start, step, steps_at, suits, tickets_at, with_front, written}, Threads.System, Whole.{ServersComeToRest, accepted_weight, front_weight, hand_weight, is_own, is_waker, report_weight, wakes, weight}}}
 use Rattle.interleaving.specs.Threads as alone
 use Rattle.interleaving.specs.Rest as slot
 use Rattle.kernel_model.specs.Kernel as kernel
@@ -230,13 +230,11 @@ module _ (law : EveryInterleavingIsARun) (ends : LeftAloneItEnds) (server : Serv
 
     -- a turn, with the ticket c
     begins : (i : ℕ) (from : Option ℕ) (most : ℕ) → nat_le 4 most ≡ true → (o : Option Taken) → first_of (suits i from) m.tickets ≡ o
-        → Kept (Lighter (Begin i from most)) (makes m (Begin i from most)
-        (option_map (λ (c : Taken). record { slot = c.ticket.slot; thread = i; own = alone.Begin (rank_at m c.ticket.slot i) most ∷ [] }) o))
+        → Kept (Lighter (Begin i from most)) (makes m (Begin i from most) (option_map (turn_of m i most) o))
     begins i from most four None is = kept_none
     begins i from most four (Some c) is =
-        let d : Deed = record { slot = c.ticket.slot; thread = i; own = alone.Begin (rank_at m c.ticket.slot i) most ∷ [] } in
-        let sees : IsAt (Begin i from most) (λ t. steps_at t (Some d)) = λ t own e. e
-        ∙ ap (λ (o : Option Taken). steps_at t (option_map (λ (c : Taken). record { slot = c.ticket.slot; thread = i; own = alone.Begin (rank_at m c.ticket.slot i) most ∷ [] }) o)) is in
+        let d = turn_of m i most c in
+        let sees : IsAt (Begin i from most) (λ t. steps_at t (Some d)) = λ t own e. e ∙ ap (λ (o : Option Taken). steps_at t (option_map (turn_of m i most) o)) is in
         by_one (Begin i from most) d (λ q. besides m (Begin i from most) (written m d q)) sees (rw four refl) refl (λ q slots hands.
         rw is (omega (arith, rw is at slots, (taken_weighs (suits i from) m.tickets c is).1)))
 

@@ -305,6 +305,10 @@ written_done m x d q left = front_done m x d q m.fronts m.busy_at left (λ s oth
 
 -- Steps with a deed
 
+-- the thread i begins a turn with this ticket
+abbrev pub turn_of : Many → ℕ → ℕ → Taken → Deed
+turn_of m i most c = record { slot = c.ticket.slot; thread = i; own = alone.Begin (rank_at m c.ticket.slot i) most ∷ [] }
+
 module _ (m : Many) (between : Between m) where
   -- by what the slot's own steps keep
   by_deed : {P : System → Type 0} (x : Step) (d : Deed) (made : System → Many) → Kept P (alone.run (slot_of m d.slot) d.own)
@@ -370,12 +374,11 @@ module _ (m : Many) (between : Between m) where
 
   -- a turn, with the ticket c
   pub begins : (i : ℕ) (from : Option ℕ) (most : ℕ) → rests m i ≡ true → (o : Option Taken) → first_of (suits i from) m.tickets ≡ o
-      → Kept (Next m (Begin i from most)) (makes m (Begin i from most)
-      (option_map (λ (c : Taken). record { slot = c.ticket.slot; thread = i; own = alone.Begin (rank_at m c.ticket.slot i) most ∷ [] }) o))
+      → Kept (Next m (Begin i from most)) (makes m (Begin i from most) (option_map (turn_of m i most) o))
   begins i from most rested None is = kept_none
   begins i from most rested (Some c) is =
       let s = c.ticket.slot in
-      let d : Deed = record { slot = s; thread = i; own = alone.Begin (rank_at m s i) most ∷ [] } in
+      let d = turn_of m i most c in
       let only_one : Alone s m.tickets c = taken_here _ _ _ is s refl (between.one_ticket s) in
       by_deed (Begin i from most) d (λ q. besides m (Begin i from most) (written m d q)) (leaves_begin (slot_of m s) (rank_at m s i) most) (λ q ran left.
       let n : Many = record (written m d q) { tickets = c.rest; busy_at = set m.busy_at i s } in
@@ -389,7 +392,6 @@ module _ (m : Many) (between : Between m) where
         tickets = λ t other. taken_there _ _ _ is t other;
         tickets_here = only_one.rest ∙ sym none;
         common = left.common;
-      }) (λ t own e. e ∙ ap (λ (o : Option Taken). steps_at t (option_map
-      (λ (c : Taken). record { slot = c.ticket.slot; thread = i; own = alone.Begin (rank_at m c.ticket.slot i) most ∷ [] }) o)) (sym is)) ran
+      }) (λ t own e. e ∙ ap (λ (o : Option Taken). steps_at t (option_map (turn_of m i most) o)) (sym is)) ran
       (moved m (Begin i from most) d n q i (set_here m.busy_at i s) (λ j other. set_there m.busy_at i j s other) (inr rested) (λ j other. left.others j other))
       between.apart between.fronts))
