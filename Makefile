@@ -31,7 +31,7 @@ try:
 	@{ said=$$(cd crates/relayd && rt try 2>&1 >&3 <"$(abspath $(SCRIPT))") || { echo "$$said" >&2; exit 1; }; } 3>&1
 	@echo 'Nothing was proved: `make run` proves relayd, builds it, and forwards connections.'
 
-## make build         proves and builds crates/relayd/out/relayd; takes twenty minutes or more the first time
+## make build         proves and builds crates/relayd/out/relayd; takes some twenty minutes the first time
 build:
 	@.ci/build relayd
 
